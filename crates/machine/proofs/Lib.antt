@@ -1,0 +1,6 @@
+-- The laws of the machine, in reading order.
+pub mod Suffix
+pub mod Access
+pub mod Steps
+pub mod Lawful
+pub mod Swap
