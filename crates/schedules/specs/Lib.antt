@@ -1,3 +1,9 @@
 -- What a reader of this crate must believe, in reading order.
+-- lists: the numbers from one on, any, all, keep, first; what it is for a list to ascend
+pub mod Lists
+-- schedules and their order
 pub mod Order
+-- step systems, runs, full schedules
 pub mod System
+-- the list of all full schedules
+pub mod Fulls

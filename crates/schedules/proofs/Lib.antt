@@ -1,0 +1,9 @@
+-- The laws, in the order in which they rest on each other.
+-- order of schedules: irreflexive, asymmetric, transitive, total
+pub mod Order
+-- members of lists, tests over lists, ascending lists
+pub mod Lists
+-- runs and full schedules over `++`, and how long they can be
+pub mod Runs
+-- the list of full schedules: exact, ascending, bounded
+pub mod Fulls
