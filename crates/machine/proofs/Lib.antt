@@ -4,3 +4,4 @@ pub mod Access
 pub mod Steps
 pub mod Lawful
 pub mod Swap
+pub mod Pull
