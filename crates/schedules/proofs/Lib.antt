@@ -11,3 +11,7 @@ pub mod Fulls
 pub mod Greedy
 -- the greedy walk is least among the full schedules that end in a goal, from F1, F2 and F3
 pub mod GreedyFull
+-- moving a step to the front over independent ones
+pub mod Front
+-- the orders of a run's own actions: each is full with the same end, and `leastOrder` is the least
+pub mod Orders

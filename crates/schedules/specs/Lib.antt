@@ -9,3 +9,5 @@ pub mod System
 pub mod Fulls
 -- the greedy walk, and what it means to reach a goal
 pub mod Greedy
+-- the orders of a run's own steps, and the least of them
+pub mod Orders
