@@ -4,4 +4,7 @@ pub mod Access
 pub mod Steps
 pub mod Lawful
 pub mod Swap
+pub mod Change
+pub mod Start
+pub mod Regular
 pub mod Pull
