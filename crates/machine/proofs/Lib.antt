@@ -7,4 +7,4 @@ pub mod Swap
 pub mod Change
 pub mod Start
 pub mod Regular
-pub mod Pull
+pub mod Grow
