@@ -8,3 +8,5 @@ pub mod Change
 pub mod Start
 pub mod Regular
 pub mod Grow
+pub mod Waits
+pub mod Agree
