@@ -10,3 +10,4 @@ pub mod Regular
 pub mod Grow
 pub mod Waits
 pub mod Agree
+pub mod Determined
