@@ -17,3 +17,5 @@ pub mod Front
 pub mod Orders
 -- the claim about a list of calls over any ascending list
 pub mod Calls
+-- the first of each class: exact, ascending, one for every member
+pub mod Classes

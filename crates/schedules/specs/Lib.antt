@@ -13,3 +13,7 @@ pub mod Greedy
 pub mod Orders
 -- a list walked by calls: one call, and what a list of calls is to give
 pub mod Calls
+-- the first of each class
+pub mod Classes
+-- the search for the least listed schedule above a bound
+pub mod Search
