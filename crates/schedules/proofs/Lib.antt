@@ -15,3 +15,7 @@ pub mod GreedyFull
 pub mod Front
 -- the orders of a run's own actions: each is full with the same end, and `leastOrder` is the least
 pub mod Orders
+-- the claim about a list of calls over any ascending list
+pub mod Calls
+-- the first of each class: exact, ascending, one for every member
+pub mod Classes

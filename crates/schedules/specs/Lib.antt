@@ -11,3 +11,9 @@ pub mod Fulls
 pub mod Greedy
 -- the orders of a run's own steps, and the least of them
 pub mod Orders
+-- a list walked by calls: one call, and what a list of calls is to give
+pub mod Calls
+-- the first of each class
+pub mod Classes
+-- the search for the least listed schedule above a bound
+pub mod Search
