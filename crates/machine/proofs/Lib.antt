@@ -7,3 +7,6 @@ pub mod Swap
 pub mod Change
 pub mod Start
 pub mod Regular
+pub mod Exchange
+pub mod Permitted
+pub mod Failing
