@@ -7,3 +7,7 @@ pub mod Order
 pub mod System
 -- the list of all full schedules
 pub mod Fulls
+-- the greedy walk, and what it means to reach a goal
+pub mod Greedy
+-- the orders of a run's own steps, and the least of them
+pub mod Orders
