@@ -11,3 +11,6 @@ pub mod Grow
 pub mod Waits
 pub mod Agree
 pub mod Determined
+pub mod Exchange
+pub mod Permitted
+pub mod Failing

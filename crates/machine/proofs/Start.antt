@@ -53,11 +53,12 @@ pub start-writes : (p : Program) (l : ℕ) → cellOf (start p) l .writes ≡ []
 unfolding cellOf start
 start-writes p l = fresh-writes (initial p) l
 
+-- what asks nothing of a code holds of all
+pub everyone : (cs : List (List Instruction)) → Everywhere (λ c. Unit {0}) cs
+everyone [] = tt
+everyone (c ∷ cs) = (tt, everyone cs)
+
 -- no thread has done anything
 pub start-history : (p : Program) (t : ℕ) → (threadOf (start p) t .history .done ≡ 0) × (threadOf (start p) t .history .reads ≡ [])
 unfolding opened noThread
 start-history p = start-cases p (λ c. Unit {0}) (λ h. (h .history .done ≡ 0) × (h .history .reads ≡ [])) (refl, refl) (λ c u. (refl, refl)) (everyone (p .threads))
-  where
-    everyone : (cs : List (List Instruction)) → Everywhere (λ c. Unit {0}) cs
-    everyone [] = tt
-    everyone (c ∷ cs) = (tt, everyone cs)
