@@ -4,32 +4,23 @@ use Prim.Native.Nat.{ℕ}
 use mathlib.Core.Path.{_≡_, refl, sym, ap, ap₂, _∙_}
 use mathlib.Core.Bool.{Bool, true, false}
 use mathlib.Core.Option.{Option}
-use mathlib.Core.List.{List, [], _∷_, _++_, map, append-assoc, append-cancel-right}
-use lib.ListN.{getD, List·getD-map}
+use mathlib.Core.List.{List, [], _∷_, _++_, append-assoc, append-cancel-right}
+use lib.ListN.{getD}
 use Rattle.schedules.specs.Order.{Schedule}
 use Rattle.schedules.specs.System.{run, Allowed}
 use Rattle.machine.specs.Local.{Local, pending, placeOf, takes, puts, next}
-use Rattle.machine.specs.State.{Event, History, Thread, Cell, State, noThread, freshCell, threadOf, cellOf, place, latest, noted, advanced, step, may, SC}
-use Rattle.machine.specs.Graph.{Graph, readsOf, writesOf, graphOf}
+use Rattle.machine.specs.State.{Event, History, Thread, Cell, State, threadOf, cellOf, place, latest, noted, advanced, step, may, SC}
+use Rattle.machine.specs.Graph.{Graph, graphOf}
 use Rattle.machine.proofs.Access.{blind-next, blind-puts}
 use Rattle.machine.proofs.Change.{addedRead}
+use Rattle.machine.proofs.Exchange.{reads-at, writes-at}
 use Rattle.machine.proofs.Grow.{doneBy, readsBy, writesTo, sourceOf, reads-own, grown-reads}
 
 -- equal graphs, read off
-writes-at : (σ : State) (l : ℕ) → getD (map writesOf (σ .cells)) l [] ≡ writesTo σ l
-unfolding writesOf cellOf freshCell
-writes-at σ l = List·getD-map writesOf (σ .cells) l (freshCell 0)
-
-reads-at : (σ : State) (t : ℕ) → getD (map readsOf (σ .threads)) t [] ≡ readsBy σ t
-unfolding readsOf threadOf noThread
-reads-at σ t = List·getD-map readsOf (σ .threads) t noThread
-
 pub same-reads : (α β : State) → graphOf α ≡ graphOf β → (t : ℕ) → readsBy α t ≡ readsBy β t
-unfolding graphOf
 same-reads α β e t = sym (reads-at α t) ∙ ap (λ (g : Graph). getD (g .reads) t []) e ∙ reads-at β t
 
 pub same-writes : (α β : State) → graphOf α ≡ graphOf β → (l : ℕ) → writesTo α l ≡ writesTo β l
-unfolding graphOf
 same-writes α β e l = sym (writes-at α l) ∙ ap (λ (g : Graph). getD (g .writes) l []) e ∙ writes-at β l
 
 -- the same thread goes to the same place, and on the same finding it does the same; what it does not read does not matter

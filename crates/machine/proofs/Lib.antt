@@ -14,3 +14,5 @@ pub mod Determined
 pub mod Exchange
 pub mod Permitted
 pub mod Failing
+pub mod Reorder
+pub mod FirstStep
