@@ -16,3 +16,4 @@ pub mod Permitted
 pub mod Failing
 pub mod Reorder
 pub mod FirstStep
+pub mod LeastSchedule
