@@ -4,9 +4,11 @@ pub mod Access
 pub mod Steps
 pub mod Lawful
 pub mod Swap
+pub mod Orders
 pub mod Change
 pub mod Start
 pub mod Regular
 pub mod Exchange
 pub mod Permitted
 pub mod Failing
+pub mod Growth
