@@ -12,3 +12,4 @@ pub mod Exchange
 pub mod Permitted
 pub mod Failing
 pub mod Growth
+pub mod Reading
