@@ -13,3 +13,4 @@ pub mod Permitted
 pub mod Failing
 pub mod Growth
 pub mod Reading
+pub mod Determined
