@@ -4,6 +4,7 @@ pub mod Access
 pub mod Steps
 pub mod Lawful
 pub mod Swap
+pub mod Orders
 pub mod Change
 pub mod Start
 pub mod Regular
@@ -17,3 +18,6 @@ pub mod Failing
 pub mod Reorder
 pub mod FirstStep
 pub mod LeastSchedule
+pub mod Growth
+pub mod Reading
+pub mod Determined

@@ -47,7 +47,8 @@ writes-after σ a b ne i = rw (place-other σ a b ne, thread-other σ a b ne, ce
 
 -- each keeps its access and its effect
 pub action-after : (σ : State) (a b : ℕ) → b ≢ a → Independent σ a b → action (step σ a) b ≡ action σ b
-action-after σ a b ne i = ap₂ (λ (l : ℕ) (w : Bool). let d : Action = (b, l, w) in d) (place-other σ a b ne) (writes-after σ a b ne i)
+unfolding action
+action-after σ a b ne i = rw (place-other σ a b ne, writes-after σ a b ne i)
 
 abbrev both : List Thread → List Cell → State
 both ts cs = record { threads = ts; cells = cs }
