@@ -8,16 +8,9 @@ pub mod Orders
 pub mod Change
 pub mod Start
 pub mod Regular
-pub mod Grow
-pub mod Waits
-pub mod Agree
-pub mod Determined
 pub mod Exchange
 pub mod Permitted
 pub mod Failing
-pub mod Reorder
-pub mod FirstStep
-pub mod LeastSchedule
 pub mod Growth
 pub mod Reading
 pub mod Determined

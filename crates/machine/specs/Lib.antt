@@ -4,6 +4,5 @@ pub mod State
 pub mod Graph
 pub mod Text
 pub mod Trail
-pub mod Reorder
 pub mod Exchange
 pub mod Examples
