@@ -10,7 +10,6 @@ use lib.ListN.{length, getD, drop, drop-of-length-le}
 use lib.Seq.{drop-cons}
 use Rattle.lines.specs.Digit.{digit, value}
 use Rattle.lines.specs.Frame.{hexadecimal, pairs, frame, lineOf, Bytes}
-use Rattle.lines.specs.declared.reader.Line.{Line}
 use Rattle.lines.specs.declared.reader.Line.the-variants.{Frame, Broken}
 use Rattle.lines.proofs.DigitValues.{value-below}
 
@@ -95,6 +94,33 @@ lineOf-broken (x ∷ l) e = rw (e, frame, lineOf)
 pub lineOf-frame : (l : List ℕ) → 0 < length l → hexadecimal l ≡ true → lineOf l ≡ Frame (length l / 2)
 unfolding lineOf
 lineOf-frame l h e = rw (frame-of l h e, lineOf, length-pairs l)
+
+-- what an answer of the reader says of the line's frame
+pub lineOf-is-frame : (l : List ℕ) (n : ℕ) → lineOf l ≡ Frame n → (frame l ≡ some (pairs l)) × (length (pairs l) ≡ n)
+unfolding lineOf
+lineOf-is-frame l n e = go (frame l) refl
+  where
+    go : (o : Option (List ℕ)) → frame l ≡ o → (frame l ≡ some (pairs l)) × (length (pairs l) ≡ n)
+    go none h =
+        let s : Broken ≡ Frame n = rw (h, lineOf) at e in
+        let z : _≡_ {A = ℕ} 0 1 = cc in
+        absurd (omega arith)
+    go (some f) h =
+        let s : Frame (length f) ≡ Frame n = rw (h, lineOf) at e in
+        let k : length f ≡ n = cc in
+        let p : f ≡ pairs l = sym (frame-pairs l f h) in
+        (h ∙ ap (λ (g : List ℕ). some g) p, ap length (sym p) ∙ k)
+
+pub lineOf-is-broken : (l : List ℕ) → lineOf l ≡ Broken → frame l ≡ none
+unfolding lineOf
+lineOf-is-broken l e = go (frame l) refl
+  where
+    go : (o : Option (List ℕ)) → frame l ≡ o → frame l ≡ none
+    go none h = h
+    go (some f) h =
+        let s : Frame (length f) ≡ Broken = rw (h, lineOf) at e in
+        let z : _≡_ {A = ℕ} 0 1 = cc in
+        absurd (omega arith)
 
 -- ---- a line from one of its characters on
 hexadecimal-two : (l : List ℕ) (i : ℕ) → i + 1 < length l

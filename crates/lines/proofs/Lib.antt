@@ -5,3 +5,4 @@ pub mod Text
 pub mod RoundTrip
 pub mod Over
 pub mod Split
+mod Examples

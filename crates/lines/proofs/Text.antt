@@ -1,12 +1,14 @@
 -- A frame's line: its length, its last byte's digits, and what is written of it where there is room.
-use Prim.Native.Nat.{ℕ, suc, _+_, _*_, _/_, _%_, _≤_, _<_}
+use Prim.Native.Nat.{ℕ, _+_, _*_, _/_, _%_, _≤_, _<_}
 use native.Mathlib.Numerals.{add-one}
 use native.Mathlib.Omega.{arith}
 use mathlib.Core.Path.{_≡_, refl, sym, _∙_, ap}
 use mathlib.Core.List.{List, [], _∷_, _++_, append-assoc}
 use lib.ListN.{length, getD, set, take, length-append}
 use lib.Seq.{take-suc, length-take-le, take-length}
-use borrow.Author.Tests.{le-leb, lt-leb}
+use borrow.Author.Tests.{leb-true, le-leb, lt-leb}
+use lib.Dec.{leb}
+use mathlib.Core.Bool.{Bool, true, false, cond}
 use Rattle.lines.specs.Digit.{digitOf}
 use Rattle.lines.specs.Text.{digits, text, written}
 use Rattle.lines.specs.Over.{over}
@@ -34,6 +36,14 @@ written-fits f room h = rw (le-leb (length (text f)) room (omega (arith, length-
 pub written-short : (f : List ℕ) (room : ℕ) → room < 2 * length f + 1 → written f room ≡ []
 unfolding written
 written-short f room h = rw (lt-leb (length (text f)) room (omega (arith, length-text f)))
+
+pub length-written : (f : List ℕ) (room : ℕ) → length (written f room) ≤ room
+unfolding written
+length-written f room = go (leb (length (text f)) room) refl
+  where
+    go : (t : Bool) → leb (length (text f)) room ≡ t → length (cond (leb (length (text f)) room) (text f) []) ≤ room
+    go true e = rw e (leb-true (length (text f)) room e)
+    go false e = rw e (omega arith)
 
 -- ---- a buffer that is filled byte by byte
 length-digits-take : (f : List ℕ) (k : ℕ) → k ≤ length f → length (digits (take k f)) ≡ 2 * k

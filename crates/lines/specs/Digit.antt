@@ -1,6 +1,6 @@
 -- Lower-case hexadecimal digits, as the bytes that stand in a text: 30 to 39 are 0 to 9, and 61 to 66 are a to f.
 use Prim.Native.Nat.{ℕ, _+_, _-_}
-use mathlib.Core.Bool.{Bool, true, false, cond, _&&_, _||_}
+use mathlib.Core.Bool.{Bool, cond, _&&_, _||_}
 use lib.Dec.{leb, ltb}
 
 -- the byte is one of 0 to 9

@@ -7,16 +7,13 @@ ghost use Rattle.lines.specs.Digit.{digit, value, digitOf};
 pub fn is_digit(b: u8) -> bool
     ensures { λ r. ⌜ r ≡ digit b ⌝ }
 {
+    if 97 <= b {
+        return b <= 102;
+    }
     if b < 48 {
         return false;
     }
-    if b <= 57 {
-        return true;
-    }
-    if b < 97 {
-        return false;
-    }
-    b <= 102
+    b <= 57
 }
 
 // What the digit is worth; 0 for a byte that is no digit.

@@ -18,8 +18,10 @@ pub fn write(out: &mut [u8], bytes: &[u8]) -> usize
     }
     for k in 0..n {
         let b = bytes[k];
-        out[2 * k] = high(b);
-        out[2 * k + 1] = low(b);
+        let x = high(b);
+        let y = low(b);
+        out[2 * k] = x;
+        out[2 * k + 1] = y;
     }
     out[2 * n] = 10;
     2 * n + 1

@@ -1,8 +1,7 @@
 -- Behind the end of the frame the answer is the default; within it the byte is spelt by the two characters. Assumes nothing.
-use Prim.Native.Nat.{ℕ, _+_, _*_}
 use native.Mathlib.Omega.{arith}
-use mathlib.Core.Path.{_≡_, sym, _∙_}
-use lib.ListN.{length, getD, List·getD-eq-default}
+use mathlib.Core.Path.{sym}
+use lib.ListN.{List·getD-eq-default}
 use borrow.Author.Needs.{needs}
 use Rattle.lines.specs.Frame.{pairs}
 use Rattle.lines.proofs.Frame.{length-pairs, getD-pairs}

@@ -1,5 +1,5 @@
 -- The loop's invariant: the line that starts at `from` ends where the one does that starts at `i`. Assumes nothing.
-use Prim.Native.Nat.{ℕ, _+_, _-_}
+use Prim.Native.Nat.{_+_, _-_}
 use native.Mathlib.Omega.{arith}
 use mathlib.Core.Path.{_≡_}
 use lib.ListN.{length, drop}

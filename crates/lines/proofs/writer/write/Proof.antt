@@ -1,10 +1,8 @@
 -- The loop's invariant: the digits of the first k bytes stand over the front of the buffer. Assumes nothing.
-use Prim.Native.Nat.{ℕ, _+_, _*_, _-_, _≤_}
+use Prim.Native.Nat.{_-_, _≤_}
 use native.Mathlib.Omega.{arith}
-use mathlib.Core.Path.{_≡_, refl, sym, _∙_, ap}
-use mathlib.Core.List.{List}
-use lib.ListN.{length, take}
-use lib.Seq.{lt-length-set}
+use mathlib.Core.Path.{_≡_, refl, sym}
+use lib.ListN.{length, take, length-set}
 use borrow.Author.Needs.{needs}
 use Rattle.lines.specs.Text.{digits}
 use Rattle.lines.specs.Over.{over}
@@ -30,9 +28,7 @@ unfolding over digits
 loop-holds c = (search needs, search needs, refl)
 
 slice-write-out-2 : tie.Need-slice-write-out-2 Inv-loop μ-loop
-slice-write-out-2 c =
-    let at = c .before .before .before .before .loop in
-    lt-length-set (at .out) (2 * at .k) (c .before .high .result) (omega arith)
+slice-write-out-2 c = simp length-set (omega arith)
 
 loop-again : tie.Need-loop-again Inv-loop μ-loop
 loop-again c =
@@ -68,9 +64,9 @@ write-spec =
     loop-holds
     (λ c. search needs)
     (λ c κs. search needs)
-    (λ c. search needs)
-    (λ c. search needs)
     (λ c κs. search needs)
+    (λ c. search needs)
+    (λ c. search needs)
     (λ c. search needs)
     (λ c. search needs)
     slice-write-out-2
