@@ -5,7 +5,7 @@ ghost use lib.ListN.{drop};
 ghost use Rattle.lines.specs.Split.{lineLength};
 
 // Where the line that starts at `from` ends: at the first 0a from there on, or at the text's end where there is none.
-// Behind the text's end there is an empty line.
+// For a place behind the text's end it is that place itself.
 pub fn line_end(text: &[u8], from: usize) -> usize
     ensures { λ r. ⌜ r ≡ from + lineLength (drop from (now (text .entry))) ⌝ }
 {

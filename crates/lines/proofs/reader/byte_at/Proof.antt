@@ -4,7 +4,7 @@ use mathlib.Core.Path.{sym}
 use lib.ListN.{List·getD-eq-default}
 use borrow.Author.Needs.{needs}
 use Rattle.lines.specs.Frame.{pairs}
-use Rattle.lines.proofs.Frame.{length-pairs, getD-pairs}
+use Rattle.lines.proofs.Pairs.{length-pairs, getD-pairs}
 use Rattle.lines.proofs.reader.byte_at.Statement.{statement}
 use Rattle.lines.proofs.reader.byte_at.Tie as tie
 

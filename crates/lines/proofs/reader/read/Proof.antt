@@ -6,7 +6,8 @@ use lib.ListN.{length, drop}
 use borrow.Author.Needs.{needs}
 use borrow.Author.Tests.{not-true, not-false}
 use Rattle.lines.specs.Frame.{hexadecimal}
-use Rattle.lines.proofs.Frame.{lineOf-empty, first-broken, second-broken, two-passed, one-left, all-passed}
+use Rattle.lines.proofs.Frame.{lineOf-empty}
+use Rattle.lines.proofs.Passed.{first-broken, second-broken, two-passed, one-left, all-passed}
 use Rattle.lines.proofs.reader.read.Statement.{statement}
 use Rattle.lines.proofs.reader.read.Tie as tie
 

@@ -7,7 +7,8 @@ use borrow.Author.Needs.{needs}
 use Rattle.lines.specs.Text.{digits}
 use Rattle.lines.specs.Over.{over}
 use Rattle.lines.proofs.Over.{over-nil}
-use Rattle.lines.proofs.Text.{length-text, written-fits, written-short, over-byte, over-last}
+use Rattle.lines.proofs.Text.{length-text, written-fits, written-short}
+use Rattle.lines.proofs.Filled.{over-byte, over-last}
 use Rattle.lines.proofs.writer.write.Statement.{statement}
 use Rattle.lines.proofs.writer.write.Tie as tie
 
