@@ -14,3 +14,6 @@ pub mod Failing
 pub mod Growth
 pub mod Reading
 pub mod Determined
+pub mod Trails
+pub mod FirstFits
+pub mod SameGraph
