@@ -4,5 +4,6 @@ pub mod State
 pub mod Graph
 pub mod Text
 pub mod Trail
+pub mod Ahead
 pub mod Exchange
 pub mod Examples

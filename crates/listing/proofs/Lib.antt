@@ -1,0 +1,5 @@
+-- The laws, in the order in which they rest on each other.
+-- the permitted exchanges of threads are a group
+pub mod Exchanges
+-- being alike is an equivalence
+pub mod Equivalence

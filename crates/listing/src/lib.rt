@@ -1,0 +1,1 @@
+// The list of a program: one full schedule of each class of alike ones, the least; and the calls that walk it.
