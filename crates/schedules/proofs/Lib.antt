@@ -23,3 +23,9 @@ pub mod Classes
 pub mod First
 -- the search finds the first listed full schedule above the bound
 pub mod Search
+-- the list of permutations: every one, ascending
+pub mod Permutations
+-- computed tests over all 720 permutations
+pub mod Numbered
+-- inverse, composition, and the permutation of every number
+pub mod Group
