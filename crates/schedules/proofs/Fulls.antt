@@ -32,7 +32,7 @@ of-fronts t s (l ∷ ss) m = go (List·Memᴰ·cases-cons m) (λ k. of-fronts t 
     go (inl e) ih = (l, e, List·Memᴰ·head refl)
     go (inr k) ih = let r = ih k in (r .0, r .1, List·Memᴰ·tail (r .2))
 
-fronts-ascends : (t : ℕ) (ss : List Schedule) → Ascends less ss → Ascends less (fronts t ss)
+pub fronts-ascends : (t : ℕ) (ss : List Schedule) → Ascends less ss → Ascends less (fronts t ss)
 unfolding fronts
 fronts-ascends t [] a = tt
 fronts-ascends t (s ∷ ss) a = (

@@ -19,3 +19,13 @@ pub mod Orders
 pub mod Calls
 -- the first of each class: exact, ascending, one for every member
 pub mod Classes
+-- the first answer: of a test over a list, of a function over numbers, behind a beginning
+pub mod First
+-- the search finds the first listed full schedule above the bound
+pub mod Search
+-- the list of permutations: every one, ascending
+pub mod Permutations
+-- computed tests over all 720 permutations
+pub mod Numbered
+-- inverse, composition, and the permutation of every number
+pub mod Group

@@ -17,3 +17,5 @@ pub mod Calls
 pub mod Classes
 -- the search for the least listed schedule above a bound
 pub mod Search
+-- the permutations of six: all of them, each by its number, inverse and composition
+pub mod Permutations

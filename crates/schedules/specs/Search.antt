@@ -2,12 +2,13 @@
 -- `cut` gives up a prefix and a next byte; `listed` is the test at a full schedule; `top` is above every byte that may step. The law says that
 -- for every sound cut it finds exactly what a walk over all full schedules would.
 use Prim.Native.Nat.{ℕ, zero, suc, _+_, _-_}
+use mathlib.Core.Path.{_≡_}
 use mathlib.Core.Bool.{Bool, true, false}
 use mathlib.Core.Option.{Option, none, some}
 use mathlib.Core.List.{List, [], _∷_, _++_}
 use lib.Dec.{eqb}
 use Rattle.schedules.specs.Order.{Schedule}
-use Rattle.schedules.specs.System.{System, ended}
+use Rattle.schedules.specs.System.{System, run, ended, FullFrom}
 
 -- the first of the two that is there
 unfoldable pub orElse : {A : Type 0} → Option A → Option A → Option A
@@ -45,3 +46,7 @@ module _ (M : System) (top : ℕ) (cut : Schedule → M .State → ℕ → Bool)
   unfoldable pub searchFrom : ℕ → Option Schedule → Schedule → M .State → Option Schedule
   searchFrom zero o v σ = elim (ended M σ) [ true ↦ leaf o v | false ↦ none ]
   searchFrom (suc k) o v σ = elim (ended M σ) [ true ↦ leaf o v | false ↦ children (kid (λ a b c. searchFrom k a b c) o v σ) (top - low o) (low o) ]
+
+-- what a cut must satisfy, in the runs from ρ: a prefix and a next byte that are cut lead to no listed full schedule
+abbrev pub SoundCut : (M : System) → M .State → (Schedule → M .State → ℕ → Bool) → (Schedule → Bool) → Type 0
+SoundCut M ρ cut listed = (v : Schedule) (t : ℕ) (z : Schedule) → cut v (run M ρ v) t ≡ true → FullFrom M ρ (v ++ (t ∷ z)) → listed (v ++ (t ∷ z)) ≡ false
