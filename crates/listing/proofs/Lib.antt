@@ -3,3 +3,7 @@
 pub mod Exchanges
 -- being alike is an equivalence
 pub mod Equivalence
+-- what the executable tests say: `alike` is Alike
+pub mod Tests
+-- R1 is sound
+pub mod Late
