@@ -7,3 +7,6 @@ pub mod Equivalence
 pub mod Tests
 -- R1 is sound
 pub mod Late
+-- R2 is sound
+pub mod Swapped
+pub mod Twins
