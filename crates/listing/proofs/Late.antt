@@ -27,7 +27,7 @@ action-thread : (σ : State) (t : ℕ) → action σ t .thread ≡ t
 unfolding action
 action-thread σ t = refl
 
-run-one : (σ : State) (t : ℕ) → run SC σ (t ∷ []) ≡ step σ t
+pub run-one : (σ : State) (t : ℕ) → run SC σ (t ∷ []) ≡ step σ t
 unfolding run
 run-one σ t = refl
 

@@ -10,3 +10,9 @@ pub mod Late
 -- R2 is sound
 pub mod Swapped
 pub mod Twins
+-- R3 is sound
+pub mod Asleep
+-- all three together
+pub mod Cuts
+-- the test at a full schedule is exact
+pub mod Unbeaten

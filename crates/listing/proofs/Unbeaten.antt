@@ -1,0 +1,96 @@
+-- The test at a full schedule is exact: it passes exactly where no smaller full schedule is alike. For each permitted exchange the least order
+-- of the exchanged run's steps is the least schedule with the exchanged graph.
+use Prim.Native.Nat.{ℕ}
+use mathlib.Core.Path.{_≡_, refl, sym, ap, ap₂, subst, _∙_}
+use mathlib.Core.Logic.{_⊎_, inl, inr}
+use mathlib.Core.Bool.{Bool, true, false, not, true≢false, false≢true}
+use mathlib.Core.List.{List, [], _∷_, map, List·Memᴰ}
+use Rattle.program.specs.Program.{Program}
+use Rattle.program.specs.WellFormed.{WellFormed}
+use Rattle.schedules.specs.Lists.{all}
+use Rattle.schedules.specs.Order.{Schedule, less}
+use Rattle.schedules.specs.System.{run, FullFrom}
+use Rattle.schedules.specs.Orders.{trace}
+use Rattle.schedules.specs.Permutations.{moved}
+use Rattle.schedules.proofs.Lists.{all-at, all-not}
+use Rattle.schedules.proofs.Order.{AtMost, less-transitive}
+use Rattle.machine.specs.State.{State, Thread, Cell, threadOf, cellOf, place, step, SC, start}
+use Rattle.machine.specs.Graph.{graphOf, graph, endOf, Full}
+use Rattle.machine.specs.Trail.{Action, writes, action, trail, leastOf}
+use Rattle.machine.specs.Exchange.{Permutation, movedSchedule, movedThread, movedCell, Moves, Turns}
+use Rattle.machine.proofs.Regular.{regular-start}
+use Rattle.machine.proofs.Exchange.{moves-place, moves-cell, moves-step}
+use Rattle.machine.proofs.Permitted.{moves-start, exchanged, exchanged-graph}
+use Rattle.machine.proofs.SameGraph.{same-graph-least}
+use Rattle.listing.specs.Alike.{Exchange, Alike, Smaller}
+use Rattle.listing.specs.ListOf.{permitted}
+use Rattle.listing.specs.Rules.{movedAction, leastBy, unbeaten}
+use Rattle.listing.proofs.Equivalence.{alike-sym, turned-once}
+use Rattle.listing.proofs.Tests.{tabled, permitted-exchange, exchange-permitted}
+
+-- an exchanged run does the exchanged steps
+module _ (π : ℕ → ℕ) (q : Permutation π) where
+  moves-writes : (σ τ : State) → Moves π σ τ → (t : ℕ) → writes τ (π t) ≡ writes σ t
+  unfolding writes movedThread movedCell
+  moves-writes σ τ m t = rw (moves-place π q σ τ m t, moves-cell π q σ τ m (place σ t), m .threads t)
+
+  moves-action : (σ τ : State) → Moves π σ τ → (t : ℕ) → action τ (π t) ≡ movedAction π (action σ t)
+  unfolding action movedAction
+  moves-action σ τ m t = ap₂ (λ (l : ℕ) (b : Bool). let a : Action = record { thread = π t; location = l; wrote = b } in a) (moves-place π q σ τ m t) (moves-writes σ τ m t)
+
+  moves-trail : (z : Schedule) (σ τ : State) → Moves π σ τ → FullFrom SC σ z → trail τ (movedSchedule π z) ≡ map (movedAction π) (trail σ z)
+  unfolding trace movedSchedule
+  moves-trail [] σ τ m f = refl
+  moves-trail (t ∷ z) σ τ m f = ap₂ (λ (a : Action) (acts : List Action). a ∷ acts) (moves-action σ τ m t) (moves-trail z (step σ t) (step τ (π t)) (moves-step π q σ τ m t (f .0)) (f .1))
+
+module _ (p : Program) (w : WellFormed p) where
+  -- the least schedule with the graph of s exchanged by π
+  pub record LeastAlike (π : ℕ → ℕ) (s g : Schedule) : Type 0 where
+    pub full : Full p g
+    pub turned : Turns π (graph p s) (graph p g)
+    pub least : (r : Schedule) → Full p r → Turns π (graph p s) (graph p r) → AtMost g r
+
+  least-alike : (s : Schedule) → Full p s → (π : ℕ → ℕ) → Exchange p π → LeastAlike π s (leastOf (map (movedAction π) (trail (start p) s)))
+  unfolding graph
+  least-alike s f π x =
+      let e = exchanged p w π (x .1) (x .0) s f in
+      let g = exchanged-graph p w π (x .1) (x .0) s f in
+      let o = same-graph-least (start p) (regular-start p w) (movedSchedule π s) (e .0) in
+      let same = moves-trail π (x .0) s (start p) (start p) (moves-start p w π (x .1)) f in
+      subst (λ (acts : List Action). LeastAlike π s (leastOf acts)) same (record {
+        full = o .0;
+        turned = subst (λ (τ : State). Turns π (graph p s) (graphOf τ)) (sym (o .1)) g;
+        least = λ r fr t. o .2 r fr (turned-once p w π x s r (movedSchedule π s) t g);
+      })
+
+  least-by : (s : Schedule) → Full p s → (π : List ℕ) → List·Memᴰ π (permitted p) → LeastAlike (moved π) s (leastBy π (trail (start p) s))
+  unfolding leastBy
+  least-by s f π m = least-alike s f (moved π) (permitted-exchange p π m)
+
+  not-less : (r s : Schedule) → AtMost r s → (u : Schedule) → less s u ≡ true → less r u ≡ true
+  not-less r s (inl e) u l = subst (λ (k : Schedule). less k u ≡ true) (sym e) l
+  not-less r s (inr e) u l = less-transitive r s u e l
+
+  -- THE TEST IS EXACT
+  pub unbeaten-least : (s : Schedule) → Full p s → unbeaten p s ≡ true → Smaller p s → ⊥
+  unfolding unbeaten
+  unbeaten-least s f e b =
+      let l = alike-sym p w (b .0) s (b .3) in
+      let k = exchange-permitted p (l .0) (l .1) in
+      let π : List ℕ = tabled (l .0) in
+      let g = least-by s f π (k .0) in
+      let n = all-at (λ π. not (less (leastBy π (trail (start p) s)) s)) (permitted p) π e (k .0) in
+      let i = not-less (leastBy π (trail (start p) s)) (b .0) (g .least (b .0) (b .1) (subst (λ (ρ : ℕ → ℕ). Turns ρ (graph p s) (graph p (b .0))) (sym (k .1)) (l .2))) s (b .2) in
+      false≢true (rw i at n)
+
+  pub beaten-smaller : (s : Schedule) → Full p s → unbeaten p s ≡ false → Smaller p s
+  unfolding unbeaten
+  beaten-smaller s f e =
+      let x = all-not (λ π. not (less (leastBy π (trail (start p) s)) s)) (permitted p) e in
+      let g = least-by s f (x .0) (x .1) in
+      let r : Schedule = leastBy (x .0) (trail (start p) s) in
+      (r, g .full, not-false (less r s) (x .2), alike-sym p w s r (moved (x .0), permitted-exchange p (x .0) (x .1), g .turned))
+    where
+      not-false : (b : Bool) → not b ≡ false → b ≡ true
+      not-false true q = refl
+      not-false false q = absurd (true≢false q)
