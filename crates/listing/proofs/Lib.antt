@@ -16,3 +16,5 @@ pub mod Asleep
 pub mod Cuts
 -- the test at a full schedule is exact
 pub mod Unbeaten
+-- the list is document 01's, and the search walks it
+pub mod TheList

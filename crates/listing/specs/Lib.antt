@@ -5,3 +5,5 @@ pub mod Alike
 pub mod ListOf
 -- what the search gives up, and the test at a full schedule
 pub mod Rules
+-- the search by these rules
+pub mod Search
