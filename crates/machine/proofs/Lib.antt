@@ -17,3 +17,4 @@ pub mod Determined
 pub mod Trails
 pub mod FirstFits
 pub mod SameGraph
+pub mod Frames
