@@ -1,4 +1,5 @@
 -- The laws of the machine, in reading order.
+pub mod Everywhere
 pub mod Suffix
 pub mod Access
 pub mod Steps
@@ -18,3 +19,6 @@ pub mod Trails
 pub mod FirstFits
 pub mod SameGraph
 pub mod Frames
+pub mod Text
+pub mod TextLength
+pub mod Printed

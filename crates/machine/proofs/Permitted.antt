@@ -14,7 +14,7 @@ use Rattle.schedules.specs.System.{run}
 use Rattle.machine.specs.State.{Thread, Cell, State, noThread, freshCell, threadOf, opened, start, SC}
 use Rattle.machine.specs.Graph.{Full, endOf, graph}
 use Rattle.machine.specs.Exchange.{Permutation, Permitted, movedReads, movedWrites, movedSchedule, movedThread, movedCell, Moves, Turns}
-use Rattle.machine.proofs.Suffix.{everywhere-at}
+use Rattle.machine.proofs.Everywhere.{everywhere-at}
 use Rattle.machine.proofs.Start.{start-threads, start-thread, start-cases, everyone}
 use Rattle.machine.proofs.Exchange.{moves-full, moves-graph}
 
