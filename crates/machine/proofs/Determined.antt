@@ -17,8 +17,10 @@ use Rattle.machine.specs.Graph.{graphOf}
 use Rattle.machine.proofs.Steps.{may-same, may-small, may-pending, may-range, thread-own, thread-other}
 use Rattle.machine.proofs.Change.{Change, kept, wrote, wrote-own}
 use Rattle.machine.proofs.Regular.{Regular, place-in, changes, regular-step, regular-run}
-use Rattle.machine.proofs.Growth.{done-run, grown, same-latest}
-use Rattle.machine.proofs.Reading.{Turn, first-turn, same-reads, same-place, source, same-source, same-finding}
+use Rattle.machine.proofs.Rows.{same-reads}
+use Rattle.machine.proofs.Histories.{done-run}
+use Rattle.machine.proofs.Growth.{grown, same-latest}
+use Rattle.machine.proofs.Reading.{Turn, first-turn, same-place, source, same-source, same-finding}
 
 -- two ways to cut a list
 compare : (p q : Schedule) (a : ℕ) (r s : Schedule) → p ++ r ≡ q ++ (a ∷ s) → ((y : Schedule) × (q ≡ p ++ y)) ⊎ ((y : Schedule) × (p ≡ q ++ (a ∷ y)))

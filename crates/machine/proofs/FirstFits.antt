@@ -19,8 +19,9 @@ use Rattle.machine.specs.State.{Event, Thread, Cell, State, threadOf, ce
 use Rattle.machine.specs.Graph.{graphOf}
 use Rattle.machine.specs.Trail.{Action, writes, action, trail, who, conflict}
 use Rattle.machine.proofs.Regular.{Regular, regular-step, regular-run}
+use Rattle.machine.proofs.Rows.{same-reads, same-writes}
 use Rattle.machine.proofs.Growth.{Grown, grown, same-latest, no-growth}
-use Rattle.machine.proofs.Reading.{before-end, Turn, first-turn, same-reads, same-writes, same-place, source, same-source}
+use Rattle.machine.proofs.Reading.{before-end, Turn, first-turn, same-place, source, same-source}
 use Rattle.machine.proofs.Determined.{Meeting, determined}
 use Rattle.machine.proofs.Trails.{writes-own, blind-writes, still-takes, first-at, clear-at, same-action}
 

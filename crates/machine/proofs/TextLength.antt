@@ -6,7 +6,7 @@ use mathlib.Core.Bool.{Bool, true, false}
 use mathlib.Core.Option.{Option, none, some}
 use mathlib.Core.List.{List, [], _∷_, _++_, map, reverse}
 use native.Mathlib.Omega.{arith}
-use lib.ListN.{length, getD, set, length-append, length-reverse, length-map}
+use lib.ListN.{length, getD, set, length-append, length-reverse}
 use Rattle.lines.specs.Text.{text}
 use Rattle.lines.proofs.Text.{length-text}
 use Rattle.program.specs.Program.{Program, initial}
@@ -21,6 +21,7 @@ use Rattle.machine.specs.Text.{readFrame, readFrames, eventBytes, writeF
 use Rattle.machine.proofs.Steps.{run-cells}
 use Rattle.machine.proofs.Lawful.{at-most-24}
 use Rattle.machine.proofs.Start.{start-cells}
+use Rattle.machine.proofs.Rows.{graph-sizes}
 
 -- how many members all these lists have
 total : {A : Type 0} → List (List A) → ℕ
@@ -120,11 +121,6 @@ graph-length : (g : Graph) → length (graphText g) ≤ 11 * total (g .reads) + 
 unfolding graphText frames
 graph-length g = omega (arith, text-append (readFrames 0 (g .reads)) (writeFrames 0 (g .writes)), reads-length 0 (g .reads), writes-length 0 (g .writes))
 
--- as many rows as threads, as many lists of writes as cells
-pub rows-of : (σ : State) → (length (graphOf σ .reads) ≡ length (σ .threads)) × (length (graphOf σ .writes) ≡ length (σ .cells))
-unfolding graphOf
-rows-of σ = (length-map (σ .threads) readsOf, length-map (σ .cells) writesOf)
-
 -- AT MOST 400 BYTES
 pub text-400 : (p : Program) → WellFormed p → (s : Schedule) → Full p s → length (graphText (graph p s)) ≤ 400
 unfolding graph
@@ -132,5 +128,5 @@ text-400 p w s f =
     let n = at-most-24 p w s f in
     let c = run-counts s (start p) in
     let z = start-counts p in
-    let k = rows-of (endOf p s) .1 ∙ run-cells s (start p) ∙ start-cells p in
+    let k = graph-sizes (endOf p s) .1 ∙ run-cells s (start p) ∙ start-cells p in
     omega (arith, graph-length (graphOf (endOf p s)), c .0, c .1, z .0, z .1)
