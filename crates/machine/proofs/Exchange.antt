@@ -1,23 +1,21 @@
 -- T2, the exchange law, from any state: where one state is another with its threads exchanged by π, a step of t in the one and of π t in the
 -- other leave states so related. So whole schedules, the graphs and the outcomes at their ends follow.
-use Prim.Native.Nat.{ℕ, zero, suc, _+_, _<_, _≤_}
-use mathlib.Core.Path.{_≡_, refl, sym, ap, ap₂, subst, _∙_}
-use mathlib.Core.Logic.{_≢_, _⊎_, inl, inr}
-use mathlib.Core.Bool.{Bool, true, false, true≢false, false≢true}
+use Prim.Native.Nat.{ℕ, zero, suc, _<_}
+use mathlib.Core.Path.{_≡_, refl, sym, ap, ap₂, _∙_}
+use mathlib.Core.Bool.{Bool, true, false}
 use mathlib.Core.Option.{Option, none, some}
-use mathlib.Core.List.{List, [], _∷_, map, map-map}
+use mathlib.Core.List.{List, [], _∷_, map}
 use native.Mathlib.Omega.{arith}
 use native.Mathlib.Decide.{ℕ-discrete, decLt}
-use borrow.Author.Tests.{lt-ltb, le-ltb}
+use borrow.Author.Tests.{lt-ltb}
 use lib.Dec.{ltb}
-use lib.ListN.{length, getD, set, length-set, List·getD-map}
-use lib.Seq.{getD-set-same, getD-set-other}
+use lib.ListN.{length, getD, set, List·getD-map}
 use Rattle.schedules.specs.Order.{Schedule}
 use Rattle.schedules.specs.System.{run, ended, FullFrom}
 use Rattle.schedules.proofs.Runs.{ended-of, ended-none}
 use Rattle.machine.specs.Local.{pending, placeOf, takes, puts}
-use Rattle.machine.specs.State.{Event, initialWrite, History, Thread, Cell, State, noThread, freshCell, threadOf, cellOf, place, latest, noted, advanced, written, met, step, may, SC, valueOf, memoryOf}
-use Rattle.machine.specs.Graph.{Graph, readsOf, writesOf, graphOf}
+use Rattle.machine.specs.State.{Event, initialWrite, History, Thread, Cell, State, freshCell, threadOf, cellOf, place, latest, noted, advanced, written, met, step, may, SC, valueOf, memoryOf}
+use Rattle.machine.specs.Graph.{writesOf, graphOf}
 use Rattle.machine.specs.Exchange.{Permutation, movedEvent, movedRead, movedReads, movedWrites, movedSchedule, movedThread, movedCell, Moves, Turns}
 use Rattle.machine.proofs.Steps.{may-range, thread-own, thread-other, step-threads}
 use Rattle.machine.proofs.Lawful.{lawful}

@@ -1,18 +1,17 @@
 -- Which events of a run are done, and that histories only grow along it: reads and writes of a step stand in front of the older ones.
 use Prim.Native.Nat.{ℕ, suc, _+_, _<_, _≤_}
 use mathlib.Core.Path.{_≡_, refl, sym, ap, ap₂, subst, _∙_}
-use mathlib.Core.Logic.{_≢_, _⊎_, inl, inr}
+use mathlib.Core.Logic.{_⊎_, inl, inr}
 use mathlib.Core.Bool.{true}
-use mathlib.Core.List.{List, [], _∷_, _++_}
+use mathlib.Core.List.{List, [], _∷_}
 use native.Mathlib.Omega.{arith}
 use native.Mathlib.Decide.{ℕ-discrete, decLt}
 use lib.ListN.{length}
 use Rattle.program.specs.Program.{Program, codeOf}
-use Rattle.program.specs.WellFormed.{Everywhere}
 use Rattle.program.specs.declared.instruction.Instruction.{Instruction}
 use Rattle.schedules.specs.Order.{Schedule}
 use Rattle.schedules.specs.System.{run, Allowed}
-use Rattle.machine.specs.Local.{takes, begin}
+use Rattle.machine.specs.Local.{takes}
 use Rattle.machine.specs.State.{Event, Thread, Cell, State, noThread, threadOf, cellOf, place, latest, advanced, step, may, SC, opened, start}
 use Rattle.machine.proofs.Suffix.{Suffix, suffix-same, suffix-nil, suffix-trans}
 use Rattle.machine.proofs.Access.{next-suffix, begin-law}

@@ -19,6 +19,8 @@ pub mod Orders
 pub mod Regular
 pub mod Histories
 pub mod Growth
+-- full schedules in document 01's words
+pub mod Ended
 -- a state's graph, row by row and list by list
 pub mod Rows
 -- T2: exchanging threads, from any state and for a program

@@ -1,16 +1,16 @@
 -- The graphs of a well-formed program's full schedules are printable: every number in them is a byte, so their texts tell them apart.
-use Prim.Native.Nat.{ℕ, suc, _+_, _<_, _≤_}
-use mathlib.Core.Path.{_≡_, refl, ap, subst, _∙_}
+use Prim.Native.Nat.{ℕ, _≤_}
+use mathlib.Core.Path.{_≡_, ap, subst, _∙_}
 use mathlib.Core.Logic.{_⊎_, inl, inr}
-use mathlib.Core.List.{List, [], _∷_, List·Memᴰ}
+use mathlib.Core.List.{List·Memᴰ}
 use native.Mathlib.Omega.{arith}
-use lib.ListN.{length, getD}
+use lib.ListN.{length}
 use Rattle.program.specs.Program.{Program}
 use Rattle.program.specs.WellFormed.{WellFormed}
 use Rattle.schedules.specs.Order.{Schedule}
-use Rattle.schedules.specs.System.{run, Allowed}
+use Rattle.schedules.specs.System.{Allowed}
 use Rattle.schedules.proofs.Runs.{full-allowed}
-use Rattle.machine.specs.State.{Event, initialWrite, State, threadOf, cellOf, SC, start}
+use Rattle.machine.specs.State.{Event, initialWrite, threadOf, cellOf, SC, start}
 use Rattle.machine.specs.Graph.{graph, Full, endOf}
 use Rattle.machine.specs.Text.{graphText}
 use Rattle.machine.proofs.Steps.{run-threads, run-cells}

@@ -1,19 +1,16 @@
 -- What the graph at the end of a run says of a step on the way: the thread takes a turn as long as it has not ended, and the source of a
 -- read stands at its place in the reads of the end.
-use Prim.Native.Nat.{ℕ, zero, suc, _+_, _<_, _≤_}
-use mathlib.Core.Path.{_≡_, refl, sym, ap, ap₂, subst, _∙_}
-use mathlib.Core.Logic.{_≢_, _⊎_, inl, inr, ⊎-elim}
+use Prim.Native.Nat.{ℕ}
+use mathlib.Core.Path.{_≡_, refl, sym, ap, ap₂, _∙_}
+use mathlib.Core.Logic.{_≢_, ⊎-elim}
 use mathlib.Core.Bool.{Bool, true, false, true≢false}
-use mathlib.Core.Option.{Option, none, some}
 use mathlib.Core.List.{List, [], _∷_, _++_, append-assoc, append-cancel-right, List·Memᴰ, List·Memᴰ·not-nil, List·Memᴰ·cases-cons}
 use native.Mathlib.Decide.{ℕ-discrete}
-use lib.ListN.{length, getD}
 use Rattle.schedules.specs.Order.{Schedule}
-use Rattle.schedules.specs.System.{run, ended, Allowed, FullFrom}
+use Rattle.schedules.specs.System.{run, Allowed, FullFrom}
 use Rattle.schedules.proofs.Runs.{ended-none}
 use Rattle.machine.specs.Local.{Local, pending, placeOf, takes, puts, next}
 use Rattle.machine.specs.State.{Event, History, Thread, Cell, State, threadOf, cellOf, place, latest, noted, advanced, step, may, SC}
-use Rattle.machine.specs.Graph.{Graph, graphOf}
 use Rattle.machine.proofs.Access.{blind-next, blind-puts}
 use Rattle.machine.proofs.Steps.{may-range, may-other, thread-own, thread-other}
 use Rattle.machine.proofs.Change.{addedRead, noted-reads}

@@ -1,5 +1,5 @@
 -- A graph's text says all of it: two graphs of as many threads, whose numbers are bytes, have different texts if they differ.
-use Prim.Native.Nat.{ℕ, zero, suc, _+_, _*_, _<_, _≤_}
+use Prim.Native.Nat.{ℕ, suc, _+_, _<_, _≤_}
 use mathlib.Core.Path.{_≡_, refl, sym, ap, _∙_}
 use mathlib.Core.List.{List, [], _∷_, _++_, append-cancel-left, map, reverse, List·Memᴰ}
 use native.Mathlib.Omega.{arith}

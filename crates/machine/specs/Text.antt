@@ -1,6 +1,6 @@
 -- The text of a graph: a frame `40 t i u j` for each read, ascending by t then i, and a frame `41 l t i ..` for each location written,
 -- ascending by l, its writes in coherence order. Each frame is one line.
-use Prim.Native.Nat.{ℕ, zero, suc}
+use Prim.Native.Nat.{ℕ, suc}
 use mathlib.Core.List.{List, [], _∷_, _++_, map, reverse}
 use Rattle.lines.specs.Text.{text}
 use Rattle.machine.specs.State.{Event}
