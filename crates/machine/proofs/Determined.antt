@@ -1,10 +1,10 @@
 -- One graph, the same steps: where two full schedules v and w have one graph, v does somewhere each step that w does, from the same state of
 -- its thread and with the same source. A graph names no location for a read of the initial write, so this comes before any argument on locations.
-use Prim.Native.Nat.{ℕ, zero, suc, _+_, _<_, _≤_}
+use Prim.Native.Nat.{ℕ, _<_}
 use mathlib.Core.Path.{_≡_, refl, sym, ap, ap₂, subst, _∙_}
-use mathlib.Core.Logic.{_≢_, _⊎_, inl, inr, ⊎-elim}
-use mathlib.Core.Bool.{Bool, true, false}
-use mathlib.Core.Option.{Option, none, some}
+use mathlib.Core.Logic.{_⊎_, inl, inr, ⊎-elim}
+use mathlib.Core.Bool.{true}
+use mathlib.Core.Option.{some}
 use mathlib.Core.List.{List, [], _∷_, _++_, append-assoc, append-nil, List·Memᴰ, List·Memᴰ·head}
 use native.Mathlib.Omega.{arith}
 use native.Mathlib.Decide.{ℕ-discrete}
@@ -17,8 +17,10 @@ use Rattle.machine.specs.Graph.{graphOf}
 use Rattle.machine.proofs.Steps.{may-same, may-small, may-pending, may-range, thread-own, thread-other}
 use Rattle.machine.proofs.Change.{Change, kept, wrote, wrote-own}
 use Rattle.machine.proofs.Regular.{Regular, place-in, changes, regular-step, regular-run}
-use Rattle.machine.proofs.Growth.{done-run, grown, same-latest}
-use Rattle.machine.proofs.Reading.{Turn, first-turn, same-reads, same-place, source, same-source, same-finding}
+use Rattle.machine.proofs.Rows.{same-reads}
+use Rattle.machine.proofs.Histories.{done-run}
+use Rattle.machine.proofs.Growth.{grown, same-latest}
+use Rattle.machine.proofs.Reading.{first-turn, same-place, source, same-source, same-finding}
 
 -- two ways to cut a list
 compare : (p q : Schedule) (a : ℕ) (r s : Schedule) → p ++ r ≡ q ++ (a ∷ s) → ((y : Schedule) × (q ≡ p ++ y)) ⊎ ((y : Schedule) × (p ≡ q ++ (a ∷ y)))

@@ -4,7 +4,7 @@ use Prim.Native.Nat.{ℕ}
 use mathlib.Core.Path.{_≡_, refl, sym, ap, ap₂, subst, _∙_}
 use mathlib.Core.Logic.{_≢_}
 use mathlib.Core.Bool.{Bool, true, false}
-use mathlib.Core.Option.{Option, some}
+use mathlib.Core.Option.{some}
 use mathlib.Core.List.{List, [], _∷_, _++_, append-assoc, List·Memᴰ, List·Memᴰ·head, Memᴰ·append-right}
 use native.Mathlib.Omega.{arith}
 use borrow.Author.Tests.{eqb-true}
@@ -15,13 +15,14 @@ use Rattle.schedules.specs.System.{run, Allowed, FullFrom}
 use Rattle.schedules.specs.Orders.{nextOf, clear}
 use Rattle.schedules.proofs.Runs.{run-append, run-cons, full-split, full-allowed}
 use Rattle.machine.specs.Local.{takes}
-use Rattle.machine.specs.State.{Event, Thread, Cell, State, threadOf, cellOf, place, latest, step, may, SC}
+use Rattle.machine.specs.State.{Event, Thread, Cell, State, threadOf, cellOf, place, latest, step, SC}
 use Rattle.machine.specs.Graph.{graphOf}
 use Rattle.machine.specs.Trail.{Action, writes, action, trail, who, conflict}
 use Rattle.machine.proofs.Regular.{Regular, regular-step, regular-run}
+use Rattle.machine.proofs.Rows.{same-reads, same-writes}
 use Rattle.machine.proofs.Growth.{Grown, grown, same-latest, no-growth}
-use Rattle.machine.proofs.Reading.{before-end, Turn, first-turn, same-reads, same-writes, same-place, source, same-source}
-use Rattle.machine.proofs.Determined.{Meeting, determined}
+use Rattle.machine.proofs.Reading.{before-end, Turn, first-turn, same-place, source, same-source}
+use Rattle.machine.proofs.Determined.{determined}
 use Rattle.machine.proofs.Trails.{writes-own, blind-writes, still-takes, first-at, clear-at, same-action}
 
 -- a list is empty or has a last element

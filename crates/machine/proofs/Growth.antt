@@ -1,47 +1,18 @@
--- How a run grows: reads and writes are added in front, and the writes added are new. So a location whose latest write is the same before
--- and after was not written in between.
-use Prim.Native.Nat.{ℕ, zero, suc, _+_, _<_, _≤_}
+-- What a run adds at a location: events that are new. So a location whose latest write is the same before and after was not written in
+-- between.
+use Prim.Native.Nat.{ℕ, _<_, _≤_}
 use mathlib.Core.Path.{_≡_, refl, sym, ap, subst, _∙_}
-use mathlib.Core.Logic.{_≢_, _⊎_, inl, inr, ⊎-elim}
-use mathlib.Core.Bool.{Bool, true, false}
-use mathlib.Core.Option.{Option, none, some}
-use mathlib.Core.List.{List, [], _∷_, _++_, append-assoc, append-nil, List·Memᴰ, List·Memᴰ·head, List·Memᴰ·tail, List·Memᴰ·cases-cons, List·Memᴰ·not-nil, List·Memᴰ·append-cases}
+use mathlib.Core.Logic.{_⊎_, inl, inr, ⊎-elim}
+use mathlib.Core.Bool.{true}
+use mathlib.Core.List.{List, [], _∷_, _++_, append-assoc, List·Memᴰ, List·Memᴰ·head, List·Memᴰ·tail, List·Memᴰ·cases-cons, List·Memᴰ·not-nil, List·Memᴰ·append-cases}
 use native.Mathlib.Omega.{arith}
-use native.Mathlib.Decide.{ℕ-discrete}
 use lib.ListN.{length, length-append}
 use Rattle.schedules.specs.Order.{Schedule}
 use Rattle.schedules.specs.System.{run, Allowed}
-use Rattle.machine.specs.Local.{takes}
-use Rattle.machine.specs.State.{Event, initialWrite, Thread, Cell, State, threadOf, cellOf, place, latest, noted, advanced, step, may, SC}
-use Rattle.machine.proofs.Suffix.{Suffix, suffix-same, suffix-trans}
-use Rattle.machine.proofs.Access.{next-suffix}
-use Rattle.machine.proofs.Steps.{may-small, may-pending, may-range, thread-own, thread-other}
-use Rattle.machine.proofs.Change.{thread-cases, addedRead, noted-reads, done-own, done-grows, Change, kept, wrote}
+use Rattle.machine.specs.State.{Event, initialWrite, Cell, State, threadOf, cellOf, latest, step, may, SC}
+use Rattle.machine.proofs.Steps.{may-small, may-range}
+use Rattle.machine.proofs.Change.{done-grows, Change, kept, wrote}
 use Rattle.machine.proofs.Regular.{Regular, changes, regular-step, regular-run}
-
--- the counts of accesses done only grow
-pub done-run : (z : Schedule) (σ : State) → Allowed SC σ z → (u : ℕ) → threadOf σ u .history .done ≤ threadOf (run SC σ z) u .history .done
-unfolding run
-done-run [] σ a u = omega arith
-done-run (t ∷ z) σ a u = omega (arith, done-grows σ t (may-range σ t (a .0)) u, done-run z (step σ t) (a .1) u)
-
--- what is left of a thread's code is an end of what was left
-pub rest-run : (z : Schedule) (σ : State) → Allowed SC σ z → (u : ℕ) → Suffix (threadOf (run SC σ z) u .local .rest) (threadOf σ u .local .rest)
-unfolding run advanced
-rest-run [] σ a u = suffix-same (threadOf σ u .local .rest)
-rest-run (t ∷ z) σ a u =
-    suffix-trans (rest-run z (step σ t) (a .1) u)
-    (thread-cases (λ k h. Suffix (h .local .rest) (threadOf σ k .local .rest)) σ t (may-range σ t (a .0)) (next-suffix (threadOf σ t .local) _ (may-pending σ t (a .0))) u (λ ne. suffix-same (threadOf σ u .local .rest)))
-
--- what a run adds to a thread's reads
-pub grown-reads : (z : Schedule) (σ : State) → Allowed SC σ z → (u : ℕ) → (new : List (ℕ × Event)) × (threadOf (run SC σ z) u .history .reads ≡ new ++ threadOf σ u .history .reads)
-unfolding run advanced
-grown-reads [] σ a u = ([], refl)
-grown-reads (t ∷ z) σ a u =
-    let g = grown-reads z (step σ t) (a .1) u in
-    let n = thread-cases (λ k h. (new : List (ℕ × Event)) × (h .history .reads ≡ new ++ threadOf σ k .history .reads)) σ t (may-range σ t (a .0))
-    (addedRead (takes (threadOf σ t .local)) (threadOf σ t .history .done) (latest (cellOf σ (place σ t) .writes)), noted-reads _ _ _) u (λ ne. ([], refl)) in
-    (g .0 ++ n .0, g .1 ∙ ap (λ (k : List (ℕ × Event)). g .0 ++ k) (n .1) ∙ sym (append-assoc (g .0) (n .0) (threadOf σ u .history .reads)))
 
 -- an event that comes after this state
 pub record Fresh (σ : State) (x : Event) : Type 0 where

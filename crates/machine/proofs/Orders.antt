@@ -1,20 +1,20 @@
 -- The steps of a run in another order: any order of them in which no two conflicting ones, and no two of one thread, change places is full
 -- and ends in the same state. The least such order is found by taking the least thread whose next step waits for none.
 use Prim.Native.Nat.{ℕ}
-use mathlib.Core.Path.{_≡_, refl, sym, ap, subst, _∙_}
-use mathlib.Core.Logic.{_≢_, _⊎_, inl, inr, Ne·symm}
+use mathlib.Core.Path.{_≡_, refl, sym, _∙_}
+use mathlib.Core.Logic.{_≢_, inl, inr, Ne·symm}
 use mathlib.Core.Bool.{Bool, true, false, true≢false}
 use mathlib.Core.List.{List, _∷_}
-use mathlib.Core.Option.{Option, some}
-use borrow.Author.Tests.{eqb-false, eqb-true}
+use mathlib.Core.Option.{some}
+use borrow.Author.Tests.{eqb-false}
 use lib.Dec.{eqb}
 use Rattle.schedules.specs.Order.{Schedule}
 use Rattle.schedules.specs.System.{run, FullFrom}
-use Rattle.schedules.specs.Orders.{trace, nextOf, clear, takeOut, OrderOf}
+use Rattle.schedules.specs.Orders.{nextOf, clear, takeOut, OrderOf}
 use Rattle.schedules.proofs.Order.{AtMost}
 use Rattle.schedules.proofs.Front.{Commute}
 use Rattle.schedules.proofs.Orders
-use Rattle.machine.specs.State.{State, cellOf, threadOf, place, step, may, SC}
+use Rattle.machine.specs.State.{State, cellOf, place, step, may, SC}
 use Rattle.machine.specs.Trail.{Action, writes, action, trail, who, conflict, leastOf}
 use Rattle.machine.proofs.Steps.{thread-other, place-other, may-other}
 use Rattle.machine.proofs.Lawful.{lawful, names-ascend}

@@ -1,25 +1,21 @@
 -- What the graph at the end of a run says of a step on the way: the thread takes a turn as long as it has not ended, and the source of a
 -- read stands at its place in the reads of the end.
-use Prim.Native.Nat.{ℕ, zero, suc, _+_, _<_, _≤_}
-use mathlib.Core.Path.{_≡_, refl, sym, ap, ap₂, subst, _∙_}
-use mathlib.Core.Logic.{_≢_, _⊎_, inl, inr, ⊎-elim}
+use Prim.Native.Nat.{ℕ}
+use mathlib.Core.Path.{_≡_, refl, sym, ap, ap₂, _∙_}
+use mathlib.Core.Logic.{_≢_, ⊎-elim}
 use mathlib.Core.Bool.{Bool, true, false, true≢false}
-use mathlib.Core.Option.{Option, none, some}
 use mathlib.Core.List.{List, [], _∷_, _++_, append-assoc, append-cancel-right, List·Memᴰ, List·Memᴰ·not-nil, List·Memᴰ·cases-cons}
 use native.Mathlib.Decide.{ℕ-discrete}
-use lib.ListN.{length, getD}
 use Rattle.schedules.specs.Order.{Schedule}
-use Rattle.schedules.specs.System.{run, ended, Allowed, FullFrom}
+use Rattle.schedules.specs.System.{run, Allowed, FullFrom}
 use Rattle.schedules.proofs.Runs.{ended-none}
 use Rattle.machine.specs.Local.{Local, pending, placeOf, takes, puts, next}
 use Rattle.machine.specs.State.{Event, History, Thread, Cell, State, threadOf, cellOf, place, latest, noted, advanced, step, may, SC}
-use Rattle.machine.specs.Graph.{Graph, graphOf}
 use Rattle.machine.proofs.Access.{blind-next, blind-puts}
 use Rattle.machine.proofs.Steps.{may-range, may-other, thread-own, thread-other}
 use Rattle.machine.proofs.Change.{addedRead, noted-reads}
 use Rattle.machine.proofs.Lawful.{lawful}
-use Rattle.machine.proofs.Exchange.{reads-at, writes-at}
-use Rattle.machine.proofs.Growth.{grown-reads}
+use Rattle.machine.proofs.Histories.{run-row}
 
 -- the element before a common end
 lastOr : {A : Type 0} → A → List A → A
@@ -61,13 +57,6 @@ first-turn (a ∷ w) σ t f e = go (ℕ-discrete t a) (λ ne. first-turn w (step
           waits = r .waits ∙ thread-other σ a t q;
         }
 
--- equal graphs, read off
-pub same-reads : (α β : State) → graphOf α ≡ graphOf β → (u : ℕ) → threadOf α u .history .reads ≡ threadOf β u .history .reads
-same-reads α β e u = sym (reads-at α u) ∙ ap (λ (g : Graph). getD (g .reads) u []) e ∙ reads-at β u
-
-pub same-writes : (α β : State) → graphOf α ≡ graphOf β → (l : ℕ) → cellOf α l .writes ≡ cellOf β l .writes
-same-writes α β e l = sym (writes-at α l) ∙ ap (λ (g : Graph). getD (g .writes) l []) e ∙ writes-at β l
-
 pub same-place : (τ ρ : State) (b : ℕ) → threadOf τ b ≡ threadOf ρ b → place τ b ≡ place ρ b
 unfolding place
 same-place τ ρ b q = ap (λ (h : Thread). placeOf (h .local)) q
@@ -86,7 +75,7 @@ pub source-at : (τ : State) (b : ℕ) (y : Schedule) → Allowed SC τ (b ∷ y
     (new : List (ℕ × Event)) × (threadOf (run SC τ (b ∷ y)) b .history .reads ≡ new ++ ((threadOf τ b .history .done, source τ b) ∷ threadOf τ b .history .reads))
 unfolding run advanced
 source-at τ b y v e =
-    let g = grown-reads y (step τ b) (v .1) b in
+    let g = run-row y (step τ b) (v .1) b in
     let h = threadOf τ b .history in (
       g .0,
       g .1 ∙ ap (λ (k : List (ℕ × Event)). g .0 ++ k)

@@ -1,8 +1,7 @@
 -- T3(b): two full schedules with one graph are orders of the same steps. The first step of the one can be pulled to the front of the other,
 -- and so on; so both end in the same state, and the least order of the steps is the least schedule with that graph.
-use Prim.Native.Nat.{ℕ}
 use mathlib.Core.Path.{_≡_, refl, sym, ap, subst, _∙_}
-use mathlib.Core.Bool.{Bool, true, false, true≢false}
+use mathlib.Core.Bool.{true, true≢false}
 use mathlib.Core.List.{List, [], _∷_}
 use Rattle.program.specs.Program.{Program}
 use Rattle.program.specs.WellFormed.{WellFormed}
@@ -10,9 +9,9 @@ use Rattle.schedules.specs.Order.{Schedule}
 use Rattle.schedules.specs.System.{run, ended, FullFrom}
 use Rattle.schedules.specs.Orders.{trace}
 use Rattle.schedules.proofs.Order.{AtMost}
-use Rattle.schedules.proofs.Runs.{run-cons, ended-none}
+use Rattle.schedules.proofs.Runs.{ended-none}
 use Rattle.schedules.proofs.Orders as Ordered
-use Rattle.machine.specs.State.{State, step, may, start, SC}
+use Rattle.machine.specs.State.{State, step, start, SC}
 use Rattle.machine.specs.Graph.{graphOf, graph, Full, endOf}
 use Rattle.machine.specs.Trail.{Action, action, trail, who, conflict, leastOf}
 use Rattle.machine.proofs.Lawful.{lawful}

@@ -1,16 +1,15 @@
 -- T1, the swap law: two steps of different threads that go to different locations, or that both leave theirs as it is, commute. It is an
 -- equation of whole states, and each step does after the other what it would have done before it.
 use Prim.Native.Nat.{ℕ}
-use mathlib.Core.Path.{_≡_, refl, sym, ap, ap₂, subst, _∙_}
+use mathlib.Core.Path.{_≡_, refl, sym, ap₂, _∙_}
 use mathlib.Core.Logic.{_≢_, _⊎_, inl, inr, Ne·symm}
-use mathlib.Core.Bool.{Bool, true, false, true≢false}
+use mathlib.Core.Bool.{false, true≢false}
 use mathlib.Core.List.{List}
 use mathlib.Core.Option.{Option, none, some}
-use lib.ListN.{getD, set}
+use lib.ListN.{set}
 use lib.Seq.{set-getD, set-comm}
-use Rattle.machine.specs.Local.{puts}
 use Rattle.machine.specs.State.{Event, State, Thread, Cell, threadOf, cellOf, place, advanced, written, met, step}
-use Rattle.machine.specs.Trail.{Action, given, writes, action}
+use Rattle.machine.specs.Trail.{given, writes, action}
 use Rattle.machine.proofs.Steps.{thread-other, place-other, cell-other}
 
 -- the two next accesses go to different locations, or neither writes
