@@ -26,7 +26,7 @@ use Rattle.machine.proofs.Suffix.{Suffix}
 use Rattle.machine.proofs.Steps.{may-pending, missing, thread-other, place-other}
 use Rattle.machine.proofs.Regular.{Regular, regular-start, regular-run}
 use Rattle.machine.proofs.Swap.{Independent}
-use Rattle.machine.proofs.Growth.{rest-run}
+use Rattle.machine.proofs.Histories.{rest-run}
 use Rattle.machine.proofs.Reading.{Turn, first-turn}
 use Rattle.machine.proofs.Ahead.{puts-not, elsewhere, meet-end}
 use Rattle.listing.specs.Alike.{Smaller}

@@ -22,12 +22,13 @@ use Rattle.machine.specs.Local.{Local}
 use Rattle.machine.specs.State.{Event, History, Thread, Cell, State, freshCell, threadOf, cellOf, opened, start, SC}
 use Rattle.machine.specs.Graph.{graphOf, graph, endOf, Full}
 use Rattle.machine.specs.Exchange.{Permutation, movedSchedule, Turns}
-use Rattle.machine.proofs.Suffix.{Suffix, suffix-trans, suffix-equal, everywhere-at}
+use Rattle.machine.proofs.Suffix.{Suffix, suffix-trans, suffix-equal}
+use Rattle.machine.proofs.Everywhere.{everywhere-at}
 use Rattle.machine.proofs.Access.{begin-law}
 use Rattle.machine.proofs.Steps.{run-threads}
 use Rattle.machine.proofs.Start.{start-threads, start-thread}
 use Rattle.machine.proofs.Regular.{regular-start, regular-run}
-use Rattle.machine.proofs.Growth.{rest-run}
+use Rattle.machine.proofs.Histories.{rest-run}
 use Rattle.machine.proofs.Exchange.{moves-full, moves-graph}
 use Rattle.listing.specs.Alike.{Smaller}
 use Rattle.listing.specs.ListOf.{together, sameRead, sameList}
