@@ -18,3 +18,5 @@ pub mod Cuts
 pub mod Unbeaten
 -- the list is document 01's, and the search walks it
 pub mod TheList
+-- T5: exactly one listed schedule for each full one, with the same outcome
+pub mod Outcome

@@ -19,16 +19,15 @@ use Rattle.schedules.proofs.Lists.{all-at, all-of}
 use Rattle.schedules.proofs.Order.{less-heads, less-behind}
 use Rattle.schedules.proofs.Runs.{run-append, full-split, full-join}
 use Rattle.machine.specs.Local.{Local}
-use Rattle.machine.specs.State.{Event, History, Thread, Cell, State, freshCell, threadOf, cellOf, opened, start, SC}
+use Rattle.machine.specs.State.{Event, History, Thread, Cell, State, freshCell, threadOf, cellOf, start, SC}
 use Rattle.machine.specs.Graph.{graphOf, graph, endOf, Full}
 use Rattle.machine.specs.Exchange.{Permutation, movedSchedule, Turns}
-use Rattle.machine.proofs.Suffix.{Suffix, suffix-trans, suffix-equal}
+use Rattle.machine.proofs.Suffix.{Suffix, suffix-equal}
 use Rattle.machine.proofs.Everywhere.{everywhere-at}
-use Rattle.machine.proofs.Access.{begin-law}
 use Rattle.machine.proofs.Steps.{run-threads}
-use Rattle.machine.proofs.Start.{start-threads, start-thread}
+use Rattle.machine.proofs.Start.{start-threads}
 use Rattle.machine.proofs.Regular.{regular-start, regular-run}
-use Rattle.machine.proofs.Histories.{rest-run}
+use Rattle.machine.proofs.Histories.{rest-code}
 use Rattle.machine.proofs.Exchange.{moves-full, moves-graph}
 use Rattle.listing.specs.Alike.{Smaller}
 use Rattle.listing.specs.ListOf.{together, sameRead, sameList}
@@ -98,17 +97,12 @@ module _ (p : Program) (w : WellFormed p) where
         g .equal u t (k .2) (k .3),
       )
 
-  -- what is left of a thread's code is an end of it
-  code-end : (v : Schedule) → Allowed SC (start p) v → (x : ℕ) → x < length (p .threads) → Suffix (threadOf (endOf p v) x .local .rest) (codeOf p x)
-  unfolding opened
-  code-end v a x h = suffix-trans (rest-run v (start p) a x) (subst (λ (k : Thread). Suffix (k .local .rest) (codeOf p x)) (sym (start-thread p x h)) (begin-law (codeOf p x) .1))
-
   twins-equal : (v : Schedule) → Allowed SC (start p) v → (u t : ℕ) → Together p u t → sameLocal (threadOf (endOf p v) u .local) (threadOf (endOf p v) t .local) ≡ true →
       sameHistory (threadOf (endOf p v) u .history) (threadOf (endOf p v) t .history) ≡ true → threadOf (endOf p v) u ≡ threadOf (endOf p v) t
   twins-equal v a u t k e f =
       let r = members u t k in
       ap₂ (λ (l : Local) (h : History). let z : Thread = record { local = l; history = h } in z)
-      (same-local _ _ (λ n. suffix-equal (codeOf p t) _ _ (subst (Suffix _) (r .2) (code-end v a u (r .0))) (code-end v a t (r .1)) n) e) (same-history _ _ f)
+      (same-local _ _ (λ n. suffix-equal (codeOf p t) _ _ (subst (Suffix _) (r .2) (rest-code p v a u)) (rest-code p v a t) n) e) (same-history _ _ f)
 
   -- R2
   pub twin-smaller : (v : Schedule) (u t : ℕ) (z : Schedule) → u < t → twin p (endOf p v) t u ≡ true → Full p (v ++ (t ∷ z)) → Smaller p (v ++ (t ∷ z))

@@ -7,3 +7,5 @@ pub mod ListOf
 pub mod Rules
 -- the search by these rules
 pub mod Search
+-- what the four calls answer
+pub mod Answers

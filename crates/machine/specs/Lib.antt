@@ -7,3 +7,4 @@ pub mod Trail
 pub mod Ahead
 pub mod Exchange
 pub mod Examples
+pub mod Given
