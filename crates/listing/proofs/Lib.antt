@@ -20,3 +20,5 @@ pub mod Unbeaten
 pub mod TheList
 -- T5: exactly one listed schedule for each full one, with the same outcome
 pub mod Outcome
+-- what violation answers
+pub mod Violations

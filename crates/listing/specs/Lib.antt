@@ -9,3 +9,5 @@ pub mod Rules
 pub mod Search
 -- what the four calls answer
 pub mod Answers
+-- the promise as a whole
+pub mod Demand3
