@@ -22,3 +22,9 @@ pub mod TheList
 pub mod Outcome
 -- what violation answers
 pub mod Violations
+-- every program has a run
+pub mod SomeRun
+-- a list of calls walks the list
+pub mod Calls
+-- demand 3 holds
+pub mod Demand3
