@@ -5,6 +5,8 @@ pub mod Local
 pub mod State
 -- schedules of a program, full and failing, and their graphs
 pub mod Graph
+-- what a schedule handed over comes to: whole, or refused by 20 or 21
+pub mod Replay
 -- the text of a graph
 pub mod Text
 -- what the steps of a run did, which of them conflict, and the least order of them
