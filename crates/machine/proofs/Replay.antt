@@ -1,7 +1,7 @@
 -- Replaying a schedule: it is whole exactly when it is full, refused by 20 exactly at the first byte that may not step, and by 21 exactly when
 -- all its bytes may step but not all threads have ended behind them.
-use Prim.Native.Nat.{ℕ, zero, suc, _+_}
-use mathlib.Core.Path.{_≡_, refl, sym, ap, subst, _∙_}
+use Prim.Native.Nat.{ℕ, suc, _+_}
+use mathlib.Core.Path.{_≡_, refl, sym, ap, _∙_}
 use mathlib.Core.Logic.{_↔_}
 use mathlib.Core.Bool.{Bool, true, false}
 use mathlib.Core.List.{List, [], _∷_, _++_}
@@ -12,7 +12,7 @@ use Rattle.schedules.specs.Order.{Schedule}
 use Rattle.schedules.specs.System.{run, ended, Allowed, FullFrom}
 use Rattle.machine.specs.State.{State, step, may, SC, start}
 use Rattle.machine.specs.Graph.{Full, endOf}
-use Rattle.machine.specs.Replay.{Replayed, whole, refused, replayFrom, replay}
+use Rattle.machine.specs.Replay.{whole, refused, replayFrom, replay}
 
 -- the byte behind u is the first that may not step
 abbrev pub StopsBehind : State → Schedule → Schedule → Type 0

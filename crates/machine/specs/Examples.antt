@@ -2,7 +2,7 @@
 use Prim.Native.Nat.{ℕ}
 use mathlib.Core.Path.{_≡_, refl}
 use mathlib.Core.Bool.{Bool, true, false}
-use mathlib.Core.List.{List, [], _∷_}
+use mathlib.Core.List.{List, [], _∷_, map}
 use Rattle.program.specs.Program.{Program, initial}
 use Rattle.program.specs.declared.instruction.Operand.the-variants.{Constant, Register}
 use Rattle.program.specs.declared.instruction.Instruction.the-variants.{Store, Load, FetchAdd, CompareSwap, Assign, AddAssign, SkipUnless, Assert}
@@ -16,6 +16,7 @@ use Rattle.schedules.specs.Orders.{trace, nextOf, clear, clearOf, ready, takeOu
 use Rattle.machine.specs.Local.{eval, sum32, skipped, settle, beginsWithAccess, firstPlace, firstTakes, firstPuts, firstNext, pending, placeOf, takes, puts, next, begin}
 use Rattle.machine.specs.State.{initialWrite, noThread, freshCell, threadOf, cellOf, place, latest, noted, advanced, written, met, step, may, SC, opened, start, failedOf, fails, valueOf, memoryOf}
 use Rattle.machine.specs.Graph.{readsOf, writesOf, graphOf, graph, endOf}
+use Rattle.machine.specs.Replay.{refused, replayFrom, replay}
 use Rattle.machine.specs.Text.{readFrame, readFrames, eventBytes, writeFrame, writeFrames, frames, textOf, graphText}
 use Rattle.machine.specs.Trail.{given, writes, action, trail, who, conflict, leastOf}
 
@@ -51,6 +52,9 @@ wraps = record {
       Assign 1 (Constant 0xffffffff) ∷
       AddAssign 1 (Constant 1) ∷
       Assert 1 (Constant 0) ∷
+      Assign 1 (Constant 5) ∷
+      AddAssign 1 (Register 1) ∷
+      Assert 1 (Constant 10) ∷
       Store 3 (Constant 0xffffffff) ∷
       Assign 0 (Constant 2) ∷
       FetchAdd 0 3 (Register 0) ∷
@@ -87,6 +91,11 @@ spelt =
 pair-text : graphText (graph pair (0 ∷ 0 ∷ 1 ∷ 1 ∷ [])) ≡ spelt
 unfolding seen pair spelt textOf graphText text digits digitOf
 pair-text = refl
+
+-- a byte that names no thread, one behind the end, and a schedule that is not full
+refusals : map (replay pair) ((1 ∷ 2 ∷ []) ∷ (0 ∷ 0 ∷ 1 ∷ 1 ∷ 0 ∷ []) ∷ (0 ∷ 0 ∷ 1 ∷ []) ∷ (0 ∷ 9 ∷ []) ∷ []) ≡ refused 20 1 ∷ refused 20 4 ∷ refused 21 3 ∷ refused 20 1 ∷ []
+unfolding seen pair replay replayFrom
+refusals = refl
 
 -- the least order of a run's steps: a reader stays before the store that it did not see, and stores to different locations change places
 least : leastOf (trail (start stores) (2 ∷ 0 ∷ 1 ∷ [])) ≡ 2 ∷ 0 ∷ 1 ∷ []
