@@ -35,7 +35,6 @@ pub mod Determined
 pub mod Trails
 pub mod FirstFits
 pub mod SameGraph
-pub mod Ahead
 -- a schedule given: refused or full
 pub mod Given
 -- graph text: it tells graphs apart, and is at most 400 bytes long
@@ -43,3 +42,11 @@ pub mod Frames
 pub mod Text
 pub mod TextLength
 pub mod Printed
+-- for the listing: graphs and trails of exchanged schedules, what an exchange leaves as it is, steps that can be moved, and what is left to do
+pub mod Turning
+pub mod ProgramGraphs
+pub mod ExchangedTrail
+pub mod FixedState
+pub mod FreeSteps
+pub mod Ahead
+pub mod Remote

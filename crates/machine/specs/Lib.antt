@@ -14,6 +14,7 @@ pub mod Trail
 pub mod Ahead
 -- exchanging threads: permitted permutations, and states and graphs turned into others
 pub mod Exchange
+pub mod ExchangedTrail
 -- the definitions computed
 pub mod Examples
 pub mod Given
