@@ -1,79 +1,34 @@
 -- R3 is sound: a thread whose next access is late, and which nothing left to the others could conflict with, stays late until it steps.
 use Prim.Native.Nat.{ℕ, _<_, _≤_}
 use mathlib.Core.Path.{_≡_, refl, sym, ap, ap₂, subst, _∙_}
-use mathlib.Core.Logic.{_≢_, _⊎_, inl, inr, Ne·symm}
 use mathlib.Core.Bool.{Bool, true, false, not, true≢false, false≢true, _&&_, _||_}
-use mathlib.Core.Option.{Option, none}
-use mathlib.Core.List.{List, [], _∷_, _++_, append-assoc, List·Memᴰ, List·Memᴰ·head, List·Memᴰ·tail}
+use mathlib.Core.List.{List, [], _∷_, _++_, append-assoc}
 use native.Mathlib.Omega.{arith}
 use native.Mathlib.Decide.{decLt}
 use lib.Dec.{eqb}
 use borrow.Author.Tests.{ne-eqb}
 use Rattle.program.specs.Program.{Program}
 use Rattle.program.specs.WellFormed.{WellFormed}
-use Rattle.schedules.specs.Lists.{upTo, any, all}
+use Rattle.schedules.specs.Lists.{upTo, all}
 use Rattle.schedules.specs.Order.{Schedule}
-use Rattle.schedules.specs.System.{run, Allowed, FullFrom}
+use Rattle.schedules.specs.System.{run, FullFrom}
 use Rattle.schedules.proofs.Lists.{in-upTo, all-at}
 use Rattle.schedules.proofs.Front.{Free}
 use Rattle.schedules.proofs.Runs.{run-append, full-split}
-use Rattle.machine.specs.Local.{Local, pending, placeOf, puts}
-use Rattle.machine.specs.State.{Thread, State, noThread, threadOf, cellOf, place, step, may, start, SC}
+use Rattle.machine.specs.State.{Thread, State, threadOf, place, may, start, SC}
 use Rattle.machine.specs.Graph.{endOf, Full}
-use Rattle.machine.specs.Trail.{given, writes, action}
+use Rattle.machine.specs.Trail.{action}
 use Rattle.machine.specs.Ahead.{mayPut, couldMeet}
-use Rattle.machine.proofs.Suffix.{Suffix}
-use Rattle.machine.proofs.Steps.{may-pending, missing, thread-other, place-other}
+use Rattle.machine.proofs.Steps.{missing}
 use Rattle.machine.proofs.Regular.{Regular, regular-start, regular-run}
 use Rattle.machine.proofs.Swap.{Independent}
-use Rattle.machine.proofs.Histories.{rest-run}
 use Rattle.machine.proofs.Reading.{Turn, first-turn}
-use Rattle.machine.proofs.Ahead.{puts-not, elsewhere, meet-end}
+use Rattle.machine.proofs.FreeSteps.{free-append}
+use Rattle.machine.proofs.Remote.{Remote, nothing-meets, remote-free}
 use Rattle.listing.specs.Alike.{Smaller}
 use Rattle.listing.specs.Rules.{late, taken, asleep}
 use Rattle.listing.proofs.Tests.{and-both}
 use Rattle.listing.proofs.Late.{Passes, late-passes, passed-smaller}
-
--- nothing left to any other thread could conflict with t's next access
-abbrev Remote : State → ℕ → Type 0
-Remote σ t = (u : ℕ) → u ≢ t → couldMeet (place σ t) (mayPut (threadOf σ t .local)) (threadOf σ u .local) ≡ false
-
-writes-not : (σ : State) (t : ℕ) → ((x : ℕ) → puts (threadOf σ t .local) x ≡ none) → writes σ t ≡ false
-unfolding writes given
-writes-not σ t h = ap given (h (cellOf σ (place σ t) .value))
-
-remote-independent : (σ : State) (a t : ℕ) → may σ a ≡ true → a ≢ t → Remote σ t → Independent σ a t
-unfolding place
-remote-independent σ a t m ne r = go (elsewhere (place σ t) (mayPut (threadOf σ t .local)) (threadOf σ a .local) (may-pending σ a m) (r a ne))
-  where
-    go : (placeOf (threadOf σ a .local) ≢ place σ t) ⊎ ((mayPut (threadOf σ t .local) ≡ false) × ((x : ℕ) → puts (threadOf σ a .local) x ≡ none)) → Independent σ a t
-    go (inl q) = inl q
-    go (inr q) = inr (writes-not σ a (q .1), writes-not σ t (puts-not (threadOf σ t .local) (q .0)))
-
-remote-step : (σ : State) (a t : ℕ) → may σ a ≡ true → a ≢ t → Remote σ t → Remote (step σ a) t
-unfolding run
-remote-step σ a t m ne r u nu =
-    let k = meet-end (place σ t) (mayPut (threadOf σ t .local)) (threadOf σ u .local) (threadOf (step σ a) u .local) (rest-run (a ∷ []) σ (m, tt) u) (r u nu) in
-    let e = thread-other σ a t (Ne·symm ne) in
-    let q = place-other σ a t (Ne·symm ne) in
-    rw (q, e) k
-
--- so every step before t's turn leaves it free
-remote-free : (z : Schedule) (σ : State) (t : ℕ) → Allowed SC σ z → (List·Memᴰ t z → ⊥) → Remote σ t → Free SC Independent σ z t
-remote-free [] σ t a n r = tt
-remote-free (b ∷ z) σ t a n r =
-    let ne : b ≢ t = λ q. n (List·Memᴰ·head (sym q)) in
-    (ne, remote-independent σ b t (a .0) ne r, remote-free z (step σ b) t (a .1) (λ m. n (List·Memᴰ·tail m)) (remote-step σ b t (a .0) ne r))
-
-free-append : (x y : Schedule) (σ : State) (t : ℕ) → Free SC Independent σ x t → Free SC Independent (run SC σ x) y t → Free SC Independent σ (x ++ y) t
-unfolding run
-free-append [] y σ t f g = g
-free-append (a ∷ x) y σ t f g = (f .0, f .1, free-append x y (step σ a) t (f .2) g)
-
--- a thread that does not exist could do nothing
-nothing-meets : (l : ℕ) (w : Bool) → couldMeet l w (noThread .local) ≡ false
-unfolding couldMeet noThread any
-nothing-meets l w = refl
 
 not-true : (b : Bool) → not b ≡ true → b ≡ false
 not-true true e = absurd (false≢true e)

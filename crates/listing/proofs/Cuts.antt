@@ -9,16 +9,14 @@ use Rattle.program.specs.Program.{Program}
 use Rattle.program.specs.WellFormed.{WellFormed}
 use Rattle.schedules.specs.Lists.{upTo, any}
 use Rattle.schedules.specs.Order.{Schedule}
-use Rattle.schedules.specs.System.{run}
 use Rattle.schedules.proofs.Lists.{of-upTo, any-yes}
-use Rattle.schedules.proofs.Runs.{run-append}
-use Rattle.machine.specs.State.{State, step, SC, start}
+use Rattle.machine.specs.State.{State, step, start}
 use Rattle.machine.specs.Graph.{endOf, Full}
 use Rattle.machine.specs.Trail.{action}
 use Rattle.listing.specs.Alike.{Smaller}
 use Rattle.listing.specs.Rules.{late, taken, twin, asleep, cut}
 use Rattle.listing.proofs.Tests.{or-either}
-use Rattle.listing.proofs.Late.{run-one, late-smaller}
+use Rattle.listing.proofs.Late.{run-more, late-smaller}
 use Rattle.listing.proofs.Twins.{twin-smaller}
 use Rattle.listing.proofs.Asleep.{asleep-smaller}
 
@@ -33,7 +31,7 @@ cut-smaller p w v t z e f = go (or-either (late (taken p v) (action σ t)) _ e)
     rules (inl q) = let r = any-yes (twin p σ t) (upTo 0 t) q in let h = of-upTo 0 t (r .0) (r .1) .1 in twin-smaller p w v (r .0) t z (omega arith) (r .2) f
     rules (inr q) =
         let r = any-yes (asleep p (v ++ (t ∷ [])) (step σ t)) (upTo 0 6) q in
-        let here : step σ t ≡ endOf p (v ++ (t ∷ [])) = sym (run-append SC (start p) v (t ∷ []) ∙ run-one σ t) in
+        let here : step σ t ≡ endOf p (v ++ (t ∷ [])) = sym (run-more (start p) v t) in
         let whole = append-assoc v (t ∷ []) z in
         subst (Smaller p) whole (asleep-smaller p w (v ++ (t ∷ [])) z (r .0) (subst (λ (τ : State). asleep p (v ++ (t ∷ [])) τ (r .0) ≡ true) here (r .2)) (subst (Full p) (sym whole) f))
 

@@ -11,46 +11,35 @@ use Rattle.program.specs.Program.{Program}
 use Rattle.program.specs.WellFormed.{WellFormed}
 use Rattle.schedules.specs.Order.{Schedule}
 use Rattle.schedules.specs.System.{run}
-use Rattle.schedules.specs.Orders.{trace}
 use Rattle.schedules.proofs.Front.{Free, moved-less}
-use Rattle.schedules.proofs.Runs.{run-append}
+use Rattle.schedules.proofs.Runs.{run-append, run-nil, run-cons}
 use Rattle.machine.specs.State.{State, step, SC, start}
-use Rattle.machine.specs.Graph.{graphOf, graph, endOf, Full}
+use Rattle.machine.specs.Graph.{endOf, Full}
 use Rattle.machine.specs.Trail.{Action, action, trail, conflict}
 use Rattle.machine.proofs.Swap.{Independent, action-after}
 use Rattle.machine.proofs.Orders.{apart, commute}
+use Rattle.machine.proofs.FreeSteps.{action-thread, free-action, trail-nil, trail-more}
+use Rattle.machine.proofs.ProgramGraphs.{graph-same-end}
 use Rattle.listing.specs.Alike.{Smaller}
 use Rattle.listing.specs.Rules.{late, taken}
 use Rattle.listing.proofs.Equivalence.{alike-graph}
-
-action-thread : (σ : State) (t : ℕ) → action σ t .thread ≡ t
-unfolding action
-action-thread σ t = refl
-
-pub run-one : (σ : State) (t : ℕ) → run SC σ (t ∷ []) ≡ step σ t
-unfolding run
-run-one σ t = refl
-
--- a step that is free of those before it does behind them what it would have done in front
-free-action : (z : Schedule) (σ : State) (t : ℕ) → Free SC Independent σ z t → action (run SC σ z) t ≡ action σ t
-unfolding run
-free-action [] σ t f = refl
-free-action (a ∷ z) σ t f = free-action z (step σ a) t (f .2) ∙ action-after σ a t (Ne·symm (f .0)) (f .1)
 
 -- the steps of a path that is given latest first, latest first
 abbrev back : State → Schedule → List Action
 back σ r = reverse (trail σ (reverse r))
 
-trail-append : (u s : Schedule) (σ : State) → trail σ (u ++ s) ≡ trail σ u ++ trail (run SC σ u) s
-unfolding trace run
-trail-append [] s σ = refl
-trail-append (a ∷ u) s σ = ap {B = List Action} (λ k. action σ a ∷ k) (trail-append u s (step σ a))
-
 back-cons : (a : ℕ) (r : Schedule) (σ : State) → back σ (a ∷ r) ≡ action (run SC σ (reverse r)) a ∷ back σ r
-unfolding trace
 back-cons a r σ =
-    ap (λ (k : Schedule). reverse (trail σ k)) (reverse-cons a r) ∙ ap (λ (k : List Action). reverse k) (trail-append (reverse r) (a ∷ []) σ)
+    ap (λ (k : Schedule). reverse (trail σ k)) (reverse-cons a r) ∙ ap (λ (k : List Action). reverse k) (trail-more (reverse r) a σ)
     ∙ reverse-append (trail σ (reverse r)) (action (run SC σ (reverse r)) a ∷ [])
+
+-- one step further
+pub run-more : (σ : State) (u : Schedule) (t : ℕ) → run SC σ (u ++ (t ∷ [])) ≡ step (run SC σ u) t
+run-more σ u t = run-append SC σ u (t ∷ []) ∙ run-cons SC (run SC σ u) t [] ∙ run-nil SC (step (run SC σ u) t)
+
+late-nothing : (b : Action) → late [] b ≡ false
+unfolding late
+late-nothing b = refl
 
 -- where the prefix v can be cut: a greater thread's step, and all behind it free for t
 pub record Passes (σ : State) (v : Schedule) (t : ℕ) : Type 0 where
@@ -62,8 +51,11 @@ pub record Passes (σ : State) (v : Schedule) (t : ℕ) : Type 0 where
   pub free : Free SC Independent (run SC σ front) (greater ∷ rest) t
 
 passes-back : (r z : Schedule) (σ : State) (t : ℕ) → Free SC Independent (run SC σ (reverse r)) z t → late (back σ r) (action (run SC (run SC σ (reverse r)) z) t) ≡ true → Passes σ (reverse r ++ z) t
-unfolding trace late
-passes-back [] z σ t f e = absurd (false≢true e)
+unfolding late
+passes-back [] z σ t f e = absurd (false≢true (sym (ap (λ (k : List Action). late (reverse k) b) (trail-nil σ) ∙ late-nothing b) ∙ e))
+  where
+    b : Action
+    b = action (run SC (run SC σ (reverse [])) z) t
 passes-back (a ∷ r) z σ t f e =
     go (eqb (action ρ a .thread) (b .thread)) refl (conflict (action ρ a) b) refl (ltb (b .thread) (action ρ a .thread)) refl
     (subst (λ (k : List Action). late k b ≡ true) (back-cons a r σ) e)
@@ -73,7 +65,7 @@ passes-back (a ∷ r) z σ t f e =
     ρ = run SC σ (reverse r)
 
     there : run SC σ (reverse (a ∷ r)) ≡ step ρ a
-    there = ap (run SC σ) (reverse-cons a r) ∙ run-append SC σ (reverse r) (a ∷ []) ∙ run-one ρ a
+    there = ap (run SC σ) (reverse-cons a r) ∙ run-more σ (reverse r) a
 
     b : Action
     b = action (run SC (run SC σ (reverse (a ∷ r))) z) t
@@ -112,20 +104,21 @@ passes-back (a ∷ r) z σ t f e =
 
 -- a late step passes a greater one
 pub late-passes : (p : Program) (v : Schedule) (t : ℕ) → late (taken p v) (action (endOf p v) t) ≡ true → Passes (start p) v t
-unfolding taken run
+unfolding taken
 late-passes p v t e =
     let r = reverse-reverse v in
+    let here = run-nil SC (run SC (start p) (reverse (reverse v))) in
     subst (λ (k : Schedule). Passes (start p) k t) (append-nil (reverse (reverse v)) ∙ r)
     (passes-back (reverse v) [] (start p) t tt
-    (subst (λ (k : Schedule). late (reverse (trail (start p) k)) (action (run SC (start p) k) t) ≡ true) (sym r) e))
+    (subst (λ (τ : State). late (reverse (trail (start p) (reverse (reverse v)))) (action τ t) ≡ true) (sym here)
+    (subst (λ (k : Schedule). late (reverse (trail (start p) k)) (action (run SC (start p) k) t) ≡ true) (sym r) e)))
 
 module _ (p : Program) (w : WellFormed p) where
   -- moved before the greater step: smaller, and alike by its graph
   pub passed-smaller : (v : Schedule) (a : ℕ) (z : Schedule) (t : ℕ) (s : Schedule) → t < a → Free SC Independent (endOf p v) (a ∷ z) t → Full p (v ++ ((a ∷ z) ++ (t ∷ s))) → Smaller p (v ++ ((a ∷ z) ++ (t ∷ s)))
-  unfolding graph
   passed-smaller v a z t s h fr f =
       let r = moved-less SC Independent commute (start p) v a z t s h fr f in
-      (r .0, r .1, r .2, alike-graph p w (r .0) (v ++ ((a ∷ z) ++ (t ∷ s))) (ap graphOf (r .3)))
+      (r .0, r .1, r .2, alike-graph p w (r .0) (v ++ ((a ∷ z) ++ (t ∷ s))) (graph-same-end p (r .0) (v ++ ((a ∷ z) ++ (t ∷ s))) (r .3)))
 
   -- R1
   pub late-smaller : (v : Schedule) (t : ℕ) (z : Schedule) → late (taken p v) (action (endOf p v) t) ≡ true → Full p (v ++ (t ∷ z)) → Smaller p (v ++ (t ∷ z))

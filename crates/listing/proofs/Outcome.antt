@@ -19,7 +19,7 @@ use Rattle.machine.proofs.Failing.{moves-fails}
 use Rattle.machine.proofs.SameGraph.{one-graph-one-end}
 use Rattle.listing.specs.Alike.{Exchange, Alike, Listed}
 use Rattle.listing.specs.ListOf.{alike, listOf}
-use Rattle.listing.proofs.Equivalence.{alike-refl, alike-sym, alike-trans, turned-once}
+use Rattle.listing.proofs.Equivalence.{alike-refl, alike-sym, alike-trans, exchanged-once}
 use Rattle.listing.proofs.Tests.{alike-exact}
 use Rattle.listing.proofs.TheList.{list-firsts, fulls-full, fulls-asc, list-exact}
 
@@ -30,7 +30,7 @@ module _ (p : Program) (w : WellFormed p) where
       let π = l .0 in
       let x = l .1 in
       let e = exchanged p w π (x .1) (x .0) a fa in
-      let g = turned-once p w π x a b (movedSchedule π a) (l .2) (exchanged-graph p w π (x .1) (x .0) a fa) in
+      let g = exchanged-once p w π x a b (movedSchedule π a) (l .2) (exchanged-graph p w π (x .1) (x .0) a fa) in
       subst (Moves π (endOf p a)) (sym (one-graph-one-end p w b (movedSchedule π a) fb (e .0) g)) (e .1)
 
   pub alike-fails : (a b : Schedule) → Full p a → Full p b → Alike p a b → fails (endOf p a) ≡ fails (endOf p b)

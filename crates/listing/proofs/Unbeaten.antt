@@ -9,39 +9,22 @@ use Rattle.program.specs.Program.{Program}
 use Rattle.program.specs.WellFormed.{WellFormed}
 use Rattle.schedules.specs.Lists.{all}
 use Rattle.schedules.specs.Order.{Schedule, less}
-use Rattle.schedules.specs.System.{run, FullFrom}
-use Rattle.schedules.specs.Orders.{trace}
 use Rattle.schedules.specs.Permutations.{moved}
 use Rattle.schedules.proofs.Lists.{all-at, all-not}
 use Rattle.schedules.proofs.Order.{AtMost, less-transitive}
-use Rattle.machine.specs.State.{State, Thread, Cell, threadOf, cellOf, place, step, SC, start}
-use Rattle.machine.specs.Graph.{graphOf, graph, endOf, Full}
-use Rattle.machine.specs.Trail.{Action, writes, action, trail, leastOf}
-use Rattle.machine.specs.Exchange.{Permutation, movedSchedule, movedThread, movedCell, Moves, Turns}
-use Rattle.machine.proofs.Regular.{regular-start}
-use Rattle.machine.proofs.Exchange.{moves-place, moves-cell, moves-step}
+use Rattle.machine.specs.State.{start}
+use Rattle.machine.specs.Graph.{graph, endOf, Full}
+use Rattle.machine.specs.Trail.{Action, trail, leastOf}
+use Rattle.machine.specs.Exchange.{movedSchedule, Turns}
+use Rattle.machine.specs.ExchangedTrail.{movedAction}
 use Rattle.machine.proofs.Permitted.{moves-start, exchanged, exchanged-graph}
-use Rattle.machine.proofs.SameGraph.{same-graph-least}
+use Rattle.machine.proofs.ExchangedTrail.{moves-trail}
+use Rattle.machine.proofs.ProgramGraphs.{graph-same-end, graph-least}
 use Rattle.listing.specs.Alike.{Exchange, Alike, Smaller}
 use Rattle.listing.specs.ListOf.{permitted}
-use Rattle.listing.specs.Rules.{movedAction, leastBy, unbeaten}
-use Rattle.listing.proofs.Equivalence.{alike-sym, turned-once}
+use Rattle.listing.specs.Rules.{leastBy, unbeaten}
+use Rattle.listing.proofs.Equivalence.{alike-sym, exchanged-once}
 use Rattle.listing.proofs.Tests.{tabled, permitted-exchange, exchange-permitted}
-
--- an exchanged run does the exchanged steps
-module _ (π : ℕ → ℕ) (q : Permutation π) where
-  moves-writes : (σ τ : State) → Moves π σ τ → (t : ℕ) → writes τ (π t) ≡ writes σ t
-  unfolding writes movedThread movedCell
-  moves-writes σ τ m t = rw (moves-place π q σ τ m t, moves-cell π q σ τ m (place σ t), m .threads t)
-
-  moves-action : (σ τ : State) → Moves π σ τ → (t : ℕ) → action τ (π t) ≡ movedAction π (action σ t)
-  unfolding action movedAction
-  moves-action σ τ m t = ap₂ (λ (l : ℕ) (b : Bool). let a : Action = record { thread = π t; location = l; wrote = b } in a) (moves-place π q σ τ m t) (moves-writes σ τ m t)
-
-  moves-trail : (z : Schedule) (σ τ : State) → Moves π σ τ → FullFrom SC σ z → trail τ (movedSchedule π z) ≡ map (movedAction π) (trail σ z)
-  unfolding trace movedSchedule
-  moves-trail [] σ τ m f = refl
-  moves-trail (t ∷ z) σ τ m f = ap₂ (λ (a : Action) (acts : List Action). a ∷ acts) (moves-action σ τ m t) (moves-trail z (step σ t) (step τ (π t)) (moves-step π q σ τ m t (f .0)) (f .1))
 
 module _ (p : Program) (w : WellFormed p) where
   -- the least schedule with the graph of s exchanged by π
@@ -51,16 +34,16 @@ module _ (p : Program) (w : WellFormed p) where
     pub least : (r : Schedule) → Full p r → Turns π (graph p s) (graph p r) → AtMost g r
 
   least-alike : (s : Schedule) → Full p s → (π : ℕ → ℕ) → Exchange p π → LeastAlike π s (leastOf (map (movedAction π) (trail (start p) s)))
-  unfolding graph
   least-alike s f π x =
       let e = exchanged p w π (x .1) (x .0) s f in
       let g = exchanged-graph p w π (x .1) (x .0) s f in
-      let o = same-graph-least (start p) (regular-start p w) (movedSchedule π s) (e .0) in
+      let o = graph-least p w (movedSchedule π s) (e .0) in
+      let least : Schedule = leastOf (trail (start p) (movedSchedule π s)) in
       let same = moves-trail π (x .0) s (start p) (start p) (moves-start p w π (x .1)) f in
       subst (λ (acts : List Action). LeastAlike π s (leastOf acts)) same (record {
         full = o .0;
-        turned = subst (λ (τ : State). Turns π (graph p s) (graphOf τ)) (sym (o .1)) g;
-        least = λ r fr t. o .2 r fr (turned-once p w π x s r (movedSchedule π s) t g);
+        turned = subst (Turns π (graph p s)) (sym (graph-same-end p least (movedSchedule π s) (o .1))) g;
+        least = λ r fr t. o .2 r fr (exchanged-once p w π x s r (movedSchedule π s) t g);
       })
 
   least-by : (s : Schedule) → Full p s → (π : List ℕ) → List·Memᴰ π (permitted p) → LeastAlike (moved π) s (leastBy π (trail (start p) s))

@@ -13,6 +13,7 @@ use Rattle.machine.specs.Local.{Local}
 use Rattle.machine.specs.State.{Event, History, Thread, Cell, State, threadOf, place, step, may, start}
 use Rattle.machine.specs.Trail.{Action, action, trail, conflict, leastOf}
 use Rattle.machine.specs.Ahead.{mayPut, couldMeet}
+use Rattle.machine.specs.ExchangedTrail.{movedAction}
 use Rattle.listing.specs.ListOf.{together, permitted, sameRead, sameList}
 
 -- R1, the step comes late: going back over steps of other threads that do not conflict with it, it passes one of a greater thread, so that
@@ -58,10 +59,6 @@ asleep p v σ t =
 -- a step of t behind v is given up: it is late, or has a smaller twin, or leaves some thread asleep for good
 unfoldable pub cut : Program → Schedule → State → ℕ → Bool
 cut p v σ t = late (taken p v) (action σ t) || (any (twin p σ t) (upTo 0 t) || any (asleep p (v ++ (t ∷ [])) (step σ t)) (upTo 0 6))
-
--- an action of the exchanged run
-unfoldable pub movedAction : (ℕ → ℕ) → Action → Action
-movedAction π a = record { thread = π (a .thread); location = a .location; wrote = a .wrote }
 
 -- the least schedule of the run exchanged by π
 unfoldable pub leastBy : List ℕ → List Action → Schedule
