@@ -3,7 +3,7 @@ use Prim.Native.Nat.{ℕ, _^_, _<_, _≤_}
 use mathlib.Core.Path.{_≡_, refl, sym, ap, _∙_}
 use mathlib.Core.Logic.{_↔_}
 use mathlib.Core.Bool.{Bool, true, false}
-use mathlib.Core.List.{List, [], _∷_, _++_, List·Memᴰ}
+use mathlib.Core.List.{List, [], _∷_, _++_, List·Memᴰ, List·Memᴰ·head, List·Memᴰ·not-nil}
 use native.Mathlib.Omega.{arith}
 use lib.ListN.{length}
 use Rattle.program.specs.Program.{Program}
@@ -13,7 +13,7 @@ use Rattle.schedules.specs.Order.{Schedule}
 use Rattle.schedules.specs.Fulls.{fulls}
 use Rattle.schedules.specs.Calls.{Result}
 use Rattle.schedules.proofs.Calls.{due-at}
-use Rattle.schedules.proofs.Lists.{keep-yes, keep-no}
+use Rattle.schedules.proofs.Lists.{keep-yes, keep-no, of-keep}
 use Rattle.machine.specs.State.{SC, start, size}
 use Rattle.machine.specs.Graph.{Full}
 use Rattle.machine.proofs.Lawful.{lawful, at-most-24, count-bound, fits-64-bits}
@@ -27,9 +27,13 @@ use Rattle.listing.proofs.SomeRun.{some-full}
 use Rattle.listing.proofs.Calls.{continue-full, calls-due}
 use Rattle.listing.proofs.Violations as Violations
 
+-- what is kept of a list is no longer than the list
+no-members : {A : Type 0} (l : List A) → ((x : A) → List·Memᴰ x l → ⊥) → l ≡ []
+no-members [] h = refl
+no-members (x ∷ l) h = absurd (h x (List·Memᴰ·head refl))
+
 keep-length : {A : Type 0} (f : A → Bool) (l : List A) → length (keep f l) ≤ length l
-unfolding keep
-keep-length f [] = omega arith
+keep-length {A} f [] = let e = ap (λ (k : List A). length k) (no-members (keep f []) (λ x m. List·Memᴰ·not-nil (of-keep f [] x m .0))) in omega arith
 keep-length f (x ∷ l) = go (f x) refl (keep-length f l)
   where
     go : (b : Bool) → f x ≡ b → length (keep f l) ≤ length l → length (keep f (x ∷ l)) ≤ length (x ∷ l)

@@ -25,6 +25,7 @@ pub mod Violations
 -- every program has a run
 pub mod SomeRun
 -- a list of calls walks the list
+pub mod Offered
 pub mod Calls
 -- demand 3 holds
 pub mod Demand3

@@ -8,7 +8,7 @@ use mathlib.Core.List.{List, [], _∷_, map, List·Memᴰ, List·Memᴰ·head, L
 use native.Mathlib.Omega.{arith}
 use native.Mathlib.Decide.{decLt}
 use lib.Dec.{eqb}
-use lib.ListN.{length, getD, length-map, List·getD-eq-default}
+use lib.ListN.{length, getD, length-map, List·getD-map, List·getD-eq-default}
 use borrow.Author.Tests.{eqb-true, eq-eqb}
 use Rattle.program.specs.Program.{Program}
 use Rattle.schedules.specs.Lists.{upTo, any, all, keep}
@@ -16,7 +16,7 @@ use Rattle.schedules.specs.Order.{Schedule}
 use Rattle.schedules.specs.Permutations.{NoDuplicates, permutations, moved}
 use Rattle.schedules.proofs.Lists.{in-upTo, of-upTo, any-yes, any-of, all-at, all-of, in-keep, of-keep}
 use Rattle.schedules.proofs.Permutations.{permutations-complete}
-use Rattle.schedules.proofs.Group.{inverse-left, inverse-right, moved-below, moved-above}
+use Rattle.schedules.proofs.Group.{identity-moved, identity-member, member-permutation, inverse-left, inverse-right, moved-below, moved-above}
 use Rattle.schedules.specs.Permutations as Lists6
 use Rattle.machine.specs.State.{Event}
 use Rattle.machine.specs.Graph.{Graph, graph}
@@ -140,31 +140,36 @@ permitted-exchange p π m = (
 unfoldable pub tabled : (ℕ → ℕ) → List ℕ
 tabled π = map π (upTo 0 6)
 
-tabled-moved : (π : ℕ → ℕ) → Permutation π → (t : ℕ) → moved (tabled π) t ≡ π t
-unfolding tabled upTo
-tabled-moved π q zero = refl
-tabled-moved π q (suc zero) = refl
-tabled-moved π q (suc (suc zero)) = refl
-tabled-moved π q (suc (suc (suc zero))) = refl
-tabled-moved π q (suc (suc (suc (suc zero)))) = refl
-tabled-moved π q (suc (suc (suc (suc (suc zero))))) = refl
-tabled-moved π q (suc (suc (suc (suc (suc (suc n)))))) = sym (q .stays (suc (suc (suc (suc (suc (suc n)))))) (omega arith))
+-- the default does not matter inside a list
+getD-any : (l : List ℕ) (i d e : ℕ) → i < length l → getD l i d ≡ getD l i e
+getD-any [] i d e h = absurd (omega arith)
+getD-any (x ∷ xs) zero d e h = refl
+getD-any (x ∷ xs) (suc i) d e h = getD-any xs i d e (omega arith)
 
-upTo-distinct : (a n : ℕ) → NoDuplicates (upTo a n)
-unfolding upTo
-upTo-distinct a zero = tt
-upTo-distinct a (suc n) = ((λ m. omega (arith, of-upTo (suc a) n a m .0)), upTo-distinct (suc a) n)
+six : length (upTo 0 6) ≡ 6
+six = member-permutation (upTo 0 6) identity-member .six
+
+tabled-moved : (π : ℕ → ℕ) → Permutation π → (t : ℕ) → moved (tabled π) t ≡ π t
+unfolding tabled
+tabled-moved π q t = go (decLt t 6)
+  where
+    size : length (map π (upTo 0 6)) ≡ 6
+    size = length-map (upTo 0 6) π ∙ six
+
+    go : Dec (t < 6) → getD (map π (upTo 0 6)) t t ≡ π t
+    go (yes h) = getD-any (map π (upTo 0 6)) t t (π t) (omega (arith, size)) ∙ List·getD-map π (upTo 0 6) t t ∙ ap π (identity-moved t)
+    go (no h) = List·getD-eq-default (map π (upTo 0 6)) t {n = t} (omega (arith, size)) ∙ sym (q .stays t (omega arith))
 
 map-distinct : (f : ℕ → ℕ) → ((x y : ℕ) → f x ≡ f y → x ≡ y) → (l : List ℕ) → NoDuplicates l → NoDuplicates (map f l)
 map-distinct f inj [] d = tt
 map-distinct f inj (x ∷ l) d = ((λ m. let r = Memᴰ·of-map f l m in d .0 (subst (λ (z : ℕ). List·Memᴰ z l) (inj (r .0) x (r .2)) (r .1))), map-distinct f inj l (d .1))
 
 tabled-member : (π : ℕ → ℕ) → Permutation π → List·Memᴰ (tabled π) permutations
-unfolding tabled upTo
+unfolding tabled
 tabled-member π q = permutations-complete (map π (upTo 0 6)) (record {
-  six = length-map (upTo 0 6) π;
+  six = length-map (upTo 0 6) π ∙ six;
   below = λ x m. let r = Memᴰ·of-map π (upTo 0 6) m in subst (λ (z : ℕ). z < 6) (r .2) (q .below (r .0) (of-upTo 0 6 (r .0) (r .1) .1));
-  distinct = map-distinct π (injective π q) (upTo 0 6) (upTo-distinct 0 6);
+  distinct = map-distinct π (injective π q) (upTo 0 6) (member-permutation (upTo 0 6) identity-member .distinct);
 })
 
 -- every permitted exchange is a member

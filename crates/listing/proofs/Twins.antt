@@ -4,38 +4,40 @@ use Prim.Native.Nat.{ℕ, zero, suc, _<_, _≤_}
 use mathlib.Core.Path.{_≡_, refl, sym, ap, ap₂, subst, _∙_}
 use mathlib.Core.Logic.{_≢_}
 use mathlib.Core.Bool.{Bool, true, false, not, true≢false, false≢true, _&&_}
-use mathlib.Core.List.{List, [], _∷_, _++_, List·Memᴰ, List·Memᴰ·head, List·Memᴰ·tail, List·Memᴰ·not-nil}
+use mathlib.Core.List.{List, [], _∷_, _++_, List·Memᴰ}
 use native.Mathlib.Omega.{arith}
 use lib.Dec.{eqb}
-use lib.ListN.{length, getD}
+use lib.ListN.{length}
 use borrow.Author.Tests.{eqb-true, eq-eqb}
 use Rattle.program.specs.Program.{Program, codeOf}
 use Rattle.program.specs.WellFormed.{WellFormed, Group}
 use Rattle.program.specs.declared.instruction.Instruction.{Instruction}
 use Rattle.schedules.specs.Lists.{all}
-use Rattle.schedules.specs.Order.{Schedule}
+use Rattle.schedules.specs.Order.{Schedule, less}
 use Rattle.schedules.specs.System.{run, Allowed}
-use Rattle.schedules.proofs.Lists.{all-at, all-of}
+use Rattle.schedules.proofs.Lists.{all-at}
 use Rattle.schedules.proofs.Order.{less-heads, less-behind}
 use Rattle.schedules.proofs.Runs.{run-append, full-split, full-join}
 use Rattle.machine.specs.Local.{Local}
-use Rattle.machine.specs.State.{Event, History, Thread, Cell, State, freshCell, threadOf, cellOf, start, SC}
-use Rattle.machine.specs.Graph.{graphOf, graph, endOf, Full}
-use Rattle.machine.specs.Exchange.{Permutation, movedSchedule, Turns}
+use Rattle.machine.specs.State.{Event, History, Thread, Cell, State, threadOf, start, SC}
+use Rattle.machine.specs.Graph.{endOf, Full}
+use Rattle.machine.specs.Exchange.{movedSchedule, Moves}
 use Rattle.machine.proofs.Suffix.{Suffix, suffix-equal}
 use Rattle.machine.proofs.Everywhere.{everywhere-at}
 use Rattle.machine.proofs.Steps.{run-threads}
 use Rattle.machine.proofs.Start.{start-threads}
 use Rattle.machine.proofs.Regular.{regular-start, regular-run}
 use Rattle.machine.proofs.Histories.{rest-code}
-use Rattle.machine.proofs.Exchange.{moves-full, moves-graph}
+use Rattle.machine.proofs.Exchange.{moves-full}
+use Rattle.machine.proofs.ExchangedTrail.{moved-cons}
+use Rattle.machine.proofs.ProgramGraphs.{graph-moved-end}
 use Rattle.listing.specs.Alike.{Smaller}
 use Rattle.listing.specs.ListOf.{together, sameRead, sameList}
 use Rattle.listing.specs.Rules.{sameFlag, sameLocal, sameHistory, silent, twin}
 use Rattle.listing.proofs.Exchanges.{Together}
 use Rattle.listing.proofs.Equivalence.{alike-sym}
 use Rattle.listing.proofs.Tests.{and-both, same-list, same-read, together-true}
-use Rattle.listing.proofs.Swapped.{swapped, swapped-high, swapped-exchange, Silent, fixed-state}
+use Rattle.listing.proofs.Swapped.{swapped, swapped-high, swapped-exchange, Silent, swapped-state}
 
 -- what the tests say
 same-flag : (a b : Bool) → sameFlag a b ≡ true → a ≡ b
@@ -65,27 +67,12 @@ same-history h k e =
     let a = and-both (eqb (h .done) (k .done)) _ e in
     ap₂ (λ (d : ℕ) (rs : List (ℕ × Event)). let z : History = record { done = d; reads = rs } in z) (eqb-true (h .done) (k .done) (a .0)) (same-list sameRead same-read (h .reads) (k .reads) (a .1))
 
-no-writes : (l : ℕ) (e : Event) → List·Memᴰ e (freshCell l .writes) → ⊥
-unfolding freshCell
-no-writes l e m = List·Memᴰ·not-nil m
-
 not-own : (u : ℕ) (e : Event) → not (eqb (e .0) u) ≡ true → e .0 ≢ u
 not-own u e q i = false≢true (let k = eq-eqb (e .0) u i in rw k at q)
 
-all-rest : {A : Type 0} (f : A → Bool) (x : A) (l : List A) → all f (x ∷ l) ≡ true → all f l ≡ true
-all-rest f x l e = all-of f l (λ y m. all-at f (x ∷ l) y e (List·Memᴰ·tail m))
-
 pub silent-true : (σ : State) (u : ℕ) → silent σ u ≡ true → Silent σ u
-unfolding silent cellOf
-silent-true σ u e l x m = at (σ .cells) l e m
-  where
-    quiet : Cell → Bool
-    quiet c = all (λ (e : Event). not (eqb (e .0) u)) (c .writes)
-
-    at : (cs : List Cell) (l : ℕ) → all quiet cs ≡ true → List·Memᴰ x (getD cs l (freshCell 0) .writes) → x .0 ≢ u
-    at [] l e m = absurd (no-writes 0 x m)
-    at (c ∷ cs) zero e m = not-own u x (all-at (λ (e : Event). not (eqb (e .0) u)) (c .writes) x (all-at quiet (c ∷ cs) c e (List·Memᴰ·head refl)) m)
-    at (c ∷ cs) (suc l) e m = at cs l (all-rest quiet c cs e) m
+unfolding silent
+silent-true σ u t c m e i = not-own u e (all-at (λ (e : Event). not (eqb (e .0) u)) (c .writes) e (all-at (λ (c : Cell). all (λ (e : Event). not (eqb (e .0) u)) (c .writes)) (σ .cells) c t m) i)
 
 module _ (p : Program) (w : WellFormed p) where
   -- two members of one `02` line exist and have one code
@@ -106,7 +93,7 @@ module _ (p : Program) (w : WellFormed p) where
 
   -- R2
   pub twin-smaller : (v : Schedule) (u t : ℕ) (z : Schedule) → u < t → twin p (endOf p v) t u ≡ true → Full p (v ++ (t ∷ z)) → Smaller p (v ++ (t ∷ z))
-  unfolding twin graph movedSchedule
+  unfolding twin
   twin-smaller v u t z h e f =
       let σ : State = endOf p v in
       let a = and-both (together (p .groups) u t) _ e in
@@ -121,14 +108,14 @@ module _ (p : Program) (w : WellFormed p) where
       let hu : u < 6 = omega (arith, m .0) in
       let ht : t < 6 = omega (arith, m .1) in
       let x = swapped-exchange p u t ne hu ht k in
-      let fix = fixed-state p w σ (regular-run v (start p) (regular-start p w) (s .0)) (run-threads v (start p) ∙ start-threads p) u t ne hu ht k
+      let fix = swapped-state p w σ (regular-run v (start p) (regular-start p w) (s .0)) (run-threads v (start p) ∙ start-threads p) u t ne hu ht k
       (twins-equal v (s .0) u t k (b .0) (c .0)) (silent-true σ u (d .0)) (silent-true σ t (d .1)) in
       let r = moves-full (swapped u t) (x .0) (t ∷ z) σ σ fix (s .1) in
-      let other : Schedule = v ++ (swapped u t t ∷ movedSchedule (swapped u t) z) in
-      let g : Turns (swapped u t) (graphOf (endOf p (v ++ (t ∷ z)))) (graphOf (endOf p other)) =
-      rw (run-append SC (start p) v (t ∷ z), run-append SC (start p) v (swapped u t t ∷ movedSchedule (swapped u t) z)) (moves-graph (swapped u t) _ _ (r .1)) in (
-        other,
-        full-join SC (start p) v (swapped u t t ∷ movedSchedule (swapped u t) z) (s .0) (r .0),
-        less-behind v (swapped u t t ∷ movedSchedule (swapped u t) z) (t ∷ z) ∙ less-heads (swapped u t t) t (movedSchedule (swapped u t) z) z (subst (λ (y : ℕ). y < t) (sym (swapped-high u t ne)) h),
-        alike-sym p w (v ++ (t ∷ z)) other (swapped u t, x, g),
+      let rest : Schedule = movedSchedule (swapped u t) (t ∷ z) in
+      let first : rest ≡ u ∷ movedSchedule (swapped u t) z = moved-cons (swapped u t) t z ∙ ap (λ (y : ℕ). y ∷ movedSchedule (swapped u t) z) (swapped-high u t ne) in
+      let ends = subst (λ (τ : State). Moves (swapped u t) τ (endOf p (v ++ rest))) (sym (run-append SC (start p) v (t ∷ z))) (subst (Moves (swapped u t) (run SC σ (t ∷ z))) (sym (run-append SC (start p) v rest)) (r .1)) in (
+        v ++ rest,
+        full-join SC (start p) v rest (s .0) (r .0),
+        less-behind v rest (t ∷ z) ∙ ap (λ (y : Schedule). less y (t ∷ z)) first ∙ less-heads u t (movedSchedule (swapped u t) z) z h,
+        alike-sym p w (v ++ (t ∷ z)) (v ++ rest) (swapped u t, x, graph-moved-end p (swapped u t) (v ++ (t ∷ z)) (v ++ rest) ends),
       )

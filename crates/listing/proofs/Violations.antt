@@ -25,8 +25,7 @@ abbrev pub FirstIn : (Schedule → Bool) → List Schedule → Schedule → Type
 FirstIn f l s = List·Memᴰ s l × (f s ≡ true) × ((r : Schedule) → List·Memᴰ r l → less r s ≡ true → f r ≡ false)
 
 first-in : (f : Schedule → Bool) (l : List Schedule) → Ascends less l → (s : Schedule) → first f l ≡ some s → FirstIn f l s
-unfolding first
-first-in f [] a s e = absurd (let z : _≡_ {A = ℕ} 0 1 = cc in omega arith)
+first-in f [] a s e = absurd (let k = sym (first-none f [] (λ x m. absurd (List·Memᴰ·not-nil m))) ∙ e in let z : _≡_ {A = ℕ} 0 1 = cc in omega arith)
 first-in f (x ∷ l) a s e = go (f x) refl (λ k. first-in f l (a .1) s k)
   where
     none-below : (r : Schedule) → List·Memᴰ r (x ∷ l) → less r x ≡ true → ⊥

@@ -8,7 +8,7 @@ use lib.ListN.{length}
 use Rattle.program.specs.Program.{Program}
 use Rattle.schedules.specs.Lists.{keep, first}
 use Rattle.schedules.specs.Order.{Schedule}
-use Rattle.schedules.specs.Calls.{Answer, refused, turn, next, short, over, Result, result, called}
+use Rattle.schedules.specs.Calls.{Answer, refused, offer, turn, short, over, Result, result, called}
 use Rattle.machine.specs.State.{fails}
 use Rattle.machine.specs.Graph.{endOf}
 use Rattle.machine.specs.Given.{fault}
@@ -25,7 +25,7 @@ continued none o = turn false o
 
 -- continue, from any full schedule, listed or not: the least listed one after it, or no more, exactly when none is
 unfoldable pub continueOf : Program → Schedule → List ℕ → Result
-continueOf p s out = result (elim (short 24 out) [ true ↦ refused 22 0 | false ↦ continued (fault p s) (next (listOf p) s) ]) out
+continueOf p s out = result (elim (short 24 out) [ true ↦ refused 22 0 | false ↦ continued (fault p s) (offer (listOf p) (some s)) ]) out
 
 -- whether the schedule fails
 unfoldable pub failing : Program → Schedule → Bool

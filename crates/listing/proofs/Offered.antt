@@ -1,0 +1,40 @@
+-- What a walk offers is a member of its list; and what a call with enough room answers.
+use Prim.Native.Nat.{ℕ}
+use mathlib.Core.Path.{_≡_, refl, sym, ap}
+use mathlib.Core.Bool.{Bool, true, false}
+use mathlib.Core.Option.{Option, none, some}
+use mathlib.Core.List.{List, [], _∷_, List·Memᴰ, List·Memᴰ·head, List·Memᴰ·tail}
+use native.Mathlib.Omega.{arith}
+use Rattle.schedules.specs.Lists.{headOf}
+use Rattle.schedules.specs.Order.{Schedule, less}
+use Rattle.schedules.specs.Calls.{Answer, refused, next, offer, turn, last}
+
+head-in : (l : List Schedule) (s : Schedule) → headOf l ≡ some s → List·Memᴰ s l
+unfolding headOf
+head-in [] s e = absurd (let z : _≡_ {A = ℕ} 0 1 = cc in omega arith)
+head-in (x ∷ l) s e = List·Memᴰ·head (let i : x ≡ s = cc in sym i)
+
+next-in : (l : List Schedule) (b s : Schedule) → next l b ≡ some s → List·Memᴰ s l
+unfolding next
+next-in [] b s e = absurd (let z : _≡_ {A = ℕ} 0 1 = cc in omega arith)
+next-in (x ∷ l) b s e = go (less b x) refl (λ k. next-in l b s k)
+  where
+    go : (c : Bool) → less b x ≡ c → (next l b ≡ some s → List·Memᴰ s l) → List·Memᴰ s (x ∷ l)
+    go true q ih = let k : some x ≡ some s = rw (q, next) at e in List·Memᴰ·head (let i : x ≡ s = cc in sym i)
+    go false q ih = List·Memᴰ·tail (ih (rw (q, next) at e))
+
+pub offer-in : (l : List Schedule) (o : Option Schedule) (s : Schedule) → offer l o ≡ some s → List·Memᴰ s l
+unfolding offer
+offer-in l none s e = head-in l s e
+offer-in l (some b) s e = next-in l b s e
+
+pub turn-short : (o : Option Schedule) → turn true o ≡ refused 22 0
+unfolding turn
+turn-short o = refl
+
+-- a property of what was answered last, behind an answer
+pub last-turn : (P : Schedule → Type 0) (Q : Option Schedule → Type 0) → ((s : Schedule) → P s → Q (some s)) → (b : Bool) (x o : Option Schedule) → Q o → ((s : Schedule) → x ≡ some s → P s) → Q (last o (turn b x))
+unfolding turn last
+last-turn P Q f true x o k h = k
+last-turn P Q f false none o k h = k
+last-turn P Q f false (some s) o k h = f s (h s refl)
