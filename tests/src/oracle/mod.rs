@@ -1,4 +1,5 @@
 //! An oracle: document 01 written a second time, in plain Rust, by its words and without regard to speed.
+pub mod calls;
 pub mod decode;
 pub mod graph;
 pub mod judge;
