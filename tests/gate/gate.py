@@ -10,7 +10,8 @@ import subprocess
 import sys
 from pathlib import Path
 
-import must_fail
+sys.dont_write_bytecode = True
+import must_fail  # noqa: E402
 
 ROOT = Path(__file__).resolve().parents[2]
 TARGET = ROOT / 'target'
