@@ -55,7 +55,7 @@ permutation-is π e =
     record {
       six = eqb-true (length π) 6 (both-left (eqb (length π) 6) _ e);
       below = λ x m. ltb-true x 6 (all-at (λ x. ltb x 6) π x (both-left (all (λ x. ltb x 6) π) _ r) m);
-      distinct = distinct-is π (both-right (all (λ x. ltb x 6) π) _ r)
+      distinct = distinct-is π (both-right (all (λ x. ltb x 6) π) _ r);
     }
 
 -- reading a list
@@ -114,9 +114,10 @@ module _ (π : List ℕ) (m : List·Memᴰ π permutations) where
   undo : (compose (inverse π) π ≡ upTo 0 6) × (compose π (inverse π) ≡ upTo 0 6)
   unfolding invertible
   undo =
-      let r = both-right (permutationb (inverse π)) _ (both-right (permutationb π) _ test) in
-      (same-numbers (compose (inverse π) π) (upTo 0 6) (both-left (sameNumbers (compose (inverse π) π) (upTo 0 6)) _ r),
-      same-numbers (compose π (inverse π)) (upTo 0 6) (both-right (sameNumbers (compose (inverse π) π) (upTo 0 6)) _ r))
+      let r = both-right (permutationb (inverse π)) _ (both-right (permutationb π) _ test) in (
+        same-numbers (compose (inverse π) π) (upTo 0 6) (both-left (sameNumbers (compose (inverse π) π) (upTo 0 6)) _ r),
+        same-numbers (compose π (inverse π)) (upTo 0 6) (both-right (sameNumbers (compose (inverse π) π) (upTo 0 6)) _ r),
+      )
 
   lengths : length (inverse π) ≡ length π
   lengths = inverse-permutation .six ∙ sym (member-permutation .six)
@@ -152,7 +153,7 @@ compose-member ρ π m n =
     permutations-complete (map (moved ρ) π) (record {
       six = length-map π (moved ρ) ∙ p .six;
       below = λ x k. let r = Memᴰ·of-map (moved ρ) π k in subst (λ (z : ℕ). z < 6) (r .2) (moved-below ρ m (r .0) (p .below (r .0) (r .1)));
-      distinct = distinct-map (moved ρ) (moved-injective ρ m) π (p .distinct)
+      distinct = distinct-map (moved ρ) (moved-injective ρ m) π (p .distinct);
     })
 
 pub identity-member : List·Memᴰ (upTo 0 6) permutations

@@ -29,3 +29,7 @@ pub mod Permutations
 pub mod Numbered
 -- inverse, composition, and the permutation of every number
 pub mod Group
+-- comparing two schedules place by place, as the code does
+pub mod Comparing
+-- a permutation worked out in place, as the code does
+pub mod InPlace
