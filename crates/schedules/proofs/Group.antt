@@ -11,23 +11,13 @@ use lib.Dec.{eqb, ltb}
 use lib.ListN.{length, getD, List·getD-map, List·getD-eq-default, length-map}
 use lib.Seq.{ext-getD}
 use borrow.Author.Tests.{eqb-true, eq-eqb, ltb-true}
-use Rattle.schedules.specs.Lists.{upTo, any, all}
+use Rattle.schedules.specs.Lists.{upTo, both, any, all}
 use Rattle.schedules.specs.Permutations.{NoDuplicates, Permutation, permutations, factorial, dropAt, arranged, permutationOf, moved, inverse, compose}
-use Rattle.schedules.proofs.Lists.{in-upTo, of-upTo, any-no, all-at}
+use Rattle.schedules.proofs.Lists.{both-left, both-right, in-upTo, of-upTo, any-no, all-at}
 use Rattle.schedules.proofs.Permutations.{permutations-complete}
-use Rattle.schedules.proofs.Numbered.{numbered, both, sameNumbers, distinctb, permutationb, invertible, all-invertible}
+use Rattle.schedules.proofs.Numbered.{numbered, sameNumbers, distinctb, permutationb, invertible, all-invertible}
 
 -- what the tests say
-both-left : (a b : Bool) → both a b ≡ true → a ≡ true
-unfolding both
-both-left true b e = refl
-both-left false b e = absurd (false≢true e)
-
-both-right : (a b : Bool) → both a b ≡ true → b ≡ true
-unfolding both
-both-right true b e = e
-both-right false b e = absurd (false≢true e)
-
 same-numbers : (xs ys : List ℕ) → sameNumbers xs ys ≡ true → xs ≡ ys
 unfolding sameNumbers
 same-numbers [] [] e = refl
