@@ -40,7 +40,7 @@ first-is f (x ∷ l) a = go (f x) refl (first f l) (first-is f l (a .1))
     go false e o r = pass o e r
 
 -- what the walk rests on, in states that satisfy `Inv`
-pub record Frontable (M : System) (fits : M .State → ℕ → Bool) (Goal Inv : M .State → Type 0) : Type 0 where
+pub record GreedyLaws (M : System) (fits : M .State → ℕ → Bool) (Goal Inv : M .State → Type 0) : Type 0 where
   pub ascending : Ascends ltb (M .names)
   pub named : (σ : M .State) (t : ℕ) → Inv σ → fits σ t ≡ true → List·Memᴰ t (M .names)
   pub kept : (σ : M .State) (t : ℕ) → Inv σ → fits σ t ≡ true → Inv (M .step σ t)
@@ -50,7 +50,7 @@ pub record Frontable (M : System) (fits : M .State → ℕ → Bool) (Goal Inv :
   pub front : (σ : M .State) (t : ℕ) (s : Schedule) → Inv σ → fits σ t ≡ true → Fitting M fits Goal σ s →
       (r : Schedule) × (length s ≡ suc (length r)) × Fitting M fits Goal (M .step σ t) r × (run M (M .step σ t) r ≡ run M σ s)
 
-module _ (M : System) (fits : M .State → ℕ → Bool) (Goal Inv : M .State → Type 0) (F : Frontable M fits Goal Inv) where
+module _ (M : System) (fits : M .State → ℕ → Bool) (Goal Inv : M .State → Type 0) (F : GreedyLaws M fits Goal Inv) where
   -- fitting as far as the goal, ends where s ends, and not above any other
   abbrev pub Least : M .State → Schedule → Schedule → Type 0
   Least σ s g = Fitting M fits Goal σ g × (run M σ g ≡ run M σ s) × ((r : Schedule) → Fitting M fits Goal σ r → AtMost g r)
@@ -118,5 +118,5 @@ module _ (M : System) (fits : M .State → ℕ → Bool) (Goal Inv : M .State �
             run-cons M (M .step σ t) a (r .0) ∙ ap (λ (τ : M .State). run M τ (r .0)) (sym c) ∙ r .3 ∙ sym (run-cons M σ a s),
           )
 
-  pub commuting : Ascends ltb (M .names) → ((σ : M .State) (t : ℕ) → Inv σ → fits σ t ≡ true → List·Memᴰ t (M .names)) → Frontable M fits Goal Inv
+  pub commuting : Ascends ltb (M .names) → ((σ : M .State) (t : ℕ) → Inv σ → fits σ t ≡ true → List·Memᴰ t (M .names)) → GreedyLaws M fits Goal Inv
   commuting a n = record { ascending = a; named = n; kept = kept; final = final; front = commuting-front }

@@ -37,3 +37,5 @@ pub mod Group
 pub mod Comparing
 -- a permutation worked out in place, as the code does
 pub mod InPlace
+-- a small step system, computed
+pub mod Example

@@ -17,7 +17,7 @@ use Rattle.schedules.specs.Fulls.{fulls}
 use Rattle.schedules.specs.Calls.{offer}
 use Rattle.schedules.specs.Classes.{firsts}
 use Rattle.schedules.specs.Search.{searchFrom}
-use Rattle.schedules.specs.Listed.{Listed, listOf, Beaten}
+use Rattle.schedules.specs.Listed.{Listed, listOf, Smaller}
 use Rattle.schedules.proofs.Fulls.{fulls-exact, fulls-ascend, fulls-length}
 use Rattle.schedules.proofs.Classes.{of-firsts, in-firsts, firsts-ascend, firsts-length, firsts-keep, covered, covered-once}
 use Rattle.schedules.proofs.Search.{offers}
@@ -66,8 +66,8 @@ module _ (M : System) (L : Lawful M) (asc : Ascends ltb (M .names)) (ρ : M .Sta
         (λ x y m n. symmetric x y (full x m) (full y n)) s a b (member s f) m n e q
 
   -- a test that is exact keeps exactly the listed ones, and every sound cut leaves the search exact
-  module _ (listed : Schedule → Bool) (good : (s : Schedule) → FullFrom M ρ s → listed s ≡ true → Beaten M ρ like s → ⊥)
-      (bad : (s : Schedule) → FullFrom M ρ s → listed s ≡ false → Beaten M ρ like s) where
+  module _ (listed : Schedule → Bool) (good : (s : Schedule) → FullFrom M ρ s → listed s ≡ true → Smaller M ρ like s → ⊥)
+      (bad : (s : Schedule) → FullFrom M ρ s → listed s ≡ false → Smaller M ρ like s) where
     pub list-keep : listOf M ρ like ≡ keep listed (fulls M ρ)
     unfolding listOf
     list-keep = firsts-keep like (fulls M ρ) all-full listed unmatched beaten
@@ -84,12 +84,12 @@ module _ (M : System) (L : Lawful M) (asc : Ascends ltb (M .names)) (ρ : M .Sta
 
     -- THE SEARCH WALKS THE LIST
     pub search-listed : (top : ℕ) → ((σ : M .State) (t : ℕ) → M .may σ t ≡ true → t < top) → (cut : Schedule → M .State → ℕ → Bool) →
-        ((v : Schedule) (t : ℕ) (z : Schedule) → cut v (run M ρ v) t ≡ true → FullFrom M ρ (v ++ (t ∷ z)) → Beaten M ρ like (v ++ (t ∷ z))) →
+        ((v : Schedule) (t : ℕ) (z : Schedule) → cut v (run M ρ v) t ≡ true → FullFrom M ρ (v ++ (t ∷ z)) → Smaller M ρ like (v ++ (t ∷ z))) →
         (k : ℕ) (o : Option Schedule) → M .size ρ ≤ k → searchFrom M top cut listed k o [] ρ ≡ offer (listOf M ρ like) o
     search-listed top bound cut sound k o h =
         offers M top cut listed L asc bound ρ (λ v t z c f. unlisted (v ++ (t ∷ z)) f (sound v t z c f) (listed (v ++ (t ∷ z))) refl) k o h
         ∙ ap (λ (l : List Schedule). offer l o) (sym list-keep)
       where
-        unlisted : (s : Schedule) → FullFrom M ρ s → Beaten M ρ like s → (b : Bool) → listed s ≡ b → listed s ≡ false
+        unlisted : (s : Schedule) → FullFrom M ρ s → Smaller M ρ like s → (b : Bool) → listed s ≡ b → listed s ≡ false
         unlisted s f w true e = absurd (good s f e w)
         unlisted s f w false e = e

@@ -11,7 +11,7 @@ use lib.Dec.{ltb}
 use borrow.Author.Tests.{eq-eqb, ne-eqb}
 use Rattle.schedules.specs.Lists.{Ascends}
 use Rattle.schedules.specs.Orders.{nextOf, clear, clearOf, ready, takeOut, Remaining}
-use Rattle.schedules.proofs.Greedy.{Frontable, commuting}
+use Rattle.schedules.proofs.Greedy.{GreedyLaws, commuting}
 
 module _ {D : Type 0} (who : D → ℕ) (dependent : D → D → Bool) where
   abbrev Out : List D → ℕ → List D
@@ -141,7 +141,7 @@ module _ {D : Type 0} (who : D → ℕ) (dependent : D → D → Bool) where
     none-ready : (ds : List D) (t : ℕ) → Named ds → ds ≡ [] → ready who dependent ds t ≡ false
     none-ready ds t n e = ap (λ (k : List D). ready who dependent k t) e ∙ ready-nil t
 
-    pub remaining : Frontable (Remaining who dependent names) (ready who dependent) (λ ds. ds ≡ []) Named
+    pub remaining : GreedyLaws (Remaining who dependent names) (ready who dependent) (λ ds. ds ≡ []) Named
     remaining = commuting (Remaining who dependent names) (ready who dependent) (λ ds. ds ≡ []) Named
         (λ ds t n e d m. n d (out-in ds t d m)) none-ready (λ ds a b n ne x y. out-commute ds a b ne) (λ ds a b n ne x y. ready-stays ds a b ne y)
         asc (λ ds t n e. let r = ready-at ds t e in next-named ds t (r .0) n (r .1))

@@ -21,3 +21,5 @@ pub mod Greedy
 pub mod Orders
 -- the permutations of six: all of them, each by its number, inverse and composition
 pub mod Permutations
+-- for proofs that compute: all definitions opened by one name
+pub mod Computing

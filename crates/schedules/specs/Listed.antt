@@ -16,6 +16,6 @@ Listed M ρ like s = FullFrom M ρ s × ((r : Schedule) → FullFrom M ρ r → 
 unfoldable pub listOf : (M : System) → M .State → (Schedule → Schedule → Bool) → List Schedule
 listOf M ρ like = firsts like (fulls M ρ)
 
--- some smaller full schedule is alike to it: what every cut of a search must show
-abbrev pub Beaten : (M : System) → M .State → (Schedule → Schedule → Bool) → Schedule → Type 0
-Beaten M ρ like s = (r : Schedule) × FullFrom M ρ r × (less r s ≡ true) × (like r s ≡ true)
+-- a smaller full schedule that is alike: what every cut of a search must show
+abbrev pub Smaller : (M : System) → M .State → (Schedule → Schedule → Bool) → Schedule → Type 0
+Smaller M ρ like s = (r : Schedule) × FullFrom M ρ r × (less r s ≡ true) × (like r s ≡ true)
