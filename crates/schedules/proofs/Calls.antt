@@ -3,14 +3,14 @@
 use mathlib.Core.Path.{_≡_, refl, sym, ap, ap₂, subst, _∙_}
 use mathlib.Core.Bool.{Bool, true, false}
 use mathlib.Core.Option.{Option, none, some}
-use mathlib.Core.List.{List, [], _∷_, _++_, append-assoc, tail, List·Memᴰ, List·Memᴰ·head, List·Memᴰ·tail, Memᴰ·append-right}
+use mathlib.Core.List.{List, [], _∷_, _++_, append-assoc, tail, List·Memᴰ·head, Memᴰ·append-right}
 use Prim.Native.Nat.{ℕ, zero, suc, _<_, _≤_}
 use borrow.Author.Tests.{lt-ltb, le-ltb}
 use lib.ListN.{length, drop}
 use lib.Seq.{drop-nil}
 use Rattle.schedules.specs.Lists.{headOf, Ascends}
 use Rattle.schedules.specs.Order.{Schedule, less}
-use Rattle.schedules.specs.Calls.{Answer, found, nomore, refused, next, offer, turn, short, over, content, Result, result, called, last, Dialogue, left, due, served, member}
+use Rattle.schedules.specs.Calls.{found, nomore, refused, next, offer, turn, short, over, content, Result, result, called, last, Dialogue, left, due, served, member}
 use Rattle.schedules.proofs.Order.{less-irreflexive, less-asymmetric}
 
 -- one call: refused exactly where the output is too short, and otherwise it answers what there is

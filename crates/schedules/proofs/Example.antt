@@ -5,12 +5,12 @@ use mathlib.Core.Option.{Option, none, some}
 use mathlib.Core.List.{List, [], _∷_}
 use Prim.Native.Nat.{ℕ, _+_, _-_}
 use lib.Dec.{eqb, ltb}
-use lib.ListN.{length, getD, set}
+use lib.ListN.{getD, set}
 use Rattle.schedules.specs.Order.{Schedule}
 use Rattle.schedules.specs.System.{System}
 use Rattle.schedules.specs.Fulls.{fulls}
 use Rattle.schedules.specs.Listed.{listOf}
-use Rattle.schedules.specs.Calls.{Result, found, nomore, refused, due}
+use Rattle.schedules.specs.Calls.{found, nomore, refused, due}
 use Rattle.schedules.specs.Search.{searchFrom}
 use Rattle.schedules.specs.Greedy.{greedy}
 use Rattle.schedules.specs.Orders.{leastOrder}

@@ -1,10 +1,10 @@
 -- Greedy is least: where a fitting byte can always be taken first, with the same end, the walk that takes the least fitting byte at each
 -- point is the least list of fitting bytes that ends in the goal, and all such lists end in the same state.
 use mathlib.Core.Path.{_≡_, refl, sym, ap, subst, _∙_}
-use mathlib.Core.Logic.{_≢_, _⊎_, inl, inr, ⊎-elim, Ne·symm}
-use mathlib.Core.Bool.{Bool, true, false, true≢false, false≢true}
+use mathlib.Core.Logic.{_≢_, inl, inr, ⊎-elim, Ne·symm}
+use mathlib.Core.Bool.{Bool, true, false, true≢false}
 use mathlib.Core.Option.{Option, none, some}
-use mathlib.Core.List.{List, [], _∷_, _++_, List·Memᴰ, List·Memᴰ·head, List·Memᴰ·tail, List·Memᴰ·cases-cons, List·Memᴰ·not-nil}
+use mathlib.Core.List.{List, [], _∷_, List·Memᴰ, List·Memᴰ·head, List·Memᴰ·tail, List·Memᴰ·cases-cons, List·Memᴰ·not-nil}
 use Prim.Native.Nat.{ℕ, zero, suc, _+_, _<_, _≤_}
 use native.Mathlib.Omega.{arith}
 use native.Mathlib.Decide.{ℕ-discrete}
@@ -12,12 +12,11 @@ use lib.Dec.{ltb}
 use lib.ListN.{length}
 use borrow.Author.Tests.{ltb-true}
 use Rattle.schedules.specs.Lists.{first, Ascends}
-use Rattle.schedules.specs.Order.{Schedule, less}
+use Rattle.schedules.specs.Order.{Schedule}
 use Rattle.schedules.specs.System.{System, run}
 use Rattle.schedules.specs.Greedy.{greedy, Fitting}
 use Rattle.schedules.proofs.Order.{AtMost, at-most-front, less-heads, Compared, below, same, above, compared}
-use Rattle.schedules.proofs.Lists.{first-yes, first-no}
-use Rattle.schedules.proofs.Runs.{run-cons, run-nil}
+use Rattle.schedules.proofs.Runs.{run-cons}
 
 -- the first member of an ascending list that passes a test is the least one that does
 pub data FirstIs (f : ℕ → Bool) (l : List ℕ) : Option ℕ → Type 0 where

@@ -1,10 +1,10 @@
 -- Greedy is least among full schedules: from F1, F2 and F3 the walk is the least full schedule that ends in the goal, whenever there is one,
 -- and all full schedules that end in the goal end in the same state.
 use mathlib.Core.Path.{_≡_, refl, sym, ap, subst, _∙_}
-use mathlib.Core.Logic.{_≢_, _⊎_, inl, inr, ⊎-elim, Ne·symm}
+use mathlib.Core.Logic.{_≢_, _⊎_, inl, inr, ⊎-elim}
 use mathlib.Core.Bool.{Bool, true, false, true≢false}
-use mathlib.Core.List.{List, [], _∷_, _++_, List·Memᴰ, List·Memᴰ·head, List·Memᴰ·tail, List·Memᴰ·cases-cons, List·Memᴰ·not-nil}
-use Prim.Native.Nat.{ℕ, zero, suc, _+_, _<_, _≤_}
+use mathlib.Core.List.{[], _∷_, _++_, List·Memᴰ, List·Memᴰ·head, List·Memᴰ·tail, List·Memᴰ·cases-cons, List·Memᴰ·not-nil}
+use Prim.Native.Nat.{ℕ, suc, _+_, _≤_}
 use native.Mathlib.Omega.{arith}
 use native.Mathlib.Decide.{ℕ-discrete}
 use lib.Dec.{ltb}
@@ -14,7 +14,7 @@ use Rattle.schedules.specs.Order.{Schedule}
 use Rattle.schedules.specs.System.{System, Lawful, run, ended, FullFrom}
 use Rattle.schedules.specs.Greedy.{greedy, Fitting, Reaches}
 use Rattle.schedules.proofs.Order.{AtMost}
-use Rattle.schedules.proofs.Runs.{run-cons, run-nil, ended-none, full-length}
+use Rattle.schedules.proofs.Runs.{run-cons, ended-none, full-length}
 use Rattle.schedules.proofs.Greedy.{GreedyLaws, greedy-least, one-end}
 
 -- what `fits` must satisfy for the goal, in states that satisfy `Inv`

@@ -2,12 +2,11 @@
 -- walks it, for every sound cut and every exact test.
 use mathlib.Core.Path.{_≡_, refl, sym, ap, _∙_}
 use mathlib.Core.Logic.{_↔_}
-use mathlib.Core.Bool.{Bool, true, false, true≢false}
+use mathlib.Core.Bool.{Bool, true, false}
 use mathlib.Core.Option.{Option}
 use mathlib.Core.List.{List, [], _∷_, _++_, List·Memᴰ}
 use Prim.Native.Nat.{ℕ, _^_, _<_, _≤_}
 use native.Mathlib.Nat.{le-trans}
-use native.Mathlib.Omega.{arith}
 use lib.Dec.{ltb}
 use lib.ListN.{length}
 use Rattle.schedules.specs.Lists.{keep, Ascends}
@@ -15,7 +14,6 @@ use Rattle.schedules.specs.Order.{Schedule, less}
 use Rattle.schedules.specs.System.{System, Lawful, run, FullFrom}
 use Rattle.schedules.specs.Fulls.{fulls}
 use Rattle.schedules.specs.Calls.{offer}
-use Rattle.schedules.specs.Classes.{firsts}
 use Rattle.schedules.specs.Search.{searchFrom}
 use Rattle.schedules.specs.Listed.{Listed, listOf, Smaller}
 use Rattle.schedules.proofs.Fulls.{fulls-exact, fulls-ascend, fulls-length}

@@ -4,7 +4,7 @@ use mathlib.Core.Bool.{Bool, true, false}
 use mathlib.Core.List.{List, [], _∷_, map}
 use Prim.Native.Nat.{ℕ}
 use lib.Dec.{eqb, ltb}
-use lib.ListN.{length, getD}
+use lib.ListN.{length}
 use Rattle.schedules.specs.Lists.{upTo, both, any, all}
 use Rattle.schedules.specs.Fulls.{fronts}
 use Rattle.schedules.specs.Permutations.{without, each, permsOf, permutations, factorial, dropAt, arranged, permutationOf, placeIn, inverse, compose}

@@ -1,5 +1,5 @@
 -- `permutation` is the permutation with its number: five times a number brought forward, from 0, 1, .. 5.
-use mathlib.Core.Path.{_≡_, sym, _∙_}
+use mathlib.Core.Path.{sym}
 use borrow.Author.Needs.{needs}
 use Rattle.schedules.proofs.InPlace.{in-place}
 use Rattle.schedules.proofs.by_number.permutation.Statement.{statement}
