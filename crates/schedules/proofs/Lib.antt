@@ -33,6 +33,8 @@ pub mod Permutations
 pub mod Numbered
 -- inverse, composition, and the permutation of every number
 pub mod Group
+-- the definitions as a loop in code meets them, one turn at a time
+pub mod Loops
 -- comparing two schedules place by place, as the code does
 pub mod Comparing
 -- a permutation worked out in place, as the code does
