@@ -1,0 +1,1 @@
+// Runs under sequential consistency: threads and memory, steps, graphs and their text.
