@@ -11,6 +11,8 @@ pub mod Text
 pub mod Over
 -- where the lines of a text end
 pub mod Split
+-- the lines of a text, one after the other
+pub mod TextLines
 -- one digit: value and digit are each other's inverse
 pub mod DigitValues
 -- What the proofs of this crate's loops lean on, and worked lines.

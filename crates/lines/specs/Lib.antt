@@ -9,3 +9,5 @@ pub mod Text
 pub mod Over
 -- where a line of a text ends
 pub mod Split
+-- a text as the list of its lines
+pub mod TextLines

@@ -12,6 +12,8 @@ pub mod Text
 -- what the steps of a run did, which of them conflict, and the least order of them
 pub mod Trail
 pub mod Ahead
+-- a note of eight bytes for each step of a run
+pub mod Notes
 -- exchanging threads: permitted permutations, and states and graphs turned into others
 pub mod Exchange
 pub mod ExchangedTrail

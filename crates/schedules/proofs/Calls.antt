@@ -3,14 +3,28 @@
 use mathlib.Core.Path.{_≡_, refl, sym, ap, ap₂, subst, _∙_}
 use mathlib.Core.Bool.{Bool, true, false}
 use mathlib.Core.Option.{Option, none, some}
-use mathlib.Core.List.{List, [], _∷_, _++_, append-assoc, tail, List·Memᴰ, List·Memᴰ·head, List·Memᴰ·tail, Memᴰ·append-right}
-use Prim.Native.Nat.{ℕ, zero, suc}
+use mathlib.Core.List.{List, [], _∷_, _++_, append-assoc, tail, List·Memᴰ·head, Memᴰ·append-right}
+use Prim.Native.Nat.{ℕ, zero, suc, _<_, _≤_}
+use borrow.Author.Tests.{lt-ltb, le-ltb}
 use lib.ListN.{length, drop}
 use lib.Seq.{drop-nil}
 use Rattle.schedules.specs.Lists.{headOf, Ascends}
 use Rattle.schedules.specs.Order.{Schedule, less}
-use Rattle.schedules.specs.Calls.{Answer, found, nomore, refused, next, offer, turn, short, content, Result, result, called, last, Dialogue, left, due, served, member}
+use Rattle.schedules.specs.Calls.{found, nomore, refused, next, offer, turn, short, over, content, Result, result, called, last, Dialogue, left, due, served, member}
 use Rattle.schedules.proofs.Order.{less-irreflexive, less-asymmetric}
+
+-- one call: refused exactly where the output is too short, and otherwise it answers what there is
+pub called-short : (need : ℕ) (l : List Schedule) (o : Option Schedule) (out : List ℕ) → length out < need → called need l o out ≡ (refused 22 0, out)
+unfolding turn content
+called-short need l o out h = rw (lt-ltb (length out) need h, turn)
+
+pub called-found : (need : ℕ) (l : List Schedule) (o : Option Schedule) (out : List ℕ) (s : Schedule) → need ≤ length out → offer l o ≡ some s → called need l o out ≡ (found s, over s out)
+unfolding turn content
+called-found need l o out s h e = rw (le-ltb (length out) need h, e, turn)
+
+pub called-nomore : (need : ℕ) (l : List Schedule) (o : Option Schedule) (out : List ℕ) → need ≤ length out → offer l o ≡ none → called need l o out ≡ (nomore, out)
+unfolding turn content
+called-nomore need l o out h e = rw (le-ltb (length out) need h, e, turn)
 
 -- v is what stands in l behind the schedule answered last
 abbrev pub Behind : List Schedule → Option Schedule → List Schedule → Type 0

@@ -2,8 +2,11 @@
 -- them, and to one only where alike is an equivalence.
 use mathlib.Core.Path.{_≡_, refl, sym, ap, subst, _∙_}
 use mathlib.Core.Logic.{_⊎_, inl, inr, ⊎-elim}
-use mathlib.Core.Bool.{Bool, true, false, true≢false, false≢true}
+use mathlib.Core.Bool.{Bool, true, false, true≢false}
 use mathlib.Core.List.{List, [], _∷_, List·Memᴰ, List·Memᴰ·head, List·Memᴰ·tail, List·Memᴰ·cases-cons, List·Memᴰ·not-nil}
+use Prim.Native.Nat.{_≤_}
+use native.Mathlib.Omega.{arith}
+use lib.ListN.{length}
 use Rattle.schedules.specs.Lists.{any, keep, Ascends}
 use Rattle.schedules.specs.Order.{Schedule, less}
 use Rattle.schedules.specs.Classes.{firstsFrom, firsts}
@@ -83,6 +86,20 @@ module _ (like : Schedule → Schedule → Bool) where
       go : (b : Bool) → any (λ p. like p r) ps ≡ b → Ascends less (firstsFrom like (r ∷ ps) l) → Ascends less (firstsFrom like ps (r ∷ l))
       go true e ih = rw (e, firstsFrom) ih
       go false e ih = rw (e, firstsFrom) ((λ y m. a .0 y (of-firstsFrom (r ∷ ps) l (a .1) y m .0)), ih)
+
+  -- they are not more than the members
+  firstsFrom-length : (ps l : List Schedule) → length (firstsFrom like ps l) ≤ length l
+  unfolding firstsFrom
+  firstsFrom-length ps [] = omega arith
+  firstsFrom-length ps (r ∷ l) = go (any (λ p. like p r) ps) refl (firstsFrom-length (r ∷ ps) l)
+    where
+      go : (b : Bool) → any (λ p. like p r) ps ≡ b → length (firstsFrom like (r ∷ ps) l) ≤ length l → length (firstsFrom like ps (r ∷ l)) ≤ length (r ∷ l)
+      go true e ih = rw (e, firstsFrom) (omega arith)
+      go false e ih = rw (e, firstsFrom) (omega arith)
+
+  pub firsts-length : (l : List Schedule) → length (firsts like l) ≤ length l
+  unfolding firsts
+  firsts-length l = firstsFrom-length [] l
 
   module _ (l : List Schedule) (asc : Ascends less l) where
     -- THE KEPT ONES are the members to which no smaller one is alike

@@ -1,14 +1,14 @@
 -- The first answer: of a test over a list, of a function over a list of numbers, and behind a common beginning.
-use mathlib.Core.Path.{_≡_, refl, sym, ap, ap₂, subst, _∙_}
-use mathlib.Core.Bool.{Bool, true, false, true≢false, false≢true}
+use mathlib.Core.Path.{_≡_, refl, sym, ap, ap₂, _∙_}
+use mathlib.Core.Bool.{Bool, true, false, false≢true}
 use mathlib.Core.Option.{Option, none, some}
 use mathlib.Core.List.{List, [], _∷_, _++_, append-assoc, List·Memᴰ, List·Memᴰ·head, List·Memᴰ·tail}
-use Prim.Native.Nat.{ℕ, zero, suc, _+_, _<_, _≤_}
+use Prim.Native.Nat.{ℕ, zero, suc, _+_}
 use native.Mathlib.Omega.{arith}
 use native.Mathlib.Numerals.{add-one}
 use lib.Dec.{ltb}
 use borrow.Author.Tests.{ltb-true, le-ltb}
-use Rattle.schedules.specs.Lists.{upTo, keep, first, headOf, Ascends}
+use Rattle.schedules.specs.Lists.{upTo, both, keep, first, headOf, Ascends}
 use Rattle.schedules.specs.Order.{Schedule, less}
 use Rattle.schedules.specs.Fulls.{fronts}
 use Rattle.schedules.specs.Calls.{next}
@@ -61,16 +61,7 @@ next-first s (x ∷ l) = go (less s x) refl (next-first s l)
     go true e ih = rw (e, next, first)
     go false e ih = rw (e, next, first) ih
 
--- both tests; the first that passes both is the first kept by one that passes the other
-unfoldable pub both : Bool → Bool → Bool
-both true b = b
-both false b = false
-
-pub both-false : (a : Bool) → both a false ≡ false
-unfolding both
-both-false true = refl
-both-false false = refl
-
+-- the first that passes both tests is the first kept by the one that passes the other
 pub first-keep : {A : Type 0} (f g : A → Bool) (l : List A) → first g (keep f l) ≡ first (λ x. both (g x) (f x)) l
 unfolding first keep both
 first-keep f g [] = refl

@@ -1,33 +1,22 @@
 -- The permutations of six are a group: each has its inverse among them, and composition acts as one after the other.
 use mathlib.Core.Path.{_≡_, refl, sym, ap, ap₂, subst, _∙_}
-use mathlib.Core.Logic.{_≢_, _⊎_, inl, inr, ⊎-elim}
 use mathlib.Core.Bool.{Bool, true, false, true≢false, false≢true}
-use mathlib.Core.List.{List, [], _∷_, map, List·Memᴰ, List·Memᴰ·head, List·Memᴰ·tail, List·Memᴰ·cases-cons, List·Memᴰ·not-nil, Memᴰ·map, Memᴰ·of-map}
+use mathlib.Core.List.{List, [], _∷_, map, List·Memᴰ, List·Memᴰ·head, List·Memᴰ·tail, Memᴰ·map, Memᴰ·of-map}
 use Prim.Native.Nat.{ℕ, zero, suc, _+_, _/_, _%_, _<_, _≤_}
 use native.Mathlib.Omega.{arith}
 use native.Mathlib.Decide.{decLt}
-use native.Mathlib.Nat.{not-suc-le-zero, le-of-suc-le-suc, mod-lt}
+use native.Mathlib.Nat.{not-suc-le-zero, le-of-suc-le-suc}
 use lib.Dec.{eqb, ltb}
 use lib.ListN.{length, getD, List·getD-map, List·getD-eq-default, length-map}
 use lib.Seq.{ext-getD}
 use borrow.Author.Tests.{eqb-true, eq-eqb, ltb-true}
-use Rattle.schedules.specs.Lists.{upTo, any, all}
+use Rattle.schedules.specs.Lists.{upTo, both, any, all}
 use Rattle.schedules.specs.Permutations.{NoDuplicates, Permutation, permutations, factorial, dropAt, arranged, permutationOf, moved, inverse, compose}
-use Rattle.schedules.proofs.Lists.{in-upTo, of-upTo, any-no, all-at}
+use Rattle.schedules.proofs.Lists.{both-left, both-right, in-upTo, of-upTo, any-no, all-at}
 use Rattle.schedules.proofs.Permutations.{permutations-complete}
-use Rattle.schedules.proofs.Numbered.{numbered, both, sameNumbers, distinctb, permutationb, invertible, all-invertible}
+use Rattle.schedules.proofs.Numbered.{numbered, sameNumbers, distinctb, permutationb, invertible, all-invertible}
 
 -- what the tests say
-both-left : (a b : Bool) → both a b ≡ true → a ≡ true
-unfolding both
-both-left true b e = refl
-both-left false b e = absurd (false≢true e)
-
-both-right : (a b : Bool) → both a b ≡ true → b ≡ true
-unfolding both
-both-right true b e = e
-both-right false b e = absurd (false≢true e)
-
 same-numbers : (xs ys : List ℕ) → sameNumbers xs ys ≡ true → xs ≡ ys
 unfolding sameNumbers
 same-numbers [] [] e = refl

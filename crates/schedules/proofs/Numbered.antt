@@ -4,8 +4,8 @@ use mathlib.Core.Bool.{Bool, true, false}
 use mathlib.Core.List.{List, [], _∷_, map}
 use Prim.Native.Nat.{ℕ}
 use lib.Dec.{eqb, ltb}
-use lib.ListN.{length, getD}
-use Rattle.schedules.specs.Lists.{upTo, any, all}
+use lib.ListN.{length}
+use Rattle.schedules.specs.Lists.{upTo, both, any, all}
 use Rattle.schedules.specs.Fulls.{fronts}
 use Rattle.schedules.specs.Permutations.{without, each, permsOf, permutations, factorial, dropAt, arranged, permutationOf, placeIn, inverse, compose}
 
@@ -15,10 +15,6 @@ unfolding upTo fronts without each permsOf permutations factorial dropAt arrange
 numbered = refl
 
 -- tests that compute
-unfoldable pub both : Bool → Bool → Bool
-both true b = b
-both false b = false
-
 unfoldable pub sameNumbers : List ℕ → List ℕ → Bool
 sameNumbers [] [] = true
 sameNumbers [] (y ∷ ys) = false

@@ -1,24 +1,23 @@
 -- The search finds exactly the first listed full schedule above the bound, whatever is cut soundly.
 use mathlib.Core.Path.{_≡_, refl, sym, ap, ap₂, subst, _∙_}
-use mathlib.Core.Logic.{_⊎_, inl, inr}
-use mathlib.Core.Bool.{Bool, true, false, true≢false, false≢true}
+use mathlib.Core.Bool.{Bool, true, false}
 use mathlib.Core.Option.{Option, none, some}
 use mathlib.Core.List.{List, [], _∷_, _++_, append-assoc, append-nil, List·Memᴰ, List·Memᴰ·not-nil}
 use Prim.Native.Nat.{ℕ, zero, suc, _+_, _-_, _<_, _≤_}
 use native.Mathlib.Omega.{arith}
 use lib.Dec.{eqb, ltb, leb}
-use borrow.Author.Tests.{eq-eqb, ne-eqb, eqb-true, eqb-false, leb-true, leb-false}
-use Rattle.schedules.specs.Lists.{upTo, keep, first, Ascends}
+use borrow.Author.Tests.{eqb-true, eqb-false, leb-true, leb-false}
+use Rattle.schedules.specs.Lists.{upTo, both, keep, first, Ascends}
 use Rattle.schedules.specs.Order.{Schedule, less}
 use Rattle.schedules.specs.System.{System, Lawful, run, ended, Allowed, FullFrom}
 use Rattle.schedules.specs.Fulls.{fronts, branch, fullsFrom, fulls}
-use Rattle.schedules.specs.Calls.{next, offer}
+use Rattle.schedules.specs.Calls.{offer}
 use Rattle.schedules.specs.Search.{orElse, children, low, past, leaf, kid, searchFrom, SoundCut}
 use Rattle.schedules.proofs.Order.{less-front, less-heads, more-heads, less-nil, nil-less}
-use Rattle.schedules.proofs.Lists.{in-upTo, of-upTo, upTo-ascends, first-yes, first-no}
+use Rattle.schedules.proofs.Lists.{both-false, in-upTo, of-upTo, upTo-ascends, first-no}
 use Rattle.schedules.proofs.Runs.{run-nil, run-snoc, full-join, allowed-join}
 use Rattle.schedules.proofs.Fulls.{of-fronts, branch-may, branch-not, fulls-ended, fulls-none, fulls-branch, fulls-sound, fulls-enough}
-use Rattle.schedules.proofs.First.{or-none, first-append, first-none, first-same, head-keep, next-first, both, both-false, first-keep, under, under-nil, under-none, under-two, under-or, first-fronts, answers, children-answers, answers-same, answers-two}
+use Rattle.schedules.proofs.First.{or-none, first-append, first-none, first-same, head-keep, next-first, first-keep, under, under-nil, under-none, under-two, under-or, first-fronts, answers, children-answers, answers-same, answers-two}
 
 -- above the bound
 unfoldable pub above : Option Schedule → Schedule → Bool
