@@ -9,9 +9,9 @@ use Rattle.program.specs.Program.{Program}
 use Rattle.schedules.specs.Order.{Schedule}
 use Rattle.schedules.specs.Calls.{Answer, offer, turn, short, Result, result, called, last, Dialogue, due}
 use Rattle.schedules.proofs.Calls.{dialogue-answers}
-use Rattle.machine.specs.Graph.{Full}
-use Rattle.machine.specs.Given.{fault}
-use Rattle.machine.proofs.Given.{fault-exact}
+use Rattle.machine.specs.Graph.{endOf, Full}
+use Rattle.machine.specs.Replay.{whole, replay}
+use Rattle.machine.proofs.Replay.{replay-whole}
 use Rattle.listing.specs.ListOf.{listOf}
 use Rattle.listing.specs.Answers.{startOf, continued, continueOf}
 use Rattle.listing.specs.Demand3.{call, Called}
@@ -24,8 +24,8 @@ module _ (p : Program) where
   unfolding continueOf continued
   continue-full s f out = go (short 24 out) refl
     where
-      given : fault p s ≡ none
-      given = fault-exact p s .1 f
+      given : replay p s ≡ whole (endOf p s)
+      given = replay-whole p s (endOf p s) .1 (f, refl)
 
       go : (b : Bool) → short 24 out ≡ b → continueOf p s out ≡ result (turn (short 24 out) (offer (listOf p) (some s))) out
       go true e = let k = turn-short (offer (listOf p) (some s)) in ap (λ (a : Answer). result a out) (rw (e, k))

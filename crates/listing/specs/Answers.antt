@@ -11,21 +11,22 @@ use Rattle.schedules.specs.Order.{Schedule}
 use Rattle.schedules.specs.Calls.{Answer, refused, offer, turn, short, over, Result, result, called}
 use Rattle.machine.specs.State.{fails}
 use Rattle.machine.specs.Graph.{endOf}
-use Rattle.machine.specs.Given.{fault}
+use Rattle.machine.specs.Replay.{Replayed, whole, replay}
+use Rattle.machine.specs.Replay as Replay
 use Rattle.listing.specs.ListOf.{listOf}
 
 -- start: the least listed schedule
 unfoldable pub startOf : Program → List ℕ → Result
 startOf p out = called 24 (listOf p) none out
 
--- what continue says of a schedule with this refusal, if any, where this is what comes after it
-unfoldable pub continued : Option (ℕ × ℕ) → Option Schedule → Answer
-continued (some f) o = refused (f .0) (f .1)
-continued none o = turn false o
+-- what continue says of a schedule that comes to this, where this is what the list offers after it
+unfoldable pub continued : Replayed → Option Schedule → Answer
+continued (whole σ) o = turn false o
+continued (Replay.refused n k) o = refused n k
 
 -- continue, from any full schedule, listed or not: the least listed one after it, or no more, exactly when none is
 unfoldable pub continueOf : Program → Schedule → List ℕ → Result
-continueOf p s out = result (elim (short 24 out) [ true ↦ refused 22 0 | false ↦ continued (fault p s) (offer (listOf p) (some s)) ]) out
+continueOf p s out = result (elim (short 24 out) [ true ↦ refused 22 0 | false ↦ continued (replay p s) (offer (listOf p) (some s)) ]) out
 
 -- whether the schedule fails
 unfoldable pub failing : Program → Schedule → Bool

@@ -35,8 +35,6 @@ pub mod Determined
 pub mod Trails
 pub mod FirstFits
 pub mod SameGraph
--- a schedule given: refused or full
-pub mod Given
 -- graph text: it tells graphs apart, and is at most 400 bytes long
 pub mod Frames
 pub mod Text

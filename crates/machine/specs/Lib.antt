@@ -11,12 +11,13 @@ pub mod Replay
 pub mod Text
 -- what the steps of a run did, which of them conflict, and the least order of them
 pub mod Trail
+-- what the code left to a thread could still do
 pub mod Ahead
 -- a note of eight bytes for each step of a run
 pub mod Notes
 -- exchanging threads: permitted permutations, and states and graphs turned into others
 pub mod Exchange
+-- the steps of an exchanged run
 pub mod ExchangedTrail
 -- the definitions computed
 pub mod Examples
-pub mod Given
