@@ -11,3 +11,7 @@ pub mod Search
 pub mod Answers
 -- the promise as a whole
 pub mod Demand3
+-- the four calls on a program file
+pub mod OnFile
+-- what the listing program prints
+pub mod Printed

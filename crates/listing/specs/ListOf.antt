@@ -8,8 +8,7 @@ use lib.ListN.{length, getD}
 use Rattle.program.specs.Program.{Program}
 use Rattle.schedules.specs.Lists.{upTo, any, all, keep}
 use Rattle.schedules.specs.Order.{Schedule}
-use Rattle.schedules.specs.Fulls.{fulls}
-use Rattle.schedules.specs.Classes.{firsts}
+use Rattle.schedules.specs.Listed as Listed
 use Rattle.schedules.specs.Permutations.{permutations, moved}
 use Rattle.machine.specs.State.{Event, SC, start}
 use Rattle.machine.specs.Graph.{Graph, graph}
@@ -55,6 +54,6 @@ alikeBy πs g h = any (λ π. turns (moved π) g h) πs
 unfoldable pub alike : Program → Schedule → Schedule → Bool
 alike p a b = alikeBy (permitted p) (graph p a) (graph p b)
 
--- the list
+-- the list: all full schedules in order, and of these the ones to which no earlier one is alike
 unfoldable pub listOf : Program → List Schedule
-listOf p = let πs = permitted p in firsts (λ a b. alikeBy πs (graph p a) (graph p b)) (fulls SC (start p))
+listOf p = let πs = permitted p in Listed.listOf SC (start p) (λ a b. alikeBy πs (graph p a) (graph p b))
