@@ -1,0 +1,116 @@
+-- Document 01's programs with known lists: for each the frames of its file and the frames that the listing program prints.
+use Prim.Native.Nat.{ℕ}
+use mathlib.Core.List.{List, [], _∷_, _++_}
+
+abbrev pub Frame : Type 0
+Frame = List ℕ
+
+pub record Row : Type 0 where
+  pub file : List Frame
+  pub prints : List Frame
+
+-- operands
+abbrev constant : ℕ → Frame
+constant v = 0 ∷ 0 ∷ 0 ∷ 0 ∷ v ∷ []
+
+abbrev register : ℕ → Frame
+register k = 1 ∷ 0 ∷ 0 ∷ 0 ∷ k ∷ []
+
+-- the lines of a file
+abbrev thread : Frame
+thread = 0x01 ∷ []
+
+abbrev store : ℕ → Frame → Frame
+store l p = 0x10 ∷ l ∷ p
+
+abbrev load : ℕ → ℕ → Frame
+load r l = 0x11 ∷ r ∷ l ∷ []
+
+abbrev fetchAdd : ℕ → ℕ → Frame → Frame
+fetchAdd r l p = 0x12 ∷ r ∷ l ∷ p
+
+abbrev compareSwap : ℕ → ℕ → Frame → Frame → Frame
+compareSwap r l e v = 0x13 ∷ r ∷ l ∷ (e ++ v)
+
+abbrev addAssign : ℕ → Frame → Frame
+addAssign r p = 0x21 ∷ r ∷ p
+
+abbrev assert : ℕ → Frame → Frame
+assert r p = 0x23 ∷ r ∷ p
+
+abbrev alike : List ℕ → Frame
+alike ts = 0x02 ∷ ts
+
+-- the printed lines
+abbrev passes : List ℕ → Frame
+passes s = 0x50 ∷ 0 ∷ s
+
+abbrev fails : List ℕ → Frame
+fails s = 0x50 ∷ 1 ∷ s
+
+abbrev counts : ℕ → ℕ → Frame
+counts n k = 0x51 ∷ 0 ∷ 0 ∷ 0 ∷ 0 ∷ 0 ∷ 0 ∷ 0 ∷ n ∷ 0 ∷ 0 ∷ 0 ∷ 0 ∷ 0 ∷ 0 ∷ 0 ∷ k ∷ []
+
+-- one empty thread
+abbrev empty : Row
+empty = record { file = thread ∷ []; prints = passes [] ∷ counts 1 0 ∷ [] }
+
+-- a store beside two loads, the loads declared alike; without the `02` line
+abbrev storeLoads : List Frame
+storeLoads = thread ∷ store 0 (constant 1) ∷ thread ∷ load 0 0 ∷ thread ∷ load 0 0 ∷ []
+
+abbrev whole : Row
+whole = record { file = storeLoads ++ (alike (1 ∷ 2 ∷ []) ∷ []); prints = passes (0 ∷ 1 ∷ 2 ∷ []) ∷ passes (1 ∷ 0 ∷ 2 ∷ []) ∷ passes (1 ∷ 2 ∷ 0 ∷ []) ∷ counts 3 0 ∷ [] }
+
+abbrev wholeApart : Row
+wholeApart = record { file = storeLoads; prints = passes (0 ∷ 1 ∷ 2 ∷ []) ∷ passes (1 ∷ 0 ∷ 2 ∷ []) ∷ passes (1 ∷ 2 ∷ 0 ∷ []) ∷ passes (2 ∷ 0 ∷ 1 ∷ []) ∷ counts 4 0 ∷ [] }
+
+-- two threads, load, add 1, store, all on location 0; declared alike
+abbrev increment : List Frame
+increment = thread ∷ load 0 0 ∷ addAssign 0 (constant 1) ∷ store 0 (register 0) ∷ []
+
+abbrev increments : Row
+increments = record { file = increment ++ increment; prints = passes (0 ∷ 0 ∷ 1 ∷ 1 ∷ []) ∷ passes (0 ∷ 1 ∷ 0 ∷ 1 ∷ []) ∷ passes (0 ∷ 1 ∷ 1 ∷ 0 ∷ []) ∷ passes (1 ∷ 1 ∷ 0 ∷ 0 ∷ []) ∷ counts 4 0 ∷ [] }
+
+abbrev incrementsAlike : Row
+incrementsAlike = record { file = increment ++ (increment ++ (alike (0 ∷ 1 ∷ []) ∷ [])); prints = passes (0 ∷ 0 ∷ 1 ∷ 1 ∷ []) ∷ passes (0 ∷ 1 ∷ 0 ∷ 1 ∷ []) ∷ counts 2 0 ∷ [] }
+
+-- three compare and swaps of 0 to 1 on one location; declared alike
+abbrev swap : List Frame
+swap = thread ∷ compareSwap 0 0 (constant 0) (constant 1) ∷ []
+
+abbrev swaps : Row
+swaps = record { file = swap ++ (swap ++ swap); prints = passes (0 ∷ 1 ∷ 2 ∷ []) ∷ passes (1 ∷ 0 ∷ 2 ∷ []) ∷ passes (2 ∷ 0 ∷ 1 ∷ []) ∷ counts 3 0 ∷ [] }
+
+abbrev swapsAlike : Row
+swapsAlike = record { file = swap ++ (swap ++ (swap ++ (alike (0 ∷ 1 ∷ 2 ∷ []) ∷ []))); prints = passes (0 ∷ 1 ∷ 2 ∷ []) ∷ counts 1 0 ∷ [] }
+
+-- three fetch and adds of 1 on one location; declared alike
+abbrev adding : List Frame
+adding = thread ∷ fetchAdd 0 0 (constant 1) ∷ []
+
+abbrev adds : Row
+adds = record {
+  file = adding ++ (adding ++ adding);
+  prints = passes (0 ∷ 1 ∷ 2 ∷ []) ∷ passes (0 ∷ 2 ∷ 1 ∷ []) ∷ passes (1 ∷ 0 ∷ 2 ∷ []) ∷ passes (1 ∷ 2 ∷ 0 ∷ []) ∷ passes (2 ∷ 0 ∷ 1 ∷ []) ∷ passes (2 ∷ 1 ∷ 0 ∷ []) ∷ counts 6 0 ∷ [];
+}
+
+abbrev addsAlike : Row
+addsAlike = record { file = adding ++ (adding ++ (adding ++ (alike (0 ∷ 1 ∷ 2 ∷ []) ∷ []))); prints = passes (0 ∷ 1 ∷ 2 ∷ []) ∷ counts 1 0 ∷ [] }
+
+-- store 1 at location 0, load location 1, beside store 1 at location 1, load location 0
+abbrev buffering : Row
+buffering = record {
+  file = thread ∷ store 0 (constant 1) ∷ load 0 1 ∷ thread ∷ store 1 (constant 1) ∷ load 0 0 ∷ [];
+  prints = passes (0 ∷ 0 ∷ 1 ∷ 1 ∷ []) ∷ passes (0 ∷ 1 ∷ 0 ∷ 1 ∷ []) ∷ passes (1 ∷ 1 ∷ 0 ∷ 0 ∷ []) ∷ counts 3 0 ∷ [];
+}
+
+-- load location 0 and assert that it gave 0, beside a store of 1 there
+abbrev asserting : Row
+asserting = record {
+  file = thread ∷ load 0 0 ∷ assert 0 (constant 0) ∷ thread ∷ store 0 (constant 1) ∷ [];
+  prints = passes (0 ∷ 1 ∷ []) ∷ fails (1 ∷ 0 ∷ []) ∷ counts 2 1 ∷ [];
+}
+
+abbrev pub rows : List Row
+rows = empty ∷ whole ∷ wholeApart ∷ increments ∷ incrementsAlike ∷ swaps ∷ swapsAlike ∷ adds ∷ addsAlike ∷ buffering ∷ asserting ∷ []

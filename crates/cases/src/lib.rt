@@ -1,0 +1,1 @@
+// Document 01's programs with known lists, computed against the definitions.
