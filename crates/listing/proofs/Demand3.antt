@@ -1,32 +1,45 @@
--- DEMAND 3 holds of every well-formed program.
+-- DEMAND 3 holds of every accepted file.
 use Prim.Native.Nat.{ℕ, _^_, _<_, _≤_}
 use mathlib.Core.Path.{_≡_, refl, sym, ap, _∙_}
 use mathlib.Core.Logic.{_↔_}
-use mathlib.Core.Bool.{Bool, true, false}
 use mathlib.Core.List.{List, _∷_, _++_}
 use native.Mathlib.Omega.{arith}
 use lib.ListN.{length}
 use Rattle.program.specs.Program.{Program}
 use Rattle.program.specs.WellFormed.{WellFormed}
+use Rattle.program.specs.Decode.{Decoded, accepted, decode}
+use Rattle.program.proofs.AcceptedWellFormed.{accepted-well-formed}
 use Rattle.schedules.specs.Lists.{keep}
 use Rattle.schedules.proofs.Calls.{due-at}
 use Rattle.machine.specs.State.{SC, start, size}
 use Rattle.machine.proofs.Lawful.{lawful, at-most-24, fits-64-bits}
 use Rattle.listing.specs.ListOf.{listOf}
-use Rattle.listing.specs.Answers.{failing, countOf}
+use Rattle.listing.specs.Answers.{failing, countOf, violationOf}
+use Rattle.listing.specs.OnFile.{counted, countOn, violationOn}
 use Rattle.listing.specs.Demand3.{Demand3}
 use Rattle.listing.proofs.TheList.{list-exact, list-ascends, list-length}
 use Rattle.listing.proofs.Outcome.{alike-fails, alike-memory, one-each, none-fails-at-all}
 use Rattle.listing.proofs.SomeRun.{some-full}
-use Rattle.listing.proofs.Calls.{continue-full, calls-due}
+use Rattle.listing.proofs.Calls.{continue-file, calls-due}
 use Rattle.listing.proofs.Violations as Violations
 
-module _ (p : Program) (w : WellFormed p) where
-  same-count : countOf p ≡ record { listed = length (listOf p); failed = length (keep (failing p) (listOf p)) }
-  unfolding countOf
-  same-count = refl
+-- what holds of an equal answer
+along : {A : Type 0} {a b x : A} {Q : Type 0} → a ≡ b → (b ≡ x) ↔ Q → (a ≡ x) ↔ Q
+along e h = ((λ i. h .0 (sym e ∙ i)), λ q. e ∙ h .1 q)
 
-  pub demand-3 : Demand3 p
+module _ (file : List ℕ) (p : Program) (e : decode file ≡ accepted p) where
+  w : WellFormed p
+  w = accepted-well-formed file p e
+
+  same-count : countOn (decode file) ≡ counted (record { listed = length (listOf p); failed = length (keep (failing p) (listOf p)) })
+  unfolding countOn countOf
+  same-count = ap countOn e
+
+  same-violation : (out : List ℕ) → violationOn (decode file) out ≡ violationOf p out
+  unfolding violationOn
+  same-violation out = ap (λ (d : Decoded). violationOn d out) e
+
+  pub demand-3 : Demand3 file p
   unfolding failing
   demand-3 = record {
     exact = list-exact p;
@@ -36,11 +49,14 @@ module _ (p : Program) (w : WellFormed p) where
     within = λ s m. at-most-24 p w s (list-exact p s .0 m .0);
     one-each = one-each p w;
     same-outcome = λ r s fr fs l. (alike-fails p w r s fr fs l, alike-memory p w r s fr fs l);
-    answers = calls-due p;
-    answer-at = λ before out after rs d. (_, calls-due p (before ++ (out ∷ after)) rs d ∙ due-at 24 (listOf p) before out after);
-    continues = continue-full p;
+    answers = calls-due file p e;
+    answer-at = λ before out after rs d. (_, calls-due file p e (before ++ (out ∷ after)) rs d ∙ due-at 24 (listOf p) before out after);
+    continues = continue-file file p e;
     counts = same-count;
-    violation-first = Violations.violation-first p;
-    violation-none = λ out h. let v = Violations.violation-none p out h in let n = none-fails-at-all p w in ((λ e. n .0 (v .0 e)), λ k. v .1 (n .1 k));
-    violation-short = Violations.violation-short p;
+    violation-first = λ out h s. along (same-violation out) (Violations.violation-first p out h s);
+    violation-none = λ out h.
+        let v = Violations.violation-none p out h in
+        let n = none-fails-at-all p w in
+        along (same-violation out) ((λ i. n .0 (v .0 i)), λ k. v .1 (n .1 k));
+    violation-short = λ out. along (same-violation out) (Violations.violation-short p out);
   }

@@ -29,5 +29,3 @@ pub mod Offered
 pub mod Calls
 -- demand 3 holds
 pub mod Demand3
--- demand 3 of every accepted file
-pub mod OnFile

@@ -9,9 +9,9 @@ pub mod Rules
 pub mod Search
 -- what the four calls answer
 pub mod Answers
--- the promise as a whole
-pub mod Demand3
 -- the four calls on a program file
 pub mod OnFile
+-- the promise as a whole
+pub mod Demand3
 -- what the listing program prints
 pub mod Printed
