@@ -29,3 +29,6 @@ pub mod Offered
 pub mod Calls
 -- demand 3 holds
 pub mod Demand3
+-- for the code: the list walked by the search, and the rules as loops meet them
+pub mod Walk
+pub mod Loops
