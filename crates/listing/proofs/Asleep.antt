@@ -1,8 +1,8 @@
 -- R3 is sound: a thread whose next access is late, and which nothing left to the others could conflict with, stays late until it steps.
-use Prim.Native.Nat.{ℕ, _<_, _≤_}
+use Prim.Native.Nat.{ℕ, _<_}
 use mathlib.Core.Path.{_≡_, refl, sym, ap, ap₂, subst, _∙_}
-use mathlib.Core.Bool.{Bool, true, false, not, true≢false, false≢true, _&&_, _||_}
-use mathlib.Core.List.{List, [], _∷_, _++_, append-assoc}
+use mathlib.Core.Bool.{Bool, true, false, not, false≢true, _||_}
+use mathlib.Core.List.{_∷_, _++_, append-assoc}
 use native.Mathlib.Omega.{arith}
 use native.Mathlib.Decide.{decLt}
 use lib.Dec.{eqb}
@@ -22,13 +22,13 @@ use Rattle.machine.specs.Ahead.{mayPut, couldMeet}
 use Rattle.machine.proofs.Steps.{missing}
 use Rattle.machine.proofs.Regular.{Regular, regular-start, regular-run}
 use Rattle.machine.proofs.Swap.{Independent}
-use Rattle.machine.proofs.Reading.{Turn, first-turn}
+use Rattle.machine.proofs.Reading.{first-turn}
 use Rattle.machine.proofs.FreeSteps.{free-append}
 use Rattle.machine.proofs.Remote.{Remote, nothing-meets, remote-free}
 use Rattle.listing.specs.Alike.{Smaller}
 use Rattle.listing.specs.Rules.{late, taken, asleep}
 use Rattle.listing.proofs.Tests.{and-both}
-use Rattle.listing.proofs.Late.{Passes, late-passes, passed-smaller}
+use Rattle.listing.proofs.Late.{late-passes, passed-smaller}
 
 not-true : (b : Bool) → not b ≡ true → b ≡ false
 not-true true e = absurd (false≢true e)

@@ -1,6 +1,6 @@
 -- The permitted exchanges of threads are a group: the identity, the inverse of one and two after each other. The last is where it counts that
 -- no thread stands in two `02` lines.
-use Prim.Native.Nat.{ℕ, _<_, _≤_}
+use Prim.Native.Nat.{ℕ, _<_}
 use mathlib.Core.Path.{_≡_, refl, sym, ap, subst, _∙_}
 use mathlib.Core.Logic.{_⊎_, inl, inr, ⊎-elim}
 use mathlib.Core.List.{List, [], _∷_, List·Memᴰ, List·Memᴰ·cases-cons, List·Memᴰ·not-nil}
@@ -8,7 +8,7 @@ use native.Mathlib.Omega.{arith}
 use native.Mathlib.Decide.{decLt}
 use Rattle.program.specs.Program.{Program}
 use Rattle.program.specs.WellFormed.{Everywhere, WellFormed, Apart}
-use Rattle.machine.specs.Exchange.{Permutation, Permitted}
+use Rattle.machine.specs.Exchange.{Permutation}
 use Rattle.listing.specs.Alike.{Exchange}
 
 identity : Permutation (λ t. t)

@@ -1,19 +1,18 @@
 -- The rules as loops in code meet them: R1 goes back over an array of steps by its index, and the test at a full schedule over the numbers of the
 -- permitted permutations.
-use Prim.Native.Nat.{ℕ, zero, suc, _+_, _-_, _<_, _≤_}
+use Prim.Native.Nat.{ℕ, suc, _-_, _<_, _≤_}
 use mathlib.Core.Path.{_≡_, refl, sym, ap, _∙_}
 use mathlib.Core.Logic.{_≢_}
 use mathlib.Core.Bool.{Bool, true, false, not, true≢false}
-use mathlib.Core.List.{List, [], _∷_, _++_, map, reverse, reverse-append, List·Memᴰ, List·Memᴰ·head, List·Memᴰ·not-nil, Memᴰ·map, Memᴰ·of-map}
+use mathlib.Core.List.{List, [], _∷_, map, reverse, reverse-append, List·Memᴰ, List·Memᴰ·head, List·Memᴰ·not-nil, Memᴰ·map, Memᴰ·of-map}
 use native.Mathlib.Omega.{arith}
-use lib.Dec.{eqb, ltb}
 use lib.ListN.{length, getD, take}
 use lib.Seq.{take-suc}
 use borrow.Author.Tests.{eq-eqb, ne-eqb, lt-ltb, le-ltb}
 use Rattle.program.specs.Program.{Program}
 use Rattle.schedules.specs.Lists.{upTo, all, keep}
 use Rattle.schedules.specs.Order.{Schedule, less}
-use Rattle.schedules.specs.Permutations.{permutations, permutationOf}
+use Rattle.schedules.specs.Permutations.{permutationOf}
 use Rattle.schedules.proofs.Lists.{all-at, all-not, keep-yes, keep-no, of-keep}
 use Rattle.schedules.proofs.Numbered.{numbered}
 use Rattle.machine.specs.State.{start}

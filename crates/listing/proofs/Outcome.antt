@@ -1,23 +1,22 @@
 -- T5: each full schedule is alike to exactly one listed one; alike full schedules fail alike and leave the same memory. So where no listed
 -- schedule fails, none at all does.
-use Prim.Native.Nat.{ℕ}
-use mathlib.Core.Path.{_≡_, refl, sym, ap, subst, _∙_}
+use mathlib.Core.Path.{_≡_, sym, subst, _∙_}
 use mathlib.Core.Logic.{_↔_}
-use mathlib.Core.Bool.{Bool, true, false, true≢false, false≢true}
-use mathlib.Core.List.{List, [], _∷_, List·Memᴰ}
+use mathlib.Core.Bool.{true, false}
+use mathlib.Core.List.{List·Memᴰ}
 use Rattle.program.specs.Program.{Program}
 use Rattle.program.specs.WellFormed.{WellFormed}
 use Rattle.schedules.specs.Order.{Schedule}
 use Rattle.schedules.proofs.Listed.{some-listed, one-listed}
-use Rattle.machine.specs.State.{State, SC, start, fails, memoryOf}
-use Rattle.machine.specs.Graph.{graph, endOf, Full}
+use Rattle.machine.specs.State.{SC, start, fails, memoryOf}
+use Rattle.machine.specs.Graph.{endOf, Full}
 use Rattle.machine.specs.Exchange.{movedSchedule, Moves}
 use Rattle.machine.proofs.Lawful.{lawful, names-ascend}
 use Rattle.machine.proofs.Exchange.{moves-memory}
 use Rattle.machine.proofs.Permitted.{exchanged, exchanged-graph}
 use Rattle.machine.proofs.Failing.{moves-fails}
 use Rattle.machine.proofs.SameGraph.{one-graph-one-end}
-use Rattle.listing.specs.Alike.{Exchange, Alike, Listed}
+use Rattle.listing.specs.Alike.{Alike}
 use Rattle.listing.specs.ListOf.{alike, listOf}
 use Rattle.listing.proofs.Equivalence.{alike-refl, alike-sym, alike-trans, exchanged-once}
 use Rattle.listing.proofs.Tests.{alike-exact}

@@ -1,17 +1,17 @@
 -- What the executable tests say: `turns` is Turns, a member of `permitted` acts as a permitted exchange and every permitted exchange is one
 -- of them, and so `alike` is Alike.
-use Prim.Native.Nat.{ℕ, zero, suc, _+_, _<_, _≤_}
+use Prim.Native.Nat.{ℕ, zero, suc, _<_}
 use mathlib.Core.Path.{_≡_, refl, sym, ap, ap₂, subst, fun-ext, _∙_}
 use mathlib.Core.Logic.{_⊎_, inl, inr, _↔_}
-use mathlib.Core.Bool.{Bool, true, false, true≢false, false≢true, _&&_, _||_}
-use mathlib.Core.List.{List, [], _∷_, map, List·Memᴰ, List·Memᴰ·head, List·Memᴰ·tail, Memᴰ·of-map}
+use mathlib.Core.Bool.{Bool, true, false, false≢true, _&&_, _||_}
+use mathlib.Core.List.{List, [], _∷_, map, List·Memᴰ, Memᴰ·of-map}
 use native.Mathlib.Omega.{arith}
 use native.Mathlib.Decide.{decLt}
 use lib.Dec.{eqb}
 use lib.ListN.{length, getD, length-map, List·getD-map, List·getD-eq-default}
 use borrow.Author.Tests.{eqb-true, eq-eqb}
 use Rattle.program.specs.Program.{Program}
-use Rattle.schedules.specs.Lists.{upTo, any, all, keep}
+use Rattle.schedules.specs.Lists.{upTo, any}
 use Rattle.schedules.specs.Order.{Schedule}
 use Rattle.schedules.specs.Permutations.{NoDuplicates, permutations, moved}
 use Rattle.schedules.proofs.Lists.{in-upTo, of-upTo, any-yes, any-of, all-at, all-of, in-keep, of-keep}
@@ -20,7 +20,7 @@ use Rattle.schedules.proofs.Group.{identity-moved, identity-member, member-perm
 use Rattle.schedules.specs.Permutations as Lists6
 use Rattle.machine.specs.State.{Event}
 use Rattle.machine.specs.Graph.{Graph, graph}
-use Rattle.machine.specs.Exchange.{Permutation, Permitted, movedReads, movedWrites, Turns}
+use Rattle.machine.specs.Exchange.{Permutation, movedReads, movedWrites, Turns}
 use Rattle.machine.proofs.Exchange.{injective}
 use Rattle.listing.specs.Alike.{Exchange, Alike}
 use Rattle.listing.specs.ListOf.{together, permits, permitted, sameEvent, sameRead, sameList, turns, alikeBy, alike}

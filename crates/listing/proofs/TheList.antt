@@ -1,6 +1,6 @@
 -- The list is document 01's: exactly the listed schedules, ascending, finite. It is what the test at a full schedule leaves of all full
 -- schedules, and the search walks it.
-use Prim.Native.Nat.{ℕ, _^_, _<_, _≤_}
+use Prim.Native.Nat.{_^_, _≤_}
 use mathlib.Core.Path.{_≡_, refl, sym, ap, subst, _∙_}
 use mathlib.Core.Logic.{_↔_}
 use mathlib.Core.Bool.{Bool, true, false, true≢false}
@@ -20,7 +20,7 @@ use Rattle.machine.specs.State.{SC, start}
 use Rattle.machine.specs.Graph.{Full}
 use Rattle.machine.proofs.Steps.{may-small}
 use Rattle.machine.proofs.Lawful.{lawful, names-ascend, start-24}
-use Rattle.listing.specs.Alike.{Alike, Smaller, Listed}
+use Rattle.listing.specs.Alike.{Smaller, Listed}
 use Rattle.listing.specs.ListOf.{alike, listOf}
 use Rattle.listing.specs.Rules.{cut, unbeaten}
 use Rattle.listing.specs.Search.{search24}

@@ -1,26 +1,25 @@
 -- The test at a full schedule is exact: it passes exactly where no smaller full schedule is alike. For each permitted exchange the least order
 -- of the exchanged run's steps is the least schedule with the exchanged graph.
 use Prim.Native.Nat.{ℕ}
-use mathlib.Core.Path.{_≡_, refl, sym, ap, ap₂, subst, _∙_}
-use mathlib.Core.Logic.{_⊎_, inl, inr}
+use mathlib.Core.Path.{_≡_, refl, sym, subst}
+use mathlib.Core.Logic.{inl, inr}
 use mathlib.Core.Bool.{Bool, true, false, not, true≢false, false≢true}
-use mathlib.Core.List.{List, [], _∷_, map, List·Memᴰ}
+use mathlib.Core.List.{List, map, List·Memᴰ}
 use Rattle.program.specs.Program.{Program}
 use Rattle.program.specs.WellFormed.{WellFormed}
-use Rattle.schedules.specs.Lists.{all}
 use Rattle.schedules.specs.Order.{Schedule, less}
 use Rattle.schedules.specs.Permutations.{moved}
 use Rattle.schedules.proofs.Lists.{all-at, all-not}
 use Rattle.schedules.proofs.Order.{AtMost, less-transitive}
 use Rattle.machine.specs.State.{start}
-use Rattle.machine.specs.Graph.{graph, endOf, Full}
+use Rattle.machine.specs.Graph.{graph, Full}
 use Rattle.machine.specs.Trail.{Action, trail, leastOf}
 use Rattle.machine.specs.Exchange.{movedSchedule, Turns}
 use Rattle.machine.specs.ExchangedTrail.{movedAction}
 use Rattle.machine.proofs.Permitted.{moves-start, exchanged, exchanged-graph}
 use Rattle.machine.proofs.ExchangedTrail.{moves-trail}
 use Rattle.machine.proofs.ProgramGraphs.{graph-same-end, graph-least}
-use Rattle.listing.specs.Alike.{Exchange, Alike, Smaller}
+use Rattle.listing.specs.Alike.{Exchange, Smaller}
 use Rattle.listing.specs.ListOf.{permitted}
 use Rattle.listing.specs.Rules.{leastBy, unbeaten}
 use Rattle.listing.proofs.Equivalence.{alike-sym, exchanged-once}

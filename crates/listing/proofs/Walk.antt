@@ -1,8 +1,6 @@
 -- Walking the list by the search, as count, violation and the listing program do: behind what was found last the search finds the next member,
 -- and none behind the last. So a walk that has counted n members and k failing ones, with v still to come, ends with both counts of the list.
-use Prim.Native.Nat.{ℕ, suc, _+_}
-use mathlib.Core.Path.{_≡_, refl, sym, ap, _∙_}
-use mathlib.Core.Bool.{Bool, true, false}
+use mathlib.Core.Path.{_≡_, refl, _∙_}
 use mathlib.Core.Option.{Option, none, some}
 use mathlib.Core.List.{List, [], _∷_}
 use Rattle.program.specs.Program.{Program}

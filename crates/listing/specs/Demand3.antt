@@ -4,7 +4,7 @@
 use Prim.Native.Nat.{ℕ, _^_, _<_, _≤_}
 use mathlib.Core.Path.{_≡_}
 use mathlib.Core.Logic.{_↔_}
-use mathlib.Core.Bool.{Bool, true, false}
+use mathlib.Core.Bool.{true, false}
 use mathlib.Core.Option.{Option, none, some}
 use mathlib.Core.List.{List, [], _∷_, _++_, List·Memᴰ}
 use lib.ListN.{length}
@@ -17,8 +17,8 @@ use Rattle.machine.specs.State.{memoryOf}
 use Rattle.machine.specs.Graph.{endOf, Full}
 use Rattle.listing.specs.Alike.{Alike, Listed}
 use Rattle.listing.specs.ListOf.{listOf}
-use Rattle.listing.specs.Answers.{failing, Counts, Violation, fails-first, none-fails, refused-by}
-use Rattle.listing.specs.OnFile.{startOn, continueOn, Count, counted, countOn, violationOn}
+use Rattle.listing.specs.Answers.{failing, fails-first, none-fails, refused-by}
+use Rattle.listing.specs.OnFile.{startOn, continueOn, counted, countOn, violationOn}
 
 -- A list of calls on one file, each with an output of any length. Until a schedule has been answered each is a start; from then on each is a
 -- continue, handed a copy of the schedule answered last, also after a refusal or a no more.

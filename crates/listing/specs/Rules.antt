@@ -10,7 +10,7 @@ use Rattle.schedules.specs.Lists.{upTo, any, all}
 use Rattle.schedules.specs.Order.{Schedule, less}
 use Rattle.schedules.specs.Permutations.{moved}
 use Rattle.machine.specs.Local.{Local}
-use Rattle.machine.specs.State.{Event, History, Thread, Cell, State, threadOf, place, step, may, start}
+use Rattle.machine.specs.State.{Event, History, Cell, State, threadOf, place, step, may, start}
 use Rattle.machine.specs.Trail.{Action, action, trail, conflict, leastOf}
 use Rattle.machine.specs.Ahead.{mayPut, couldMeet}
 use Rattle.machine.specs.ExchangedTrail.{movedAction}

@@ -1,7 +1,7 @@
 -- A step that is free of the steps before it, independent of each as it is taken, does behind them what it would have done before them. The
 -- trail of a schedule, from its end.
 use Prim.Native.Nat.{ℕ}
-use mathlib.Core.Path.{_≡_, refl, sym, ap, _∙_}
+use mathlib.Core.Path.{_≡_, refl, ap, _∙_}
 use mathlib.Core.Logic.{Ne·symm}
 use mathlib.Core.List.{List, [], _∷_, _++_}
 use Rattle.schedules.specs.Order.{Schedule}

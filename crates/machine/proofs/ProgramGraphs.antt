@@ -1,7 +1,7 @@
 -- The graph of a program's schedule, by the state at its end: equal ends have one graph, exchanged ends have exchanged graphs, and the least
 -- order of a full schedule's steps is the least schedule with its graph.
 use Prim.Native.Nat.{ℕ}
-use mathlib.Core.Path.{_≡_, refl, sym, ap, _∙_}
+use mathlib.Core.Path.{_≡_, ap, _∙_}
 use lib.ListN.{length}
 use Rattle.program.specs.Program.{Program}
 use Rattle.program.specs.WellFormed.{WellFormed}

@@ -1,15 +1,15 @@
 -- A thread whose next access nothing left to the others could conflict with: it is free of every step until its turn.
 use Prim.Native.Nat.{ℕ}
-use mathlib.Core.Path.{_≡_, refl, sym, ap, _∙_}
+use mathlib.Core.Path.{_≡_, refl, sym, ap}
 use mathlib.Core.Logic.{_≢_, _⊎_, inl, inr, Ne·symm}
 use mathlib.Core.Bool.{Bool, true, false}
-use mathlib.Core.Option.{Option, none}
-use mathlib.Core.List.{List, [], _∷_, List·Memᴰ, List·Memᴰ·head, List·Memᴰ·tail}
+use mathlib.Core.Option.{none}
+use mathlib.Core.List.{[], _∷_, List·Memᴰ, List·Memᴰ·head, List·Memᴰ·tail}
 use Rattle.schedules.specs.Lists.{any}
 use Rattle.schedules.specs.Order.{Schedule}
 use Rattle.schedules.specs.System.{run, Allowed}
 use Rattle.schedules.proofs.Front.{Free}
-use Rattle.machine.specs.Local.{Local, placeOf, puts}
+use Rattle.machine.specs.Local.{placeOf, puts}
 use Rattle.machine.specs.State.{State, noThread, threadOf, cellOf, place, step, may, SC}
 use Rattle.machine.specs.Trail.{given, writes}
 use Rattle.machine.specs.Ahead.{mayPut, couldMeet}
