@@ -20,7 +20,7 @@ use Rattle.listing.specs.Demand3.{Demand3}
 use Rattle.listing.proofs.TheList.{list-exact, list-ascends, list-length}
 use Rattle.listing.proofs.Outcome.{alike-fails, alike-memory, one-each, none-fails-at-all}
 use Rattle.listing.proofs.SomeRun.{some-full}
-use Rattle.listing.proofs.Calls.{continue-file, calls-due}
+use Rattle.listing.proofs.Calls.{continue-file, continue-least, continue-none, calls-due}
 use Rattle.listing.proofs.Violations as Violations
 
 -- what holds of an equal answer
@@ -52,6 +52,8 @@ module _ (file : List ℕ) (p : Program) (e : decode file ≡ accepted p) where
     answers = calls-due file p e;
     answer-at = λ before out after rs d. (_, calls-due file p e (before ++ (out ∷ after)) rs d ∙ due-at 24 (listOf p) before out after);
     continues = continue-file file p e;
+    continue-least = continue-least file p e;
+    continue-none = continue-none file p e;
     counts = same-count;
     violation-first = λ out h s. along (same-violation out) (Violations.violation-first p out h s);
     violation-none = λ out h.

@@ -20,7 +20,8 @@ pub mod Unbeaten
 pub mod TheList
 -- T5: exactly one listed schedule for each full one, with the same outcome
 pub mod Outcome
--- what violation answers
+-- the first member that passes a test; what violation answers
+pub mod FirstIn
 pub mod Violations
 -- every program has a run
 pub mod SomeRun

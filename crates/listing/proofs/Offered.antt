@@ -36,6 +36,10 @@ unfolding offer
 offer-in l none s e = head-in l s e
 offer-in l (some b) s e = next-in l b s e
 
+pub offer-next : (l : List Schedule) (s : Schedule) → offer l (some s) ≡ next l s
+unfolding offer
+offer-next l s = refl
+
 pub turn-short : (o : Option Schedule) → turn true o ≡ refused 22 0
 unfolding turn
 turn-short o = refl

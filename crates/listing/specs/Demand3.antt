@@ -12,13 +12,17 @@ use Rattle.program.specs.Program.{Program}
 use Rattle.program.specs.Decode.{decode}
 use Rattle.schedules.specs.Lists.{keep, Ascends}
 use Rattle.schedules.specs.Order.{Schedule, less}
-use Rattle.schedules.specs.Calls.{turn, short, over, Result, result, called, last, due, served, member}
+use Rattle.schedules.specs.Calls.{found, nomore, turn, short, over, Result, result, called, last, due, served, member}
 use Rattle.machine.specs.State.{memoryOf}
 use Rattle.machine.specs.Graph.{endOf, Full}
 use Rattle.listing.specs.Alike.{Alike, Listed}
 use Rattle.listing.specs.ListOf.{listOf}
 use Rattle.listing.specs.Answers.{failing, fails-first, none-fails, refused-by}
 use Rattle.listing.specs.OnFile.{startOn, continueOn, counted, countOn, violationOn}
+
+-- s is in the list of p
+abbrev pub InList : Program → Schedule → Type 0
+InList p s = List·Memᴰ s (listOf p)
 
 -- A list of calls on one file, each with an output of any length. Until a schedule has been answered each is a start; from then on each is a
 -- continue, handed a copy of the schedule answered last, also after a refusal or a no more.
@@ -35,16 +39,16 @@ Called file before (out ∷ outs) (r ∷ rs) = (r ≡ call file before out) × C
 
 pub record Demand3 (file : List ℕ) (p : Program) : Type 0 where
   -- THE LIST has exactly the full schedules that document 01 calls listed: no smaller full schedule is alike
-  pub exact : (s : Schedule) → List·Memᴰ s (listOf p) ↔ Listed p s
+  pub exact : (s : Schedule) → InList p s ↔ Listed p s
   -- it ascends strictly
   pub ascending : Ascends less (listOf p)
   -- it is finite, its count fits 64 bits, and it is never empty
   pub fits : length (listOf p) < 2 ^ 63
-  pub begins : (s : Schedule) × List·Memᴰ s (listOf p)
+  pub begins : (s : Schedule) × InList p s
   -- each member has at most 24 steps, so that it fits an output that is not refused
-  pub within : (s : Schedule) → List·Memᴰ s (listOf p) → length s ≤ 24
+  pub within : (s : Schedule) → InList p s → length s ≤ 24
   -- EACH FULL SCHEDULE'S GRAPH equals that of exactly one listed one, up to exchanging threads declared alike
-  pub one-each : (s : Schedule) → Full p s → (r : Schedule) × List·Memᴰ r (listOf p) × Alike p r s × ((q : Schedule) → List·Memᴰ q (listOf p) → Alike p q s → q ≡ r)
+  pub one-each : (s : Schedule) → Full p s → (r : Schedule) × InList p r × Alike p r s × ((q : Schedule) → InList p q → Alike p q s → q ≡ r)
   -- where one of two alike schedules fails so does the other, and both leave the same memory
   pub same-outcome : (r s : Schedule) → Full p r → Full p s → Alike p r s → (failing p r ≡ failing p s) × (memoryOf (endOf p r) ≡ memoryOf (endOf p s))
   -- THE CALLS, whatever their number and outputs: what they answer, and the outputs behind them, is what is due
@@ -53,13 +57,18 @@ pub record Demand3 (file : List ℕ) (p : Program) : Type 0 where
   -- were not refused, or no more if there are not so many
   pub answer-at : (before : List (List ℕ)) (out : List ℕ) (after : List (List ℕ)) (rs : List Result) → Called file none (before ++ (out ∷ after)) rs →
       (rest : List Result) × (rs ≡ due 24 (listOf p) before ++ (result (turn (short 24 out) (member (listOf p) (served 24 before))) out ∷ rest))
-  -- a continue from any full schedule, listed or not: the least listed one after it, or no more
+  -- A CONTINUE from any full schedule, listed or not, answers as it would in such a list
   pub continues : (s : Schedule) → Full p s → (out : List ℕ) → continueOn (decode file) s out ≡ called 24 (listOf p) (some s) out
+  -- with an output that is not too short: the least listed one after it, written in front of the output's old rest
+  pub continue-least : (s : Schedule) → Full p s → (out : List ℕ) → 24 ≤ length out → (r : Schedule) → (continueOn (decode file) s out ≡ (found r, over r out)) ↔
+      (InList p r × (less s r ≡ true) × ((q : Schedule) → InList p q → less q r ≡ true → less s q ≡ false))
+  -- or no more, exactly when none is
+  pub continue-none : (s : Schedule) → Full p s → (out : List ℕ) → 24 ≤ length out → (continueOn (decode file) s out ≡ (nomore, out)) ↔ ((r : Schedule) → InList p r → less s r ≡ false)
   -- COUNT: the list's length, and the number of its members that fail
   pub counts : countOn (decode file) ≡ counted (record { listed = length (listOf p); failed = length (keep (failing p) (listOf p)) })
   -- VIOLATION, with an output that is not too short: the first member that fails, written in front of the output's old rest
   pub violation-first : (out : List ℕ) → 24 ≤ length out → (s : Schedule) → (violationOn (decode file) out ≡ (fails-first s, over s out)) ↔
-      (List·Memᴰ s (listOf p) × (failing p s ≡ true) × ((r : Schedule) → List·Memᴰ r (listOf p) → less r s ≡ true → failing p r ≡ false))
+      (InList p s × (failing p s ≡ true) × ((r : Schedule) → InList p r → less r s ≡ true → failing p r ≡ false))
   -- and none exactly when no schedule at all fails
   pub violation-none : (out : List ℕ) → 24 ≤ length out → (violationOn (decode file) out ≡ (none-fails, out)) ↔ ((s : Schedule) → Full p s → failing p s ≡ false)
   -- 22 exactly when it is too short
