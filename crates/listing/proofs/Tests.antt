@@ -16,12 +16,13 @@ use Rattle.schedules.specs.Order.{Schedule}
 use Rattle.schedules.specs.Permutations.{NoDuplicates, permutations, moved}
 use Rattle.schedules.proofs.Lists.{in-upTo, of-upTo, any-yes, any-of, all-at, all-of, in-keep, of-keep}
 use Rattle.schedules.proofs.Permutations.{permutations-complete}
-use Rattle.schedules.proofs.Group.{identity-moved, identity-member, member-permutation, inverse-left, inverse-right, moved-below, moved-above}
+use Rattle.schedules.proofs.Group.{moved-same, identity-moved, identity-member, member-permutation, inverse-left, inverse-right, moved-below, moved-above}
 use Rattle.schedules.specs.Permutations as Lists6
 use Rattle.machine.specs.State.{Event}
 use Rattle.machine.specs.Graph.{Graph, graph}
 use Rattle.machine.specs.Exchange.{Permutation, movedReads, movedWrites, Turns}
 use Rattle.machine.proofs.Exchange.{injective}
+use Rattle.machine.proofs.Permitted.{only-identity}
 use Rattle.listing.specs.Alike.{Exchange, Alike}
 use Rattle.listing.specs.ListOf.{together, permits, permitted, sameEvent, sameRead, sameList, turns, alikeBy, alike}
 use Rattle.listing.proofs.Exchanges.{Together}
@@ -193,3 +194,11 @@ alike-exact p a b = (
       any-of (λ π. turns (moved π) (graph p a) (graph p b)) (permitted p) (tabled (l .0)) (k .0)
       (true-turns (moved (tabled (l .0))) (graph p a) (graph p b) (subst (λ (π : ℕ → ℕ). Turns π (graph p a) (graph p b)) (sym (k .1)) (l .2))),
 )
+
+-- with no `02` line only the identity is permitted
+pub permitted-none : (p : Program) → p .groups ≡ [] → (π : List ℕ) → List·Memᴰ π (permitted p) → π ≡ upTo 0 6
+unfolding permitted
+permitted-none p e π m =
+    let k = of-keep (permits (p .groups)) permutations π m in
+    let x = permitted-exchange p π m in
+    moved-same π (upTo 0 6) (member-permutation π (k .0) .six ∙ sym six) (λ t. only-identity p (moved π) e (x .1) t ∙ sym (identity-moved t))
