@@ -37,3 +37,8 @@ ended M σ = none-may M σ (M .names)
 abbrev pub FullFrom : (M : System) → M .State → Schedule → Type 0
 FullFrom M σ [] = ended M σ ≡ true
 FullFrom M σ (t ∷ s) = (M .may σ t ≡ true) × FullFrom M (M .step σ t) s
+
+-- from this state on each byte may step in its turn
+abbrev pub Allowed : (M : System) → M .State → Schedule → Type 0
+Allowed M σ [] = Unit {0}
+Allowed M σ (t ∷ s) = (M .may σ t ≡ true) × Allowed M (M .step σ t) s

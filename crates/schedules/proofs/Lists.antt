@@ -1,0 +1,156 @@
+-- Members of lists, what tests over lists say of them, and ascending lists.
+use mathlib.Core.Path.{_≡_, refl, sym, ap, ap₂, subst, _∙_}
+use mathlib.Core.Logic.{_≢_, _⊎_, inl, inr, ⊎-elim}
+use mathlib.Core.Bool.{Bool, true, false, true≢false, false≢true}
+use mathlib.Core.Option.{Option, none, some}
+use mathlib.Core.List.{List, [], _∷_, _++_, List·Memᴰ, List·Memᴰ·head, List·Memᴰ·tail, List·Memᴰ·cases-cons, List·Memᴰ·not-nil, List·Memᴰ·append-cases}
+use Prim.Native.Nat.{ℕ, zero, suc, _+_, _<_, _≤_}
+use native.Mathlib.Omega.{arith}
+use native.Mathlib.Nat.{eq-or-lt-of-le}
+use lib.Dec.{ltb}
+use borrow.Author.Tests.{lt-ltb}
+use Rattle.schedules.specs.Lists.{upTo, any, all, keep, first, headOf, Ascends}
+
+-- the numbers from one on
+pub in-upTo : (a n k : ℕ) → a ≤ k → k < a + n → List·Memᴰ k (upTo a n)
+unfolding upTo
+in-upTo a zero k l h = absurd (omega arith)
+in-upTo a (suc n) k l h = ⊎-elim (λ (e : a ≡ k). List·Memᴰ·head (sym e)) (λ (g : suc a ≤ k). List·Memᴰ·tail (in-upTo (suc a) n k g (omega arith))) (eq-or-lt-of-le l)
+
+pub of-upTo : (a n k : ℕ) → List·Memᴰ k (upTo a n) → (a ≤ k) × (k < a + n)
+unfolding upTo
+of-upTo a zero k m = absurd (List·Memᴰ·not-nil m)
+of-upTo a (suc n) k m = ⊎-elim (λ (e : k ≡ a). (omega arith, omega arith)) (λ (j : List·Memᴰ k (upTo (suc a) n)). let r = of-upTo (suc a) n k j in (omega (arith, r .0), omega (arith, r .1))) (List·Memᴰ·cases-cons m)
+
+pub upTo-ascends : (a n : ℕ) → Ascends ltb (upTo a n)
+unfolding upTo
+upTo-ascends a zero = tt
+upTo-ascends a (suc n) = ((λ k m. lt-ltb a k (of-upTo (suc a) n k m .0)), upTo-ascends (suc a) n)
+
+-- tests over a list
+pub any-yes : {A : Type 0} (f : A → Bool) (l : List A) → any f l ≡ true → (x : A) × List·Memᴰ x l × (f x ≡ true)
+unfolding any
+any-yes f [] e = absurd (false≢true e)
+any-yes {A} f (x ∷ xs) e = go (f x) refl (λ k. any-yes f xs k)
+  where
+    go : (b : Bool) → f x ≡ b → (any f xs ≡ true → (y : A) × List·Memᴰ y xs × (f y ≡ true)) → (y : A) × List·Memᴰ y (x ∷ xs) × (f y ≡ true)
+    go true q ih = (x, List·Memᴰ·head refl, q)
+    go false q ih = let r = ih (rw (q, any) at e) in (r .0, List·Memᴰ·tail (r .1), r .2)
+
+pub any-of : {A : Type 0} (f : A → Bool) (l : List A) (x : A) → List·Memᴰ x l → f x ≡ true → any f l ≡ true
+unfolding any
+any-of f [] x m e = absurd (List·Memᴰ·not-nil m)
+any-of f (y ∷ ys) x m e = go (f y) refl (List·Memᴰ·cases-cons m) (λ k. any-of f ys x k e)
+  where
+    go : (b : Bool) → f y ≡ b → (x ≡ y) ⊎ List·Memᴰ x ys → (List·Memᴰ x ys → any f ys ≡ true) → any f (y ∷ ys) ≡ true
+    go true q d ih = rw (q, any)
+    go false q (inl i) ih = absurd (false≢true (sym q ∙ ap f (sym i) ∙ e))
+    go false q (inr k) ih = rw (q, any) (ih k)
+
+pub any-no : {A : Type 0} (f : A → Bool) (l : List A) (x : A) → any f l ≡ false → List·Memᴰ x l → f x ≡ false
+any-no f l x e m = go (f x) refl
+  where
+    go : (b : Bool) → f x ≡ b → f x ≡ false
+    go true q = absurd (true≢false (sym (any-of f l x m q) ∙ e))
+    go false q = q
+
+pub all-at : {A : Type 0} (f : A → Bool) (l : List A) (x : A) → all f l ≡ true → List·Memᴰ x l → f x ≡ true
+unfolding all
+all-at f [] x e m = absurd (List·Memᴰ·not-nil m)
+all-at f (y ∷ ys) x e m = go (f y) refl (List·Memᴰ·cases-cons m) (λ q k. all-at f ys x q k)
+  where
+    go : (b : Bool) → f y ≡ b → (x ≡ y) ⊎ List·Memᴰ x ys → (all f ys ≡ true → List·Memᴰ x ys → f x ≡ true) → f x ≡ true
+    go true q (inl i) ih = ap f i ∙ q
+    go true q (inr k) ih = ih (rw (q, all) at e) k
+    go false q d ih = absurd (false≢true (rw (q, all) at e))
+
+pub all-of : {A : Type 0} (f : A → Bool) (l : List A) → ((x : A) → List·Memᴰ x l → f x ≡ true) → all f l ≡ true
+unfolding all
+all-of f [] h = refl
+all-of f (x ∷ xs) h = rw (h x (List·Memᴰ·head refl), all) (all-of f xs (λ y m. h y (List·Memᴰ·tail m)))
+
+-- where not every member passes, one is in the way
+pub all-not : {A : Type 0} (f : A → Bool) (l : List A) → all f l ≡ false → (x : A) × List·Memᴰ x l × (f x ≡ false)
+unfolding all
+all-not f [] e = absurd (true≢false e)
+all-not {A} f (x ∷ xs) e = go (f x) refl (λ k. all-not f xs k)
+  where
+    go : (b : Bool) → f x ≡ b → (all f xs ≡ false → (y : A) × List·Memᴰ y xs × (f y ≡ false)) → (y : A) × List·Memᴰ y (x ∷ xs) × (f y ≡ false)
+    go true q ih = let r = ih (rw (q, all) at e) in (r .0, List·Memᴰ·tail (r .1), r .2)
+    go false q ih = (x, List·Memᴰ·head refl, q)
+
+-- one turn of `keep` and of `first`
+pub keep-yes : {A : Type 0} (f : A → Bool) (x : A) (l : List A) → f x ≡ true → keep f (x ∷ l) ≡ x ∷ keep f l
+unfolding keep
+keep-yes f x l e = rw (e, keep)
+
+pub keep-no : {A : Type 0} (f : A → Bool) (x : A) (l : List A) → f x ≡ false → keep f (x ∷ l) ≡ keep f l
+unfolding keep
+keep-no f x l e = rw (e, keep)
+
+pub first-yes : {A : Type 0} (f : A → Bool) (x : A) (l : List A) → f x ≡ true → first f (x ∷ l) ≡ some x
+unfolding first
+first-yes f x l e = rw (e, first)
+
+pub first-no : {A : Type 0} (f : A → Bool) (x : A) (l : List A) → f x ≡ false → first f (x ∷ l) ≡ first f l
+unfolding first
+first-no f x l e = rw (e, first)
+
+-- the members kept are those that pass
+pub in-keep : {A : Type 0} (f : A → Bool) (l : List A) (x : A) → List·Memᴰ x l → f x ≡ true → List·Memᴰ x (keep f l)
+in-keep f [] x m e = absurd (List·Memᴰ·not-nil m)
+in-keep f (y ∷ ys) x m e = go (f y) refl (List·Memᴰ·cases-cons m) (λ k. in-keep f ys x k e)
+  where
+    go : (b : Bool) → f y ≡ b → (x ≡ y) ⊎ List·Memᴰ x ys → (List·Memᴰ x ys → List·Memᴰ x (keep f ys)) → List·Memᴰ x (keep f (y ∷ ys))
+    go true q (inl i) ih = rw (keep-yes f y ys q) (List·Memᴰ·head i)
+    go true q (inr k) ih = rw (keep-yes f y ys q) (List·Memᴰ·tail (ih k))
+    go false q (inl i) ih = absurd (false≢true (sym q ∙ ap f (sym i) ∙ e))
+    go false q (inr k) ih = rw (keep-no f y ys q) (ih k)
+
+pub of-keep : {A : Type 0} (f : A → Bool) (l : List A) (x : A) → List·Memᴰ x (keep f l) → List·Memᴰ x l × (f x ≡ true)
+unfolding keep
+of-keep f [] x m = absurd (List·Memᴰ·not-nil m)
+of-keep {A} f (y ∷ ys) x m = go (f y) refl (λ k. of-keep f ys x k)
+  where
+    go : (b : Bool) → f y ≡ b → (List·Memᴰ x (keep f ys) → List·Memᴰ x ys × (f x ≡ true)) → List·Memᴰ x (y ∷ ys) × (f x ≡ true)
+    go true q ih = ⊎-elim (λ (i : x ≡ y). (List·Memᴰ·head i, ap f i ∙ q)) (λ (k : List·Memᴰ x (keep f ys)). let r = ih k in (List·Memᴰ·tail (r .0), r .1)) (List·Memᴰ·cases-cons (rw (q, keep) at m))
+    go false q ih = let r = ih (rw (q, keep) at m) in (List·Memᴰ·tail (r .0), r .1)
+
+-- ascending lists
+module _ {A : Type 0} (less : A → A → Bool) where
+  pub ascends-append : (xs ys : List A) → Ascends less xs → Ascends less ys → ((x y : A) → List·Memᴰ x xs → List·Memᴰ y ys → less x y ≡ true) → Ascends less (xs ++ ys)
+  ascends-append [] ys a b c = b
+  ascends-append (x ∷ xs) ys a b c = (
+    (λ y m. ⊎-elim (λ (k : List·Memᴰ y xs). a .0 y k) (λ (k : List·Memᴰ y ys). c x y (List·Memᴰ·head refl) k) (List·Memᴰ·append-cases xs m)),
+    ascends-append xs ys (a .1) b (λ z y k n. c z y (List·Memᴰ·tail k) n),
+  )
+
+  pub ascends-keep : (f : A → Bool) (l : List A) → Ascends less l → Ascends less (keep f l)
+  unfolding keep
+  ascends-keep f [] a = tt
+  ascends-keep f (x ∷ xs) a = go (f x) refl (ascends-keep f xs (a .1))
+    where
+      go : (b : Bool) → f x ≡ b → Ascends less (keep f xs) → Ascends less (keep f (x ∷ xs))
+      go true e ih = rw (e, keep) ((λ y m. a .0 y (of-keep f xs y m .0)), ih)
+      go false e ih = rw (e, keep) ih
+
+  module _ (irreflexive : (x : A) → less x x ≡ false) (asymmetric : (x y : A) → less x y ≡ true → less y x ≡ false) where
+    -- two ascending lists with the same members are equal
+    pub ascends-unique : (xs ys : List A) → Ascends less xs → Ascends less ys → ((x : A) → List·Memᴰ x xs → List·Memᴰ x ys) → ((x : A) → List·Memᴰ x ys → List·Memᴰ x xs) → xs ≡ ys
+    ascends-unique [] [] a b f g = refl
+    ascends-unique [] (y ∷ ys) a b f g = absurd (List·Memᴰ·not-nil (g y (List·Memᴰ·head refl)))
+    ascends-unique (x ∷ xs) [] a b f g = absurd (List·Memᴰ·not-nil (f x (List·Memᴰ·head refl)))
+    ascends-unique (x ∷ xs) (y ∷ ys) a b f g =
+        ap₂ {C = List A} (λ z zs. z ∷ zs) same
+        (ascends-unique xs ys (a .1) (b .1) (λ z m. rest z ys (b .0) same (a .0 z m) (f z (List·Memᴰ·tail m))) (λ z m. rest z xs (a .0) (sym same) (b .0 z m) (g z (List·Memᴰ·tail m))))
+      where
+        same : x ≡ y
+        same = go (List·Memᴰ·cases-cons (f x (List·Memᴰ·head refl))) (List·Memᴰ·cases-cons (g y (List·Memᴰ·head refl)))
+          where
+            go : (x ≡ y) ⊎ List·Memᴰ x ys → (y ≡ x) ⊎ List·Memᴰ y xs → x ≡ y
+            go (inl e) q = e
+            go (inr m) (inl e) = sym e
+            go (inr m) (inr n) = absurd (true≢false (sym (b .0 x m) ∙ asymmetric x y (a .0 y n)))
+
+        rest : {v w : A} (z : A) (zs : List A) → ((k : A) → List·Memᴰ k zs → less w k ≡ true) → v ≡ w → less v z ≡ true → List·Memᴰ z (w ∷ zs) → List·Memᴰ z zs
+        rest {v} {w} z zs h e q m = ⊎-elim (λ (i : z ≡ w). absurd (true≢false (sym q ∙ ap₂ less e i ∙ irreflexive w))) (λ (k : List·Memᴰ z zs). k) (List·Memᴰ·cases-cons m)

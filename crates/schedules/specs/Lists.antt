@@ -1,0 +1,41 @@
+-- Small functions on lists that the definitions of this crate and of those above share.
+use Prim.Native.Nat.{ℕ, zero, suc}
+use mathlib.Core.Path.{_≡_}
+use mathlib.Core.Bool.{Bool, true, false}
+use mathlib.Core.Option.{Option, none, some}
+use mathlib.Core.List.{List, [], _∷_, List·Memᴰ}
+
+-- so many numbers from a on
+unfoldable pub upTo : ℕ → ℕ → List ℕ
+upTo a zero = []
+upTo a (suc n) = a ∷ upTo (suc a) n
+
+-- whether some member passes the test
+unfoldable pub any : {A : Type 0} → (A → Bool) → List A → Bool
+any f [] = false
+any f (x ∷ xs) = elim (f x) [ true ↦ true | false ↦ any f xs ]
+
+-- whether every member passes it
+unfoldable pub all : {A : Type 0} → (A → Bool) → List A → Bool
+all f [] = true
+all f (x ∷ xs) = elim (f x) [ true ↦ all f xs | false ↦ false ]
+
+-- the members that pass it, in order
+unfoldable pub keep : {A : Type 0} → (A → Bool) → List A → List A
+keep f [] = []
+keep f (x ∷ xs) = elim (f x) [ true ↦ x ∷ keep f xs | false ↦ keep f xs ]
+
+-- the first member that passes it
+unfoldable pub first : {A : Type 0} → (A → Bool) → List A → Option A
+first f [] = none
+first f (x ∷ xs) = elim (f x) [ true ↦ some x | false ↦ first f xs ]
+
+-- the first member
+unfoldable pub headOf : {A : Type 0} → List A → Option A
+headOf [] = none
+headOf (x ∷ xs) = some x
+
+-- each member is smaller than all later ones
+abbrev pub Ascends : {A : Type 0} → (A → A → Bool) → List A → Type 0
+Ascends less [] = Unit {0}
+Ascends {A} less (x ∷ xs) = ((y : A) → List·Memᴰ y xs → less x y ≡ true) × Ascends less xs
