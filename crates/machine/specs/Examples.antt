@@ -6,10 +6,11 @@ use mathlib.Core.List.{List, [], _∷_}
 use Rattle.program.specs.Program.{Program, initial}
 use Rattle.program.specs.declared.instruction.Operand.the-variants.{Constant, Register}
 use Rattle.program.specs.declared.instruction.Instruction.the-variants.{Store, Load, FetchAdd, CompareSwap, Assign, AddAssign, SkipUnless, Assert}
+use Rattle.schedules.specs.Lists.{any, upTo}
 use Rattle.schedules.specs.Order.{Schedule}
 use Rattle.schedules.specs.System.{run, none-may, ended}
 use Rattle.machine.specs.Local.{eval, sum32, skipped, settle, beginsWithAccess, firstPlace, firstTakes, firstPuts, firstNext, pending, placeOf, takes, puts, next, begin}
-use Rattle.machine.specs.State.{initialWrite, noThread, freshCell, threadOf, cellOf, place, latest, noted, advanced, written, met, step, may, SC, opened, start, anyFailed, fails, valueOf, memoryOf}
+use Rattle.machine.specs.State.{initialWrite, noThread, freshCell, threadOf, cellOf, place, latest, noted, advanced, written, met, step, may, SC, opened, start, failedOf, fails, valueOf, memoryOf}
 use Rattle.machine.specs.Graph.{readsOf, writesOf, graphOf, graph, endOf}
 use Rattle.machine.specs.Text.{readFrame, readFrames, eventBytes, writeFrame, writeFrames, frames}
 
@@ -22,7 +23,7 @@ pub record Seen : Type 0 where
 
 -- what a proof names on its `unfolding` line to compute with every definition of a run
 unfoldable pub seen : Program → Schedule → Seen
-unfolding eval sum32 skipped settle beginsWithAccess firstPlace firstTakes firstPuts firstNext pending placeOf takes puts next begin initialWrite noThread freshCell threadOf cellOf place latest noted advanced written met step may opened start anyFailed fails valueOf memoryOf readsOf writesOf graphOf graph readFrame readFrames eventBytes writeFrame writeFrames frames run none-may ended initial
+unfolding eval sum32 skipped settle beginsWithAccess firstPlace firstTakes firstPuts firstNext pending placeOf takes puts next begin initialWrite noThread freshCell threadOf cellOf place latest noted advanced written met step may opened start failedOf fails valueOf memoryOf readsOf writesOf graphOf graph readFrame readFrames eventBytes writeFrame writeFrames frames run none-may ended any upTo initial
 seen p s = let σ = endOf p s in record { full = ended SC σ; fails = fails σ; memory = memoryOf σ; frames = frames (graphOf σ) }
 
 -- a store of 1 beside two loads

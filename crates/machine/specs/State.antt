@@ -9,6 +9,7 @@ use lib.ListN.{getD, set}
 use Rattle.program.specs.Program.{Program, initial}
 use Rattle.program.specs.WellFormed.{accesses}
 use Rattle.program.specs.declared.instruction.Instruction.{Instruction}
+use Rattle.schedules.specs.Lists.{any, upTo}
 use Rattle.schedules.specs.System.{System}
 use Rattle.machine.specs.Local.{Local, pending, placeOf, takes, puts, next, begin}
 
@@ -100,7 +101,7 @@ size σ = accessesLeft (σ .threads)
 
 -- sequential consistency as a step system
 abbrev pub SC : System
-SC = record { State = State; may = may; step = step; names = 0 ∷ 1 ∷ 2 ∷ 3 ∷ 4 ∷ 5 ∷ []; size = size }
+SC = record { State = State; may = may; step = step; names = upTo 0 6; size = size }
 
 -- a thread of this code before its first step
 unfoldable pub opened : List Instruction → Thread
@@ -110,13 +111,12 @@ opened c = record { local = begin c; history = record { done = 0; reads = [] } }
 unfoldable pub start : Program → State
 start p = record { threads = map opened (p .threads); cells = map freshCell (initial p) }
 
-unfoldable pub anyFailed : List Thread → Bool
-anyFailed [] = false
-anyFailed (h ∷ hs) = elim (h .local .failed) [ true ↦ true | false ↦ anyFailed hs ]
+unfoldable pub failedOf : Thread → Bool
+failedOf h = h .local .failed
 
 -- whether some assertion failed
 unfoldable pub fails : State → Bool
-fails σ = anyFailed (σ .threads)
+fails σ = any failedOf (σ .threads)
 
 unfoldable pub valueOf : Cell → ℕ
 valueOf c = c .value
