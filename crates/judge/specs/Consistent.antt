@@ -26,8 +26,8 @@ orderOf g l = getD (g .writes) l []
 abbrev pub ReadsFrom : Graph → Event → Event → Type 0
 ReadsFrom g e s = List·Memᴰ (e .1, s) (rowOf g (e .0))
 
--- y comes after x in this list of writes, whose last stands first
-abbrev pub Later : List Event → Event → Event → Type 0
+-- y comes after x in this list, whose last member stands first
+abbrev pub Later : {A : Type 0} → List A → A → A → Type 0
 Later [] y x = ⊥
 Later (w ∷ ws) y x = ((y ≡ w) × List·Memᴰ x ws) ⊎ Later ws y x
 

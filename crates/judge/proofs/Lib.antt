@@ -1,0 +1,15 @@
+-- The laws, in the order in which they rest on each other.
+-- laws about the machine: an ended thread, histories along a run
+pub mod Idle
+pub mod Histories
+-- lists of which a part is done
+pub mod Later
+pub mod Parts
+-- threads by themselves, and the machine that agrees with them
+pub mod Alone
+pub mod Agreement
+-- T4, from consistent to a schedule: a minimal event that is not done can be done next
+pub mod Minimal
+pub mod Decided
+-- pub mod InOrder
+-- pub mod Scheduled
