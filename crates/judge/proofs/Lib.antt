@@ -11,5 +11,5 @@ pub mod Agreement
 -- T4, from consistent to a schedule: a minimal event that is not done can be done next
 pub mod Minimal
 pub mod Decided
--- pub mod InOrder
+pub mod InOrder
 -- pub mod Scheduled
