@@ -2,6 +2,8 @@
 -- laws about the machine: an ended thread, histories along a run
 pub mod Idle
 pub mod Histories
+-- tests as facts
+pub mod Tests
 -- lists of which a part is done
 pub mod Later
 pub mod Parts
@@ -12,4 +14,4 @@ pub mod Agreement
 pub mod Minimal
 pub mod Decided
 pub mod InOrder
--- pub mod Scheduled
+pub mod Scheduled
