@@ -51,12 +51,12 @@ module _ (σ : State) (t : ℕ) (m : may σ t ≡ true) where
           inr (ap₂ (λ (a b : ℕ). let x : Event = (a, b) in x) q (omega arith))
 
 -- reads and writes of a step stand in front of the older ones
-step-row : (σ : State) (t : ℕ) → may σ t ≡ true → (u : ℕ) → Suffix (threadOf σ u .history .reads) (threadOf (step σ t) u .history .reads)
+pub step-row : (σ : State) (t : ℕ) → may σ t ≡ true → (u : ℕ) → Suffix (threadOf σ u .history .reads) (threadOf (step σ t) u .history .reads)
 unfolding advanced
 step-row σ t m u = thread-cases (λ k h. Suffix (threadOf σ k .history .reads) (h .history .reads)) σ t (may-range σ t m)
     (addedRead (takes (threadOf σ t .local)) (threadOf σ t .history .done) (latest (cellOf σ (place σ t) .writes)), noted-reads _ _ (threadOf σ t .history)) u (λ ne. suffix-same _)
 
-step-order : (σ : State) → Regular σ → (t l : ℕ) → Suffix (cellOf σ l .writes) (cellOf (step σ t) l .writes)
+pub step-order : (σ : State) → Regular σ → (t l : ℕ) → Suffix (cellOf σ l .writes) (cellOf (step σ t) l .writes)
 step-order σ r t l = go (changes σ r t l)
   where
     go : Change σ t l → Suffix (cellOf σ l .writes) (cellOf (step σ t) l .writes)

@@ -2,7 +2,7 @@
 use Prim.Native.Nat.{ℕ, _<_}
 use mathlib.Core.Path.{_≡_, refl, sym, subst}
 use mathlib.Core.Logic.{_≢_, _⊎_, inl, inr, ⊎-elim}
-use mathlib.Core.List.{List, [], _∷_, _++_, List·Memᴰ, List·Memᴰ·head, List·Memᴰ·tail, List·Memᴰ·cases-cons, List·Memᴰ·not-nil, Memᴰ·append-right}
+use mathlib.Core.List.{List, [], _∷_, _++_, List·Memᴰ, List·Memᴰ·head, List·Memᴰ·tail, List·Memᴰ·cases-cons, List·Memᴰ·not-nil, List·Memᴰ·append-cases, List·Memᴰ·eq-of-singleton, Memᴰ·append-right}
 use Rattle.machine.specs.State.{Event}
 use Rattle.judge.specs.Consistent.{Later, Distinct, Descends}
 
@@ -49,3 +49,10 @@ pub descends-later : (rs : List (ℕ × Event)) (y x : ℕ × Event) → Descend
 descends-later [] y x d f = absurd f
 descends-later (r ∷ rs) y x d (inl q) = subst (λ (k : ℕ × Event). x .0 < k .0) (sym (q .0)) (d .0 x (q .1))
 descends-later (r ∷ rs) y x d (inr f) = descends-later rs y x (d .1) f
+
+pub distinct-snoc : (ws : List Event) (x : Event) → Distinct ws → (List·Memᴰ x ws → ⊥) → Distinct (ws ++ (x ∷ []))
+distinct-snoc [] x d n = ((λ k. List·Memᴰ·not-nil k), tt)
+distinct-snoc (w ∷ ws) x d n = (
+  (λ k. ⊎-elim (λ (j : List·Memᴰ w ws). d .0 j) (λ (j : List·Memᴰ w (x ∷ [])). n (List·Memᴰ·head (sym (List·Memᴰ·eq-of-singleton j)))) (List·Memᴰ·append-cases ws k)),
+  distinct-snoc ws x (d .1) (λ k. n (List·Memᴰ·tail k)),
+)

@@ -15,3 +15,8 @@ pub mod Minimal
 pub mod Decided
 pub mod InOrder
 pub mod Scheduled
+-- T4, from a schedule to consistent: the rounds know the values of every run with this graph, and its steps are in order
+pub mod Tidy
+pub mod Records
+pub mod Rounds
+-- pub mod OnRun
