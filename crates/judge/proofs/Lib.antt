@@ -19,4 +19,7 @@ pub mod Scheduled
 pub mod Tidy
 pub mod Records
 pub mod Rounds
--- pub mod OnRun
+pub mod OnRun
+pub mod Ranked
+-- T4
+pub mod Theorem

@@ -78,6 +78,11 @@ module _ {A : Type 0} (D : A → Type 0) (w ws : List A) (P : Parts D w ws) wher
         done : (x : A) → List·Memᴰ x (y ∷ w) → E x
         done x k = ⊎-elim (λ (i : x ≡ y). subst E (sym i) e) (λ (i : List·Memᴰ x w). more x (P .done x i)) (List·Memᴰ·cases-cons k)
 
+pub latest-in : (ws : List Event) → latest ws ≢ initialWrite → List·Memᴰ (latest ws) ws
+unfolding latest
+latest-in [] n = absurd (n refl)
+latest-in (e ∷ ws) n = List·Memᴰ·head refl
+
 -- the last write done, among the writes of a location, behind which the initial write stands
 module _ (D : Event → Type 0) (w ws : List Event) (P : Parts D w ws) where
   abbrev with-initial : List Event
