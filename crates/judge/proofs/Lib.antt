@@ -23,3 +23,8 @@ pub mod OnRun
 pub mod Ranked
 -- T4
 pub mod Theorem
+-- the judge: what its test says, that fitting steps commute, that a run's steps fit; it answers yes exactly to consistent graphs, with the least schedule
+pub mod Fitting
+pub mod Commuting
+pub mod RunFits
+pub mod Judged
