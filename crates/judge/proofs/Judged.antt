@@ -1,21 +1,18 @@
 -- The judge answers yes exactly to consistent graphs, and with the least schedule.
-use Prim.Native.Nat.{ℕ, zero, suc, _≤_}
+use Prim.Native.Nat.{ℕ}
 use mathlib.Core.Path.{_≡_, refl, sym, ap, subst, _∙_}
-use mathlib.Core.Logic.{_≢_, _↔_}
+use mathlib.Core.Logic.{_↔_}
 use mathlib.Core.Bool.{Bool, true, false, _&&_, true≢false}
 use mathlib.Core.Option.{Option, none, some, Option·none-ne-some}
-use mathlib.Core.List.{List, [], _∷_, List·Memᴰ}
-use native.Mathlib.Omega.{arith}
-use lib.ListN.{length}
+use mathlib.Core.List.{List, [], _∷_}
 use Rattle.program.specs.Program.{Program}
 use Rattle.program.specs.WellFormed.{WellFormed}
-use Rattle.schedules.specs.Lists.{first}
 use Rattle.schedules.specs.Order.{Schedule}
-use Rattle.schedules.specs.System.{System, run, ended, Allowed, FullFrom}
-use Rattle.schedules.specs.Greedy.{greedy, Fitting}
+use Rattle.schedules.specs.System.{run, ended, Allowed, FullFrom}
+use Rattle.schedules.specs.Greedy.{Fitting}
 use Rattle.schedules.proofs.Order.{AtMost, at-most-not-less}
 use Rattle.schedules.proofs.Runs.{ended-none, full-allowed, allowed-full}
-use Rattle.schedules.proofs.Greedy.{FirstIs, found-at, nowhere, first-is, Frontable, greedy-least, commuting}
+use Rattle.schedules.proofs.Greedy.{Frontable, greedy-least, commuting}
 use Rattle.machine.specs.State.{Event, State, step, may, SC, start}
 use Rattle.machine.specs.Graph.{Graph, graphOf, graph, endOf, Full}
 use Rattle.machine.proofs.Lawful.{lawful, names-ascend, at-most-24}
@@ -25,29 +22,11 @@ use Rattle.judge.specs.Judge.{values, fits, walk, sameGraph, judge, Made
 use Rattle.judge.proofs.Tests.{and-both, both-and, same-graph-is, is-same-graph}
 use Rattle.judge.proofs.Rounds.{run-canonical}
 use Rattle.judge.proofs.OnRun.{on-start}
+use Rattle.judge.proofs.Walks.{greedy-allowed}
 use Rattle.judge.proofs.Theorem.{run-makes, consistent-iff}
 use Rattle.judge.proofs.Fitting.{fits-is}
 use Rattle.judge.proofs.Commuting.{fits-commute, fits-stays}
 use Rattle.judge.proofs.RunFits.{on-fitting}
-
--- Belongs to schedules: where only bytes that may step fit, the walk names only such.
-first-passes : (f : ℕ → Bool) (l : List ℕ) (t : ℕ) → first f l ≡ some t → f t ≡ true
-unfolding first
-first-passes f [] t e = absurd (Option·none-ne-some t e)
-first-passes f (x ∷ l) t e = go (f x) refl (λ k. first-passes f l t k)
-  where
-    go : (b : Bool) → f x ≡ b → (first f l ≡ some t → f t ≡ true) → f t ≡ true
-    go true q ih = let i : some x ≡ some t = rw (q, first) at e in let j : x ≡ t = cc in ap f (sym j) ∙ q
-    go false q ih = ih (rw (q, first) at e)
-
-greedy-allowed : (M : System) (f : M .State → ℕ → Bool) → ((σ : M .State) (t : ℕ) → f σ t ≡ true → M .may σ t ≡ true) → (k : ℕ) (σ : M .State) → Allowed M σ (greedy M f k σ)
-unfolding greedy
-greedy-allowed M f a zero σ = tt
-greedy-allowed M f a (suc k) σ = go (first (f σ) (M .names)) refl (λ τ. greedy-allowed M f a k τ)
-  where
-    go : (o : Option ℕ) → first (f σ) (M .names) ≡ o → ((τ : M .State) → Allowed M τ (greedy M f k τ)) → Allowed M σ (elim o [ none ↦ [] | some t ↦ t ∷ greedy M f k (M .step σ t) ])
-    go none e ih = tt
-    go (some t) e ih = (a σ t (first-passes (f σ) (M .names) t e), ih (M .step σ t))
 
 module _ (p : Program) (wf : WellFormed p) (g : Graph) where
   abbrev Goal : State → Type 0

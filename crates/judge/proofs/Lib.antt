@@ -27,4 +27,7 @@ pub mod Theorem
 pub mod Fitting
 pub mod Commuting
 pub mod RunFits
+pub mod Walks
 pub mod Judged
+-- document 01's two graphs, and others
+pub mod Cases

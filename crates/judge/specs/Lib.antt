@@ -3,3 +3,5 @@
 pub mod Consistent
 -- the judge: a greedy walk on the machine, then a comparison
 pub mod Judge
+-- graphs judged by computing
+pub mod Examples
