@@ -1,0 +1,21 @@
+-- Laws that the crates above cite.
+-- lines that are frames and frames of bytes correspond one to one
+pub mod RoundTrip
+-- when a line is a frame, and what the reader answers
+pub mod Frame
+-- the bytes that a line's characters spell
+pub mod Pairs
+-- a frame's line: its length, and what is written of it by the room there is
+pub mod Text
+-- a buffer with a text over its front, and with one more text behind it
+pub mod Over
+-- where the lines of a text end
+pub mod Split
+-- the lines of a text, one after the other
+pub mod TextLines
+-- one digit: value and digit are each other's inverse
+pub mod DigitValues
+-- What the proofs of this crate's loops lean on, and worked lines.
+mod Passed
+mod Filled
+mod Examples

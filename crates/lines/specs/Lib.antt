@@ -1,0 +1,13 @@
+-- What a reader of this crate must believe, in reading order.
+-- one hexadecimal digit: which bytes are digits, and what each is worth
+pub mod Digit
+-- a line to its frame: the bytes that its digits spell, or none
+pub mod Frame
+-- a frame to its line: two digits a byte, then 0a
+pub mod Text
+-- a buffer with a text written over its front
+pub mod Over
+-- where a line of a text ends
+pub mod Split
+-- a text as the list of its lines
+pub mod TextLines
