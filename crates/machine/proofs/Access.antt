@@ -1,18 +1,18 @@
 -- The four functions by which an access is seen, and settling: all that is known of them above. No other law looks at an instruction.
-use Prim.Native.Nat.{ℕ, zero, suc, _+_, _<_, _≤_}
+use Prim.Native.Nat.{ℕ, zero, suc, _<_}
 use mathlib.Core.Path.{_≡_, refl, sym, ap, subst, _∙_}
-use mathlib.Core.Logic.{_⊎_, inl, inr, ⊎-elim}
+use mathlib.Core.Logic.{_⊎_, inl, inr}
 use mathlib.Core.Bool.{Bool, true, false, true≢false, false≢true}
-use mathlib.Core.Option.{Option, none, some}
+use mathlib.Core.Option.{some}
 use mathlib.Core.List.{List, [], _∷_}
 use native.Mathlib.Omega.{arith}
 use lib.Dec.{eqb}
-use lib.ListN.{length, getD, set}
+use lib.ListN.{getD, set}
 use Rattle.program.specs.WellFormed.{Everywhere, InRange, accesses}
 use Rattle.program.specs.declared.instruction.Instruction.{Instruction}
 use Rattle.program.specs.declared.instruction.Instruction.the-variants.{Store, Load, FetchAdd, CompareSwap, Assign, AddAssign, SkipUnless, Assert}
 use Rattle.machine.specs.Local.{Local, eval, settle, beginsWithAccess, firstPlace, firstTakes, firstPuts, firstNext, pending, placeOf, takes, puts, next, begin}
-use Rattle.machine.proofs.Suffix.{Suffix, suffix-same, suffix-nil, suffix-cons, suffix-accesses, suffix-everywhere}
+use Rattle.machine.proofs.Suffix.{Suffix, suffix-same, suffix-nil, suffix-cons, suffix-accesses}
 
 -- a thread between steps stands before an access, or nothing is left of its code
 abbrev pub Settled : Local → Type 0

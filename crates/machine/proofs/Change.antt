@@ -1,15 +1,15 @@
 -- One step, seen at one thread and at one location: the thread did one access more or waits, the location got one write more or is as it was.
-use Prim.Native.Nat.{ℕ, zero, suc, _+_, _<_, _≤_}
+use Prim.Native.Nat.{ℕ, suc, _<_, _≤_}
 use mathlib.Core.Path.{_≡_, refl, sym, ap, subst, _∙_}
-use mathlib.Core.Logic.{_≢_, _⊎_, inl, inr}
+use mathlib.Core.Logic.{_≢_}
 use mathlib.Core.Bool.{Bool, true, false}
 use mathlib.Core.Option.{Option, none, some}
 use mathlib.Core.List.{List, [], _∷_, _++_, List·Memᴰ, List·Memᴰ·tail}
 use native.Mathlib.Omega.{arith}
 use native.Mathlib.Decide.{ℕ-discrete}
 use lib.ListN.{length}
-use Rattle.machine.specs.Local.{takes, puts}
-use Rattle.machine.specs.State.{Event, History, Thread, Cell, State, threadOf, cellOf, place, latest, noted, advanced, written, met, step}
+use Rattle.machine.specs.Local.{puts}
+use Rattle.machine.specs.State.{Event, History, Thread, Cell, State, threadOf, cellOf, place, noted, advanced, written, met, step}
 use Rattle.machine.proofs.Steps.{thread-own, thread-other, cell-own, cell-other}
 
 -- a property of thread u behind a step of t: shown of the thread advanced, and of a thread that waits

@@ -1,26 +1,25 @@
 -- T2, the exchange law, from any state: where one state is another with its threads exchanged by π, a step of t in the one and of π t in the
 -- other leave states so related. So whole schedules, the graphs and the outcomes at their ends follow.
-use Prim.Native.Nat.{ℕ, zero, suc, _+_, _<_, _≤_}
-use mathlib.Core.Path.{_≡_, refl, sym, ap, ap₂, subst, _∙_}
-use mathlib.Core.Logic.{_≢_, _⊎_, inl, inr}
-use mathlib.Core.Bool.{Bool, true, false, true≢false, false≢true}
+use Prim.Native.Nat.{ℕ, zero, suc, _<_}
+use mathlib.Core.Path.{_≡_, refl, sym, ap, ap₂, _∙_}
+use mathlib.Core.Bool.{Bool, true, false}
 use mathlib.Core.Option.{Option, none, some}
-use mathlib.Core.List.{List, [], _∷_, map, map-map}
+use mathlib.Core.List.{List, [], _∷_, map}
 use native.Mathlib.Omega.{arith}
 use native.Mathlib.Decide.{ℕ-discrete, decLt}
-use borrow.Author.Tests.{lt-ltb, le-ltb}
+use borrow.Author.Tests.{lt-ltb}
 use lib.Dec.{ltb}
-use lib.ListN.{length, getD, set, length-set, List·getD-map}
-use lib.Seq.{getD-set-same, getD-set-other}
+use lib.ListN.{length, getD, set, List·getD-map}
 use Rattle.schedules.specs.Order.{Schedule}
 use Rattle.schedules.specs.System.{run, ended, FullFrom}
 use Rattle.schedules.proofs.Runs.{ended-of, ended-none}
 use Rattle.machine.specs.Local.{pending, placeOf, takes, puts}
-use Rattle.machine.specs.State.{Event, initialWrite, History, Thread, Cell, State, noThread, freshCell, threadOf, cellOf, place, latest, noted, advanced, written, met, step, may, SC, valueOf, memoryOf}
-use Rattle.machine.specs.Graph.{Graph, readsOf, writesOf, graphOf}
+use Rattle.machine.specs.State.{Event, initialWrite, History, Thread, Cell, State, freshCell, threadOf, cellOf, place, latest, noted, advanced, written, met, step, may, SC, valueOf, memoryOf}
+use Rattle.machine.specs.Graph.{writesOf, graphOf}
 use Rattle.machine.specs.Exchange.{Permutation, movedEvent, movedRead, movedReads, movedWrites, movedSchedule, movedThread, movedCell, Moves, Turns}
 use Rattle.machine.proofs.Steps.{may-range, thread-own, thread-other, step-threads}
 use Rattle.machine.proofs.Lawful.{lawful}
+use Rattle.machine.proofs.Rows.{row-at}
 
 map-set : {A B : Type 0} (f : A → B) (l : List A) (i : ℕ) (a : A) → set (map f l) i (f a) ≡ map f (set l i a)
 map-set f [] i a = refl
@@ -122,15 +121,6 @@ module _ (π : ℕ → ℕ) (q : Permutation π) where
       let r = moves-full z (step σ t) (step τ (π t)) (moves-step σ τ m t (f .0)) (f .1) in
       ((moves-may σ τ m t ∙ f .0, r .0), r .1)
 
--- the graph at a state, thread by thread and location by location
-pub reads-at : (σ : State) (t : ℕ) → getD (graphOf σ .reads) t [] ≡ threadOf σ t .history .reads
-unfolding graphOf readsOf threadOf noThread
-reads-at σ t = List·getD-map readsOf (σ .threads) t noThread
-
-pub writes-at : (σ : State) (l : ℕ) → getD (graphOf σ .writes) l [] ≡ cellOf σ l .writes
-unfolding graphOf writesOf cellOf freshCell
-writes-at σ l = List·getD-map writesOf (σ .cells) l (freshCell 0)
-
 writes-moved : (π : ℕ → ℕ) (cs : List Cell) → map writesOf (map (movedCell π) cs) ≡ map (movedWrites π) (map writesOf cs)
 unfolding writesOf movedCell
 writes-moved π [] = refl
@@ -140,7 +130,7 @@ writes-moved π (c ∷ cs) = ap (λ (k : List (List Event)). movedWrites π (c .
 pub moves-graph : (π : ℕ → ℕ) (σ τ : State) → Moves π σ τ → Turns π (graphOf σ) (graphOf τ)
 unfolding graphOf movedThread
 moves-graph π σ τ m = record {
-  reads = λ t h. reads-at τ (π t) ∙ ap (λ (x : Thread). x .history .reads) (m .threads t) ∙ ap (movedReads π) (sym (reads-at σ t));
+  reads = λ t h. row-at τ (π t) ∙ ap (λ (x : Thread). x .history .reads) (m .threads t) ∙ ap (movedReads π) (sym (row-at σ t));
   writes = ap (map writesOf) (m .cells) ∙ writes-moved π (σ .cells);
 }
 

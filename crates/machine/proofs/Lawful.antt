@@ -1,8 +1,8 @@
 -- Sequential consistency is a lawful step system, from any state: each step lowers the number of accesses left. T0: a full schedule of a
 -- well-formed program has at most 24 steps, and there are at most 6^24 of them, so that a count fits 64 bits.
-use Prim.Native.Nat.{ℕ, zero, suc, _+_, _^_, _<_, _≤_}
-use mathlib.Core.Path.{_≡_, refl}
-use mathlib.Core.Bool.{Bool, true}
+use Prim.Native.Nat.{ℕ, zero, suc, _^_, _<_, _≤_}
+use mathlib.Core.Path.{_≡_}
+use mathlib.Core.Bool.{true}
 use mathlib.Core.List.{List, [], _∷_, map}
 use native.Mathlib.Omega.{arith}
 use native.Mathlib.Nat.{not-suc-le-zero, le-of-suc-le-suc}
@@ -14,12 +14,12 @@ use Rattle.program.specs.WellFormed.{WellFormed, accesses, allAccesses}
 use Rattle.program.specs.declared.instruction.Instruction.{Instruction}
 use Rattle.schedules.specs.Lists.{Ascends, upTo}
 use Rattle.schedules.specs.Order.{Schedule}
-use Rattle.schedules.specs.System.{Lawful, Allowed}
+use Rattle.schedules.specs.System.{Lawful}
 use Rattle.schedules.specs.Fulls.{fulls}
 use Rattle.schedules.proofs.Lists.{in-upTo, upTo-ascends}
-use Rattle.schedules.proofs.Runs.{allowed-length, full-length}
+use Rattle.schedules.proofs.Runs.{full-length}
 use Rattle.schedules.proofs.Fulls.{fulls-length}
-use Rattle.machine.specs.Local.{Local, next, begin, pending}
+use Rattle.machine.specs.Local.{begin}
 use Rattle.machine.specs.State.{State, Thread, noThread, threadOf, cellOf, place, advanced, step, may, accessesLeft, size, SC, opened, start}
 use Rattle.machine.specs.Graph.{Full}
 use Rattle.machine.proofs.Suffix.{suffix-accesses}

@@ -1,20 +1,18 @@
 -- A permitted permutation moves threads only within their `02` line, so between threads of equal code: it relates a program's start to
 -- itself, and takes the program's full schedules to full schedules with exchanged graphs.
-use Prim.Native.Nat.{ℕ, zero, suc, _+_, _<_, _≤_}
+use Prim.Native.Nat.{ℕ, _<_}
 use mathlib.Core.Path.{_≡_, refl, sym, ap, subst, _∙_}
 use mathlib.Core.Logic.{_⊎_, inl, inr}
 use mathlib.Core.List.{List, [], _∷_, map, List·Memᴰ, List·Memᴰ·not-nil}
 use native.Mathlib.Omega.{arith}
-use lib.ListN.{length, getD}
+use lib.ListN.{length}
 use Rattle.program.specs.Program.{Program, codeOf, initial}
-use Rattle.program.specs.WellFormed.{WellFormed, Group, Everywhere}
-use Rattle.program.specs.declared.instruction.Instruction.{Instruction}
+use Rattle.program.specs.WellFormed.{WellFormed, Group}
 use Rattle.schedules.specs.Order.{Schedule}
-use Rattle.schedules.specs.System.{run}
-use Rattle.machine.specs.State.{Thread, Cell, State, noThread, freshCell, threadOf, opened, start, SC}
+use Rattle.machine.specs.State.{Cell, noThread, freshCell, threadOf, opened, start}
 use Rattle.machine.specs.Graph.{Full, endOf, graph}
 use Rattle.machine.specs.Exchange.{Permutation, Permitted, movedReads, movedWrites, movedSchedule, movedThread, movedCell, Moves, Turns}
-use Rattle.machine.proofs.Suffix.{everywhere-at}
+use Rattle.machine.proofs.Everywhere.{everywhere-at}
 use Rattle.machine.proofs.Start.{start-threads, start-thread, start-cases, everyone}
 use Rattle.machine.proofs.Exchange.{moves-full, moves-graph}
 

@@ -1,19 +1,17 @@
 -- What holds of every state of a run: threads are settled in code in range, noted events were done, and each read's source is the initial
 -- write or stands among the writes of a location.
-use Prim.Native.Nat.{ℕ, zero, suc, _+_, _<_, _≤_}
+use Prim.Native.Nat.{ℕ, _<_, _≤_}
 use mathlib.Core.Path.{_≡_, refl, sym, ap, subst, _∙_}
-use mathlib.Core.Logic.{_≢_, _⊎_, inl, inr, ⊎-elim}
+use mathlib.Core.Logic.{_⊎_, inl, inr, ⊎-elim}
 use mathlib.Core.Bool.{Bool, true, false}
-use mathlib.Core.Option.{Option, none, some}
-use mathlib.Core.List.{List, [], _∷_, _++_, List·Memᴰ, List·Memᴰ·head, List·Memᴰ·tail, List·Memᴰ·cases-cons, List·Memᴰ·not-nil}
+use mathlib.Core.List.{List, [], _∷_, List·Memᴰ, List·Memᴰ·head, List·Memᴰ·cases-cons, List·Memᴰ·not-nil}
 use native.Mathlib.Omega.{arith}
 use lib.ListN.{length}
-use Rattle.program.specs.Program.{Program, codeOf}
+use Rattle.program.specs.Program.{Program}
 use Rattle.program.specs.WellFormed.{WellFormed, Everywhere, InRange}
-use Rattle.program.specs.declared.instruction.Instruction.{Instruction}
 use Rattle.schedules.specs.Order.{Schedule}
 use Rattle.schedules.specs.System.{run, Allowed}
-use Rattle.machine.specs.Local.{Local, takes, puts, next, begin}
+use Rattle.machine.specs.Local.{takes, begin}
 use Rattle.machine.specs.State.{Event, initialWrite, History, Thread, Cell, State, noThread, threadOf, cellOf, place, latest, noted, advanced, step, may, SC, opened, start}
 use Rattle.machine.proofs.Suffix.{suffix-everywhere}
 use Rattle.machine.proofs.Access.{Settled, behind, next-suffix, begin-law, place-below}

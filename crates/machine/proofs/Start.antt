@@ -1,14 +1,13 @@
 -- The state before the first step: each thread settled with an empty history, each location with its initial value and no write.
-use Prim.Native.Nat.{ℕ, zero, suc, _+_, _<_, _≤_}
-use mathlib.Core.Path.{_≡_, refl, sym, ap, subst, _∙_}
+use Prim.Native.Nat.{ℕ, zero, suc, _<_}
+use mathlib.Core.Path.{_≡_, refl, _∙_}
 use mathlib.Core.List.{List, [], _∷_, map}
-use native.Mathlib.Omega.{arith}
 use native.Mathlib.Nat.{not-suc-le-zero, le-of-suc-le-suc}
 use lib.ListN.{length, getD, length-map, length-replicate}
 use Rattle.program.specs.Program.{Program, codeOf, initial}
 use Rattle.program.specs.WellFormed.{Everywhere}
 use Rattle.program.specs.declared.instruction.Instruction.{Instruction}
-use Rattle.machine.specs.State.{Thread, Cell, State, noThread, freshCell, threadOf, cellOf, opened, start}
+use Rattle.machine.specs.State.{Thread, noThread, freshCell, threadOf, cellOf, opened, start}
 
 pub start-threads : (p : Program) → length (start p .threads) ≡ length (p .threads)
 unfolding start

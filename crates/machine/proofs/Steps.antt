@@ -1,19 +1,19 @@
 -- What a step touches: its own thread and its own location, and nothing else.
-use Prim.Native.Nat.{ℕ, zero, suc, _+_, _<_, _≤_}
-use mathlib.Core.Path.{_≡_, refl, sym, ap, subst, _∙_}
+use Prim.Native.Nat.{ℕ, _<_, _≤_}
+use mathlib.Core.Path.{_≡_, refl, sym, ap, _∙_}
 use mathlib.Core.Logic.{_≢_}
 use mathlib.Core.Bool.{Bool, true, false, true≢false, false≢true}
-use mathlib.Core.List.{List, [], _∷_, map}
+use mathlib.Core.List.{[], _∷_}
 use native.Mathlib.Omega.{arith}
 use native.Mathlib.Decide.{decLt}
 use borrow.Author.Tests.{ltb-true, lt-ltb}
 use lib.Dec.{ltb}
-use lib.ListN.{length, getD, set, length-set, List·getD-eq-default}
+use lib.ListN.{length, length-set, List·getD-eq-default}
 use lib.Seq.{getD-set-other, getD-set-same}
 use Rattle.schedules.specs.Order.{Schedule}
 use Rattle.schedules.specs.System.{run}
-use Rattle.machine.specs.Local.{Local, beginsWithAccess, pending, placeOf}
-use Rattle.machine.specs.State.{State, Thread, Cell, noThread, freshCell, threadOf, cellOf, place, advanced, met, step, may, SC}
+use Rattle.machine.specs.Local.{beginsWithAccess, pending, placeOf}
+use Rattle.machine.specs.State.{State, Thread, noThread, threadOf, cellOf, place, advanced, met, step, may, SC}
 
 -- who may step: one of the six numbers, of a thread before an access
 pub may-small : (σ : State) (t : ℕ) → may σ t ≡ true → t < 6

@@ -1,8 +1,7 @@
 -- Ends of a list: what a property of all members, and the count of accesses, say of them.
-use Prim.Native.Nat.{ℕ, zero, suc, _+_, _≤_}
+use Prim.Native.Nat.{_≤_}
 use mathlib.Core.Path.{_≡_, refl, sym, ap, subst, _∙_}
-use mathlib.Core.List.{List, [], _∷_, _++_, append-assoc, append-nil, List·Memᴰ, List·Memᴰ·not-nil, List·Memᴰ·cases-cons}
-use mathlib.Core.Logic.{_⊎_, ⊎-elim}
+use mathlib.Core.List.{List, [], _∷_, _++_, append-assoc, append-nil}
 use native.Mathlib.Omega.{arith}
 use lib.ListN.{length, length-append}
 use Rattle.program.specs.WellFormed.{Everywhere, accesses}
@@ -24,11 +23,6 @@ suffix-cons {A} i s = (i ∷ s .0, ap (λ (k : List A). i ∷ k) (s .1))
 
 pub suffix-trans : {A : Type 0} {q r c : List A} → Suffix q r → Suffix r c → Suffix q c
 suffix-trans {A} {q} s u = (u .0 ++ s .0, u .1 ∙ ap (λ (k : List A). u .0 ++ k) (s .1) ∙ sym (append-assoc (u .0) (s .0) q))
-
--- what holds of every member holds of each
-pub everywhere-at : {A : Type 0} (P : A → Type 0) (l : List A) (x : A) → Everywhere P l → List·Memᴰ x l → P x
-everywhere-at P [] x h m = absurd (List·Memᴰ·not-nil m)
-everywhere-at P (y ∷ l) x h m = ⊎-elim (λ (e : x ≡ y). subst P (sym e) (h .0)) (λ (k : List·Memᴰ x l). everywhere-at P l x (h .1) k) (List·Memᴰ·cases-cons m)
 
 everywhere-back : {A : Type 0} (P : A → Type 0) (f r : List A) → Everywhere P (f ++ r) → Everywhere P r
 everywhere-back P [] r h = h

@@ -1,16 +1,15 @@
 -- T1, the swap law: two steps of different threads that go to different locations, or that both leave theirs as it is, commute. It is an
 -- equation of whole states, and each step does after the other what it would have done before it.
 use Prim.Native.Nat.{ℕ}
-use mathlib.Core.Path.{_≡_, refl, sym, ap, ap₂, subst, _∙_}
+use mathlib.Core.Path.{_≡_, refl, sym, ap₂, _∙_}
 use mathlib.Core.Logic.{_≢_, _⊎_, inl, inr, Ne·symm}
-use mathlib.Core.Bool.{Bool, true, false, true≢false}
+use mathlib.Core.Bool.{false, true≢false}
 use mathlib.Core.List.{List}
 use mathlib.Core.Option.{Option, none, some}
-use lib.ListN.{getD, set}
+use lib.ListN.{set}
 use lib.Seq.{set-getD, set-comm}
-use Rattle.machine.specs.Local.{puts}
 use Rattle.machine.specs.State.{Event, State, Thread, Cell, threadOf, cellOf, place, advanced, written, met, step}
-use Rattle.machine.specs.Trail.{Action, given, writes, action}
+use Rattle.machine.specs.Trail.{given, writes, action}
 use Rattle.machine.proofs.Steps.{thread-other, place-other, cell-other}
 
 -- the two next accesses go to different locations, or neither writes
@@ -47,7 +46,8 @@ writes-after σ a b ne i = rw (place-other σ a b ne, thread-other σ a b ne, ce
 
 -- each keeps its access and its effect
 pub action-after : (σ : State) (a b : ℕ) → b ≢ a → Independent σ a b → action (step σ a) b ≡ action σ b
-action-after σ a b ne i = ap₂ (λ (l : ℕ) (w : Bool). let d : Action = (b, l, w) in d) (place-other σ a b ne) (writes-after σ a b ne i)
+unfolding action
+action-after σ a b ne i = rw (place-other σ a b ne, writes-after σ a b ne i)
 
 abbrev both : List Thread → List Cell → State
 both ts cs = record { threads = ts; cells = cs }

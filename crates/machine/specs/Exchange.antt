@@ -3,11 +3,11 @@
 use Prim.Native.Nat.{ℕ, _<_, _≤_}
 use mathlib.Core.Path.{_≡_}
 use mathlib.Core.Logic.{_⊎_}
-use mathlib.Core.List.{List, [], _∷_, map, List·Memᴰ}
+use mathlib.Core.List.{List, [], map, List·Memᴰ}
 use lib.ListN.{length, getD}
 use Rattle.program.specs.Program.{Program}
 use Rattle.schedules.specs.Order.{Schedule}
-use Rattle.machine.specs.State.{Event, History, Thread, Cell, State, threadOf}
+use Rattle.machine.specs.State.{Event, Thread, Cell, State, threadOf}
 use Rattle.machine.specs.Graph.{Graph}
 
 -- π permutes the numbers below six and leaves the others

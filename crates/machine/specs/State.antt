@@ -1,6 +1,6 @@
 -- Threads and memory under sequential consistency. Beside its local state each thread has a history, and beside its value each location its
 -- writes: the graph so far. A step reads one thread and one location and puts both back; nothing else changes.
-use Prim.Native.Nat.{ℕ, zero, suc, _+_}
+use Prim.Native.Nat.{ℕ, suc, _+_}
 use mathlib.Core.Bool.{Bool, true, false}
 use mathlib.Core.List.{List, [], _∷_, map}
 use mathlib.Core.Option.{Option, none, some}

@@ -1,7 +1,8 @@
 -- The text of a graph: a frame `40 t i u j` for each read, ascending by t then i, and a frame `41 l t i ..` for each location written,
 -- ascending by l, its writes in coherence order. Each frame is one line.
-use Prim.Native.Nat.{ℕ, zero, suc}
+use Prim.Native.Nat.{ℕ, suc}
 use mathlib.Core.List.{List, [], _∷_, _++_, map, reverse}
+use Rattle.lines.specs.Text.{text}
 use Rattle.machine.specs.State.{Event}
 use Rattle.machine.specs.Graph.{Graph}
 
@@ -31,3 +32,11 @@ writeFrames l (ws ∷ rows) = writeFrame l ws ++ writeFrames (suc l) rows
 
 unfoldable pub frames : Graph → List (List ℕ)
 frames g = readFrames 0 (g .reads) ++ writeFrames 0 (g .writes)
+
+-- these frames, a line each
+unfoldable pub textOf : List (List ℕ) → List ℕ
+textOf [] = []
+textOf (f ∷ fs) = text f ++ textOf fs
+
+unfoldable pub graphText : Graph → List ℕ
+graphText g = textOf (frames g)
