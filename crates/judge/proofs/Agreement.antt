@@ -16,8 +16,8 @@ use Rattle.machine.proofs.Steps.{may-pending, may-range, step-threads}
 use Rattle.machine.proofs.Change.{thread-cases, noted-done, Change, kept, wrote}
 use Rattle.machine.proofs.Start.{start-threads, start-writes, start-history}
 use Rattle.machine.proofs.Regular.{Regular, changes, regular-step, regular-start}
+use Rattle.machine.proofs.Histories.{upcoming}
 use Rattle.judge.specs.Consistent.{Values, alone, localAt, Reads, locationOf, outOf, Leaves}
-use Rattle.judge.proofs.Histories.{upcoming}
 
 -- the value that location l starts with
 fresh-value : (vs : List ℕ) (l : ℕ) → getD (map freshCell vs) l (freshCell 0) .value ≡ getD vs l 0

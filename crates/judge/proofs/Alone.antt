@@ -12,10 +12,10 @@ use Rattle.program.specs.WellFormed.{WellFormed, accesses}
 use Rattle.machine.specs.Local.{Local, pending, takes, puts, next}
 use Rattle.machine.specs.State.{Event, initialWrite, Thread, noThread, threadOf, size, start}
 use Rattle.machine.proofs.Access.{next-fewer}
-use Rattle.machine.proofs.Steps.{missing, in-range}
+use Rattle.machine.proofs.Idle.{idle, reads-pending, writes-pending}
+use Rattle.machine.proofs.Steps.{in-range}
 use Rattle.machine.proofs.Start.{start-threads}
 use Rattle.judge.specs.Consistent.{Values, alone, localAt, Reads, outOf}
-use Rattle.judge.proofs.Idle.{idle-next, reads-pending, writes-pending}
 
 module _ (p : Program) (v : Values) where
   -- the pair is an event: its thread is before an access
@@ -38,7 +38,7 @@ module _ (p : Program) (v : Values) where
     -- once ended, a thread stays as it is
     still : (i : ℕ) → pending (at i) ≡ false → at (suc i) ≡ at i
     unfolding alone
-    still i e = idle-next (at i) (v (t, i)) e
+    still i e = idle (at i) (v (t, i)) e .stays
 
     pub still-from : (j i : ℕ) → i ≤ j → pending (at i) ≡ false → at j ≡ at i
     still-from zero i h e = let q : 0 ≡ i = omega arith in ap (λ (n : ℕ). at n) q

@@ -13,9 +13,9 @@ use Rattle.machine.specs.Graph.{Graph}
 use Rattle.machine.proofs.Access.{blind-puts}
 use Rattle.machine.proofs.Steps.{may-pending, thread-other, may-other}
 use Rattle.machine.proofs.Swap.{Independent, swap, cell-after}
+use Rattle.machine.proofs.Histories.{upcoming, Done, upcoming-undone, done-more}
 use Rattle.judge.specs.Consistent.{orderOf}
 use Rattle.judge.specs.Judge.{turnOf, fits}
-use Rattle.judge.proofs.Histories.{upcoming, Done, upcoming-undone, done-more}
 use Rattle.judge.proofs.Fitting.{FitAt, fits-is, is-fits}
 
 module _ (g : Graph) (pl : Event → ℕ) (σ : State) where

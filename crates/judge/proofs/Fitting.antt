@@ -16,10 +16,10 @@ use Rattle.machine.specs.Local.{Local, placeOf, takes, puts}
 use Rattle.machine.specs.State.{Event, Thread, Cell, State, threadOf, cellOf, latest, may}
 use Rattle.machine.specs.Trail.{given}
 use Rattle.machine.specs.Graph.{Graph}
+use Rattle.machine.proofs.Histories.{upcoming, Done}
 use Rattle.judge.specs.Consistent.{rowOf, orderOf, ReadsFrom}
 use Rattle.judge.specs.Judge.{sameEvent, sameRead, waits, noneWaits, turnOf, readFits, writeFits, fits}
 use Rattle.judge.proofs.Tests.{and-both, both-and, not-of, same-event-is, is-same-event, differs, is-different, same-read-is, same-read}
-use Rattle.judge.proofs.Histories.{upcoming, Done}
 
 module _ (g : Graph) (place : Event → ℕ) where
   -- it is the event's turn at its location, and every other read of the last write there is done

@@ -17,8 +17,8 @@ use Rattle.machine.proofs.Steps.{may-range}
 use Rattle.machine.proofs.Change.{thread-cases, noted-done, done-own, Change, kept, wrote, wrote-own}
 use Rattle.machine.proofs.Start.{start-writes, start-history}
 use Rattle.machine.proofs.Regular.{changes, place-in}
+use Rattle.machine.proofs.Histories.{upcoming, Done, upcoming-undone, done-more, done-new, done-cases}
 use Rattle.judge.specs.Consistent.{rowOf, orderOf, coherenceOf, ReadsFrom, Later, Values, alone, localAt, Reads, locationOf, outOf, WritesAt, Leaves, Makes, Canonical, Before, program-order, reads-from, coherence, from-reads}
-use Rattle.judge.proofs.Histories.{upcoming, Done, upcoming-undone, done-more, done-new, done-cases}
 use Rattle.judge.proofs.Later.{later-in, distinct-later, descends-later}
 use Rattle.judge.proofs.Parts.{Parts, parts-stay, parts-next, latest-is}
 use Rattle.judge.proofs.Alone.{Event-of, reads-event, writes-event, some-writes, earlier-event, event-real}

@@ -1,7 +1,4 @@
 -- The laws, in the order in which they rest on each other.
--- laws about the machine: an ended thread, histories along a run
-pub mod Idle
-pub mod Histories
 -- tests as facts
 pub mod Tests
 -- lists of which a part is done

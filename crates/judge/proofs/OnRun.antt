@@ -15,9 +15,10 @@ use Rattle.schedules.specs.System.{run}
 use Rattle.machine.specs.Local.{pending, takes}
 use Rattle.machine.specs.State.{Event, initialWrite, State, threadOf, cellOf, place, latest, step, may, SC, start}
 use Rattle.machine.specs.Graph.{Graph, graphOf}
+use Rattle.machine.proofs.Histories.{upcoming, Done, done-more, done-new, done-cases}
+use Rattle.machine.proofs.Rows.{row-at, order-at}
 use Rattle.judge.specs.Consistent.{rowOf, orderOf, coherenceOf, ReadsFrom, Later, Values, localAt, Reads, locationOf, Canonical, Makes, Before, program-order, reads-from, coherence, from-reads, Distinct}
 use Rattle.judge.specs.Judge.{values, MadeBy}
-use Rattle.judge.proofs.Histories.{upcoming, Done, done-more, done-new, done-cases, row-at, order-at}
 use Rattle.judge.proofs.Later.{distinct-later, distinct-apart, distinct-snoc}
 use Rattle.judge.proofs.Parts.{Parts, done-before, latest-in, none-later}
 use Rattle.judge.proofs.Alone.{Event-of, reads-event, writes-event, before-end, event-real}

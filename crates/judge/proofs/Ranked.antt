@@ -11,10 +11,10 @@ use Rattle.schedules.specs.Order.{Schedule}
 use Rattle.machine.specs.State.{Event, State, step, may, start}
 use Rattle.machine.specs.Graph.{Graph}
 use Rattle.machine.proofs.Start.{start-history}
+use Rattle.machine.proofs.Histories.{upcoming, Done, done-cases}
 use Rattle.judge.specs.Consistent.{orderOf, Canonical, Makes, Before, program-order, reads-from, coherence, from-reads, Way, one, more, Acyclic}
 use Rattle.judge.specs.Judge.{sameEvent, values}
 use Rattle.judge.proofs.Tests.{same-event-is, is-same-event}
-use Rattle.judge.proofs.Histories.{upcoming, Done, done-cases}
 use Rattle.judge.proofs.Later.{later-in}
 use Rattle.judge.proofs.InOrder.{order-event, row-event}
 use Rattle.judge.proofs.OnRun.{On, on-step, all-done, on-ready}

@@ -14,8 +14,8 @@ use Rattle.machine.proofs.Steps.{may-range, thread-own}
 use Rattle.machine.proofs.Change.{thread-cases, Change, kept, wrote, wrote-own, writes-stay}
 use Rattle.machine.proofs.Start.{start-writes, start-history}
 use Rattle.machine.proofs.Regular.{changes, place-in}
+use Rattle.machine.proofs.Histories.{upcoming, Done, done-cases, step-row}
 use Rattle.judge.specs.Consistent.{Values, Reads, locationOf, outOf, WritesAt, Leaves}
-use Rattle.judge.proofs.Histories.{upcoming, Done, done-cases, step-row}
 use Rattle.judge.proofs.Alone.{some-writes}
 use Rattle.judge.proofs.Agreement.{Agrees, agrees-start, agrees-step, location, reads-as, writes-as}
 

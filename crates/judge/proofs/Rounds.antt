@@ -21,10 +21,11 @@ use Rattle.machine.proofs.Suffix.{Suffix}
 use Rattle.machine.proofs.Regular.{Regular, regular-step, regular-run, regular-start}
 use Rattle.machine.proofs.Steps.{run-threads, run-cells}
 use Rattle.machine.proofs.Start.{start-threads, start-cells}
+use Rattle.machine.proofs.Histories.{upcoming, run-row, run-order}
+use Rattle.machine.proofs.Rows.{row-at, order-at, graph-sizes}
 use Rattle.judge.specs.Consistent.{rowOf, orderOf, ReadsFrom, Values, Reads, locationOf, outOf, Leaves, Descends, Distinct, Canonical}
 use Rattle.judge.specs.Judge.{sameEvent, sourceIn, orZero, leftBy, values, MadeBy}
 use Rattle.judge.proofs.Tests.{same-event-is, is-same-event}
-use Rattle.judge.proofs.Histories.{upcoming, run-row, run-order, row-at, order-at, graph-sizes}
 use Rattle.judge.proofs.Alone.{writes-event, some-writes, event-real}
 use Rattle.judge.proofs.Agreement.{location, reads-as}
 use Rattle.judge.proofs.Tidy.{tidy-start, tidy-run}
@@ -74,7 +75,7 @@ module _ (p : Program) (wf : WellFormed p) where
     pub row-suffix : (σ : State) (z : Schedule) → Ends σ z → (t : ℕ) → Suffix (threadOf σ t .history .reads) (rowOf g t)
     row-suffix σ z E t =
         let q = sym (ap (λ (h : Graph). rowOf h t) (E .graph)) ∙ row-at (run SC σ z) t in
-        let r = run-row z σ (E .regular) (full-allowed SC σ z (E .full) .0) t in
+        let r = run-row z σ (full-allowed SC σ z (E .full) .0) t in
         (r .0, q ∙ r .1)
 
     pub order-suffix : (σ : State) (z : Schedule) → Ends σ z → (l : ℕ) → Suffix (cellOf σ l .writes) (orderOf g l)

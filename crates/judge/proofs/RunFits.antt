@@ -19,9 +19,9 @@ use Rattle.machine.specs.Trail.{given}
 use Rattle.machine.specs.Graph.{Graph, graphOf}
 use Rattle.machine.proofs.Change.{wrote-own}
 use Rattle.machine.proofs.Regular.{place-in}
+use Rattle.machine.proofs.Histories.{upcoming, Done}
 use Rattle.judge.specs.Consistent.{orderOf, coherenceOf, ReadsFrom, Later, Values, locationOf, Canonical, Makes, from-reads}
 use Rattle.judge.specs.Judge.{values, turnOf, fits}
-use Rattle.judge.proofs.Histories.{upcoming, Done}
 use Rattle.judge.proofs.Later.{later-right}
 use Rattle.judge.proofs.Agreement.{location}
 use Rattle.judge.proofs.Rounds.{order-suffix, step-source}

@@ -16,18 +16,20 @@ use Rattle.schedules.specs.Lists.{upTo, keep}
 use Rattle.schedules.specs.Order.{Schedule}
 use Rattle.schedules.specs.System.{run, ended, FullFrom}
 use Rattle.schedules.proofs.Lists.{in-upTo, in-keep, of-keep}
-use Rattle.schedules.proofs.Runs.{ended-of, ended-none}
+use Rattle.schedules.proofs.Runs.{ended-of}
 use Rattle.machine.specs.Local.{pending}
 use Rattle.machine.specs.State.{Event, Thread, State, noThread, threadOf, cellOf, step, may, size, SC, start}
 use Rattle.machine.specs.Graph.{Graph, graphOf, graph}
-use Rattle.machine.proofs.Access.{next-fewer}
-use Rattle.machine.proofs.Steps.{may-pending, may-of, in-range}
-use Rattle.machine.proofs.Lawful.{lawful, falls}
+use Rattle.machine.proofs.Access.{next-fewer, nothing-pending}
+use Rattle.machine.proofs.Ended.{ended-all}
+use Rattle.machine.proofs.Steps.{may-pending, may-of}
+use Rattle.machine.proofs.Lawful.{falls}
 use Rattle.machine.proofs.Regular.{Regular}
+use Rattle.machine.proofs.Histories.{upcoming, Done, upcoming-undone}
+use Rattle.machine.proofs.Rows.{same-graph}
 use Rattle.judge.specs.Consistent.{rowOf, orderOf, Values, alone, localAt, Makes, Canonical, Before, program-order, Acyclic, Consistent}
 use Rattle.judge.specs.Judge.{MadeBy}
 use Rattle.judge.proofs.Tests.{and-both, both-and, not-of}
-use Rattle.judge.proofs.Histories.{upcoming, Done, upcoming-undone, same-graph}
 use Rattle.judge.proofs.Parts.{finished}
 use Rattle.judge.proofs.Alone.{Event-of, before-end, earlier-event, left, event-thread}
 use Rattle.judge.proofs.Agreement.{Agrees}
@@ -37,11 +39,7 @@ use Rattle.judge.proofs.InOrder.{order-event, row-event, before-event, 
 
 -- in the end no thread is before an access
 pub ended-idle : (σ : State) → Regular σ → ended SC σ ≡ true → (t : ℕ) → pending (threadOf σ t .local) ≡ false
-ended-idle σ r e t = go (pending (threadOf σ t .local)) refl
-  where
-    go : (b : Bool) → pending (threadOf σ t .local) ≡ b → pending (threadOf σ t .local) ≡ false
-    go true q = absurd (true≢false (sym (may-of σ t (omega (arith, in-range σ t q, r .six)) q) ∙ ended-none SC lawful σ t e))
-    go false q = q
+ended-idle σ r e t = nothing-pending (threadOf σ t .local) (ended-all σ r e t)
 
 -- the pairs of these threads, thread t with f t accesses
 pairs : (ℕ → ℕ) → List ℕ → List Event

@@ -15,8 +15,8 @@ use Rattle.machine.proofs.Steps.{may-range}
 use Rattle.machine.proofs.Change.{thread-cases, Change, kept, wrote}
 use Rattle.machine.proofs.Start.{start-writes, start-history}
 use Rattle.machine.proofs.Regular.{Regular, changes, regular-step}
+use Rattle.machine.proofs.Histories.{upcoming, upcoming-undone}
 use Rattle.judge.specs.Consistent.{Descends, Distinct}
-use Rattle.judge.proofs.Histories.{upcoming, upcoming-undone}
 
 pub record Tidy (σ : State) : Type 0 where
   pub ordered : (t : ℕ) → Descends (threadOf σ t .history .reads)
