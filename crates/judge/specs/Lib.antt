@@ -3,5 +3,11 @@
 pub mod Consistent
 -- the judge: a greedy walk on the machine, then a comparison
 pub mod Judge
+-- graph texts and their refusals
+pub mod Reading
+-- the answer to a graph text
+pub mod Answer
 -- graphs judged by computing
 pub mod Examples
+-- graph texts answered by computing
+pub mod TextExamples

@@ -1,0 +1,38 @@
+-- What the judge says of a graph text, in document 01's words, for an accepted program and an output of so many bytes: refusal 22 first,
+-- then 30 to 33, then yes with the least schedule, which stands in front of the output, or no. Only a yes changes the output.
+use Prim.Native.Nat.{ℕ}
+use mathlib.Core.Bool.{cond}
+use mathlib.Core.Option.{Option, none, some}
+use mathlib.Core.List.{List}
+use lib.Dec.{ltb}
+use lib.ListN.{length}
+use Rattle.lines.specs.Over.{over}
+use Rattle.program.specs.Program.{Program}
+use Rattle.schedules.specs.Order.{Schedule}
+use Rattle.judge.specs.Judge.{judge}
+use Rattle.judge.specs.Reading.{Parsed, parsed, refused, readGraph}
+
+pub data Answer : Type 0 where
+  -- yes, with the least schedule
+  consistent : Schedule → Answer
+  -- no
+  inconsistent : Answer
+  -- number and place
+  refusing : ℕ → ℕ → Answer
+
+unfoldable pub answerOf : Option Schedule → Answer
+answerOf none = inconsistent
+answerOf (some s) = consistent s
+
+unfoldable pub answerTo : Program → Parsed → Answer
+answerTo p (parsed g) = answerOf (judge p g)
+answerTo p (refused n k) = refusing n k
+
+unfoldable pub judgeAnswer : Program → List ℕ → ℕ → Answer
+judgeAnswer p text room = cond (ltb room 24) (refusing 22 0) (answerTo p (readGraph (length (p .threads)) text))
+
+-- the later content of the output
+unfoldable pub outputAfter : Answer → List ℕ → List ℕ
+outputAfter (consistent s) out = over s out
+outputAfter inconsistent out = out
+outputAfter (refusing n k) out = out
