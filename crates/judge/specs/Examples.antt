@@ -9,7 +9,7 @@ use Rattle.program.specs.Program.{Program}
 use Rattle.program.specs.WellFormed.{accesses}
 use Rattle.program.specs.declared.instruction.Instruction.{Instruction}
 use Rattle.program.specs.declared.instruction.Operand.the-variants.{Constant, Register}
-use Rattle.program.specs.declared.instruction.Instruction.the-variants.{Store, Load, FetchAdd, CompareSwap, AddAssign, Assert}
+use Rattle.program.specs.declared.instruction.Instruction.the-variants.{Store, Load, FetchAdd, CompareSwap, AddAssign, SkipUnless, Assert}
 use Rattle.schedules.specs.Lists.{upTo, any, all, first}
 use Rattle.schedules.specs.Order.{Schedule}
 use Rattle.schedules.specs.Fulls.{fronts, branch, fullsFrom, fulls}
@@ -72,8 +72,12 @@ abbrev copies : Program
 copies = threadsOf ((Load 0 0 ∷ Store 1 (Register 0) ∷ []) ∷ (Load 0 1 ∷ Store 0 (Register 0) ∷ []) ∷ [])
 
 -- the read of location 0 comes behind another: only its place tells that the store must wait for it
-abbrev behind : Program
+abbrev pub behind : Program
 behind = threadsOf ((Store 0 (Constant 1) ∷ []) ∷ (Load 0 1 ∷ Load 0 0 ∷ []) ∷ [])
+
+-- the second read goes to location 0 if the first one found 0
+abbrev choosing : Program
+choosing = threadsOf ((Store 0 (Constant 1) ∷ []) ∷ (Load 0 1 ∷ SkipUnless 0 (Constant 0) 1 ∷ Load 1 0 ∷ Load 2 2 ∷ []) ∷ [])
 
 pub cases : List Case
 cases =
@@ -99,6 +103,8 @@ cases =
     record { program = behind; graph = graphWith ([] ∷ ((1, (0, 0)) ∷ (0, (0, 0)) ∷ []) ∷ []) ((0, 0) ∷ []) []; answer = none } ∷
     record { program = behind; graph = graphWith (((0, initialWrite) ∷ []) ∷ ((1, initialWrite) ∷ (0, initialWrite) ∷ []) ∷ []) ((0, 0) ∷ []) []; answer = none } ∷
     record { program = behind; graph = graphWith ([] ∷ ((1, initialWrite) ∷ (0, initialWrite) ∷ []) ∷ []) ((1, 7) ∷ (0, 0) ∷ []) []; answer = none } ∷
+    -- which location is read depends on a value
+    record { program = choosing; graph = graphWith ([] ∷ ((2, initialWrite) ∷ (1, initialWrite) ∷ (0, initialWrite) ∷ []) ∷ []) ((0, 0) ∷ []) []; answer = some (1 ∷ 1 ∷ 0 ∷ 1 ∷ []) } ∷
     -- the write stands at the wrong location; no event at all
     record { program = behind; graph = graphWith ([] ∷ ((1, initialWrite) ∷ (0, initialWrite) ∷ []) ∷ []) [] ((0, 0) ∷ []); answer = none } ∷
     record { program = threadsOf ([] ∷ []); graph = graphWith ([] ∷ []) [] []; answer = some [] } ∷

@@ -9,5 +9,7 @@ pub mod Reading
 pub mod Answer
 -- graphs judged by computing
 pub mod Examples
+-- what the definition of consistent says of small graphs
+pub mod SmallGraphs
 -- graph texts answered by computing
 pub mod TextExamples
