@@ -28,3 +28,6 @@ pub mod Walks
 pub mod Judged
 -- document 01's two graphs, and others
 pub mod Cases
+-- graph texts: what they give can be judged, and the text of a run's graph gives it back
+pub mod Readable
+pub mod Parsed
