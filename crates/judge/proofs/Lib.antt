@@ -31,3 +31,5 @@ pub mod Cases
 -- graph texts: what they give can be judged, and the text of a run's graph gives it back
 pub mod Readable
 pub mod Parsed
+pub mod FramesRead
+pub mod RowsRead
