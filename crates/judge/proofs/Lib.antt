@@ -33,3 +33,5 @@ pub mod Readable
 pub mod Parsed
 pub mod FramesRead
 pub mod RowsRead
+pub mod ListsRead
+pub mod RoundTrip

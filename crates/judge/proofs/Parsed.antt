@@ -47,7 +47,7 @@ set-cases P rows i w h own other k = go (ℕ-discrete k i)
 set-in : {A : Type 0} (rows : List (List A)) (i : ℕ) (w : List A) → i < length rows → (x : A) (k : ℕ) → List·Memᴰ x (getD (set rows i w) k []) → ((k ≡ i) × List·Memᴰ x w) ⊎ ((k ≢ i) × List·Memᴰ x (getD rows k []))
 set-in {A} rows i w h x = set-cases (λ k v. List·Memᴰ x v → ((k ≡ i) × List·Memᴰ x w) ⊎ ((k ≢ i) × List·Memᴰ x (getD rows k []))) rows i w h (λ m. inl (refl, m)) (λ k q m. inr (q, m))
 
-empty-row : {A : Type 0} (n k : ℕ) → _≡_ {A = List A} (getD (replicate n []) k []) []
+pub empty-row : {A : Type 0} (n k : ℕ) → _≡_ {A = List A} (getD (replicate n []) k []) []
 empty-row zero k = refl
 empty-row (suc n) zero = refl
 empty-row (suc n) (suc k) = empty-row n k
