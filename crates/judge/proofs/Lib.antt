@@ -35,3 +35,6 @@ pub mod FramesRead
 pub mod RowsRead
 pub mod ListsRead
 pub mod RoundTrip
+pub mod RunRead
+-- the answers to texts
+pub mod Answered
