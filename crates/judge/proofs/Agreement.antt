@@ -2,15 +2,14 @@
 -- A step keeps this as long as what it reads is the value given.
 use Prim.Native.Nat.{ℕ, zero, suc}
 use mathlib.Core.Path.{_≡_, refl, sym, ap, subst, _∙_}
-use mathlib.Core.Logic.{_≢_, _⊎_, inl, inr}
+use mathlib.Core.Logic.{inl, inr}
 use mathlib.Core.Bool.{Bool, true, false}
-use mathlib.Core.Option.{Option, none, some}
 use mathlib.Core.List.{List, [], _∷_, map}
 use lib.ListN.{length, getD}
 use Rattle.program.specs.Program.{Program, initial}
 use Rattle.program.specs.WellFormed.{WellFormed}
-use Rattle.machine.specs.Local.{Local, pending, placeOf, takes, puts, next}
-use Rattle.machine.specs.State.{Event, Thread, Cell, State, freshCell, threadOf, cellOf, place, latest, noted, advanced, step, may, start}
+use Rattle.machine.specs.Local.{Local, placeOf, takes, puts, next}
+use Rattle.machine.specs.State.{Cell, State, freshCell, threadOf, cellOf, place, latest, advanced, step, may, start}
 use Rattle.machine.proofs.Access.{blind-next, blind-puts}
 use Rattle.machine.proofs.Steps.{may-pending, may-range, step-threads}
 use Rattle.machine.proofs.Change.{thread-cases, noted-done, Change, kept, wrote}

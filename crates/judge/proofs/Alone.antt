@@ -1,6 +1,6 @@
 -- A thread by itself on given values: it comes to its end, stays there, and up to there it is a thread of the program before an access.
 use Prim.Native.Nat.{ℕ, zero, suc, _+_, _<_, _≤_}
-use mathlib.Core.Path.{_≡_, refl, sym, ap, subst, _∙_}
+use mathlib.Core.Path.{_≡_, refl, sym, ap, _∙_}
 use mathlib.Core.Logic.{_≢_}
 use mathlib.Core.Bool.{Bool, true, false, true≢false}
 use mathlib.Core.Option.{none, some, Option·none-ne-some}
@@ -9,8 +9,8 @@ use native.Mathlib.Decide.{decLt}
 use lib.ListN.{length}
 use Rattle.program.specs.Program.{Program}
 use Rattle.program.specs.WellFormed.{WellFormed, accesses}
-use Rattle.machine.specs.Local.{Local, pending, takes, puts, next}
-use Rattle.machine.specs.State.{Event, initialWrite, Thread, noThread, threadOf, size, start}
+use Rattle.machine.specs.Local.{Local, pending}
+use Rattle.machine.specs.State.{Event, initialWrite, start}
 use Rattle.machine.proofs.Access.{next-fewer}
 use Rattle.machine.proofs.Idle.{idle, reads-pending, writes-pending}
 use Rattle.machine.proofs.Steps.{in-range}
@@ -64,12 +64,12 @@ module _ (p : Program) (v : Values) where
         go false e = absurd (omega (arith, before-end i j e f))
 
     -- each access lowers the number of those left
-    pub left : (i : ℕ) → pending (at i) ≡ true → accesses (at i .rest) + i ≤ accesses (at 0 .rest)
+    pub accesses-left : (i : ℕ) → pending (at i) ≡ true → accesses (at i .rest) + i ≤ accesses (at 0 .rest)
     unfolding alone
-    left zero e = omega arith
-    left (suc i) e =
+    accesses-left zero e = omega arith
+    accesses-left (suc i) e =
         let f = earlier-event i (suc i) (omega arith) e in
-        omega (arith, left i f, next-fewer (at i) (v (t, i)) f)
+        omega (arith, accesses-left i f, next-fewer (at i) (v (t, i)) f)
 
   pub event-thread : (e : Event) → Event-of e → e .0 < length (p .threads)
   unfolding alone

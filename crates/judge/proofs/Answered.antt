@@ -3,12 +3,10 @@
 use Prim.Native.Nat.{ℕ, _≤_}
 use mathlib.Core.Path.{_≡_, refl, sym, ap, subst, _∙_}
 use mathlib.Core.Logic.{_↔_}
-use mathlib.Core.Bool.{Bool, true, false, cond}
 use mathlib.Core.Option.{Option, none, some}
 use mathlib.Core.List.{List}
 use native.Mathlib.Omega.{arith}
 use borrow.Author.Tests.{le-ltb}
-use lib.Dec.{ltb}
 use lib.ListN.{length}
 use Rattle.program.specs.Program.{Program}
 use Rattle.program.specs.WellFormed.{WellFormed}
@@ -18,7 +16,7 @@ use Rattle.machine.specs.Text.{graphText}
 use Rattle.judge.specs.Consistent.{Consistent}
 use Rattle.judge.specs.Judge.{judge, LeastFor}
 use Rattle.judge.specs.Reading.{parsed, readGraph}
-use Rattle.judge.specs.Answer.{Answer, consistent, inconsistent, refusing, answerOf, answerTo, judgeAnswer}
+use Rattle.judge.specs.Answer.{consistent, inconsistent, Claims, answerOf, answerTo, judgeAnswer}
 use Rattle.judge.proofs.Judged.{judge-yes, judge-no, judge-own}
 use Rattle.judge.proofs.RunRead.{run-text-read}
 
@@ -48,6 +46,15 @@ module _ (p : Program) (wf : WellFormed p) (text : List ℕ) (room : ℕ) (enoug
   -- NO: exactly where it is not consistent
   pub answer-no : (judgeAnswer p text room ≡ inconsistent) ↔ (Consistent p g → ⊥)
   answer-no = ((λ e. judge-no p wf g .0 (inconsistent-is (judge p g) (sym answered ∙ e))), λ n. answered ∙ ap answerOf (judge-no p wf g .1 n) ∙ none-is)
+
+  -- so each answer to a text that is read is true
+  pub answer-true : Claims p g (judgeAnswer p text room)
+  unfolding answerOf
+  answer-true = subst (Claims p g) (sym answered) (go (judge p g) refl)
+    where
+      go : (o : Option Schedule) → judge p g ≡ o → Claims p g (answerOf o)
+      go none e = judge-no p wf g .0 e
+      go (some s) e = let r = judge-yes p wf g s e in (r .1, r .0)
 
 -- EVERY FULL SCHEDULE'S GRAPH TEXT is answered yes, with the least schedule of that graph
 pub own-text : (p : Program) → WellFormed p → (s : Schedule) → Full p s → (room : ℕ) → 24 ≤ room → (r : Schedule) × (judgeAnswer p (graphText (graph p s)) room ≡ consistent r) × LeastFor p (graph p s) r

@@ -1,19 +1,18 @@
 -- Two threads that fit do not meet at a location, unless both only read there. So their steps commute, and each still fits behind the other.
 use Prim.Native.Nat.{ℕ}
-use mathlib.Core.Path.{_≡_, refl, sym, ap, subst, _∙_}
-use mathlib.Core.Logic.{_≢_, _⊎_, inl, inr, Ne·symm}
+use mathlib.Core.Path.{_≡_, refl, sym, ap, _∙_}
+use mathlib.Core.Logic.{_≢_, inl, inr, Ne·symm}
 use mathlib.Core.Bool.{Bool, true, false, true≢false}
-use mathlib.Core.Option.{Option, none, some}
 use native.Mathlib.Decide.{ℕ-discrete}
 use lib.ListN.{length}
-use Rattle.machine.specs.Local.{placeOf, takes, puts}
+use Rattle.machine.specs.Local.{takes}
 use Rattle.machine.specs.State.{Event, State, threadOf, cellOf, place, latest, step, may}
 use Rattle.machine.specs.Trail.{given, writes}
 use Rattle.machine.specs.Graph.{Graph}
 use Rattle.machine.proofs.Access.{blind-puts}
 use Rattle.machine.proofs.Steps.{may-pending, thread-other, may-other}
 use Rattle.machine.proofs.Swap.{Independent, swap, cell-after}
-use Rattle.machine.proofs.Histories.{upcoming, Done, upcoming-undone, done-more}
+use Rattle.machine.proofs.Histories.{upcoming, upcoming-undone, done-more}
 use Rattle.judge.specs.Consistent.{orderOf}
 use Rattle.judge.specs.Judge.{turnOf, fits}
 use Rattle.judge.proofs.Fitting.{FitAt, fits-is, is-fits}

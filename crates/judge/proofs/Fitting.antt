@@ -1,6 +1,6 @@
 -- What the judge's test of a thread says, both ways.
-use Prim.Native.Nat.{ℕ, _+_, _<_}
-use mathlib.Core.Path.{_≡_, refl, sym, ap, subst, _∙_}
+use Prim.Native.Nat.{ℕ, _<_}
+use mathlib.Core.Path.{_≡_, refl, sym, subst, _∙_}
 use mathlib.Core.Logic.{_≢_}
 use mathlib.Core.Bool.{Bool, true, false, not, _&&_, true≢false}
 use mathlib.Core.Option.{Option, none, some}
@@ -10,6 +10,7 @@ use native.Mathlib.Decide.{decLt}
 use borrow.Author.Tests.{ltb-true, lt-ltb, eqb-true, eq-eqb, not-true}
 use lib.Dec.{eqb, ltb}
 use lib.ListN.{length, List·getD-eq-default}
+use Rattle.lines.proofs.DigitValues.{both}
 use Rattle.schedules.specs.Lists.{any, all, upTo}
 use Rattle.schedules.proofs.Lists.{in-upTo, any-yes, any-of, all-at, all-of}
 use Rattle.machine.specs.Local.{Local, placeOf, takes, puts}
@@ -19,7 +20,7 @@ use Rattle.machine.specs.Graph.{Graph}
 use Rattle.machine.proofs.Histories.{upcoming, Done}
 use Rattle.judge.specs.Consistent.{rowOf, orderOf, ReadsFrom}
 use Rattle.judge.specs.Judge.{sameEvent, sameRead, waits, noneWaits, turnOf, readFits, writeFits, fits}
-use Rattle.judge.proofs.Tests.{and-both, both-and, not-of, same-event-is, is-same-event, differs, is-different, same-read-is, same-read}
+use Rattle.judge.proofs.Tests.{both-and, not-of, same-event-is, is-same-event, differs, is-different, same-read-is, same-read}
 
 module _ (g : Graph) (place : Event → ℕ) where
   -- it is the event's turn at its location, and every other read of the last write there is done
@@ -52,9 +53,9 @@ module _ (g : Graph) (place : Event → ℕ) where
     waits-is u r h =
         let D = not (ltb (r .0) (threadOf σ u .history .done)) in
         let N = not (sameEvent (u, r .0) e) in
-        let x = and-both (sameEvent (r .1) s) (eqb (place (u, r .0)) l && (N && D)) h in
-        let y = and-both (eqb (place (u, r .0)) l) (N && D) (x .1) in
-        let z = and-both N D (y .1) in
+        let x = both (sameEvent (r .1) s) (eqb (place (u, r .0)) l && (N && D)) h in
+        let y = both (eqb (place (u, r .0)) l) (N && D) (x .1) in
+        let z = both N D (y .1) in
         (same-event-is (r .1) s (x .0), eqb-true (place (u, r .0)) l (y .0), differs (u, r .0) e (z .0), not-true (ltb (r .0) (threadOf σ u .history .done)) (z .1))
 
     is-waits : (x q : Event) → q ≡ s → place x ≡ l → x ≢ e → (Done σ x → ⊥) → waits place σ l s e (x .0) (x .1, q) ≡ true
@@ -91,7 +92,7 @@ module _ (g : Graph) (place : Event → ℕ) where
   unfolding readFits
   read-is e h c f k =
       let s : ℕ × Event = (e .1, latest (c .writes)) in
-      let x = and-both (any (λ r. sameRead r s) (rowOf g (e .0))) (eqb (place e) (placeOf h)) (rw (k, readFits) at f) in
+      let x = both (any (λ r. sameRead r s) (rowOf g (e .0))) (eqb (place e) (placeOf h)) (rw (k, readFits) at f) in
       let y = any-yes (λ r. sameRead r s) (rowOf g (e .0)) (x .0) in
       (subst (λ (r : ℕ × Event). List·Memᴰ r (rowOf g (e .0))) (same-read-is (y .0) s (y .2)) (y .1), eqb-true (place e) (placeOf h) (x .1))
 
@@ -109,7 +110,7 @@ module _ (g : Graph) (place : Event → ℕ) where
   unfolding writeFits given
   write-is σ e l c none f k = absurd (true≢false (sym k))
   write-is σ e l c (some x) f k =
-      let y = and-both (sameEvent (turnOf (orderOf g l) (length (c .writes))) e) (noneWaits g place σ l (latest (c .writes)) e) f in
+      let y = both (sameEvent (turnOf (orderOf g l) (length (c .writes))) e) (noneWaits g place σ l (latest (c .writes)) e) f in
       (same-event-is (turnOf (orderOf g l) (length (c .writes))) e (y .0), free-is σ l (latest (c .writes)) e (y .1))
 
   is-write : (σ : State) (e : Event) (l : ℕ) (c : Cell) (o : Option ℕ) → (given o ≡ true → Turn e l c (Done σ)) → writeFits g place σ e l c o ≡ true
@@ -128,8 +129,8 @@ module _ (g : Graph) (place : Event → ℕ) where
     unfolding fits
     fits-is f =
         let e = upcoming σ t in
-        let x = and-both (may σ t) (readFits g place e h c && writeFits g place σ e (placeOf h) c (puts h (c .value))) f in
-        let y = and-both (readFits g place e h c) (writeFits g place σ e (placeOf h) c (puts h (c .value))) (x .1) in
+        let x = both (may σ t) (readFits g place e h c && writeFits g place σ e (placeOf h) c (puts h (c .value))) f in
+        let y = both (readFits g place e h c) (writeFits g place σ e (placeOf h) c (puts h (c .value))) (x .1) in
         record { live = x .0; reads = read-is e h c (y .0); writes = write-is σ e (placeOf h) c (puts h (c .value)) (y .1) }
 
     pub is-fits : FitAt σ t → fits g place σ t ≡ true

@@ -1,15 +1,15 @@
 -- A text of frames that pass, one after the other, is read as the graph that they make.
-use Prim.Native.Nat.{ℕ, suc, _+_, _-_, _%_, _≤_, _<_}
-use mathlib.Core.Path.{_≡_, refl, sym, ap, subst, _∙_}
-use mathlib.Core.Bool.{Bool, true, false, cond, not, _&&_}
-use mathlib.Core.Option.{Option, none, some}
+use Prim.Native.Nat.{ℕ, _+_, _-_, _%_, _≤_}
+use mathlib.Core.Path.{_≡_, refl, ap, _∙_}
+use mathlib.Core.Bool.{Bool, true, false, _&&_}
 use mathlib.Core.List.{List, [], _∷_, _++_}
 use native.Mathlib.Omega.{arith}
 use borrow.Author.Tests.{eqb-true, leb-true}
 use lib.Dec.{eqb, leb}
 use lib.ListN.{length, take, drop, length-append}
 use lib.Seq.{drop-at}
-use Rattle.lines.specs.Frame.{Bytes, frame}
+use Rattle.lines.proofs.DigitValues.{both}
+use Rattle.lines.specs.Frame.{Bytes}
 use Rattle.lines.specs.Text.{digits, text}
 use Rattle.lines.specs.Split.{lineLength}
 use Rattle.lines.specs.TextLines.{TextLine, split}
@@ -18,8 +18,7 @@ use Rattle.lines.proofs.Text.{length-digits, length-text}
 use Rattle.lines.proofs.TextLines.{whole, split-at}
 use Rattle.program.specs.WellFormed.{Everywhere}
 use Rattle.machine.specs.Text.{textOf}
-use Rattle.judge.specs.Reading.{Frame, byteAt, isRead, known, inRange, inOrder, Reading, refusal, after, Parsed, parsed, refused, frameOf, readLines}
-use Rattle.judge.proofs.Tests.{and-both}
+use Rattle.judge.specs.Reading.{Frame, byteAt, isRead, known, Reading, refusal, after, parsed, frameOf, readLines}
 use Rattle.judge.proofs.Parsed.{passed}
 
 -- a frame's line is the first line of a text that begins with it
@@ -63,8 +62,8 @@ module _ (n : ℕ) where
       go : (b : Bool) → isRead f ≡ b → 1 ≤ length f
       go true q = omega (arith, eqb-true (length f) 5 (rw q at e))
       go false q =
-          let a = and-both (eqb (byteAt f 0) 0x41) (leb 4 (length f) && eqb (length f % 2) 0) (rw q at e) in
-          omega (arith, leb-true 4 (length f) (and-both (leb 4 (length f)) (eqb (length f % 2) 0) (a .1) .0))
+          let a = both (eqb (byteAt f 0) 0x41) (leb 4 (length f) && eqb (length f % 2) 0) (rw q at e) in
+          omega (arith, leb-true 4 (length f) (both (leb 4 (length f)) (eqb (length f % 2) 0) (a .1) .0))
 
   read-line : (f : Frame) (ls : List TextLine) (k : ℕ) (r : Reading) → Bytes f → refusal n r f ≡ 0 → readLines n k (whole (digits f) ∷ ls) r ≡ readLines n (k + 1) ls (after f r)
   unfolding readLines frameOf

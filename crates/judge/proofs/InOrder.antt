@@ -1,24 +1,24 @@
 -- Doing the graph's events in order: a state that has done a part of the graph, and a step before which everything is done that stands before
 -- its event, finds the values and the sources that the graph gives, and has done a part of the graph again.
-use Prim.Native.Nat.{ℕ, suc, _<_}
+use Prim.Native.Nat.{ℕ}
 use mathlib.Core.Path.{_≡_, refl, sym, ap, subst, _∙_}
 use mathlib.Core.Logic.{_≢_, _⊎_, inl, inr, ⊎-elim}
 use mathlib.Core.Bool.{Bool, true, false, true≢false}
-use mathlib.Core.Option.{Option, none, some, Option·none-ne-some}
-use mathlib.Core.List.{List, [], _∷_, _++_, append-nil, List·Memᴰ, List·Memᴰ·not-nil}
+use mathlib.Core.Option.{Option, none, some}
+use mathlib.Core.List.{List, append-nil, List·Memᴰ, List·Memᴰ·not-nil}
 use native.Mathlib.Omega.{arith}
 use lib.ListN.{length, getD}
 use Rattle.program.specs.Program.{Program, initial}
 use Rattle.program.specs.WellFormed.{WellFormed}
-use Rattle.machine.specs.Local.{takes, puts}
-use Rattle.machine.specs.State.{Event, initialWrite, Thread, Cell, State, threadOf, cellOf, place, latest, noted, advanced, step, may, start}
+use Rattle.machine.specs.Local.{takes}
+use Rattle.machine.specs.State.{Event, initialWrite, Cell, State, threadOf, cellOf, place, latest, noted, advanced, step, may, start}
 use Rattle.machine.specs.Graph.{Graph}
 use Rattle.machine.proofs.Steps.{may-range}
-use Rattle.machine.proofs.Change.{thread-cases, noted-done, done-own, Change, kept, wrote, wrote-own}
+use Rattle.machine.proofs.Change.{thread-cases, done-own, Change, kept, wrote, wrote-own}
 use Rattle.machine.proofs.Start.{start-writes, start-history}
 use Rattle.machine.proofs.Regular.{changes, place-in}
 use Rattle.machine.proofs.Histories.{upcoming, Done, upcoming-undone, done-more, done-new, done-cases}
-use Rattle.judge.specs.Consistent.{rowOf, orderOf, coherenceOf, ReadsFrom, Later, Values, alone, localAt, Reads, locationOf, outOf, WritesAt, Leaves, Makes, Canonical, Before, program-order, reads-from, coherence, from-reads}
+use Rattle.judge.specs.Consistent.{rowOf, orderOf, ReadsFrom, Later, Values, Reads, locationOf, outOf, WritesAt, Leaves, Makes, Canonical, Before, program-order, reads-from, coherence, from-reads}
 use Rattle.judge.proofs.Later.{later-in, distinct-later, descends-later}
 use Rattle.judge.proofs.Parts.{Parts, parts-stay, parts-next, latest-is}
 use Rattle.judge.proofs.Alone.{Event-of, reads-event, writes-event, some-writes, earlier-event, event-real}

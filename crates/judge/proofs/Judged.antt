@@ -4,7 +4,8 @@ use mathlib.Core.Path.{_≡_, refl, sym, ap, subst, _∙_}
 use mathlib.Core.Logic.{_↔_}
 use mathlib.Core.Bool.{Bool, true, false, _&&_, true≢false}
 use mathlib.Core.Option.{Option, none, some, Option·none-ne-some}
-use mathlib.Core.List.{List, [], _∷_}
+use mathlib.Core.List.{[], _∷_}
+use Rattle.lines.proofs.DigitValues.{both}
 use Rattle.program.specs.Program.{Program}
 use Rattle.program.specs.WellFormed.{WellFormed}
 use Rattle.schedules.specs.Order.{Schedule}
@@ -13,17 +14,17 @@ use Rattle.schedules.specs.Greedy.{Fitting}
 use Rattle.schedules.proofs.Order.{AtMost, at-most-not-less}
 use Rattle.schedules.proofs.Runs.{ended-none, full-allowed, allowed-full}
 use Rattle.schedules.proofs.Greedy.{Frontable, greedy-least, commuting}
-use Rattle.machine.specs.State.{Event, State, step, may, SC, start}
+use Rattle.machine.specs.State.{State, step, may, SC, start}
 use Rattle.machine.specs.Graph.{Graph, graphOf, graph, endOf, Full}
 use Rattle.machine.proofs.Lawful.{lawful, names-ascend, at-most-24}
 use Rattle.machine.proofs.Regular.{Regular, regular-step, regular-start}
-use Rattle.judge.specs.Consistent.{locationOf, Canonical, Makes, Consistent}
+use Rattle.judge.specs.Consistent.{locationOf, Consistent}
 use Rattle.judge.specs.Judge.{values, fits, walk, sameGraph, judge, MadeBy, LeastFor}
-use Rattle.judge.proofs.Tests.{and-both, both-and, same-graph-is, is-same-graph}
+use Rattle.judge.proofs.Tests.{both-and, same-graph-is, is-same-graph}
 use Rattle.judge.proofs.Rounds.{run-canonical}
 use Rattle.judge.proofs.OnRun.{on-start}
 use Rattle.judge.proofs.Walks.{greedy-allowed}
-use Rattle.judge.proofs.Theorem.{run-makes, consistent-iff}
+use Rattle.judge.proofs.ConsistentIff.{run-makes, consistent-iff}
 use Rattle.judge.proofs.Fitting.{fits-is}
 use Rattle.judge.proofs.Commuting.{fits-commute, fits-stays}
 use Rattle.judge.proofs.RunFits.{on-fitting}
@@ -75,7 +76,7 @@ module _ (p : Program) (wf : WellFormed p) (g : Graph) where
   accepted-made : accepts ≡ true → MadeBy p g (walk p g)
   unfolding graph
   accepted-made e =
-      let r = and-both (ended SC (endOf p (walk p g))) (sameGraph (graphOf (endOf p (walk p g))) g) e in
+      let r = both (ended SC (endOf p (walk p g))) (sameGraph (graphOf (endOf p (walk p g))) g) e in
       (allowed-full SC (start p) (walk p g) walk-allowed (r .0), same-graph-is (graphOf (endOf p (walk p g))) g (r .1))
 
   made-accepted : MadeBy p g (walk p g) → accepts ≡ true

@@ -1,7 +1,7 @@
--- Coming later in a list whose last member stands first, over `++`, and lists in which nothing stands twice.
+-- Remaining later in a list whose last member stands first, over `++`, and lists in which nothing stands twice.
 use Prim.Native.Nat.{ℕ, _<_}
-use mathlib.Core.Path.{_≡_, refl, sym, subst}
-use mathlib.Core.Logic.{_≢_, _⊎_, inl, inr, ⊎-elim}
+use mathlib.Core.Path.{_≡_, sym, subst}
+use mathlib.Core.Logic.{_⊎_, inl, inr, ⊎-elim}
 use mathlib.Core.List.{List, [], _∷_, _++_, List·Memᴰ, List·Memᴰ·head, List·Memᴰ·tail, List·Memᴰ·cases-cons, List·Memᴰ·not-nil, List·Memᴰ·append-cases, List·Memᴰ·eq-of-singleton, Memᴰ·append-right}
 use Rattle.machine.specs.State.{Event}
 use Rattle.judge.specs.Consistent.{Later, Distinct, Descends}

@@ -13,28 +13,29 @@ pub mod Decided
 pub mod InOrder
 pub mod Scheduled
 -- T4, from a schedule to consistent: the rounds know the values of every run with this graph, and its steps are in order
-pub mod Tidy
+pub mod Sorted
 pub mod Records
 pub mod Rounds
 pub mod OnRun
 pub mod Ranked
--- T4
-pub mod Theorem
+-- T4: consistent exactly when some full schedule has the graph
+pub mod ConsistentIff
 -- the judge: what its test says, that fitting steps commute, that a run's steps fit; it answers yes exactly to consistent graphs, with the least schedule
 pub mod Fitting
 pub mod Commuting
 pub mod RunFits
 pub mod Walks
 pub mod Judged
--- document 01's two graphs, and others
-pub mod Cases
--- graph texts: what they give can be judged, and the text of a run's graph gives it back
+-- graph texts: what a text gives is canonical, and the text of a full schedule's graph gives that graph back
 pub mod Readable
 pub mod Parsed
 pub mod FramesRead
 pub mod RowsRead
 pub mod ListsRead
 pub mod RoundTrip
+pub mod AccessCount
 pub mod RunRead
 -- the answers to texts
 pub mod Answered
+-- document 01's two graphs
+pub mod Cases

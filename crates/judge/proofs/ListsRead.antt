@@ -2,13 +2,12 @@
 use Prim.Native.Nat.{ℕ, zero, suc, _+_, _*_, _%_, _<_, _≤_}
 use mathlib.Core.Path.{_≡_, refl, sym, ap, subst, _∙_}
 use mathlib.Core.Logic.{_⊎_, inl, inr, ⊎-elim}
-use mathlib.Core.Bool.{Bool, true}
-use mathlib.Core.List.{List, [], _∷_, _++_, append-assoc, reverse, reverse-reverse, List·Memᴰ, List·Memᴰ·head, List·Memᴰ·not-nil}
+use mathlib.Core.Bool.{true}
+use mathlib.Core.List.{List, [], _∷_, _++_, append-assoc, reverse, reverse-reverse, List·Memᴰ, List·Memᴰ·not-nil}
 use native.Mathlib.Omega.{arith}
 use borrow.Author.Tests.{le-leb, eq-eqb}
 use lib.ListN.{length, getD, set, replicate, length-append, length-reverse}
 use lib.Seq.{set-at}
-use Rattle.schedules.specs.Lists.{all}
 use Rattle.schedules.proofs.Lists.{all-of}
 use Rattle.schedules.specs.Order.{less}
 use Rattle.schedules.proofs.Order.{less-front, less-heads}
@@ -16,7 +15,7 @@ use Rattle.machine.specs.State.{Event}
 use Rattle.machine.specs.Graph.{Graph}
 use Rattle.machine.specs.Text.{eventBytes, writeFrame, writeFrames}
 use Rattle.judge.specs.Consistent.{Distinct}
-use Rattle.judge.specs.Reading.{Frame, byteAt, isRead, eventsIn, writesIn, known, isEvent, inRange, key, Reading, allNew, inOrder, refusal, withLine, after}
+use Rattle.judge.specs.Reading.{Frame, isRead, eventsIn, writesIn, known, isEvent, inRange, key, Reading, inOrder, refusal, withLine, after}
 use Rattle.judge.proofs.Readable.{Named, Unwritten, is-event, is-new, reverse-in, distinct-reverse}
 use Rattle.judge.proofs.Parsed.{empty-row}
 use Rattle.judge.proofs.FramesRead.{Passing, afterAll, after-append, passing-append}
@@ -57,8 +56,15 @@ module _ (n : ℕ) (R : List (List (ℕ × Event))) where
   unfolding refusal known inRange inOrder key isRead writesIn
   write-passes l es r h c e d u k =
       let q = events-length es in
-      rw (le-leb 4 (length (lineOf l es)) (omega arith), eq-eqb (length (lineOf l es) % 2) 0 (omega arith), events-back es, le-leb l 7 c,
-      all-of (isEvent n) es (λ x m. is-event n x (e x m)), k, is-new (r .graph .writes) es d u)
+      rw (
+        le-leb 4 (length (lineOf l es)) (omega arith),
+        eq-eqb (length (lineOf l es) % 2) 0 (omega arith),
+        events-back es,
+        le-leb l 7 c,
+        all-of (isEvent n) es (λ x m. is-event n x (e x m)),
+        k,
+        is-new (r .graph .writes) es d u,
+      )
 
   line-graph : (l : ℕ) (es : List Event) (pre post : List (List Event)) (w : List Event) (r : Reading) → length pre ≡ l → r .graph ≡ graphOf R (pre ++ (w ∷ post)) →
       after (lineOf l (reverse es)) r .graph ≡ graphOf R (pre ++ (es ∷ post))
@@ -73,14 +79,14 @@ module _ (n : ℕ) (R : List (List (ℕ × Event))) where
   line-last l es r k h = less-front 0x41 (l ∷ []) (k ∷ []) ∙ less-heads l k [] [] h
 
   -- the lists that are still to come, behind those that have come
-  pub record Coming (lists pre : List (List Event)) : Type 0 where
+  pub record Remaining (lists pre : List (List Event)) : Type 0 where
     pub once : (k : ℕ) → Distinct (getD lists k [])
     pub named : (k : ℕ) (e : Event) → List·Memᴰ e (getD lists k []) → Named n e
     pub apart : (j k : ℕ) (e : Event) → List·Memᴰ e (getD lists j []) → List·Memᴰ e (getD lists k []) → j ≡ k
     pub new : (k : ℕ) (e : Event) → List·Memᴰ e (getD lists k []) → Unwritten pre e
 
-  coming-tail : (ws : List Event) (lists pre : List (List Event)) → Coming (ws ∷ lists) pre → Coming lists (pre ++ (ws ∷ []))
-  coming-tail ws lists pre C = record {
+  remaining-tail : (ws : List Event) (lists pre : List (List Event)) → Remaining (ws ∷ lists) pre → Remaining lists (pre ++ (ws ∷ []))
+  remaining-tail ws lists pre C = record {
     once = λ k. C .once (suc k);
     named = λ k. C .named (suc k);
     apart = λ j k e a b. let q = C .apart (suc j) (suc k) e a b in omega arith;
@@ -89,7 +95,7 @@ module _ (n : ℕ) (R : List (List (ℕ × Event))) where
 
   -- one location: no line, or one that passes
   list-read : (ws : List Event) (lists pre : List (List Event)) (l : ℕ) (r : Reading) → length pre ≡ l → l ≤ 7 → r .graph ≡ graphOf R (pre ++ replicate (length (ws ∷ lists)) []) →
-      ((k : ℕ) → l ≤ k → less (r .last) (0x41 ∷ k ∷ []) ≡ true) → Coming (ws ∷ lists) pre →
+      ((k : ℕ) → l ≤ k → less (r .last) (0x41 ∷ k ∷ []) ≡ true) → Remaining (ws ∷ lists) pre →
       Passing n r (writeFrame l ws) × (afterAll (writeFrame l ws) r .graph ≡ graphOf R (pre ++ (ws ∷ replicate (length lists) []))) × ((k : ℕ) → suc l ≤ k → less (afterAll (writeFrame l ws) r .last) (0x41 ∷ k ∷ []) ≡ true)
   unfolding afterAll writeFrame
   list-read [] lists pre l r here c g u C = (tt, g, λ k h. u k (omega arith))
@@ -105,7 +111,7 @@ module _ (n : ℕ) (R : List (List (ℕ × Event))) where
       )
 
   pub lists-read : (lists pre : List (List Event)) (l : ℕ) (r : Reading) → length pre ≡ l → l + length lists ≤ 8 → r .graph ≡ graphOf R (pre ++ replicate (length lists) []) →
-      ((k : ℕ) → l ≤ k → less (r .last) (0x41 ∷ k ∷ []) ≡ true) → Coming lists pre →
+      ((k : ℕ) → l ≤ k → less (r .last) (0x41 ∷ k ∷ []) ≡ true) → Remaining lists pre →
       Passing n r (writeFrames l lists) × (afterAll (writeFrames l lists) r .graph ≡ graphOf R (pre ++ lists))
   unfolding afterAll writeFrames
   lists-read [] pre l r here h g u C = (tt, g)
@@ -113,7 +119,7 @@ module _ (n : ℕ) (R : List (List (ℕ × Event))) where
       let fs = writeFrame l ws in
       let a = list-read ws lists pre l r here (omega arith) g u C in
       let ih = lists-read lists (pre ++ (ws ∷ [])) (suc l) (afterAll fs r) (length-append pre (ws ∷ []) ∙ omega arith) (omega arith)
-      (a .1 ∙ ap (λ (v : List (List Event)). graphOf R v) (sym (append-assoc pre (ws ∷ []) (replicate (length lists) [])))) (a .2) (coming-tail ws lists pre C) in (
+      (a .1 ∙ ap (λ (v : List (List Event)). graphOf R v) (sym (append-assoc pre (ws ∷ []) (replicate (length lists) [])))) (a .2) (remaining-tail ws lists pre C) in (
         passing-append n fs (writeFrames (suc l) lists) r (a .0) (ih .0),
         ap (λ (s : Reading). s .graph) (after-append fs (writeFrames (suc l) lists) r) ∙ ih .1 ∙ ap (λ (v : List (List Event)). graphOf R v) (append-assoc pre (ws ∷ []) lists),
       )

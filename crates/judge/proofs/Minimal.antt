@@ -1,6 +1,6 @@
 -- In a finite list, a decided relation without a cycle has a minimal member. No counting: for every z, either nothing of the list stands
 -- before z, or some minimal member has a way to z.
-use mathlib.Core.Path.{_≡_, refl, sym, subst}
+use mathlib.Core.Path.{_≡_, refl, subst}
 use mathlib.Core.Logic.{_⊎_, inl, inr, ⊎-elim}
 use mathlib.Core.List.{List, [], _∷_, List·Memᴰ, List·Memᴰ·head, List·Memᴰ·tail, List·Memᴰ·not-nil, List·Memᴰ·cases-cons}
 use Rattle.judge.specs.Consistent.{Way, one, more, Acyclic}

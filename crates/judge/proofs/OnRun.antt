@@ -1,10 +1,9 @@
 -- The states of a run with this graph: the graph is made on the values of the rounds, and each step comes after everything that stands
 -- before its event.
-use Prim.Native.Nat.{ℕ, suc, _+_, _<_, _≤_}
+use Prim.Native.Nat.{ℕ, suc, _+_, _≤_}
 use mathlib.Core.Path.{_≡_, refl, sym, ap, subst, _∙_}
-use mathlib.Core.Logic.{_≢_, _⊎_, inl, inr, ⊎-elim}
-use mathlib.Core.Bool.{true}
-use mathlib.Core.List.{List, [], _∷_, _++_, List·Memᴰ, Memᴰ·append-left}
+use mathlib.Core.Logic.{⊎-elim}
+use mathlib.Core.List.{[], _∷_, List·Memᴰ, Memᴰ·append-left}
 use native.Mathlib.Omega.{arith}
 use native.Mathlib.Decide.{decLt}
 use lib.ListN.{length}
@@ -12,12 +11,12 @@ use Rattle.program.specs.Program.{Program}
 use Rattle.program.specs.WellFormed.{WellFormed}
 use Rattle.schedules.specs.Order.{Schedule}
 use Rattle.schedules.specs.System.{run}
-use Rattle.machine.specs.Local.{pending, takes}
-use Rattle.machine.specs.State.{Event, initialWrite, State, threadOf, cellOf, place, latest, step, may, SC, start}
-use Rattle.machine.specs.Graph.{Graph, graphOf}
+use Rattle.machine.specs.Local.{pending}
+use Rattle.machine.specs.State.{Event, initialWrite, State, threadOf, cellOf, place, latest, step, SC, start}
+use Rattle.machine.specs.Graph.{Graph}
 use Rattle.machine.proofs.Histories.{upcoming, Done, done-more, done-new, done-cases}
 use Rattle.machine.proofs.Rows.{row-at, order-at}
-use Rattle.judge.specs.Consistent.{rowOf, orderOf, coherenceOf, ReadsFrom, Later, Values, localAt, Reads, locationOf, Canonical, Makes, Before, program-order, reads-from, coherence, from-reads, Distinct}
+use Rattle.judge.specs.Consistent.{rowOf, orderOf, coherenceOf, ReadsFrom, Later, Values, Reads, locationOf, Canonical, Makes, Before, program-order, reads-from, coherence, from-reads, Distinct}
 use Rattle.judge.specs.Judge.{values, MadeBy}
 use Rattle.judge.proofs.Later.{distinct-later, distinct-apart, distinct-snoc}
 use Rattle.judge.proofs.Parts.{Parts, done-before, latest-in, none-later}

@@ -2,26 +2,26 @@
 use Prim.Native.Nat.{ℕ, zero, suc, _+_, _<_, _≤_}
 use mathlib.Core.Path.{_≡_, refl, sym, ap, subst, _∙_}
 use mathlib.Core.Logic.{_≢_, _⊎_, inl, inr, ⊎-elim}
-use mathlib.Core.Bool.{Bool, true, false, cond, not, _&&_, true≢false, false≢true}
+use mathlib.Core.Bool.{Bool, true, false, cond, not, false≢true}
 use mathlib.Core.Option.{Option, none, some}
 use mathlib.Core.List.{List, [], _∷_, reverse, List·Memᴰ, List·Memᴰ·cases-cons, List·Memᴰ·not-nil}
 use native.Mathlib.Omega.{arith}
 use native.Mathlib.Decide.{ℕ-discrete}
-use borrow.Author.Tests.{leb-true, eqb-true, eq-eqb, ltb-true}
-use lib.Dec.{eqb, leb, ltb}
+use borrow.Author.Tests.{leb-true, eqb-true, ltb-true}
+use lib.Dec.{eqb, leb}
 use lib.ListN.{length, getD, set, replicate, length-set, length-replicate}
 use lib.Seq.{getD-set-same, getD-set-other}
+use Rattle.lines.proofs.DigitValues.{both}
 use Rattle.lines.specs.TextLines.{TextLine, split}
 use Rattle.program.specs.Program.{Program}
 use Rattle.schedules.specs.Lists.{all}
 use Rattle.schedules.specs.Order.{less}
 use Rattle.schedules.proofs.Lists.{all-at}
 use Rattle.schedules.proofs.Order.{AtMost, less-front, less-transitive}
-use Rattle.machine.specs.State.{Event, initialWrite}
+use Rattle.machine.specs.State.{Event}
 use Rattle.machine.specs.Graph.{Graph}
 use Rattle.judge.specs.Consistent.{rowOf, orderOf, Descends, Distinct, Canonical}
-use Rattle.judge.specs.Reading.{Frame, byteAt, isRead, writesIn, known, isEvent, isSource, inRange, key, Reading, allNew, inOrder, refusal, withLine, after, fresh, Parsed, parsed, refused, frameOf, readLines, readGraph}
-use Rattle.judge.proofs.Tests.{and-both}
+use Rattle.judge.specs.Reading.{Frame, byteAt, isRead, writesIn, known, isEvent, isSource, inRange, key, Reading, allNew, inOrder, refusal, withLine, after, fresh, parsed, refused, frameOf, readLines, readGraph}
 use Rattle.judge.proofs.Readable.{Named, Source, Readable, readable-canonical, event-is, source-is, new-is, reverse-in, distinct-reverse}
 
 -- a line that passes, passes each test
@@ -67,13 +67,13 @@ less-last i j h = go (eqb i j) refl
 
 module _ (n : ℕ) where
   -- the graph so far is readable, and no line read so far comes after the last
-  pub record Fine (r : Reading) : Type 0 where
+  pub record SoFar (r : Reading) : Type 0 where
     pub readable : Readable n (r .graph)
     pub keys : (t : ℕ) (x : ℕ × Event) → List·Memᴰ x (rowOf (r .graph) t) → AtMost (0x40 ∷ t ∷ x .0 ∷ []) (r .last)
 
-  fine-fresh : Fine (fresh n)
+  so-far-fresh : SoFar (fresh n)
   unfolding fresh
-  fine-fresh = record {
+  so-far-fresh = record {
     readable = record {
       rows = length-replicate n [];
       lists = refl;
@@ -89,7 +89,7 @@ module _ (n : ℕ) where
       none-in : {A : Type 0} (n k : ℕ) (x : A) → List·Memᴰ x (getD (replicate n []) k []) → ⊥
       none-in n k x m = List·Memᴰ·not-nil (subst (List·Memᴰ x) (empty-row n k) m)
 
-  module _ (r : Reading) (F : Fine r) where
+  module _ (r : Reading) (F : SoFar r) where
     abbrev g : Graph
     g = r .graph
 
@@ -97,9 +97,9 @@ module _ (n : ℕ) where
     R = F .readable
 
     -- a `40` line more
-    fine-read : (t i : ℕ) (s : Event) → Named n (t, i) → Source n s → less (r .last) (0x40 ∷ t ∷ i ∷ []) ≡ true →
-        Fine (record { last = 0x40 ∷ t ∷ i ∷ []; graph = record { reads = set (g .reads) t ((i, s) ∷ rowOf g t); writes = g .writes } })
-    fine-read t i s e c h = record {
+    so-far-read : (t i : ℕ) (s : Event) → Named n (t, i) → Source n s → less (r .last) (0x40 ∷ t ∷ i ∷ []) ≡ true →
+        SoFar (record { last = 0x40 ∷ t ∷ i ∷ []; graph = record { reads = set (g .reads) t ((i, s) ∷ rowOf g t); writes = g .writes } })
+    so-far-read t i s e c h = record {
       readable = record {
         rows = length-set (g .reads) t _ ∙ R .rows;
         lists = R .lists;
@@ -131,15 +131,15 @@ module _ (n : ℕ) where
     In l es u x = ((u ≡ l) × List·Memᴰ x (reverse es)) ⊎ ((u ≢ l) × List·Memᴰ x (orderOf g u))
 
     -- a `41` line more
-    fine-write : (k : List ℕ) (l : ℕ) (es : List Event) → l ≤ 7 → ((e : Event) → List·Memᴰ e es → Named n e) → allNew (g .writes) es ≡ true → less (r .last) k ≡ true →
-        Fine (record { last = k; graph = record { reads = g .reads; writes = set (g .writes) l (reverse es) } })
-    fine-write k l es c e a h = record {
+    so-far-write : (k : List ℕ) (l : ℕ) (es : List Event) → l ≤ 7 → ((e : Event) → List·Memᴰ e es → Named n e) → allNew (g .writes) es ≡ true → less (r .last) k ≡ true →
+        SoFar (record { last = k; graph = record { reads = g .reads; writes = set (g .writes) l (reverse es) } })
+    so-far-write k l es c e a h = record {
       readable = record {
         rows = R .rows;
         lists = length-set (g .writes) l _ ∙ R .lists;
         ordered = R .ordered;
         once = set-cases (λ u w. Distinct w) (g .writes) l (reverse es) there (distinct-reverse es (new .0)) (λ u q. R .once u);
-        apart = λ u v x m j. both u v x (set-in (g .writes) l (reverse es) there x u m) (set-in (g .writes) l (reverse es) there x v j);
+        apart = λ u v x m j. one-list u v x (set-in (g .writes) l (reverse es) there x u m) (set-in (g .writes) l (reverse es) there x v j);
         reads = R .reads;
         writes = λ u x m. ⊎-elim (λ (j : (u ≡ l) × List·Memᴰ x (reverse es)). e x (reverse-in es x (j .1))) (λ (j : (u ≢ l) × List·Memᴰ x (orderOf g u)). R .writes u x (j .1)) (set-in (g .writes) l (reverse es) there x u m);
       };
@@ -152,33 +152,33 @@ module _ (n : ℕ) where
         new : Distinct es × ((x : Event) → List·Memᴰ x es → (u : ℕ) → List·Memᴰ x (getD (g .writes) u []) → ⊥)
         new = new-is (g .writes) es a
 
-        both : (u v : ℕ) (x : Event) → In l es u x → In l es v x → u ≡ v
-        both u v x (inl a) (inl b) = a .0 ∙ sym (b .0)
-        both u v x (inl a) (inr b) = absurd (new .1 x (reverse-in es x (a .1)) v (b .1))
-        both u v x (inr a) (inl b) = absurd (new .1 x (reverse-in es x (b .1)) u (a .1))
-        both u v x (inr a) (inr b) = R .apart u v x (a .1) (b .1)
+        one-list : (u v : ℕ) (x : Event) → In l es u x → In l es v x → u ≡ v
+        one-list u v x (inl a) (inl b) = a .0 ∙ sym (b .0)
+        one-list u v x (inl a) (inr b) = absurd (new .1 x (reverse-in es x (a .1)) v (b .1))
+        one-list u v x (inr a) (inl b) = absurd (new .1 x (reverse-in es x (b .1)) u (a .1))
+        one-list u v x (inr a) (inr b) = R .apart u v x (a .1) (b .1)
 
-    fine-after : (f : Frame) → refusal n r f ≡ 0 → Fine (after f r)
+    so-far-after : (f : Frame) → refusal n r f ≡ 0 → SoFar (after f r)
     unfolding after withLine key inRange inOrder isRead
-    fine-after f q = go (eqb (byteAt f 0) 0x40) refl (passed n r f q)
+    so-far-after f q = go (eqb (byteAt f 0) 0x40) refl (passed n r f q)
       where
-        go : (b : Bool) → eqb (byteAt f 0) 0x40 ≡ b → (known f ≡ true) × (inRange n f ≡ true) × (inOrder r f ≡ true) → Fine (after f r)
+        go : (b : Bool) → eqb (byteAt f 0) 0x40 ≡ b → (known f ≡ true) × (inRange n f ≡ true) × (inOrder r f ≡ true) → SoFar (after f r)
         go true e h =
-            let a = and-both (isEvent n (byteAt f 1, byteAt f 2)) (isSource n (byteAt f 3, byteAt f 4)) (rw e at (h .1)) in
-            let b = and-both (less (r .last) (byteAt f 0 ∷ byteAt f 1 ∷ byteAt f 2 ∷ [])) true (rw e at (h .2)) in
+            let a = both (isEvent n (byteAt f 1, byteAt f 2)) (isSource n (byteAt f 3, byteAt f 4)) (rw e at (h .1)) in
+            let b = both (less (r .last) (byteAt f 0 ∷ byteAt f 1 ∷ byteAt f 2 ∷ [])) true (rw e at (h .2)) in
             let k = eqb-true (byteAt f 0) 0x40 e in
-            rw e (rw k (fine-read (byteAt f 1) (byteAt f 2) (byteAt f 3, byteAt f 4) (event-is n (byteAt f 1, byteAt f 2) (a .0)) (source-is n (byteAt f 3, byteAt f 4) (a .1)) (rw k at (b .0))))
+            rw e (rw k (so-far-read (byteAt f 1) (byteAt f 2) (byteAt f 3, byteAt f 4) (event-is n (byteAt f 1, byteAt f 2) (a .0)) (source-is n (byteAt f 3, byteAt f 4) (a .1)) (rw k at (b .0))))
         go false e h =
-            let a = and-both (leb (byteAt f 1) 7) (all (isEvent n) (writesIn f)) (rw e at (h .1)) in
-            let b = and-both (less (r .last) (byteAt f 0 ∷ byteAt f 1 ∷ [])) (allNew (g .writes) (writesIn f)) (rw e at (h .2)) in
-            rw e (fine-write (byteAt f 0 ∷ byteAt f 1 ∷ []) (byteAt f 1) (writesIn f) (leb-true (byteAt f 1) 7 (a .0)) (λ x m. event-is n x (all-at (isEvent n) (writesIn f) x (a .1) m)) (b .1) (b .0))
+            let a = both (leb (byteAt f 1) 7) (all (isEvent n) (writesIn f)) (rw e at (h .1)) in
+            let b = both (less (r .last) (byteAt f 0 ∷ byteAt f 1 ∷ [])) (allNew (g .writes) (writesIn f)) (rw e at (h .2)) in
+            rw e (so-far-write (byteAt f 0 ∷ byteAt f 1 ∷ []) (byteAt f 1) (writesIn f) (leb-true (byteAt f 1) 7 (a .0)) (λ x m. event-is n x (all-at (isEvent n) (writesIn f) x (a .1) m)) (b .1) (b .0))
 
-  fine-lines : (ls : List TextLine) (k : ℕ) (r : Reading) (g : Graph) → Fine r → readLines n k ls r ≡ parsed g → Readable n g
+  so-far-lines : (ls : List TextLine) (k : ℕ) (r : Reading) (g : Graph) → SoFar r → readLines n k ls r ≡ parsed g → Readable n g
   unfolding readLines
-  fine-lines [] k r g F e = let i : r .graph ≡ g = cc in subst (Readable n) i (F .readable)
-  fine-lines (l ∷ ls) k r g F e = go (frameOf l) refl (λ s h. fine-lines ls (k + 1) s g h)
+  so-far-lines [] k r g F e = let i : r .graph ≡ g = cc in subst (Readable n) i (F .readable)
+  so-far-lines (l ∷ ls) k r g F e = go (frameOf l) refl (λ s h. so-far-lines ls (k + 1) s g h)
     where
-      go : (o : Option Frame) → frameOf l ≡ o → ((s : Reading) → Fine s → readLines n (k + 1) ls s ≡ parsed g → Readable n g) → Readable n g
+      go : (o : Option Frame) → frameOf l ≡ o → ((s : Reading) → SoFar s → readLines n (k + 1) ls s ≡ parsed g → Readable n g) → Readable n g
       go none q ih = let i : refused 30 k ≡ parsed g = rw (q, readLines) at e in absurd (let z : _≡_ {A = ℕ} 0 1 = cc in omega arith)
       go (some f) q ih = test (eqb (refusal n r f) 0) refl
         where
@@ -186,13 +186,13 @@ module _ (n : ℕ) where
           i = rw (q, readLines) at e
 
           test : (b : Bool) → eqb (refusal n r f) 0 ≡ b → Readable n g
-          test true h = ih (after f r) (fine-after r F f (eqb-true (refusal n r f) 0 h)) (rw h at i)
+          test true h = ih (after f r) (so-far-after r F f (eqb-true (refusal n r f) 0 h)) (rw h at i)
           test false h = let j : refused (refusal n r f) k ≡ parsed g = rw h at i in absurd (let z : _≡_ {A = ℕ} 0 1 = cc in omega arith)
 
   -- EVERY GRAPH READ IS READABLE
   pub read-readable : (text : List ℕ) (g : Graph) → readGraph n text ≡ parsed g → Readable n g
   unfolding readGraph
-  read-readable text g e = fine-lines (split text) 1 (fresh n) g fine-fresh e
+  read-readable text g e = so-far-lines (split text) 1 (fresh n) g so-far-fresh e
 
 -- so it is canonical: `Consistent` asks nothing more of a text's graph by it
 pub read-canonical : (p : Program) (text : List ℕ) (g : Graph) → readGraph (length (p .threads)) text ≡ parsed g → Canonical p g

@@ -1,14 +1,14 @@
 -- The place in the schedule grows along the four orders, so that the graph of a run has no cycle.
 use Prim.Native.Nat.{ℕ, suc, _<_}
-use mathlib.Core.Path.{_≡_, refl, sym, ap, subst, _∙_}
-use mathlib.Core.Logic.{_≢_, _⊎_, inl, inr, ⊎-elim}
+use mathlib.Core.Path.{_≡_, refl, sym, subst, _∙_}
+use mathlib.Core.Logic.{⊎-elim}
 use mathlib.Core.Bool.{Bool, true, false, true≢false}
-use mathlib.Core.List.{List, [], _∷_}
+use mathlib.Core.List.{[], _∷_}
 use native.Mathlib.Omega.{arith}
 use Rattle.program.specs.Program.{Program}
 use Rattle.program.specs.WellFormed.{WellFormed}
 use Rattle.schedules.specs.Order.{Schedule}
-use Rattle.machine.specs.State.{Event, State, step, may, start}
+use Rattle.machine.specs.State.{Event, State, step, start}
 use Rattle.machine.specs.Graph.{Graph}
 use Rattle.machine.proofs.Start.{start-history}
 use Rattle.machine.proofs.Histories.{upcoming, Done, done-cases}

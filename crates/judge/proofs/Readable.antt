@@ -1,14 +1,13 @@
 -- The graphs that texts can give: in range, in order, nothing twice. What the tests of a line say of them, both ways.
 use Prim.Native.Nat.{ℕ, zero, suc, _<_, _≤_}
-use mathlib.Core.Path.{_≡_, refl, sym, ap, subst, _∙_}
-use mathlib.Core.Logic.{_≢_, _⊎_, inl, inr, ⊎-elim}
-use mathlib.Core.Bool.{Bool, true, false, not, _&&_, _||_, true≢false, false≢true}
+use mathlib.Core.Path.{_≡_, refl, sym, subst, _∙_}
+use mathlib.Core.Logic.{_⊎_, inl, inr, ⊎-elim}
+use mathlib.Core.Bool.{Bool, true, false, not, _&&_, _||_, true≢false}
 use mathlib.Core.List.{List, [], _∷_, reverse, reverseAux, List·Memᴰ, List·Memᴰ·head, List·Memᴰ·tail, List·Memᴰ·cases-cons, List·Memᴰ·not-nil}
-use native.Mathlib.Omega.{arith}
-use native.Mathlib.Decide.{decLt}
 use borrow.Author.Tests.{ltb-true, lt-ltb, leb-true, le-leb, not-true}
 use lib.Dec.{ltb, leb}
-use lib.ListN.{length, getD, List·getD-eq-default}
+use lib.ListN.{length, getD}
+use Rattle.lines.proofs.DigitValues.{both}
 use Rattle.program.specs.Program.{Program}
 use Rattle.schedules.specs.Lists.{any}
 use Rattle.schedules.proofs.Lists.{any-yes, any-of}
@@ -17,7 +16,7 @@ use Rattle.machine.specs.Graph.{Graph}
 use Rattle.judge.specs.Consistent.{rowOf, orderOf, Descends, Distinct, Canonical}
 use Rattle.judge.specs.Judge.{sameEvent}
 use Rattle.judge.specs.Reading.{isEvent, isSource, written, allNew}
-use Rattle.judge.proofs.Tests.{and-both, both-and, not-of, same-event-is, is-same-event}
+use Rattle.judge.proofs.Tests.{both-and, not-of, same-event-is, is-same-event}
 
 -- an event, and a source, that a text of n threads may name
 abbrev pub Named : ℕ → Event → Type 0
@@ -42,7 +41,7 @@ readable-canonical p g R = record { rows = R .rows; lists = R .lists; ordered = 
 module _ (n : ℕ) where
   pub event-is : (e : Event) → isEvent n e ≡ true → Named n e
   unfolding isEvent
-  event-is e h = let r = and-both (ltb (e .0) n) (leb (e .1) 15) h in (ltb-true (e .0) n (r .0), leb-true (e .1) 15 (r .1))
+  event-is e h = let r = both (ltb (e .0) n) (leb (e .1) 15) h in (ltb-true (e .0) n (r .0), leb-true (e .1) 15 (r .1))
 
   pub is-event : (e : Event) → Named n e → isEvent n e ≡ true
   unfolding isEvent
@@ -99,8 +98,8 @@ pub new-is : (rows : List (List Event)) (es : List Event) → allNew rows es ≡
 unfolding allNew
 new-is rows [] h = (tt, λ e m. absurd (List·Memᴰ·not-nil m))
 new-is rows (x ∷ es) h =
-    let a = and-both (not (written x rows)) (not (any (sameEvent x) es) && allNew rows es) h in
-    let b = and-both (not (any (sameEvent x) es)) (allNew rows es) (a .1) in
+    let a = both (not (written x rows)) (not (any (sameEvent x) es) && allNew rows es) h in
+    let b = both (not (any (sameEvent x) es)) (allNew rows es) (a .1) in
     let r = new-is rows es (b .1) in (
       ((λ m. true≢false (sym (any-same x es m) ∙ not-true (any (sameEvent x) es) (b .0))), r .0),
       λ e m. ⊎-elim (λ (q : e ≡ x). subst (Unwritten rows) (sym q) (unwritten-is rows x (a .0))) (λ (k : List·Memᴰ e es). r .1 e k) (List·Memᴰ·cases-cons m),

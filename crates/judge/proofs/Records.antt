@@ -1,15 +1,15 @@
 -- What a run has noted so far is what the events done so far read and write on the values given, as long as its reads find these values.
-use Prim.Native.Nat.{ℕ, suc, _<_}
-use mathlib.Core.Path.{_≡_, refl, sym, ap, subst, _∙_}
-use mathlib.Core.Logic.{_≢_, _⊎_, inl, inr, ⊎-elim}
+use Prim.Native.Nat.{ℕ}
+use mathlib.Core.Path.{_≡_, refl, sym, subst, _∙_}
+use mathlib.Core.Logic.{_⊎_, inl, inr, ⊎-elim}
 use mathlib.Core.Bool.{Bool, true, false}
 use mathlib.Core.Option.{Option, none, some}
-use mathlib.Core.List.{List, [], _∷_, _++_, List·Memᴰ, List·Memᴰ·head, List·Memᴰ·tail, List·Memᴰ·cases-cons, List·Memᴰ·not-nil, Memᴰ·append-right}
+use mathlib.Core.List.{List·Memᴰ, List·Memᴰ·head, List·Memᴰ·cases-cons, List·Memᴰ·not-nil, Memᴰ·append-right}
 use native.Mathlib.Omega.{arith}
 use Rattle.program.specs.Program.{Program}
 use Rattle.program.specs.WellFormed.{WellFormed}
 use Rattle.machine.specs.Local.{takes}
-use Rattle.machine.specs.State.{Event, Thread, Cell, State, threadOf, cellOf, place, latest, noted, advanced, step, may, start}
+use Rattle.machine.specs.State.{Event, Cell, State, threadOf, cellOf, place, latest, noted, advanced, step, may, start}
 use Rattle.machine.proofs.Steps.{may-range, thread-own}
 use Rattle.machine.proofs.Change.{thread-cases, Change, kept, wrote, wrote-own, writes-stay}
 use Rattle.machine.proofs.Start.{start-writes, start-history}

@@ -1,21 +1,21 @@
 -- A readable graph's text is read back as that graph.
-use Prim.Native.Nat.{ℕ, suc, _+_, _<_, _≤_}
-use mathlib.Core.Path.{_≡_, refl, sym, ap, subst, _∙_}
-use mathlib.Core.Logic.{_⊎_, inl, inr, ⊎-elim}
+use Prim.Native.Nat.{ℕ, _≤_}
+use mathlib.Core.Path.{_≡_, refl, sym, ap, _∙_}
+use mathlib.Core.Logic.{inl, inr}
 use mathlib.Core.Bool.{true}
-use mathlib.Core.List.{List, [], _∷_, _++_, List·Memᴰ, List·Memᴰ·not-nil}
+use mathlib.Core.List.{[], _∷_, _++_, List·Memᴰ·not-nil}
 use native.Mathlib.Omega.{arith}
-use lib.ListN.{length, getD, replicate}
+use lib.ListN.{replicate}
 use Rattle.machine.specs.State.{Event, initialWrite}
 use Rattle.machine.specs.Graph.{Graph}
-use Rattle.machine.specs.Text.{readFrames, writeFrames, frames, textOf, graphText}
+use Rattle.machine.specs.Text.{readFrames, writeFrames, frames, graphText}
 use Rattle.machine.proofs.Text.{EventByte, Printable, frames-bytes}
 use Rattle.schedules.specs.Order.{less}
-use Rattle.judge.specs.Reading.{Reading, fresh, Parsed, parsed, readLines, readGraph}
+use Rattle.judge.specs.Reading.{Reading, fresh, parsed, readGraph}
 use Rattle.judge.proofs.Readable.{Named, Source, Readable}
 use Rattle.judge.proofs.FramesRead.{Passing, afterAll, after-append, passing-append, read-frames}
-use Rattle.judge.proofs.RowsRead.{under-nothing, rows-read}
-use Rattle.judge.proofs.ListsRead.{Coming, lists-read}
+use Rattle.judge.proofs.RowsRead.{precedes-nothing, rows-read}
+use Rattle.judge.proofs.ListsRead.{lists-read}
 
 module _ (n : ℕ) (six : n ≤ 6) (g : Graph) (R : Readable n g) where
   named-byte : (e : Event) → Named n e → EventByte e
@@ -38,7 +38,7 @@ module _ (n : ℕ) (six : n ≤ 6) (g : Graph) (R : Readable n g) where
   rows-part : Passing n (fresh n) (readFrames 0 (g .reads)) × (afterAll (readFrames 0 (g .reads)) (fresh n) .graph ≡ record { reads = g .reads; writes = replicate 8 [] }) ×
       ((l : ℕ) → less (afterAll (readFrames 0 (g .reads)) (fresh n) .last) (0x41 ∷ l ∷ []) ≡ true)
   unfolding fresh
-  rows-part = rows-read n (replicate 8 []) (g .reads) [] 0 (fresh n) refl (omega (arith, R .rows)) (ap (λ (k : ℕ). let h : Graph = record { reads = replicate k []; writes = replicate 8 [] } in h) (sym (R .rows))) under-nothing (R .ordered) (R .reads)
+  rows-part = rows-read n (replicate 8 []) (g .reads) [] 0 (fresh n) refl (omega (arith, R .rows)) (ap (λ (k : ℕ). let h : Graph = record { reads = replicate k []; writes = replicate 8 [] } in h) (sym (R .rows))) precedes-nothing (R .ordered) (R .reads)
 
   lists-part : Passing n (afterAll (readFrames 0 (g .reads)) (fresh n)) (writeFrames 0 (g .writes)) × (afterAll (writeFrames 0 (g .writes)) (afterAll (readFrames 0 (g .reads)) (fresh n)) .graph ≡ g)
   lists-part = lists-read n (g .reads) (g .writes) [] 0 (afterAll (readFrames 0 (g .reads)) (fresh n)) refl (omega (arith, R .lists))

@@ -1,10 +1,9 @@
 -- The rounds find the values of every run with this graph: after k steps all rounds from the k-th on agree with the machine.
 use Prim.Native.Nat.{ℕ, zero, suc, _+_, _<_, _≤_}
 use mathlib.Core.Path.{_≡_, refl, sym, ap, subst, _∙_}
-use mathlib.Core.Logic.{_≢_, _⊎_, inl, inr, ⊎-elim}
+use mathlib.Core.Logic.{_⊎_, inl, inr}
 use mathlib.Core.Bool.{Bool, true, false, false≢true}
-use mathlib.Core.Option.{none, some}
-use mathlib.Core.List.{List, [], _∷_, _++_, List·Memᴰ, List·Memᴰ·cases-cons, List·Memᴰ·not-nil, Memᴰ·append-right}
+use mathlib.Core.List.{List, [], _∷_, List·Memᴰ, List·Memᴰ·cases-cons, List·Memᴰ·not-nil, Memᴰ·append-right}
 use native.Mathlib.Omega.{arith}
 use borrow.Author.Tests.{eqb-true, eq-eqb}
 use lib.Dec.{eqb}
@@ -12,23 +11,23 @@ use lib.ListN.{length}
 use Rattle.program.specs.Program.{Program}
 use Rattle.program.specs.WellFormed.{WellFormed}
 use Rattle.schedules.specs.Order.{Schedule}
-use Rattle.schedules.specs.System.{run, ended, FullFrom}
+use Rattle.schedules.specs.System.{run, FullFrom}
 use Rattle.schedules.proofs.Runs.{full-allowed}
 use Rattle.machine.specs.Local.{takes}
-use Rattle.machine.specs.State.{Event, initialWrite, State, threadOf, cellOf, place, latest, step, may, SC, start}
+use Rattle.machine.specs.State.{Event, initialWrite, State, threadOf, cellOf, place, latest, step, SC, start}
 use Rattle.machine.specs.Graph.{Graph, graphOf, graph}
 use Rattle.machine.proofs.Suffix.{Suffix}
-use Rattle.machine.proofs.Regular.{Regular, regular-step, regular-run, regular-start}
+use Rattle.machine.proofs.Regular.{Regular, regular-step, regular-start}
 use Rattle.machine.proofs.Steps.{run-threads, run-cells}
 use Rattle.machine.proofs.Start.{start-threads, start-cells}
 use Rattle.machine.proofs.Histories.{upcoming, run-row, run-order}
 use Rattle.machine.proofs.Rows.{row-at, order-at, graph-sizes}
-use Rattle.judge.specs.Consistent.{rowOf, orderOf, ReadsFrom, Values, Reads, locationOf, outOf, Leaves, Descends, Distinct, Canonical}
+use Rattle.judge.specs.Consistent.{rowOf, orderOf, ReadsFrom, Values, Reads, locationOf, Leaves, Descends, Distinct, Canonical}
 use Rattle.judge.specs.Judge.{sameEvent, sourceIn, orZero, leftBy, values, MadeBy}
 use Rattle.judge.proofs.Tests.{same-event-is, is-same-event}
 use Rattle.judge.proofs.Alone.{writes-event, some-writes, event-real}
 use Rattle.judge.proofs.Agreement.{location, reads-as}
-use Rattle.judge.proofs.Tidy.{tidy-start, tidy-run}
+use Rattle.judge.proofs.Sorted.{sorted-start, sorted-run}
 use Rattle.judge.proofs.Records.{Records, read-noted, records-start, records-step}
 
 -- the line of a read is found
@@ -88,7 +87,7 @@ module _ (p : Program) (wf : WellFormed p) where
     pub run-canonical : (s : Schedule) → MadeBy p g s → Canonical p g
     run-canonical s m =
         let E = ends-start s m in
-        let T = tidy-run s (start p) (E .regular) (full-allowed SC (start p) s (E .full) .0) (tidy-start p) in
+        let T = sorted-run s (start p) (E .regular) (full-allowed SC (start p) s (E .full) .0) (sorted-start p) in
         record {
           rows = ap (λ (h : Graph). length (h .reads)) (sym (E .graph)) ∙ graph-sizes (run SC (start p) s) .0 ∙ run-threads s (start p) ∙ start-threads p;
           lists = ap (λ (h : Graph). length (h .writes)) (sym (E .graph)) ∙ graph-sizes (run SC (start p) s) .1 ∙ run-cells s (start p) ∙ start-cells p;

@@ -1,8 +1,8 @@
 -- Each step of a run with this graph fits.
 use Prim.Native.Nat.{ℕ, suc, _-_}
 use mathlib.Core.Path.{_≡_, refl, sym, ap, subst, _∙_}
-use mathlib.Core.Logic.{_≢_, _⊎_, inl, inr}
-use mathlib.Core.Bool.{Bool, true, false, false≢true}
+use mathlib.Core.Logic.{inl}
+use mathlib.Core.Bool.{true, false≢true}
 use mathlib.Core.Option.{Option, none, some}
 use mathlib.Core.List.{List, [], _∷_, _++_, append-assoc, List·Memᴰ, List·Memᴰ·head}
 use native.Mathlib.Omega.{arith}
@@ -13,20 +13,20 @@ use Rattle.program.specs.WellFormed.{WellFormed}
 use Rattle.schedules.specs.Order.{Schedule}
 use Rattle.schedules.specs.System.{run, ended}
 use Rattle.schedules.specs.Greedy.{Fitting}
-use Rattle.machine.specs.Local.{placeOf, takes, puts}
+use Rattle.machine.specs.Local.{puts}
 use Rattle.machine.specs.State.{Event, initialWrite, State, threadOf, cellOf, place, latest, step, SC}
 use Rattle.machine.specs.Trail.{given}
 use Rattle.machine.specs.Graph.{Graph, graphOf}
 use Rattle.machine.proofs.Change.{wrote-own}
 use Rattle.machine.proofs.Regular.{place-in}
 use Rattle.machine.proofs.Histories.{upcoming, Done}
-use Rattle.judge.specs.Consistent.{orderOf, coherenceOf, ReadsFrom, Later, Values, locationOf, Canonical, Makes, from-reads}
+use Rattle.judge.specs.Consistent.{orderOf, coherenceOf, Later, locationOf, Canonical, Makes, from-reads}
 use Rattle.judge.specs.Judge.{values, turnOf, fits}
 use Rattle.judge.proofs.Later.{later-right}
 use Rattle.judge.proofs.Agreement.{location}
 use Rattle.judge.proofs.Rounds.{order-suffix, step-source}
 use Rattle.judge.proofs.OnRun.{On, on-step, records, on-ready}
-use Rattle.judge.proofs.Fitting.{Turn, FitAt, is-fits}
+use Rattle.judge.proofs.Fitting.{Turn, is-fits}
 
 -- the write whose turn it is stands in front of those that have come
 turn-next : (ws front w : List Event) (e : Event) → ws ≡ front ++ (e ∷ w) → turnOf ws (length w) ≡ e

@@ -1,15 +1,16 @@
 -- T4, from left to right: a consistent graph is the graph of a full schedule. While some event is not done, one of those that are not done
 -- has none of them before it: it is its thread's next, and the machine does it as the graph says.
-use Prim.Native.Nat.{ℕ, zero, suc, _+_, _<_, _≤_}
-use mathlib.Core.Path.{_≡_, refl, sym, ap, ap₂, subst, _∙_}
-use mathlib.Core.Logic.{_≢_, _⊎_, inl, inr, ⊎-elim}
-use mathlib.Core.Bool.{Bool, true, false, not, _&&_, true≢false}
+use Prim.Native.Nat.{ℕ, zero, suc, _<_}
+use mathlib.Core.Path.{_≡_, refl, sym, ap, subst, _∙_}
+use mathlib.Core.Logic.{⊎-elim}
+use mathlib.Core.Bool.{Bool, true, false, not, _&&_}
 use mathlib.Core.List.{List, [], _∷_, _++_, map, List·Memᴰ, List·Memᴰ·head, List·Memᴰ·cases-cons, List·Memᴰ·not-nil, Memᴰ·append-left, Memᴰ·append-right, Memᴰ·map}
 use native.Mathlib.Omega.{arith}
 use native.Mathlib.Decide.{decLt}
 use borrow.Author.Tests.{ltb-true, ltb-false, not-true}
 use lib.Dec.{ltb}
 use lib.ListN.{length}
+use Rattle.lines.proofs.DigitValues.{both}
 use Rattle.program.specs.Program.{Program}
 use Rattle.program.specs.WellFormed.{WellFormed, accesses}
 use Rattle.schedules.specs.Lists.{upTo, keep}
@@ -18,7 +19,7 @@ use Rattle.schedules.specs.System.{run, ended, FullFrom}
 use Rattle.schedules.proofs.Lists.{in-upTo, in-keep, of-keep}
 use Rattle.schedules.proofs.Runs.{ended-of}
 use Rattle.machine.specs.Local.{pending}
-use Rattle.machine.specs.State.{Event, Thread, State, noThread, threadOf, cellOf, step, may, size, SC, start}
+use Rattle.machine.specs.State.{Event, State, threadOf, cellOf, step, may, size, SC, start}
 use Rattle.machine.specs.Graph.{Graph, graphOf, graph}
 use Rattle.machine.proofs.Access.{next-fewer, nothing-pending}
 use Rattle.machine.proofs.Ended.{ended-all}
@@ -29,10 +30,9 @@ use Rattle.machine.proofs.Histories.{upcoming, Done, upcoming-undone}
 use Rattle.machine.proofs.Rows.{same-graph}
 use Rattle.judge.specs.Consistent.{rowOf, orderOf, Values, alone, localAt, Makes, Canonical, Before, program-order, Acyclic, Consistent}
 use Rattle.judge.specs.Judge.{MadeBy}
-use Rattle.judge.proofs.Tests.{and-both, both-and, not-of}
+use Rattle.judge.proofs.Tests.{both-and, not-of}
 use Rattle.judge.proofs.Parts.{finished}
-use Rattle.judge.proofs.Alone.{Event-of, before-end, earlier-event, left, event-thread}
-use Rattle.judge.proofs.Agreement.{Agrees}
+use Rattle.judge.proofs.Alone.{Event-of, before-end, accesses-left, event-thread}
 use Rattle.judge.proofs.Minimal.{First, minimal}
 use Rattle.judge.proofs.Decided.{decided}
 use Rattle.judge.proofs.InOrder.{order-event, row-event, before-event, Follows, follows-start, Ready, Closed, closed-start, follows-step, closed-step}
@@ -62,7 +62,7 @@ module _ (p : Program) (wf : WellFormed p) (g : Graph) (v : Values) (C : Canonic
   unfolding events
   in-events e h = in-pairs (λ t. accesses (alone p v t 0 .rest)) (upTo 0 (length (p .threads))) (e .0) (e .1)
       (in-upTo 0 (length (p .threads)) (e .0) (omega arith) (omega (arith, event-thread p v e h)))
-      (omega (arith, left p v (e .0) (e .1) h, next-fewer (localAt p v e) 0 h))
+      (omega (arith, accesses-left p v (e .0) (e .1) h, next-fewer (localAt p v e) 0 h))
 
   -- an event that is not done
   abbrev ahead : State → Event → Bool
@@ -73,7 +73,7 @@ module _ (p : Program) (wf : WellFormed p) (g : Graph) (v : Values) (C : Canonic
 
   ahead-is : (σ : State) (e : Event) → ahead σ e ≡ true → Event-of p v e × (Done σ e → ⊥)
   ahead-is σ e k =
-      let r = and-both (pending (localAt p v e)) (not (ltb (e .1) (threadOf σ (e .0) .history .done))) k in
+      let r = both (pending (localAt p v e)) (not (ltb (e .1) (threadOf σ (e .0) .history .done))) k in
       (r .0, λ d. absurd (omega (arith, ltb-false (e .1) (threadOf σ (e .0) .history .done) (not-true (ltb (e .1) (threadOf σ (e .0) .history .done)) (r .1)))))
 
   undone : State → List Event

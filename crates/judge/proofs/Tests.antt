@@ -1,18 +1,15 @@
 -- What the tests of the definitions say, both ways.
 use Prim.Native.Nat.{ℕ}
-use mathlib.Core.Path.{_≡_, refl, sym, ap, ap₂, subst, _∙_}
+use mathlib.Core.Path.{_≡_, refl, sym, ap, ap₂, _∙_}
 use mathlib.Core.Logic.{_≢_}
 use mathlib.Core.Bool.{Bool, true, false, not, _&&_, true≢false, false≢true}
 use mathlib.Core.List.{List, [], _∷_}
 use borrow.Author.Tests.{eqb-true, eq-eqb, not-true}
 use lib.Dec.{eqb}
+use Rattle.lines.proofs.DigitValues.{both}
 use Rattle.machine.specs.State.{Event}
 use Rattle.machine.specs.Graph.{Graph}
 use Rattle.judge.specs.Judge.{sameEvent, sameRead, sameList, sameGraph}
-
-pub and-both : (a b : Bool) → a && b ≡ true → (a ≡ true) × (b ≡ true)
-and-both true b e = (refl, e)
-and-both false b e = absurd (false≢true e)
 
 pub both-and : {a b : Bool} → a ≡ true → b ≡ true → a && b ≡ true
 both-and {a} {b} e f = rw (e, f)
@@ -24,7 +21,7 @@ not-of false n = refl
 pub same-event-is : (a b : Event) → sameEvent a b ≡ true → a ≡ b
 unfolding sameEvent
 same-event-is a b e =
-    let r = and-both (eqb (a .0) (b .0)) (eqb (a .1) (b .1)) e in
+    let r = both (eqb (a .0) (b .0)) (eqb (a .1) (b .1)) e in
     ap₂ (λ (x y : ℕ). let z : Event = (x, y) in z) (eqb-true (a .0) (b .0) (r .0)) (eqb-true (a .1) (b .1) (r .1))
 
 pub is-same-event : (a b : Event) → a ≡ b → sameEvent a b ≡ true
@@ -40,7 +37,7 @@ is-different a b n = not-of (sameEvent a b) (λ e. n (same-event-is a b e))
 pub same-read-is : (a b : ℕ × Event) → sameRead a b ≡ true → a ≡ b
 unfolding sameRead
 same-read-is a b e =
-    let r = and-both (eqb (a .0) (b .0)) (sameEvent (a .1) (b .1)) e in
+    let r = both (eqb (a .0) (b .0)) (sameEvent (a .1) (b .1)) e in
     ap₂ (λ (x : ℕ) (y : Event). let z : ℕ × Event = (x, y) in z) (eqb-true (a .0) (b .0) (r .0)) (same-event-is (a .1) (b .1) (r .1))
 
 pub same-read : (a : ℕ × Event) → sameRead a a ≡ true
@@ -53,21 +50,21 @@ module _ {A : Type 0} (f : A → A → Bool) where
   same-list-is s [] [] e = refl
   same-list-is s [] (y ∷ ys) e = absurd (false≢true e)
   same-list-is s (x ∷ xs) [] e = absurd (false≢true e)
-  same-list-is s (x ∷ xs) (y ∷ ys) e = let r = and-both (f x y) (sameList f xs ys) e in ap₂ (λ (a : A) (b : List A). a ∷ b) (s x y (r .0)) (same-list-is s xs ys (r .1))
+  same-list-is s (x ∷ xs) (y ∷ ys) e = let r = both (f x y) (sameList f xs ys) e in ap₂ (λ (a : A) (b : List A). a ∷ b) (s x y (r .0)) (same-list-is s xs ys (r .1))
 
   same-list : ((x : A) → f x x ≡ true) → (xs : List A) → sameList f xs xs ≡ true
   unfolding sameList
   same-list s [] = refl
   same-list s (x ∷ xs) = both-and (s x) (same-list s xs)
 
-abbrev both : List (List (ℕ × Event)) → List (List Event) → Graph
-both rs ws = record { reads = rs; writes = ws }
+abbrev graphWith : List (List (ℕ × Event)) → List (List Event) → Graph
+graphWith rs ws = record { reads = rs; writes = ws }
 
 pub same-graph-is : (g h : Graph) → sameGraph g h ≡ true → g ≡ h
 unfolding sameGraph
 same-graph-is g h e =
-    let r = and-both (sameList (sameList sameRead) (g .reads) (h .reads)) (sameList (sameList sameEvent) (g .writes) (h .writes)) e in
-    ap₂ both (same-list-is (sameList sameRead) (same-list-is sameRead same-read-is) (g .reads) (h .reads) (r .0))
+    let r = both (sameList (sameList sameRead) (g .reads) (h .reads)) (sameList (sameList sameEvent) (g .writes) (h .writes)) e in
+    ap₂ graphWith (same-list-is (sameList sameRead) (same-list-is sameRead same-read-is) (g .reads) (h .reads) (r .0))
     (same-list-is (sameList sameEvent) (same-list-is sameEvent same-event-is) (g .writes) (h .writes) (r .1))
 
 pub is-same-graph : (g : Graph) → sameGraph g g ≡ true

@@ -9,7 +9,9 @@ use lib.ListN.{length}
 use Rattle.lines.specs.Over.{over}
 use Rattle.program.specs.Program.{Program}
 use Rattle.schedules.specs.Order.{Schedule}
-use Rattle.judge.specs.Judge.{judge}
+use Rattle.machine.specs.Graph.{Graph}
+use Rattle.judge.specs.Consistent.{Consistent}
+use Rattle.judge.specs.Judge.{judge, LeastFor}
 use Rattle.judge.specs.Reading.{Parsed, parsed, refused, readGraph}
 
 pub data Answer : Type 0 where
@@ -30,6 +32,12 @@ answerTo p (refused n k) = refusing n k
 
 unfoldable pub judgeAnswer : Program → List ℕ → ℕ → Answer
 judgeAnswer p text room = cond (ltb room 24) (refusing 22 0) (answerTo p (readGraph (length (p .threads)) text))
+
+-- what an answer says of the text's graph: yes, it is consistent and no smaller schedule than this one makes it; no, it is not consistent
+abbrev pub Claims : Program → Graph → Answer → Type 0
+Claims p g (consistent s) = Consistent p g × LeastFor p g s
+Claims p g inconsistent = Consistent p g → ⊥
+Claims p g (refusing n k) = ⊥
 
 -- the later content of the output
 unfoldable pub outputAfter : Answer → List ℕ → List ℕ

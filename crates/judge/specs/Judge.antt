@@ -11,7 +11,7 @@ use lib.ListN.{length, getD}
 use Rattle.program.specs.Program.{Program, initial}
 use Rattle.schedules.specs.Lists.{any, all, upTo}
 use Rattle.schedules.specs.Order.{Schedule, less}
-use Rattle.schedules.specs.System.{run, ended}
+use Rattle.schedules.specs.System.{ended}
 use Rattle.schedules.specs.Greedy.{greedy}
 use Rattle.machine.specs.Local.{Local, placeOf, takes, puts}
 use Rattle.machine.specs.State.{Event, initialWrite, Cell, State, threadOf, cellOf, latest, may, SC, start}

@@ -4,14 +4,13 @@ use mathlib.Core.Path.{_≡_, refl}
 use mathlib.Core.Bool.{Bool, true, false, _&&_}
 use mathlib.Core.List.{List, [], _∷_, _++_}
 use lib.Dec.{eqb}
-use lib.ListN.{drop, replicate}
 use Rattle.lines.specs.Digit.{digit, value, digitOf}
 use Rattle.lines.specs.Frame.{hexadecimal, pairs, frame}
 use Rattle.lines.specs.Text.{digits, text}
 use Rattle.lines.specs.TextLines.{prepend, before, split}
 use Rattle.program.specs.Program.{Program}
-use Rattle.schedules.specs.Lists.{any, all}
-use Rattle.schedules.specs.Order.{Schedule, less}
+use Rattle.schedules.specs.Lists.{all}
+use Rattle.schedules.specs.Order.{less}
 use Rattle.machine.specs.Text.{textOf}
 use Rattle.judge.specs.Judge.{sameList}
 use Rattle.judge.specs.Reading.{Frame, isRead, eventsIn, writesIn, known, isEvent, isSource, inRange, key, written, allNew, inOrder, refusal, withLine, after, fresh, frameOf, readLines, readGraph}
@@ -62,6 +61,13 @@ at1 = 0x41 ∷ 1 ∷ 1 ∷ 0 ∷ []
 abbrev many : Frame
 many = 0x41 ∷ 0 ∷ 0 ∷ 0 ∷ 0 ∷ 1 ∷ 0 ∷ 2 ∷ 0 ∷ 3 ∷ 0 ∷ 4 ∷ 0 ∷ 5 ∷ 0 ∷ 6 ∷ 0 ∷ 7 ∷ 0 ∷ 8 ∷ 0 ∷ 9 ∷ 0 ∷ 10 ∷ 0 ∷ 11 ∷ 0 ∷ 12 ∷ 1 ∷ 0 ∷ 1 ∷ 1 ∷ 1 ∷ 2 ∷ 1 ∷ 3 ∷ 1 ∷ 4 ∷ 1 ∷ 5 ∷ 1 ∷ 6 ∷ 1 ∷ 7 ∷ 1 ∷ 8 ∷ 1 ∷ 9 ∷ 1 ∷ 10 ∷ 1 ∷ 11 ∷ 1 ∷ 12 ∷ []
 
+-- document 01's two texts
+abbrev pub noText : List ℕ
+noText = textOf (first ∷ second ∷ at0 ∷ at1 ∷ [])
+
+abbrev pub yesText : List ℕ
+yesText = textOf (first ∷ seen ∷ at0 ∷ at1 ∷ [])
+
 abbrev row : List Frame → Answer → Case
 row fs a = record { text = textOf fs; room = 24; answer = a }
 
@@ -70,8 +76,8 @@ raw t a = record { text = t; room = 24; answer = a }
 
 cases : List Case
 cases =
-    row (first ∷ second ∷ at0 ∷ at1 ∷ []) inconsistent ∷
-    row (first ∷ seen ∷ at0 ∷ at1 ∷ []) (consistent (0 ∷ 0 ∷ 1 ∷ 1 ∷ [])) ∷
+    raw noText inconsistent ∷
+    raw yesText (consistent (0 ∷ 0 ∷ 1 ∷ 1 ∷ [])) ∷
     row [] inconsistent ∷
     -- 22 comes first
     record { text = 0x7a ∷ []; room = 23; answer = refusing 22 0 } ∷

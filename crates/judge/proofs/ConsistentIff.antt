@@ -9,7 +9,7 @@ use Rattle.schedules.specs.Order.{Schedule}
 use Rattle.schedules.specs.System.{run}
 use Rattle.machine.specs.State.{SC, start}
 use Rattle.machine.specs.Graph.{Graph}
-use Rattle.judge.specs.Consistent.{Canonical, Makes, Consistent}
+use Rattle.judge.specs.Consistent.{Makes, Consistent}
 use Rattle.judge.specs.Judge.{values, MadeBy}
 use Rattle.judge.proofs.Scheduled.{consistent-scheduled}
 use Rattle.judge.proofs.Rounds.{run-canonical}
