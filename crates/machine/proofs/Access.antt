@@ -1,10 +1,10 @@
--- The four functions by which an access is seen, and settling: all that is known of them above. No other law looks at an instruction.
-use Prim.Native.Nat.{ℕ, zero, suc, _<_}
+-- The four functions by which an access is seen, and settling: what the laws above rest on. Beside this file only Idle goes by instruction.
+use Prim.Native.Nat.{ℕ, zero, suc, _<_, _≤_}
 use mathlib.Core.Path.{_≡_, refl, sym, ap, subst, _∙_}
 use mathlib.Core.Logic.{_⊎_, inl, inr}
 use mathlib.Core.Bool.{Bool, true, false, true≢false, false≢true}
 use mathlib.Core.Option.{some}
-use mathlib.Core.List.{List, [], _∷_}
+use mathlib.Core.List.{List, [], _∷_, _++_}
 use native.Mathlib.Omega.{arith}
 use lib.Dec.{eqb}
 use lib.ListN.{getD, set}
@@ -12,7 +12,26 @@ use Rattle.program.specs.WellFormed.{Everywhere, InRange, accesses}
 use Rattle.program.specs.declared.instruction.Instruction.{Instruction}
 use Rattle.program.specs.declared.instruction.Instruction.the-variants.{Store, Load, FetchAdd, CompareSwap, Assign, AddAssign, SkipUnless, Assert}
 use Rattle.machine.specs.Local.{Local, eval, settle, beginsWithAccess, firstPlace, firstTakes, firstPuts, firstNext, pending, placeOf, takes, puts, next, begin}
-use Rattle.machine.proofs.Suffix.{Suffix, suffix-same, suffix-nil, suffix-cons, suffix-accesses}
+use Rattle.machine.proofs.Suffix.{Suffix, suffix-same, suffix-nil, suffix-cons}
+
+accesses-cons : (i : Instruction) (is : List Instruction) → accesses is ≤ accesses (i ∷ is)
+unfolding accesses
+accesses-cons (Store l p) is = omega arith
+accesses-cons (Load r l) is = omega arith
+accesses-cons (FetchAdd r l p) is = omega arith
+accesses-cons (CompareSwap r l e v) is = omega arith
+accesses-cons (Assign r p) is = omega arith
+accesses-cons (AddAssign r p) is = omega arith
+accesses-cons (SkipUnless r p n) is = omega arith
+accesses-cons (Assert r p) is = omega arith
+
+accesses-back : (f r : List Instruction) → accesses r ≤ accesses (f ++ r)
+accesses-back [] r = omega arith
+accesses-back (i ∷ f) r = omega (arith, accesses-back f r, accesses-cons i (f ++ r))
+
+-- an end of the code has no more accesses
+pub suffix-accesses : (r c : List Instruction) → Suffix r c → accesses r ≤ accesses c
+suffix-accesses r c s = rw (s .1) (accesses-back (s .0) r)
 
 -- a thread between steps stands before an access, or nothing is left of its code
 abbrev pub Settled : Local → Type 0

@@ -1,4 +1,5 @@
--- A state fails when one of its threads did, so exchanging threads keeps whether it fails.
+-- A state fails when one of its threads did, so exchanging threads keeps whether it fails: a permitted permutation keeps the outcome of a full
+-- schedule, failing and memory.
 use Prim.Native.Nat.{ℕ, zero, suc, _<_}
 use mathlib.Core.Path.{_≡_, refl, sym, ap, _∙_}
 use mathlib.Core.Bool.{Bool, true, false, true≢false, false≢true}
@@ -7,11 +8,17 @@ use native.Mathlib.Omega.{arith}
 use native.Mathlib.Decide.{decLt}
 use native.Mathlib.Nat.{not-suc-le-zero, le-of-suc-le-suc}
 use lib.ListN.{length, getD}
+use Rattle.program.specs.Program.{Program}
+use Rattle.program.specs.WellFormed.{WellFormed}
+use Rattle.schedules.specs.Order.{Schedule}
 use Rattle.schedules.specs.Lists.{any}
 use Rattle.schedules.proofs.Lists.{any-yes, any-of}
-use Rattle.machine.specs.State.{Thread, State, noThread, threadOf, failedOf, fails}
-use Rattle.machine.specs.Exchange.{Permutation, movedThread, Moves}
+use Rattle.machine.specs.State.{Thread, State, noThread, threadOf, failedOf, fails, memoryOf}
+use Rattle.machine.specs.Graph.{Full, endOf}
+use Rattle.machine.specs.Exchange.{Permutation, Permitted, movedSchedule, movedThread, Moves}
 use Rattle.machine.proofs.Steps.{missing}
+use Rattle.machine.proofs.Exchange.{moves-memory}
+use Rattle.machine.proofs.Permitted.{exchanged}
 
 at-number : {A : Type 0} (l : List A) (d x : A) → List·Memᴰ x l → (t : ℕ) × (getD l t d ≡ x)
 at-number l d x (List·Memᴰ·head e) = (0, sym e)
@@ -58,3 +65,9 @@ moves-fails π q σ τ m = go (fails σ) refl (fails τ) refl
         let r = fails-at τ k in
         absurd (true≢false (sym (fails-of σ (q .inverse (r .0)) (sym (same (q .inverse (r .0))) ∙ ap (λ (u : ℕ). failedOf (threadOf τ u)) (q .after-inverse (r .0)) ∙ r .1)) ∙ e))
     go false e false k = k ∙ sym e
+
+pub exchanged-outcome : (p : Program) → WellFormed p → (π : ℕ → ℕ) → Permutation π → Permitted p π → (s : Schedule) → Full p s →
+    (fails (endOf p (movedSchedule π s)) ≡ fails (endOf p s)) × (memoryOf (endOf p (movedSchedule π s)) ≡ memoryOf (endOf p s))
+exchanged-outcome p w π q m s f =
+    let r = exchanged p w π m q s f .1 in
+    (moves-fails π q (endOf p s) (endOf p (movedSchedule π s)) r, moves-memory π (endOf p s) (endOf p (movedSchedule π s)) r)

@@ -22,8 +22,7 @@ use Rattle.schedules.proofs.Fulls.{fulls-length}
 use Rattle.machine.specs.Local.{begin}
 use Rattle.machine.specs.State.{State, Thread, noThread, threadOf, cellOf, place, advanced, step, may, accessesLeft, size, SC, opened, start}
 use Rattle.machine.specs.Graph.{Full}
-use Rattle.machine.proofs.Suffix.{suffix-accesses}
-use Rattle.machine.proofs.Access.{next-fewer, begin-law}
+use Rattle.machine.proofs.Access.{suffix-accesses, next-fewer, begin-law}
 use Rattle.machine.proofs.Steps.{may-small, may-pending, may-range}
 
 set-fewer : (l : List Thread) (t : ℕ) (h d : Thread) → t < length l → accesses (h .local .rest) < accesses (getD l t d .local .rest) → accessesLeft (set l t h) < accessesLeft l

@@ -21,6 +21,8 @@ pub mod Histories
 pub mod Growth
 -- full schedules in document 01's words
 pub mod Ended
+-- replaying a schedule: whole exactly when full, refused by 20 or 21 exactly where it should be
+pub mod Replay
 -- a state's graph, row by row and list by list
 pub mod Rows
 -- T2: exchanging threads, from any state and for a program

@@ -11,7 +11,7 @@ use Rattle.program.specs.WellFormed.{WellFormed, Group}
 use Rattle.schedules.specs.Order.{Schedule}
 use Rattle.machine.specs.State.{Cell, noThread, freshCell, threadOf, opened, start}
 use Rattle.machine.specs.Graph.{Full, endOf, graph}
-use Rattle.machine.specs.Exchange.{Permutation, Permitted, movedReads, movedWrites, movedSchedule, movedThread, movedCell, Moves, Turns}
+use Rattle.machine.specs.Exchange.{Permutation, Together, Permitted, movedReads, movedWrites, movedSchedule, movedThread, movedCell, Moves, Turns}
 use Rattle.machine.proofs.Everywhere.{everywhere-at}
 use Rattle.machine.proofs.Start.{start-threads, start-thread, start-cases, everyone}
 use Rattle.machine.proofs.Exchange.{moves-full, moves-graph}
@@ -20,7 +20,7 @@ use Rattle.machine.proofs.Exchange.{moves-full, moves-graph}
 pub only-identity : (p : Program) (π : ℕ → ℕ) → p .groups ≡ [] → Permitted p π → (t : ℕ) → π t ≡ t
 only-identity p π e m t = go (m t)
   where
-    go : (π t ≡ t) ⊎ ((g : List ℕ) × List·Memᴰ g (p .groups) × List·Memᴰ t g × List·Memᴰ (π t) g) → π t ≡ t
+    go : (π t ≡ t) ⊎ Together p t (π t) → π t ≡ t
     go (inl i) = i
     go (inr k) = absurd (List·Memᴰ·not-nil (subst (List·Memᴰ (k .0)) e (k .1)))
 
@@ -40,7 +40,7 @@ start-cells-fixed p π = cells-fixed π (initial p)
 
 module _ (p : Program) (w : WellFormed p) (π : ℕ → ℕ) (m : Permitted p π) where
   -- a thread that moves exists, so does the one in whose place it comes, and both have one code
-  moves-in : (t : ℕ) → (g : List ℕ) × List·Memᴰ g (p .groups) × List·Memᴰ t g × List·Memᴰ (π t) g → (t < length (p .threads)) × (π t < length (p .threads)) × (codeOf p t ≡ codeOf p (π t))
+  moves-in : (t : ℕ) → Together p t (π t) → (t < length (p .threads)) × (π t < length (p .threads)) × (codeOf p t ≡ codeOf p (π t))
   moves-in t k =
       let g = everywhere-at (Group p) (p .groups) (k .0) (w .groups) (k .1) in (
         everywhere-at (λ u. u < length (p .threads)) (k .0) t (g .exist) (k .2),
@@ -51,14 +51,14 @@ module _ (p : Program) (w : WellFormed p) (π : ℕ → ℕ) (m : Permitted p π
   same-start : (t : ℕ) → threadOf (start p) (π t) ≡ threadOf (start p) t
   same-start t = go (m t)
     where
-      go : (π t ≡ t) ⊎ ((g : List ℕ) × List·Memᴰ g (p .groups) × List·Memᴰ t g × List·Memᴰ (π t) g) → threadOf (start p) (π t) ≡ threadOf (start p) t
+      go : (π t ≡ t) ⊎ Together p t (π t) → threadOf (start p) (π t) ≡ threadOf (start p) t
       go (inl e) = ap (threadOf (start p)) e
       go (inr k) = let r = moves-in t k in start-thread p (π t) (r .1) ∙ ap opened (sym (r .2)) ∙ sym (start-thread p t (r .0))
 
   stays-inside : (t : ℕ) → t < length (p .threads) → π t < length (p .threads)
   stays-inside t h = go (m t)
     where
-      go : (π t ≡ t) ⊎ ((g : List ℕ) × List·Memᴰ g (p .groups) × List·Memᴰ t g × List·Memᴰ (π t) g) → π t < length (p .threads)
+      go : (π t ≡ t) ⊎ Together p t (π t) → π t < length (p .threads)
       go (inl e) = rw e h
       go (inr k) = moves-in t k .1
 

@@ -10,7 +10,7 @@ use Rattle.schedules.specs.System.{run, ended, FullFrom}
 use Rattle.schedules.specs.Orders.{trace}
 use Rattle.schedules.proofs.Order.{AtMost}
 use Rattle.schedules.proofs.Runs.{ended-none}
-use Rattle.schedules.proofs.Orders as Ordered
+use Rattle.schedules.proofs.Remaining as Ordered
 use Rattle.machine.specs.State.{State, step, start, SC}
 use Rattle.machine.specs.Graph.{graphOf, graph, Full, endOf}
 use Rattle.machine.specs.Trail.{Action, action, trail, who, conflict, leastOf}

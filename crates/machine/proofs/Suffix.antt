@@ -1,12 +1,10 @@
--- Ends of a list: what a property of all members, and the count of accesses, say of them.
+-- Ends of a list: what holds of every member holds of every member of an end, and equally long ends are equal.
 use Prim.Native.Nat.{_≤_}
 use mathlib.Core.Path.{_≡_, refl, sym, ap, subst, _∙_}
 use mathlib.Core.List.{List, [], _∷_, _++_, append-assoc, append-nil}
 use native.Mathlib.Omega.{arith}
 use lib.ListN.{length, length-append}
-use Rattle.program.specs.WellFormed.{Everywhere, accesses}
-use Rattle.program.specs.declared.instruction.Instruction.{Instruction}
-use Rattle.program.specs.declared.instruction.Instruction.the-variants.{Store, Load, FetchAdd, CompareSwap, Assign, AddAssign, SkipUnless, Assert}
+use Rattle.program.specs.WellFormed.{Everywhere}
 
 -- r is an end of c
 abbrev pub Suffix : {A : Type 0} → List A → List A → Type 0
@@ -44,22 +42,3 @@ suffix-equal {A} c q r s u e = go (s .0) (u .0) (sym (s .1) ∙ u .1)
     go [] (y ∷ g) k = absurd (omega (arith, ap length k, length-append g r))
     go (x ∷ f) [] k = absurd (omega (arith, ap length k, length-append f q))
     go (x ∷ f) (y ∷ g) k = go f g cc
-
-accesses-cons : (i : Instruction) (is : List Instruction) → accesses is ≤ accesses (i ∷ is)
-unfolding accesses
-accesses-cons (Store l p) is = omega arith
-accesses-cons (Load r l) is = omega arith
-accesses-cons (FetchAdd r l p) is = omega arith
-accesses-cons (CompareSwap r l e v) is = omega arith
-accesses-cons (Assign r p) is = omega arith
-accesses-cons (AddAssign r p) is = omega arith
-accesses-cons (SkipUnless r p n) is = omega arith
-accesses-cons (Assert r p) is = omega arith
-
-accesses-back : (f r : List Instruction) → accesses r ≤ accesses (f ++ r)
-accesses-back [] r = omega arith
-accesses-back (i ∷ f) r = omega (arith, accesses-back f r, accesses-cons i (f ++ r))
-
--- an end of the code has no more accesses
-pub suffix-accesses : (r c : List Instruction) → Suffix r c → accesses r ≤ accesses c
-suffix-accesses r c s = rw (s .1) (accesses-back (s .0) r)

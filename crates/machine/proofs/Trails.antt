@@ -8,7 +8,7 @@ use mathlib.Core.List.{List, [], _∷_, _++_, List·Memᴰ, List·Memᴰ·head, 
 use Rattle.schedules.specs.Order.{Schedule}
 use Rattle.schedules.specs.System.{run}
 use Rattle.schedules.specs.Orders.{trace, nextOf, clear}
-use Rattle.schedules.proofs.Orders as Ordered
+use Rattle.schedules.proofs.Remaining as Ordered
 use Rattle.machine.specs.Local.{takes, puts}
 use Rattle.machine.specs.State.{State, threadOf, cellOf, place, step, may, SC}
 use Rattle.machine.specs.Trail.{Action, given, writes, action, trail, who, conflict}

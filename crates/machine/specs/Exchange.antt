@@ -18,9 +18,13 @@ pub record Permutation (π : ℕ → ℕ) : Type 0 where
   pub below : (t : ℕ) → t < 6 → π t < 6
   pub stays : (t : ℕ) → 6 ≤ t → π t ≡ t
 
+-- some `02` line names both threads
+abbrev pub Together : Program → ℕ → ℕ → Type 0
+Together p t u = (g : List ℕ) × List·Memᴰ g (p .groups) × List·Memᴰ t g × List·Memᴰ u g
+
 -- each thread stays or moves within its `02` line
 abbrev pub Permitted : Program → (ℕ → ℕ) → Type 0
-Permitted p π = (t : ℕ) → (π t ≡ t) ⊎ ((g : List ℕ) × List·Memᴰ g (p .groups) × List·Memᴰ t g × List·Memᴰ (π t) g)
+Permitted p π = (t : ℕ) → (π t ≡ t) ⊎ Together p t (π t)
 
 unfoldable pub movedEvent : (ℕ → ℕ) → Event → Event
 movedEvent π e = (π (e .0), e .1)

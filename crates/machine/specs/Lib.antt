@@ -1,8 +1,19 @@
 -- What a reader of this crate must believe, in reading order.
+-- a thread by itself: settling, and the four functions by which an access is seen
 pub mod Local
+-- threads and memory, steps, and sequential consistency as a step system
 pub mod State
+-- schedules of a program, full and failing, and their graphs
 pub mod Graph
+-- what a schedule handed over comes to: whole, or refused by 20 or 21
+pub mod Replay
+-- the text of a graph
 pub mod Text
+-- what the steps of a run did, which of them conflict, and the least order of them
 pub mod Trail
+-- a note of eight bytes for each step of a run
+pub mod Notes
+-- exchanging threads: permitted permutations, and states and graphs turned into others
 pub mod Exchange
+-- the definitions computed
 pub mod Examples

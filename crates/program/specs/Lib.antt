@@ -1,3 +1,15 @@
 -- What a reader of this crate must believe, in reading order.
+-- a program: threads of instructions, and the groups declared alike
 pub mod Program
+-- the table of kinds of frame
+pub mod Kinds
+-- what a frame says
+pub mod Frames
+-- program files, line by line, with refusals 1 to 9
+pub mod Decode
+-- the decoder's answer, read as an accepted program or a refusal
+pub mod Compiled
+-- what holds of every accepted program
 pub mod WellFormed
+-- how the decoder's arrays hold what has been read; for its own functions
+pub mod Held

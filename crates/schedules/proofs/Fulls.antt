@@ -1,11 +1,11 @@
 -- The list of full schedules holds exactly the full schedules, ascends, and is not longer than a power of the number of names.
 use mathlib.Core.Path.{_≡_, refl, sym, ap, subst, _∙_}
 use mathlib.Core.Logic.{_⊎_, inl, inr, ⊎-elim, _↔_}
-use mathlib.Core.Bool.{Bool, true, false, true≢false, false≢true}
+use mathlib.Core.Bool.{Bool, true, false, true≢false}
 use mathlib.Core.List.{List, [], _∷_, _++_, List·Memᴰ, List·Memᴰ·head, List·Memᴰ·tail, List·Memᴰ·cases-cons, List·Memᴰ·not-nil, List·Memᴰ·append-cases, List·Memᴰ·eq-of-singleton, Memᴰ·append-left, Memᴰ·append-right}
 use Prim.Native.Nat.{ℕ, zero, suc, _+_, _*_, _^_, _<_, _≤_}
 use native.Mathlib.Omega.{arith}
-use native.Mathlib.Nat.{le-trans, le-of-eq, pow-le-pow-right, pow-zero, pow-suc, mul-comm, mul-le-mul-right, suc-mul, one-le-pow}
+use native.Mathlib.Nat.{le-trans, le-of-eq, pow-le-pow-right, pow-suc, mul-comm, mul-le-mul-right, suc-mul, one-le-pow}
 use lib.Dec.{ltb}
 use lib.ListN.{length, length-append}
 use borrow.Author.Tests.{ltb-true}
@@ -32,7 +32,7 @@ of-fronts t s (l ∷ ss) m = go (List·Memᴰ·cases-cons m) (λ k. of-fronts t 
     go (inl e) ih = (l, e, List·Memᴰ·head refl)
     go (inr k) ih = let r = ih k in (r .0, r .1, List·Memᴰ·tail (r .2))
 
-fronts-ascends : (t : ℕ) (ss : List Schedule) → Ascends less ss → Ascends less (fronts t ss)
+pub fronts-ascends : (t : ℕ) (ss : List Schedule) → Ascends less ss → Ascends less (fronts t ss)
 unfolding fronts
 fronts-ascends t [] a = tt
 fronts-ascends t (s ∷ ss) a = (

@@ -1,10 +1,10 @@
 -- Greedy is least: where a fitting byte can always be taken first, with the same end, the walk that takes the least fitting byte at each
 -- point is the least list of fitting bytes that ends in the goal, and all such lists end in the same state.
 use mathlib.Core.Path.{_≡_, refl, sym, ap, subst, _∙_}
-use mathlib.Core.Logic.{_≢_, _⊎_, inl, inr, ⊎-elim, Ne·symm}
-use mathlib.Core.Bool.{Bool, true, false, true≢false, false≢true}
+use mathlib.Core.Logic.{_≢_, inl, inr, ⊎-elim, Ne·symm}
+use mathlib.Core.Bool.{Bool, true, false, true≢false}
 use mathlib.Core.Option.{Option, none, some}
-use mathlib.Core.List.{List, [], _∷_, _++_, List·Memᴰ, List·Memᴰ·head, List·Memᴰ·tail, List·Memᴰ·cases-cons, List·Memᴰ·not-nil}
+use mathlib.Core.List.{List, [], _∷_, List·Memᴰ, List·Memᴰ·head, List·Memᴰ·tail, List·Memᴰ·cases-cons, List·Memᴰ·not-nil}
 use Prim.Native.Nat.{ℕ, zero, suc, _+_, _<_, _≤_}
 use native.Mathlib.Omega.{arith}
 use native.Mathlib.Decide.{ℕ-discrete}
@@ -12,12 +12,11 @@ use lib.Dec.{ltb}
 use lib.ListN.{length}
 use borrow.Author.Tests.{ltb-true}
 use Rattle.schedules.specs.Lists.{first, Ascends}
-use Rattle.schedules.specs.Order.{Schedule, less}
+use Rattle.schedules.specs.Order.{Schedule}
 use Rattle.schedules.specs.System.{System, run}
 use Rattle.schedules.specs.Greedy.{greedy, Fitting}
 use Rattle.schedules.proofs.Order.{AtMost, at-most-front, less-heads, Compared, below, same, above, compared}
-use Rattle.schedules.proofs.Lists.{first-yes, first-no}
-use Rattle.schedules.proofs.Runs.{run-cons, run-nil}
+use Rattle.schedules.proofs.Runs.{run-cons}
 
 -- the first member of an ascending list that passes a test is the least one that does
 pub data FirstIs (f : ℕ → Bool) (l : List ℕ) : Option ℕ → Type 0 where
@@ -40,7 +39,7 @@ first-is f (x ∷ l) a = go (f x) refl (first f l) (first-is f l (a .1))
     go false e o r = pass o e r
 
 -- what the walk rests on, in states that satisfy `Inv`
-pub record Frontable (M : System) (fits : M .State → ℕ → Bool) (Goal Inv : M .State → Type 0) : Type 0 where
+pub record GreedyLaws (M : System) (fits : M .State → ℕ → Bool) (Goal Inv : M .State → Type 0) : Type 0 where
   pub ascending : Ascends ltb (M .names)
   pub named : (σ : M .State) (t : ℕ) → Inv σ → fits σ t ≡ true → List·Memᴰ t (M .names)
   pub kept : (σ : M .State) (t : ℕ) → Inv σ → fits σ t ≡ true → Inv (M .step σ t)
@@ -50,7 +49,7 @@ pub record Frontable (M : System) (fits : M .State → ℕ → Bool) (Goal Inv :
   pub front : (σ : M .State) (t : ℕ) (s : Schedule) → Inv σ → fits σ t ≡ true → Fitting M fits Goal σ s →
       (r : Schedule) × (length s ≡ suc (length r)) × Fitting M fits Goal (M .step σ t) r × (run M (M .step σ t) r ≡ run M σ s)
 
-module _ (M : System) (fits : M .State → ℕ → Bool) (Goal Inv : M .State → Type 0) (F : Frontable M fits Goal Inv) where
+module _ (M : System) (fits : M .State → ℕ → Bool) (Goal Inv : M .State → Type 0) (F : GreedyLaws M fits Goal Inv) where
   -- fitting as far as the goal, ends where s ends, and not above any other
   abbrev pub Least : M .State → Schedule → Schedule → Type 0
   Least σ s g = Fitting M fits Goal σ g × (run M σ g ≡ run M σ s) × ((r : Schedule) → Fitting M fits Goal σ r → AtMost g r)
@@ -118,5 +117,5 @@ module _ (M : System) (fits : M .State → ℕ → Bool) (Goal Inv : M .State �
             run-cons M (M .step σ t) a (r .0) ∙ ap (λ (τ : M .State). run M τ (r .0)) (sym c) ∙ r .3 ∙ sym (run-cons M σ a s),
           )
 
-  pub commuting : Ascends ltb (M .names) → ((σ : M .State) (t : ℕ) → Inv σ → fits σ t ≡ true → List·Memᴰ t (M .names)) → Frontable M fits Goal Inv
+  pub commuting : Ascends ltb (M .names) → ((σ : M .State) (t : ℕ) → Inv σ → fits σ t ≡ true → List·Memᴰ t (M .names)) → GreedyLaws M fits Goal Inv
   commuting a n = record { ascending = a; named = n; kept = kept; final = final; front = commuting-front }

@@ -1,10 +1,10 @@
 -- Greedy is least among full schedules: from F1, F2 and F3 the walk is the least full schedule that ends in the goal, whenever there is one,
 -- and all full schedules that end in the goal end in the same state.
 use mathlib.Core.Path.{_≡_, refl, sym, ap, subst, _∙_}
-use mathlib.Core.Logic.{_≢_, _⊎_, inl, inr, ⊎-elim, Ne·symm}
+use mathlib.Core.Logic.{_≢_, _⊎_, inl, inr, ⊎-elim}
 use mathlib.Core.Bool.{Bool, true, false, true≢false}
-use mathlib.Core.List.{List, [], _∷_, _++_, List·Memᴰ, List·Memᴰ·head, List·Memᴰ·tail, List·Memᴰ·cases-cons, List·Memᴰ·not-nil}
-use Prim.Native.Nat.{ℕ, zero, suc, _+_, _<_, _≤_}
+use mathlib.Core.List.{[], _∷_, _++_, List·Memᴰ, List·Memᴰ·head, List·Memᴰ·tail, List·Memᴰ·cases-cons, List·Memᴰ·not-nil}
+use Prim.Native.Nat.{ℕ, suc, _+_, _≤_}
 use native.Mathlib.Omega.{arith}
 use native.Mathlib.Decide.{ℕ-discrete}
 use lib.Dec.{ltb}
@@ -14,11 +14,11 @@ use Rattle.schedules.specs.Order.{Schedule}
 use Rattle.schedules.specs.System.{System, Lawful, run, ended, FullFrom}
 use Rattle.schedules.specs.Greedy.{greedy, Fitting, Reaches}
 use Rattle.schedules.proofs.Order.{AtMost}
-use Rattle.schedules.proofs.Runs.{run-cons, run-nil, ended-none, full-length}
-use Rattle.schedules.proofs.Greedy.{Frontable, greedy-least, one-end}
+use Rattle.schedules.proofs.Runs.{run-cons, ended-none, full-length}
+use Rattle.schedules.proofs.Greedy.{GreedyLaws, greedy-least, one-end}
 
 -- what `fits` must satisfy for the goal, in states that satisfy `Inv`
-pub record Fits (M : System) (fits : M .State → ℕ → Bool) (Goal Inv : M .State → Type 0) : Type 0 where
+pub record FitsLaws (M : System) (fits : M .State → ℕ → Bool) (Goal Inv : M .State → Type 0) : Type 0 where
   pub allowed : (σ : M .State) (t : ℕ) → Inv σ → fits σ t ≡ true → M .may σ t ≡ true
   pub kept : (σ : M .State) (t : ℕ) → Inv σ → M .may σ t ≡ true → Inv (M .step σ t)
   -- F1: the first byte of a full schedule that ends in the goal fits
@@ -53,7 +53,7 @@ module _ (M : System) (L : Lawful M) where
       go (yes q) ih = List·Memᴰ·head (sym q)
       go (no ne) ih = List·Memᴰ·tail (ih ne)
 
-  module _ (asc : Ascends ltb (M .names)) (fits : M .State → ℕ → Bool) (Goal Inv : M .State → Type 0) (F : Fits M fits Goal Inv) where
+  module _ (asc : Ascends ltb (M .names)) (fits : M .State → ℕ → Bool) (Goal Inv : M .State → Type 0) (F : FitsLaws M fits Goal Inv) where
     -- the goal, where the run has ended
     abbrev End : M .State → Type 0
     End σ = (ended M σ ≡ true) × Goal σ
@@ -84,8 +84,8 @@ module _ (M : System) (L : Lawful M) where
           sym (run-cons M σ t (p .0 ++ p .1)) ∙ m .1 ∙ ap (run M σ) (sym (p .2)),
         )
 
-    frontable : Frontable M fits End Inv
-    frontable = record {
+    laws : GreedyLaws M fits End Inv
+    laws = record {
       ascending = asc;
       named = λ σ t i e. L .named σ t (F .allowed σ t i e);
       kept = λ σ t i e. F .kept σ t i (F .allowed σ t i e);
@@ -101,9 +101,9 @@ module _ (M : System) (L : Lawful M) where
     pub greedy-least-full : (k : ℕ) (σ : M .State) (s : Schedule) → M .size σ ≤ k → Inv σ → Reaches M Goal σ s →
         Reaches M Goal σ (greedy M fits k σ) × (run M σ (greedy M fits k σ) ≡ run M σ s) × ((r : Schedule) → Reaches M Goal σ r → AtMost (greedy M fits k σ) r)
     greedy-least-full k σ s h i f =
-        let b = greedy-least M fits End Inv frontable k σ s (omega (arith, full-length M L σ s (f .0))) i (reaches-fitting σ s i f) in
+        let b = greedy-least M fits End Inv laws k σ s (omega (arith, full-length M L σ s (f .0))) i (reaches-fitting σ s i f) in
         (fitting-reaches σ (greedy M fits k σ) i (b .0), b .1, λ r g. b .2 r (reaches-fitting σ r i g))
 
     -- ONE GOAL, ONE END
     pub one-end-full : (σ : M .State) (s r : Schedule) → Inv σ → Reaches M Goal σ s → Reaches M Goal σ r → run M σ s ≡ run M σ r
-    one-end-full σ s r i f g = one-end M fits End Inv frontable σ s r i (reaches-fitting σ s i f) (reaches-fitting σ r i g)
+    one-end-full σ s r i f g = one-end M fits End Inv laws σ s r i (reaches-fitting σ s i f) (reaches-fitting σ r i g)

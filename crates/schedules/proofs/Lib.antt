@@ -7,11 +7,37 @@ pub mod Lists
 pub mod Runs
 -- the list of full schedules: exact, ascending, bounded
 pub mod Fulls
+-- the first of each class: exact, ascending, one for every member
+pub mod Classes
+-- the claim about a list of calls over any ascending list
+pub mod Calls
+-- the first answer: of a test over a list, of a function over numbers, behind a beginning
+pub mod First
+-- the search finds the first listed full schedule above the bound
+pub mod Search
+-- the listed schedules: exact, ascending, finite, one for each full schedule; the search walks them
+pub mod Listed
+-- moving a step to the front over independent ones
+pub mod Front
 -- the greedy walk is least among the lists of fitting bytes, if a fitting byte can be taken first
 pub mod Greedy
 -- the greedy walk is least among the full schedules that end in a goal, from F1, F2 and F3
 pub mod GreedyFull
--- moving a step to the front over independent ones
-pub mod Front
+-- what is left to take of a run's actions: a system in which the greedy walk is least
+pub mod Remaining
 -- the orders of a run's own actions: each is full with the same end, and `leastOrder` is the least
 pub mod Orders
+-- the list of permutations: every one, ascending
+pub mod Permutations
+-- computed tests over all 720 permutations
+pub mod Numbered
+-- inverse, composition, and the permutation of every number
+pub mod Group
+-- the definitions as a loop in code meets them, one turn at a time
+pub mod Loops
+-- comparing two schedules place by place, as the code does
+pub mod Comparing
+-- a permutation worked out in place, as the code does
+pub mod InPlace
+-- a small step system, computed
+pub mod Example

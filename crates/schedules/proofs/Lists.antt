@@ -1,15 +1,15 @@
 -- Members of lists, what tests over lists say of them, and ascending lists.
-use mathlib.Core.Path.{_≡_, refl, sym, ap, ap₂, subst, _∙_}
-use mathlib.Core.Logic.{_≢_, _⊎_, inl, inr, ⊎-elim}
+use mathlib.Core.Path.{_≡_, refl, sym, ap, ap₂, _∙_}
+use mathlib.Core.Logic.{_⊎_, inl, inr, ⊎-elim}
 use mathlib.Core.Bool.{Bool, true, false, true≢false, false≢true}
-use mathlib.Core.Option.{Option, none, some}
+use mathlib.Core.Option.{some}
 use mathlib.Core.List.{List, [], _∷_, _++_, List·Memᴰ, List·Memᴰ·head, List·Memᴰ·tail, List·Memᴰ·cases-cons, List·Memᴰ·not-nil, List·Memᴰ·append-cases}
 use Prim.Native.Nat.{ℕ, zero, suc, _+_, _<_, _≤_}
 use native.Mathlib.Omega.{arith}
 use native.Mathlib.Nat.{eq-or-lt-of-le}
 use lib.Dec.{ltb}
 use borrow.Author.Tests.{lt-ltb}
-use Rattle.schedules.specs.Lists.{upTo, any, all, keep, first, headOf, Ascends}
+use Rattle.schedules.specs.Lists.{upTo, both, any, all, keep, first, Ascends}
 
 -- the numbers from one on
 pub in-upTo : (a n k : ℕ) → a ≤ k → k < a + n → List·Memᴰ k (upTo a n)
@@ -26,6 +26,22 @@ pub upTo-ascends : (a n : ℕ) → Ascends ltb (upTo a n)
 unfolding upTo
 upTo-ascends a zero = tt
 upTo-ascends a (suc n) = ((λ k m. lt-ltb a k (of-upTo (suc a) n k m .0)), upTo-ascends (suc a) n)
+
+-- two tests
+pub both-left : (a b : Bool) → both a b ≡ true → a ≡ true
+unfolding both
+both-left true b e = refl
+both-left false b e = absurd (false≢true e)
+
+pub both-right : (a b : Bool) → both a b ≡ true → b ≡ true
+unfolding both
+both-right true b e = e
+both-right false b e = absurd (false≢true e)
+
+pub both-false : (a : Bool) → both a false ≡ false
+unfolding both
+both-false true = refl
+both-false false = refl
 
 -- tests over a list
 pub any-yes : {A : Type 0} (f : A → Bool) (l : List A) → any f l ≡ true → (x : A) × List·Memᴰ x l × (f x ≡ true)

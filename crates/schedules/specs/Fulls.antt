@@ -1,7 +1,7 @@
 -- All full schedules from a state, ascending: for each byte that may step, in the order of the names, that byte in front of
 -- each full schedule from the state behind its step.
 use Prim.Native.Nat.{ℕ, zero, suc}
-use mathlib.Core.Bool.{Bool, true, false}
+use mathlib.Core.Bool.{true, false}
 use mathlib.Core.List.{List, [], _∷_, _++_}
 use Rattle.schedules.specs.Order.{Schedule}
 use Rattle.schedules.specs.System.{System, ended}

@@ -1,5 +1,5 @@
 -- What a reader of this crate must believe, in reading order.
--- lists: the numbers from one on, any, all, keep, first; what it is for a list to ascend
+-- small functions on lists: any, all, keep, first, the numbers from one on; what it is for a list to ascend
 pub mod Lists
 -- schedules and their order
 pub mod Order
@@ -7,7 +7,19 @@ pub mod Order
 pub mod System
 -- the list of all full schedules
 pub mod Fulls
+-- the first of each class
+pub mod Classes
+-- the listed schedules of a step system: of each class the least
+pub mod Listed
+-- a list walked by calls: one call, and what a list of calls is to give
+pub mod Calls
+-- the search for the least listed schedule above a bound
+pub mod Search
 -- the greedy walk, and what it means to reach a goal
 pub mod Greedy
 -- the orders of a run's own steps, and the least of them
 pub mod Orders
+-- the permutations of six: all of them, each by its number, inverse and composition
+pub mod Permutations
+-- for proofs that compute: all definitions opened by one name
+pub mod Computing

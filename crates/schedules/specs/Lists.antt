@@ -10,6 +10,11 @@ unfoldable pub upTo : ℕ → ℕ → List ℕ
 upTo a zero = []
 upTo a (suc n) = a ∷ upTo (suc a) n
 
+-- whether both tests pass
+unfoldable pub both : Bool → Bool → Bool
+both true b = b
+both false b = false
+
 -- whether some member passes the test
 unfoldable pub any : {A : Type 0} → (A → Bool) → List A → Bool
 any f [] = false

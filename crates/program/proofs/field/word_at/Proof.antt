@@ -1,0 +1,12 @@
+-- `word_at` joins the four bytes that it reads.
+use borrow.Author.Needs.{needs}
+use Rattle.program.specs.Frames.{word}
+use Rattle.program.proofs.field.word_at.Statement.{statement}
+use Rattle.program.proofs.field.word_at.Tie as tie
+
+returns : tie.Need-returns
+unfolding word
+returns c = rw (c .join .ensures, c .before .byte-at4 .ensures, c .before .before .byte-at3 .ensures, c .before .before .before .byte-at2 .ensures, c .before .before .before .before .byte-at .ensures)
+
+pub word-at-spec : {M : Type 1} → statement M
+word-at-spec = tie.close (tie.spec (λ c κs. search needs) (λ c. search needs) (λ c κs. search needs) (λ c. search needs) (λ c κs. search needs) (λ c. search needs) (λ c κs. search needs) (λ c κs. search needs) returns)

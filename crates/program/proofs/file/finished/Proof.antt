@@ -1,0 +1,28 @@
+-- `finished` answers 9, 7 or the program.
+use borrow.Author.Needs.{needs}
+use Prim.Native.Nat.{_≤_}
+use mathlib.Core.Path.{_≡_, _∙_, sym, ap}
+use native.Mathlib.Omega.{arith}
+use lib.ListN.{length}
+use Rattle.program.specs.Decode.{Reading, accepted}
+use Rattle.program.specs.Compiled.{answerOf, verdictOf}
+use Rattle.program.proofs.HeldFinish.{held-short, held-threads, finish-none, finish-far, finish-program}
+use Rattle.program.proofs.HeldProgram.{program-held}
+use Rattle.program.proofs.file.finished.Statement.{statement}
+use Rattle.program.proofs.file.finished.Tie as tie
+
+returns : tie.Need-returns
+returns c = λ r held lined grouped. c .refused .ensures ∙ sym (finish-none (c .before .before .before .args .t1) (c .before .before .before .args .t2) (c .before .before .before .args .s) r (c .before .before .before .pre) held lined (c .before .if1 .taken))
+
+far-skip-requires : tie.Need-far-skip-requires
+far-skip-requires c κs = (c .before .before .before .before .before .pre .six, c .before .before .before .before .before .pre .sixteen)
+
+returns-2 : tie.Need-returns-2
+returns-2 c = λ r held lined grouped. c .refused2 .ensures ∙ sym (finish-far (c .before .before .before .before .before .before .before .before .args .t1) (c .before .before .before .before .before .before .before .before .args .t2) (c .before .before .before .before .before .before .before .before .args .s) r (c .before .before .before .before .before .before .before .before .pre) held lined (c .before .before .far-skip .result) (c .before .before .before .before .before .before .if1 .left) (c .before .before .far-skip .ensures _ (held-threads (c .before .before .before .before .before .before .before .before .args .t1) (c .before .before .before .before .before .before .before .before .args .t2) (c .before .before .before .before .before .before .before .before .args .s) r (c .before .before .before .before .before .before .before .before .pre) held lined)) (c .before .if2 .taken))
+
+returns-3 : tie.Need-returns-3
+unfolding answerOf verdictOf
+returns-3 c = λ r held lined grouped. ap accepted (program-held (c .before .before .before .before .before .before .before .before .args .t1) (c .before .before .before .before .before .before .before .before .args .s) r held (omega (arith, held .threads, c .before .before .before .before .before .before .before .before .pre .six)) (held-short (c .before .before .before .before .before .before .before .before .args .t1) (c .before .before .before .before .before .before .before .before .args .t2) (c .before .before .before .before .before .before .before .before .args .s) r (c .before .before .before .before .before .before .before .before .pre) held lined) grouped) ∙ sym (finish-program (c .before .before .before .before .before .before .before .before .args .t1) (c .before .before .before .before .before .before .before .before .args .t2) (c .before .before .before .before .before .before .before .before .args .s) r (c .before .before .before .before .before .before .before .before .pre) held lined (c .before .before .far-skip .result) (c .before .before .before .before .before .before .if1 .left) (c .before .before .far-skip .ensures _ (held-threads (c .before .before .before .before .before .before .before .before .args .t1) (c .before .before .before .before .before .before .before .before .args .t2) (c .before .before .before .before .before .before .before .before .args .s) r (c .before .before .before .before .before .before .before .before .pre) held lined)) (c .before .if2 .left))
+
+pub finished-spec : {M : Type 1} → statement M
+finished-spec = tie.close (tie.spec (λ c κs. search needs) returns far-skip-requires (λ c κs. search needs) returns-2 returns-3)

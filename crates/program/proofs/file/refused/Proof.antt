@@ -1,0 +1,13 @@
+-- `refused` answers its number and place.
+use borrow.Author.Needs.{needs}
+use mathlib.Core.Path.{refl}
+use Rattle.program.specs.Compiled.{answerOf, verdictOf}
+use Rattle.program.proofs.file.refused.Statement.{statement}
+use Rattle.program.proofs.file.refused.Tie as tie
+
+returns : tie.Need-returns
+unfolding answerOf verdictOf
+returns c = refl
+
+pub refused-spec : {M : Type 1} → statement M
+refused-spec = tie.close (tie.spec returns)

@@ -1,0 +1,36 @@
+-- `in_thread` looks at one instruction after the other. The invariant: what is left decides.
+use borrow.Author.Needs.{needs}
+use Prim.Native.Nat.{_≤_, _-_, _*_, _+_}
+use mathlib.Core.Path.{_≡_, _∙_, sym, refl}
+use native.Mathlib.Omega.{arith}
+use mathlib.Core.List.{List}
+use lib.ListN.{length, drop, getD}
+use Rattle.program.specs.Decode.{Placed, farSkip}
+use Rattle.program.specs.Frames.{skipOf}
+use Rattle.program.specs.Compiled.{rowAt}
+use Rattle.program.specs.Held.{HeldThread}
+use Rattle.program.proofs.HeldSkips.{far-found, far-next, far-none}
+use Rattle.program.proofs.skip.in_thread.Statement.{statement}
+use Rattle.program.proofs.skip.in_thread.Tie as tie
+
+abbrev Inv-loop : tie.InvT-loop
+Inv-loop code rows t n i₀ i =
+    (i ≤ n) × ((xs : List Placed) → HeldThread code rows t xs → n ≡ length xs → farSkip xs ≡ farSkip (drop i xs))
+
+abbrev μ-loop : tie.MeasureT-loop
+μ-loop code rows t n i₀ i = n - i
+
+loop-holds : tie.Need-loop-holds Inv-loop μ-loop
+loop-holds c = (search needs, λ xs held e. refl)
+
+returns : tie.Need-returns Inv-loop μ-loop
+returns c = λ xs held e. sym (c .before .before .before .before .loop .inv .1 xs held e ∙ far-found (c .before .before .before .before .before .args .code .now) (c .before .before .before .before .before .args .rows .now) (c .before .before .before .before .before .args .t) xs held (c .before .before .before .before .loop .i) (omega arith) (omega (arith, c .before .before .skip-at .ensures)))
+
+loop-again : tie.Need-loop-again Inv-loop μ-loop
+loop-again c = (search needs, λ xs held e. c .before .before .before .loop .inv .1 xs held e ∙ far-next (c .before .before .before .before .args .code .now) (c .before .before .before .before .args .rows .now) (c .before .before .before .before .args .t) xs held (c .before .before .before .loop .i) (omega arith) (omega (arith, c .before .skip-at .ensures)))
+
+returns-2 : tie.Need-returns-2 Inv-loop μ-loop
+returns-2 c = λ xs held e. sym (c .before .loop .inv .1 xs held e ∙ far-none (c .before .before .args .code .now) (c .before .before .args .rows .now) (c .before .before .args .t) xs held (c .before .loop .i) (omega arith))
+
+pub in-thread-spec : {M : Type 1} → statement M
+in-thread-spec = tie.close (tie.spec Inv-loop μ-loop loop-holds (λ c. search needs) (λ c. search needs) (λ c. search needs) (λ c. search needs) (λ c κs. search needs) (λ c. search needs) (λ c. search needs) returns (λ c. search needs) (λ c. search needs) loop-again returns-2)

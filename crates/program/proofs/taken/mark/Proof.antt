@@ -1,0 +1,32 @@
+-- `mark` takes the members one after the other. The invariant: what is left is still to be marked.
+use borrow.Author.Needs.{needs}
+use Prim.Native.Nat.{_≤_, _-_}
+use mathlib.Core.Path.{_≡_, refl, _∙_, sym, ap}
+use native.Mathlib.Omega.{arith}
+use mathlib.Core.Logic.{⊎-elim}
+use mathlib.Core.List.{List}
+use lib.ListN.{length, drop, set, length-set}
+use lib.Seq.{set-out}
+use Rattle.lines.specs.Frame.{pairs}
+use Rattle.program.specs.Held.{marked}
+use Rattle.program.proofs.HeldWrite.{marking, marked-none}
+use Rattle.program.proofs.taken.mark.Statement.{statement}
+use Rattle.program.proofs.taken.mark.Tie as tie
+
+abbrev Inv-loop : tie.InvT-loop
+Inv-loop line n g c₀ j₀ c j = (length c ≡ 6) × (marked g (drop 1 (pairs line)) c₀ ≡ marked g (drop j (pairs line)) c)
+
+abbrev μ-loop : tie.MeasureT-loop
+μ-loop line n g c₀ j₀ c j = n - j
+
+loop-holds : tie.Need-loop-holds Inv-loop μ-loop
+loop-holds c = (search needs, refl)
+
+loop-again : tie.Need-loop-again Inv-loop μ-loop
+loop-again c = marking (c .before .before .before .before .before .args .g) (pairs (c .before .before .before .before .before .args .line .now)) (c .before .before .before .loop .c) (c .if1 .c) (c .before .before .before .loop .j) (c .before .field .result) _ (c .before .before .before .loop .inv .0) (c .before .before .before .loop .inv .1) (omega arith) (c .before .field .ensures) (⊎-elim (λ w. w .1) (λ w. w .1 ∙ sym (set-out (c .before .before .before .loop .c) (c .before .field .result) (c .before .before .before .before .before .args .g) (omega arith))) (c .if1 .came))
+
+returns : tie.Need-returns Inv-loop μ-loop
+returns c = sym (c .before .loop .inv .1 ∙ marked-none (c .before .before .before .args .g) (pairs (c .before .before .before .args .line .now)) (c .before .loop .c) (c .before .loop .j) (omega arith))
+
+pub mark-spec : {M : Type 1} → statement M
+mark-spec = tie.close (tie.spec Inv-loop μ-loop loop-holds (λ c κs. search needs) (λ c. search needs) (λ c. search needs) (λ c. search needs) (λ c. search needs) loop-again returns)

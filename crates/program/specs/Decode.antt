@@ -1,0 +1,150 @@
+-- Program files: document 01's "Program file" with its refusals 1 to 9.
+-- 1 comes first; then the lines in order, each by 2, 3, 4, 5, 6, 8; then 9; then 7 at the earliest line. A file that gets none of these is an accepted program.
+use Prim.Native.Nat.{ℕ, zero, suc, _+_, _-_}
+use mathlib.Core.Bool.{Bool, true, false, cond, not, _&&_, _||_}
+use mathlib.Core.List.{List, [], _∷_, _++_, map}
+use mathlib.Core.Option.{Option, none, some}
+use lib.ListN.{length, getD, set, drop}
+use lib.Dec.{eqb, ltb, leb}
+use Rattle.lines.specs.Frame.{frame}
+use Rattle.lines.specs.TextLines.{TextLine, split}
+use Rattle.program.specs.Program.{Program}
+use Rattle.program.specs.Frames.{Frame, known, inRange, opens, declares, isAccess, skipOf, instruction}
+
+-- an instruction's frame and the number of its line
+pub record Placed : Type 0 where
+  pub line : ℕ
+  pub code : Frame
+
+-- what the lines read so far have opened and declared: the threads with their instructions, and the members of each `02` line
+pub record Reading : Type 0 where
+  pub threads : List (List Placed)
+  pub groups : List (List ℕ)
+
+unfoldable pub fresh : Reading
+fresh = record { threads = []; groups = [] }
+
+-- the instructions of thread t so far, and of the thread last opened
+unfoldable pub threadAt : Reading → ℕ → List Placed
+threadAt r t = getD (r .threads) t []
+
+unfoldable pub lastThread : Reading → ℕ
+lastThread r = length (r .threads) - 1
+
+-- refusal 5: an instruction wants a thread before it, and neither a thread nor an instruction stands behind a `02`
+unfoldable pub inPlace : Reading → Frame → Bool
+inPlace r f = declares f || (eqb (length (r .groups)) 0 && (opens f || ltb 0 (length (r .threads))))
+
+-- how many accesses these instructions, and all threads, have
+unfoldable pub accessesIn : List Placed → ℕ
+accessesIn [] = 0
+accessesIn (x ∷ xs) = cond (isAccess (x .code)) 1 0 + accessesIn xs
+
+unfoldable pub allAccessesIn : List (List Placed) → ℕ
+allAccessesIn [] = 0
+allAccessesIn (c ∷ cs) = accessesIn c + allAccessesIn cs
+
+-- refusal 6: at most 6 threads, 16 instructions a thread, 24 accesses in the file
+unfoldable pub withinLimits : Reading → Frame → Bool
+withinLimits r f =
+    declares f
+    || cond (opens f)
+    (ltb (length (r .threads)) 6)
+    (ltb (length (threadAt r (lastThread r))) 16 && (not (isAccess f) || ltb (allAccessesIn (r .threads)) 24))
+
+-- whether two lists of numbers, and two threads' code byte for byte, are the same
+unfoldable pub same : List ℕ → List ℕ → Bool
+same [] [] = true
+same [] (y ∷ ys) = false
+same (x ∷ xs) [] = false
+same (x ∷ xs) (y ∷ ys) = eqb x y && same xs ys
+
+unfoldable pub sameCode : List Placed → List Placed → Bool
+sameCode [] [] = true
+sameCode [] (y ∷ ys) = false
+sameCode (x ∷ xs) [] = false
+sameCode (x ∷ xs) (y ∷ ys) = same (x .code) (y .code) && sameCode xs ys
+
+-- whether a thread stands among these, and in one of these groups
+unfoldable pub among : ℕ → List ℕ → Bool
+among t [] = false
+among t (u ∷ us) = eqb t u || among t us
+
+unfoldable pub grouped : ℕ → List (List ℕ) → Bool
+grouped t [] = false
+grouped t (g ∷ gs) = among t g || grouped t gs
+
+-- refusal 8: each member exists and stands in no earlier `02`; each but the first is above the one before it and has the same code
+unfoldable pub memberFits : Reading → ℕ → Bool
+memberFits r t = ltb t (length (r .threads)) && not (grouped t (r .groups))
+
+unfoldable pub followersFit : Reading → ℕ → List ℕ → Bool
+followersFit r t [] = true
+followersFit r t (u ∷ us) = memberFits r u && (ltb t u && (sameCode (threadAt r t) (threadAt r u) && followersFit r u us))
+
+unfoldable pub membersFit : Reading → List ℕ → Bool
+membersFit r [] = true
+membersFit r (t ∷ ts) = memberFits r t && followersFit r t ts
+
+unfoldable pub alikeFits : Reading → Frame → Bool
+alikeFits r f = not (declares f) || membersFit r (drop 1 f)
+
+-- the number by which a line is refused, or 0 where it passes
+unfoldable pub frameRefusal : Reading → Frame → ℕ
+frameRefusal r f =
+    cond (not (known f)) 3
+    (cond (not (inRange f)) 4
+    (cond (not (inPlace r f)) 5
+    (cond (not (withinLimits r f)) 6
+    (cond (not (alikeFits r f)) 8
+    0))))
+
+-- refusal 2: a line that is empty, odd, without its 0a, or has another character
+unfoldable pub frameOf : TextLine → Option Frame
+frameOf l = cond (l .ended) (frame (l .bytes)) none
+
+-- what has been read once a frame has passed: a thread more, a group more, or an instruction more in the thread last opened
+unfoldable pub after : ℕ → Frame → Reading → Reading
+after n f r =
+    cond (opens f) (record { threads = r .threads ++ ([] ∷ []); groups = r .groups })
+    (cond (declares f) (record { threads = r .threads; groups = r .groups ++ (drop 1 f ∷ []) })
+    (record {
+      threads = set (r .threads) (lastThread r) (threadAt r (lastThread r) ++ (record { line = n; code = f } ∷ []));
+      groups = r .groups;
+    }))
+
+-- refusal 7: the line of the first skip that goes beyond its thread's end, or 0; to just behind the last instruction is allowed
+unfoldable pub farSkip : List Placed → ℕ
+farSkip [] = 0
+farSkip (x ∷ xs) = cond (ltb (length xs) (skipOf (x .code))) (x .line) (farSkip xs)
+
+unfoldable pub firstFarSkip : List (List Placed) → ℕ
+firstFarSkip [] = 0
+firstFarSkip (c ∷ cs) = cond (eqb (farSkip c) 0) (firstFarSkip cs) (farSkip c)
+
+-- the program that the lines have made
+unfoldable pub programIn : Reading → Program
+programIn r = record { threads = map (map (λ x. instruction (x .code))) (r .threads); groups = r .groups }
+
+-- an accepted program, or a refusal's number and place
+pub data Decoded : Type 0 where
+  accepted : Program → Decoded
+  refused : ℕ → ℕ → Decoded
+
+unfoldable pub finish : Reading → Decoded
+finish r =
+    cond (eqb (length (r .threads)) 0) (refused 9 0)
+    (cond (eqb (firstFarSkip (r .threads)) 0) (accepted (programIn r))
+    (refused 7 (firstFarSkip (r .threads))))
+
+-- the lines from number n on
+unfoldable pub readLines : ℕ → List TextLine → Reading → Decoded
+readLines n [] r = finish r
+readLines n (l ∷ ls) r =
+    elim (frameOf l) [
+      | none ↦ refused 2 n
+      | some f ↦ cond (eqb (frameRefusal r f) 0) (readLines (n + 1) ls (after n f r)) (refused (frameRefusal r f) n)
+    ]
+
+unfoldable pub decode : List ℕ → Decoded
+decode file = cond (ltb 4096 (length file)) (refused 1 0) (readLines 1 (split file) fresh)

@@ -1,0 +1,34 @@
+-- The kinds of frame, as one table: a kind's first byte, how long its frames are, and where its fields stand.
+-- A position is counted from the frame's first byte; 0 says that the kind has no such field.
+use Prim.Native.Nat.{ℕ}
+use mathlib.Core.Bool.{cond}
+use mathlib.Core.List.{List, [], _∷_}
+use lib.Dec.{eqb}
+use Rattle.program.specs.declared.kind.Kind.{Kind}
+
+-- a row of the table: byte, least and greatest length, register, location, first and second operand, skip
+abbrev pub row : ℕ → ℕ → ℕ → ℕ → ℕ → ℕ → ℕ → ℕ → Kind
+row b m n r l p q k = record { byte = b; least = m; most = n; register = r; location = l; first = p; second = q; skip = k }
+
+-- opens a thread; declares threads alike; store, load, fetch and add, compare and swap; assign, add, skip, assert
+unfoldable pub kinds : List Kind
+kinds =
+    row 0x01 1 1 0 0 0 0 0
+    ∷ row 0x02 3 7 0 0 0 0 0
+    ∷ row 0x10 7 7 0 1 2 0 0
+    ∷ row 0x11 3 3 1 2 0 0 0
+    ∷ row 0x12 8 8 1 2 3 0 0
+    ∷ row 0x13 13 13 1 2 3 8 0
+    ∷ row 0x20 7 7 1 0 2 0 0
+    ∷ row 0x21 7 7 1 0 2 0 0
+    ∷ row 0x22 8 8 1 0 2 0 7
+    ∷ row 0x23 7 7 1 0 2 0 0
+    ∷ []
+
+-- the row of the table with this first byte; for an unknown byte a row that no length fits
+unfoldable pub find : List Kind → ℕ → Kind
+find [] b = row b 1 0 0 0 0 0 0
+find (k ∷ ks) b = cond (eqb b (k .byte)) k (find ks b)
+
+unfoldable pub kindOf : ℕ → Kind
+kindOf b = find kinds b

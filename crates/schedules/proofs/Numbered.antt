@@ -1,0 +1,37 @@
+-- Computed tests over all 720 permutations, kept in this one file because they take their time.
+use mathlib.Core.Path.{_≡_, refl}
+use mathlib.Core.Bool.{Bool, true, false}
+use mathlib.Core.List.{List, [], _∷_, map}
+use Prim.Native.Nat.{ℕ}
+use lib.Dec.{eqb, ltb}
+use lib.ListN.{length}
+use Rattle.schedules.specs.Lists.{upTo, both, any, all}
+use Rattle.schedules.specs.Fulls.{fronts}
+use Rattle.schedules.specs.Permutations.{without, each, permsOf, permutations, factorial, dropAt, arranged, permutationOf, placeIn, inverse, compose}
+
+-- the numbers give the list
+pub numbered : map permutationOf (upTo 0 720) ≡ permutations
+unfolding upTo fronts without each permsOf permutations factorial dropAt arranged permutationOf
+numbered = refl
+
+-- tests that compute
+unfoldable pub sameNumbers : List ℕ → List ℕ → Bool
+sameNumbers [] [] = true
+sameNumbers [] (y ∷ ys) = false
+sameNumbers (x ∷ xs) [] = false
+sameNumbers (x ∷ xs) (y ∷ ys) = elim (eqb x y) [ true ↦ sameNumbers xs ys | false ↦ false ]
+
+unfoldable pub distinctb : List ℕ → Bool
+distinctb [] = true
+distinctb (x ∷ xs) = elim (any (eqb x) xs) [ true ↦ false | false ↦ distinctb xs ]
+
+unfoldable pub permutationb : List ℕ → Bool
+permutationb π = both (eqb (length π) 6) (both (all (λ x. ltb x 6) π) (distinctb π))
+
+-- a permutation whose inverse is one and undoes it from both sides
+unfoldable pub invertible : List ℕ → Bool
+invertible π = both (permutationb π) (both (permutationb (inverse π)) (both (sameNumbers (compose (inverse π) π) (upTo 0 6)) (sameNumbers (compose π (inverse π)) (upTo 0 6))))
+
+pub all-invertible : all invertible permutations ≡ true
+unfolding upTo any all fronts without each permsOf permutations placeIn inverse compose both sameNumbers distinctb permutationb invertible
+all-invertible = refl

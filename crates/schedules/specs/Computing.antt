@@ -1,0 +1,19 @@
+-- What a proof that computes with the definitions of this crate names on its `unfolding` line: `computing` opens them all. A proof that reasons
+-- names the one or two definitions that it opens.
+use Prim.Native.Nat.{ℕ}
+use mathlib.Core.List.{List}
+use Rattle.schedules.specs.Lists.{upTo, both, any, all, keep, first, headOf}
+use Rattle.schedules.specs.Order.{less}
+use Rattle.schedules.specs.System.{run, none-may, ended}
+use Rattle.schedules.specs.Fulls.{fronts, branch, fullsFrom, fulls}
+use Rattle.schedules.specs.Classes.{firstsFrom, firsts}
+use Rattle.schedules.specs.Listed.{listOf}
+use Rattle.schedules.specs.Calls.{next, offer, turn, over, content, last, left, due, served, member}
+use Rattle.schedules.specs.Search.{orElse, children, low, past, leaf, kid, searchFrom}
+use Rattle.schedules.specs.Greedy.{greedy}
+use Rattle.schedules.specs.Orders.{trace, nextOf, clear, clearOf, ready, takeOut, leastOrder}
+use Rattle.schedules.specs.Permutations.{without, each, permsOf, permutations, factorial, dropAt, arranged, permutationOf, bring, placeIn, inverse, compose}
+
+unfoldable pub computing : List (List ℕ)
+unfolding upTo both any all keep first headOf less run none-may ended fronts branch fullsFrom fulls firstsFrom firsts listOf next offer turn over content last left due served member orElse children low past leaf kid searchFrom greedy trace nextOf clear clearOf ready takeOut leastOrder without each permsOf permutations factorial dropAt arranged permutationOf bring placeIn inverse compose
+computing = permutations

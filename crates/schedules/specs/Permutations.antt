@@ -1,0 +1,83 @@
+-- The permutations of six, each as the list of where 0, 1, .. 5 go: all of them ascending, by recursion, and each from its number, 0 to 719,
+-- by divisions. A number from 720 on gives the permutation of its rest modulo 720.
+use Prim.Native.Nat.{ℕ, zero, suc, _*_, _/_, _%_, _<_}
+use mathlib.Core.Path.{_≡_}
+use mathlib.Core.Bool.{true, false}
+use mathlib.Core.List.{List, [], _∷_, _++_, map, List·Memᴰ}
+use lib.Dec.{eqb}
+use lib.ListN.{length, getD}
+use Rattle.schedules.specs.Lists.{upTo}
+use Rattle.schedules.specs.Fulls.{fronts}
+
+-- no number stands twice
+abbrev pub NoDuplicates : List ℕ → Type 0
+NoDuplicates [] = Unit {0}
+NoDuplicates (x ∷ xs) = (List·Memᴰ x xs → ⊥) × NoDuplicates xs
+
+-- six distinct numbers below six
+pub record Permutation (π : List ℕ) : Type 0 where
+  pub six : length π ≡ 6
+  pub below : (x : ℕ) → List·Memᴰ x π → x < 6
+  pub distinct : NoDuplicates π
+
+-- a list without the first x
+unfoldable pub without : ℕ → List ℕ → List ℕ
+without x [] = []
+without x (y ∷ ys) = elim (eqb x y) [ true ↦ ys | false ↦ y ∷ without x ys ]
+
+-- each of these numbers in front of what f gives for the rest
+unfoldable pub each : (List ℕ → List (List ℕ)) → List ℕ → List ℕ → List (List ℕ)
+each f xs [] = []
+each f xs (y ∷ ys) = fronts y (f (without y xs)) ++ each f xs ys
+
+-- the ways to put n of these numbers in order
+unfoldable pub permsOf : ℕ → List ℕ → List (List ℕ)
+permsOf zero xs = [] ∷ []
+permsOf (suc n) xs = each (λ l. permsOf n l) xs xs
+
+-- all permutations of six, ascending
+unfoldable pub permutations : List (List ℕ)
+permutations = permsOf 6 (upTo 0 6)
+
+-- 1 * 2 * .. * n
+unfoldable pub factorial : ℕ → ℕ
+factorial zero = 1
+factorial (suc n) = suc n * factorial n
+
+-- a list without what stands at place i
+unfoldable pub dropAt : ℕ → List ℕ → List ℕ
+dropAt i [] = []
+dropAt zero (x ∷ xs) = xs
+dropAt (suc i) (x ∷ xs) = x ∷ dropAt i xs
+
+-- the list in which n places are chosen one after the other, by the digits of k in base 1!, 2!, .., and the rest stands behind
+unfoldable pub arranged : ℕ → ℕ → List ℕ → List ℕ
+arranged zero k xs = xs
+arranged (suc n) k xs = getD xs (k / factorial (suc n) % suc (suc n)) 0 ∷ arranged n k (dropAt (k / factorial (suc n) % suc (suc n)) xs)
+
+-- the permutation with number k
+unfoldable pub permutationOf : ℕ → List ℕ
+permutationOf k = arranged 5 k (upTo 0 6)
+
+-- the same in place: what stands d places behind place i is moved to place i
+unfoldable pub bring : ℕ → ℕ → List ℕ → List ℕ
+bring zero d xs = getD xs d 0 ∷ dropAt d xs
+bring (suc i) d [] = []
+bring (suc i) d (x ∷ xs) = x ∷ bring i d xs
+
+-- where a number goes; six and above stay
+abbrev pub moved : List ℕ → ℕ → ℕ
+moved π x = getD π x x
+
+-- the place of a number
+unfoldable pub placeIn : List ℕ → ℕ → ℕ
+placeIn [] x = 0
+placeIn (y ∷ ys) x = elim (eqb y x) [ true ↦ 0 | false ↦ suc (placeIn ys x) ]
+
+-- the permutation that undoes π
+unfoldable pub inverse : List ℕ → List ℕ
+inverse π = map (placeIn π) (upTo 0 6)
+
+-- first π, then ρ
+unfoldable pub compose : List ℕ → List ℕ → List ℕ
+compose ρ π = map (moved ρ) π

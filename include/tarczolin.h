@@ -1,0 +1,30 @@
+/* The calls of the static library target/staticlib/libtarczolin.a.
+ *
+ * Every call answers one word:
+ *
+ *   bits 56 to 63   the kind: 1 answered; 2 no more, none, or no; 3 refused
+ *   bits 48 to 55   a refusal's number, else 0
+ *   bits  0 to 47   the length of an answer in bytes, 0 where there is none;
+ *                   or a refusal's place, modulo 2^48
+ *
+ * A call reads only the bytes that it is lent and keeps nothing for the next.
+ */
+#ifndef TARCZOLIN_H
+#define TARCZOLIN_H
+
+#include <stddef.h>
+#include <stdint.h>
+
+#ifdef __cplusplus
+extern "C" {
+#endif
+
+/* Is this an accepted program file? Accepted: kind 1 and the rest 0. Refused: kind 3, the number (1 to 9) and the
+ * place (the line, from 1; 0 for 1 and 9). The file is only read. */
+uint64_t tarczolin_check(const uint8_t *file, size_t file_len);
+
+#ifdef __cplusplus
+}
+#endif
+
+#endif

@@ -1,0 +1,10 @@
+//! Links the static library that `rt staticlib tarczolin` wrote.
+use std::path::Path;
+
+fn main() {
+    let root = Path::new(env!("CARGO_MANIFEST_DIR")).parent().expect("tests/ stands in the repository");
+    let folder = root.join("target/staticlib");
+    println!("cargo:rustc-link-search=native={}", folder.display());
+    println!("cargo:rustc-link-lib=static=tarczolin");
+    println!("cargo:rerun-if-changed={}", folder.join("libtarczolin.a").display());
+}

@@ -1,0 +1,132 @@
+#!/usr/bin/env python3
+"""The gate: every check of the repository, one after the other. A failed check does not stop the later ones.
+
+The very last line is `N passed, M failed`; the exit status is 0 exactly when M is 0. N counts what rt proves and refuses,
+the must-fail edits that were refused for the right reason, and the Rust tests.
+"""
+import os
+import re
+import subprocess
+import sys
+from pathlib import Path
+
+sys.dont_write_bytecode = True
+import must_fail  # noqa: E402
+
+ROOT = Path(__file__).resolve().parents[2]
+TARGET = ROOT / 'target'
+CARGO_TEST = ['cargo', 'test', '--release', '--offline', '--locked', '--no-fail-fast',
+              '--manifest-path', 'tests/Cargo.toml', '--target-dir', 'target/cargo']
+
+
+class Tally:
+    """What passed and what failed so far."""
+
+    def __init__(self):
+        self.passed = 0
+        self.failed = 0
+
+    def add(self, passed, failed):
+        self.passed += passed
+        self.failed += failed
+
+    def fail(self, why):
+        print(f'gate: FAILED: {why}', flush=True)
+        self.failed += 1
+
+    def line(self):
+        return f'{self.passed} passed, {self.failed} failed'
+
+
+def run(words):
+    """Runs a command, shows what it prints, and gives its exit status and its lines."""
+    print(f'gate: {" ".join(words)}', flush=True)
+    lines = []
+    try:
+        with subprocess.Popen(words, cwd=ROOT, stdin=subprocess.DEVNULL, stdout=subprocess.PIPE,
+                              stderr=subprocess.STDOUT, encoding='utf-8', errors='replace') as process:
+            for line in process.stdout:
+                print(line, end='', flush=True)
+                lines.append(line.rstrip('\n'))
+        return process.returncode, lines
+    except OSError as error:
+        print(f'gate: {error}', flush=True)
+        return 127, lines
+
+
+def every_crate_is_listed(tally):
+    names = re.findall(r'^\s*(\w+)\s*:', (ROOT / 'crates.txt').read_text(encoding='utf-8'), re.M)
+    folders = sorted(p.name for p in (ROOT / 'crates').iterdir() if p.is_dir())
+    for name in folders:
+        if name not in names:
+            tally.fail(f'crates/{name} is not listed in crates.txt')
+    for name in names:
+        if name not in folders:
+            tally.fail(f'crates.txt lists {name}, and there is no crates/{name}')
+
+
+def formatting(tally):
+    status, _ = run(['rt', 'fmt', '--check'])
+    if status != 0:
+        tally.fail('rt fmt --check')
+
+
+def proofs(tally):
+    status, lines = run(['rt', 'ci'])
+    count = re.fullmatch(r'(\d+) passed, (\d+) failed', lines[-1]) if lines else None
+    if count:
+        tally.add(int(count[1]), int(count[2]))
+    if (not count) or (status != 0 and count[2] == '0'):
+        tally.fail(f'rt ci ended with status {status} and no count of failures')
+
+
+def reasons(tally):
+    """Each must-fail edit has a log, and was refused because a fact no longer holds."""
+    for why in must_fail.wrong_samples(Path(__file__).with_name('logs')):
+        tally.fail(why)
+    for edit in sorted(ROOT.glob('crates/*/must-fail/*.edit')):
+        name, label = edit.parts[-3], edit.stem
+        log = TARGET / 'must-fail' / name / label / '.log'
+        if not log.is_file():
+            tally.fail(f'must-fail {name}/{label}: it left no log')
+            continue
+        why = must_fail.wrong_reason(log.read_text(encoding='utf-8', errors='replace'))
+        if why:
+            tally.fail(f'must-fail {name}/{label}: refused for the wrong reason: {why}')
+        else:
+            tally.add(1, 0)
+
+
+def rust_tests(tally):
+    library = TARGET / 'staticlib' / 'libtarczolin.a'
+    status, _ = run(['rt', 'staticlib', 'tarczolin'])
+    if status != 0 or not library.is_file():
+        tally.fail('rt staticlib tarczolin made no library, so the Rust tests were not run')
+        return
+    status, lines = run(CARGO_TEST)
+    passed = failed = 0
+    for line in lines:
+        count = re.match(r'test result: \w+\. (\d+) passed; (\d+) failed; (\d+) ignored', line)
+        if count:
+            passed += int(count[1])
+            failed += int(count[2])
+    tally.add(passed, failed)
+    if passed == 0 or (status != 0 and failed == 0):
+        tally.fail(f'cargo test ended with status {status} after {passed} tests')
+
+
+def main():
+    os.environ.setdefault('RT_JOBS', '2')
+    tally = Tally()
+    for check in (every_crate_is_listed, formatting, proofs, reasons, rust_tests):
+        try:
+            check(tally)
+        except Exception as error:  # a check that cannot be carried out has failed
+            tally.fail(f'{check.__name__}: {error!r}')
+    TARGET.mkdir(exist_ok=True)
+    (TARGET / 'tally').write_text(tally.line() + '\n', encoding='utf-8')
+    print(tally.line(), flush=True)
+    sys.exit(0 if tally.failed == 0 else 1)
+
+
+main()

@@ -1,0 +1,86 @@
+"""Why a must-fail edit was refused, read from the log that rt leaves in target/must-fail/NAME/LABEL/.log.
+
+Right: some fact no longer holds (`search`: no proof of ..; the two types differ ..; it is not proved that ..).
+Wrong: the edited text is no text of its language, a definition is ill-formed by itself, or a proof file no longer fits
+the code (it names a need, a field or a function that is gone). Such an edit shows nothing about the statements.
+"""
+import re
+
+# an error of antt stands at a file, a line and a column; one in a definition names it first
+ERROR = re.compile(r'^(?P<file>\S*?)(?::\d+:\d+)?: error(?P<code>\[[\w-]+\])?: (?P<text>.*)$')
+IN_DEFINITION = re.compile(r'^`[^`]+`: ')
+NOT_PROVED = re.compile(r'^note: \S+:\d+:\d+: it is not proved that ')
+FOLLOWS = 'was not admitted (it has holes or undetermined implicits, or was rejected)'
+HOLE = re.compile(r'is not admitted: has-holes')
+
+MISFITS = [
+    (re.compile(r'has no `[^`]+` that can be named from here'), 'a name that is not there'),
+    (re.compile(r'is not in scope'), 'a name that is not in scope'),
+    (re.compile(r'^(`[^`]+`: )?record `[^`]+` has no field'), 'a field that is not there'),
+    (re.compile(r'has no function `[^`]+` for this file to be the proof of'), 'a proof of no function'),
+    (re.compile(r'no `mod` line names this file'), 'a file that no `mod` line names'),
+    (re.compile(r'expected type `(\S+\.)?Need-\S+`, but this has type `(\S+\.)?Need-'), 'one need given for another'),
+    (re.compile(r'-spec`: .*Need-'), 'the needs of the code are not those of the proof'),
+    (re.compile(r'has no clause for|both match the case|is not a structural call|is an axiom'), 'an ill-formed definition'),
+    (re.compile(r'this pattern needs a function|this is applied to an argument but'), 'a wrong number of arguments'),
+    (re.compile(r'is a tactic, not a term'), 'an ill-formed proof'),
+]
+# what an error in specs/ must speak of to be about a fact and not about an ill-typed definition
+FACT = re.compile(r'≡|\bPath\b|≤|<|`(search|omega|simp|cc|rw)`')
+
+
+def errors(log):
+    """The errors of a log, each as file, code, first line and whole text, without those that only follow from others."""
+    found = []
+    inside = False
+    for line in log.splitlines():
+        match = ERROR.match(line)
+        if match:
+            found.append([match['file'], match['code'], match['text'], match['text']])
+        elif inside and line.startswith('  '):
+            found[-1][3] += '\n' + line
+        inside = match is not None or (inside and line.startswith('  '))
+    return [error for error in found if FOLLOWS not in error[2]]
+
+
+def misfit(file, code, text, whole):
+    """What is wrong with this error as a reason, or None."""
+    if code:
+        return 'the compiler refuses the code'
+    for pattern, why in MISFITS:
+        if pattern.search(text):
+            return why
+    if not IN_DEFINITION.match(text):
+        return 'a parse error'
+    if '/src/' in file or file.startswith('src/'):
+        return 'an ill-formed contract'
+    if ('/specs/' in file or file.startswith('specs/')) and not FACT.search(whole):
+        return 'an ill-typed definition'
+    return None
+
+
+def wrong_reason(log):
+    """None where every error of the log is a fact that does not hold, else what is wrong."""
+    if HOLE.search(log):
+        return 'a hole'
+    found = errors(log)
+    for file, code, text, whole in found:
+        why = misfit(file, code, text, whole)
+        if why:
+            return f'{why}: {file}: {text[:200]}'
+    if not found and not any(NOT_PROVED.match(line) for line in log.splitlines()):
+        return 'the log tells of no fact that does not hold'
+    return None
+
+
+def wrong_samples(folder):
+    """Logs of both kinds are kept beside this file: says which of them is read wrongly."""
+    said = []
+    samples = sorted(folder.glob('*/*.log'))
+    for sample in samples:
+        why = wrong_reason(sample.read_text(encoding='utf-8'))
+        if (why is None) != (sample.parent.name == 'right'):
+            said.append(f'{sample.parent.name}/{sample.name} is read wrongly: {why}')
+    if not samples:
+        said.append('there are no sample logs')
+    return said

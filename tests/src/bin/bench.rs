@@ -1,0 +1,58 @@
+//! Times of the library beside plain Rust, best of many, both measured in one run in turns. Nothing is asserted.
+use std::hint::black_box;
+use std::time::Instant;
+use tarczolin_tests::calls::check_word;
+use tarczolin_tests::files::text;
+use tarczolin_tests::oracle::decode::decode;
+
+const ROUNDS: usize = 300;
+const CALLS: usize = 100;
+
+/// Nanoseconds a call, over one round of calls.
+fn time<T>(mut call: impl FnMut() -> T) -> f64 {
+    let began = Instant::now();
+    for _ in 0..CALLS {
+        black_box(call());
+    }
+    began.elapsed().as_nanos() as f64 / CALLS as f64
+}
+
+/// The longest accepted file: six threads of equal code, each four compare and swaps and twelve skips; three 02 lines.
+fn longest() -> Vec<u8> {
+    let swap = vec![0x13, 3, 7, 0, 0xff, 0xff, 0xff, 0xff, 1, 0, 0, 0, 3];
+    let skip = vec![0x22, 3, 1, 0, 0, 0, 3, 1];
+    let mut frames = Vec::new();
+    for _ in 0..6 {
+        frames.push(vec![0x01]);
+        frames.extend(vec![skip.clone(); 12]);
+        frames.extend(vec![swap.clone(); 4]);
+    }
+    frames.extend([vec![2, 0, 1], vec![2, 2, 3], vec![2, 4, 5]]);
+    text(&frames)
+}
+
+/// A file of 4,096 bytes that is refused only for its last character: the longest accepted one, then one long line of
+/// digits that ends with another character.
+fn full() -> Vec<u8> {
+    let mut file = longest();
+    file.resize(4094, b'0');
+    file.extend(b"x\n");
+    file
+}
+
+/// Prints the best times for one file.
+fn report(name: &str, file: &[u8]) {
+    let (mut library, mut plain) = (f64::MAX, f64::MAX);
+    for _ in 0..ROUNDS {
+        library = library.min(time(|| check_word(black_box(file))));
+        plain = plain.min(time(|| decode(black_box(file)).is_ok()));
+    }
+    println!("{name}: {} bytes, library {library:.0} ns, plain Rust {plain:.0} ns, ratio {:.2}", file.len(), library / plain);
+}
+
+fn main() {
+    println!("tarczolin_check beside a plain Rust decoder (one pass, a list of instructions for each thread, no other allocation)");
+    report("longest accepted file", &longest());
+    report("4,096 bytes, refused for the last", &full());
+    report("one empty thread", b"01\n");
+}

@@ -1,0 +1,117 @@
+//! Random accepted programs, as frames.
+use super::Random;
+
+/// How large a random program may be.
+#[derive(Clone, Copy, Debug)]
+pub struct Size {
+    pub threads: usize,
+    pub instructions: usize,
+    pub accesses: usize,
+    pub locations: usize,
+    pub registers: usize,
+    /// Constants are below this; 0: any 32 bits, often at the ends of the range.
+    pub constants: usize,
+}
+
+/// Whatever document 01 allows.
+pub const ANY: Size = Size { threads: 6, instructions: 16, accesses: 24, locations: 8, registers: 4, constants: 0 };
+
+/// Small enough to walk every schedule: values and places meet often.
+pub const SMALL: Size = Size { threads: 3, instructions: 5, accesses: 8, locations: 2, registers: 2, constants: 3 };
+
+/// The frames of a random accepted program.
+pub fn frames(random: &mut Random, size: Size) -> Vec<Vec<u8>> {
+    let threads = random.between(1, size.threads);
+    // threads of one class have equal code; most classes of two or more are declared alike
+    let classes = random.between(1, threads);
+    let class: Vec<usize> = (0..threads).map(|_| random.below(classes)).collect();
+    let mut left = size.accesses;
+    let mut codes = Vec::new();
+    for c in 0..classes {
+        let members = class.iter().filter(|&&k| k == c).count().max(1);
+        let instructions = if random.one_in(8) { size.instructions } else { random.between(0, size.instructions) };
+        let code = code(random, size, instructions, left / members);
+        left -= members * code.iter().filter(|f| is_access(f)).count();
+        codes.push(code);
+    }
+    let mut all = Vec::new();
+    for &c in &class {
+        all.push(vec![0x01]);
+        all.extend(codes[c].iter().cloned());
+    }
+    let mut order: Vec<usize> = (0..classes).collect();
+    random.shuffle(&mut order);
+    for c in order {
+        let members: Vec<u8> = (0..threads as u8).filter(|&t| class[t as usize] == c).collect();
+        if members.len() > 1 && !random.one_in(4) {
+            all.push([vec![0x02], members].concat());
+        }
+    }
+    all
+}
+
+/// Is this the frame of an access?
+pub fn is_access(frame: &[u8]) -> bool {
+    (0x10..=0x13).contains(&frame[0])
+}
+
+/// The code of one thread: so many instructions, at most so many accesses, and skips that end within it.
+pub fn code(random: &mut Random, size: Size, instructions: usize, accesses: usize) -> Vec<Vec<u8>> {
+    let mut left = accesses;
+    let mut code = Vec::new();
+    for k in 0..instructions {
+        let behind = instructions - 1 - k;
+        let kind = loop {
+            let kind = random.pick(&[0x10, 0x11, 0x12, 0x13, 0x10, 0x11, 0x20, 0x21, 0x22, 0x23]);
+            if (kind < 0x20 && left == 0) || (kind == 0x22 && behind == 0) {
+                continue;
+            }
+            break kind;
+        };
+        let mut frame = instruction(random, size, kind);
+        if kind == 0x22 {
+            frame[7] = if random.one_in(3) { behind } else { random.between(1, behind) } as u8;
+        }
+        left -= is_access(&frame) as usize;
+        code.push(frame);
+    }
+    code
+}
+
+/// One instruction of that kind, its fields in range; a skip is of any length.
+pub fn instruction(random: &mut Random, size: Size, kind: u8) -> Vec<u8> {
+    let r = random.below(size.registers) as u8;
+    let l = random.below(size.locations) as u8;
+    let mut frame = vec![kind];
+    match kind {
+        0x10 => frame.push(l),
+        0x11 => frame.extend([r, l]),
+        0x12 => frame.extend([r, l]),
+        0x13 => {
+            frame.extend([r, l]);
+            frame.extend(operand(random, size));
+        }
+        _ => frame.push(r),
+    }
+    if kind != 0x11 {
+        frame.extend(operand(random, size));
+    }
+    if kind == 0x22 {
+        frame.push(random.between(1, 15) as u8);
+    }
+    frame
+}
+
+fn operand(random: &mut Random, size: Size) -> Vec<u8> {
+    if random.one_in(4) {
+        return vec![1, 0, 0, 0, random.below(size.registers) as u8];
+    }
+    let value = if size.constants > 0 {
+        random.below(size.constants) as u32
+    } else if random.one_in(2) {
+        random.pick(&[0, 1, 2, 0x7fff_ffff, 0x8000_0000, 0xffff_fffe, 0xffff_ffff])
+    } else {
+        random.next() as u32
+    };
+    [vec![0], value.to_be_bytes().to_vec()].concat()
+}
