@@ -4,17 +4,17 @@ use mathlib.Core.Path.{_≡_}
 use mathlib.Core.Bool.{true}
 use mathlib.Core.List.{List, [], _∷_}
 use native.Mathlib.Omega.{arith}
-use lib.ListN.{length, getD}
+use lib.ListN.{length}
 use Rattle.program.specs.Program.{Program, codeOf}
-use Rattle.program.specs.WellFormed.{WellFormed, Everywhere, accesses}
+use Rattle.program.specs.WellFormed.{WellFormed, accesses}
 use Rattle.program.specs.declared.instruction.Instruction.{Instruction}
 use Rattle.program.specs.declared.instruction.Instruction.the-variants.{Store, Load, FetchAdd, CompareSwap, Assign, AddAssign, SkipUnless, Assert}
+use Rattle.program.proofs.Everywhere.{everywhere-getD}
 use Rattle.schedules.specs.Order.{Schedule}
 use Rattle.schedules.specs.System.{run, Allowed}
 use Rattle.machine.specs.Local.{takes}
 use Rattle.machine.specs.State.{State, threadOf, cellOf, place, latest, advanced, step, may, SC, start}
-use Rattle.machine.proofs.Suffix.{suffix-accesses}
-use Rattle.machine.proofs.Access.{next-fewer}
+use Rattle.machine.proofs.Access.{suffix-accesses, next-fewer}
 use Rattle.machine.proofs.Steps.{may-pending, may-range}
 use Rattle.machine.proofs.Change.{thread-cases, noted-done}
 use Rattle.machine.proofs.Start.{start-history}
@@ -32,11 +32,6 @@ accesses-length (AddAssign r p ∷ is) = omega (arith, accesses-length is)
 accesses-length (SkipUnless r p n ∷ is) = omega (arith, accesses-length is)
 accesses-length (Assert r p ∷ is) = omega (arith, accesses-length is)
 
-code-16 : (cs : List (List Instruction)) (t : ℕ) → Everywhere (λ c. length c ≤ 16) cs → length (getD cs t []) ≤ 16
-code-16 [] t h = omega arith
-code-16 (c ∷ cs) zero h = h .0
-code-16 (c ∷ cs) (suc t) h = code-16 cs t (h .1)
-
 -- what thread u has done and what is left of it
 abbrev total : State → ℕ → ℕ
 total σ u = threadOf σ u .history .done + accesses (threadOf σ u .local .rest)
@@ -53,7 +48,7 @@ total-run (t ∷ z) σ a u = omega (arith, total-run z (step σ t) (a .1) u, tot
 
 total-start : (p : Program) → WellFormed p → (u : ℕ) → total (start p) u ≤ 16
 unfolding run codeOf
-total-start p wf u = omega (arith, start-history p u .0, suffix-accesses (threadOf (start p) u .local .rest) (codeOf p u) (rest-code p [] tt u), accesses-length (codeOf p u), code-16 (p .threads) u (wf .sixteen))
+total-start p wf u = omega (arith, start-history p u .0, suffix-accesses (threadOf (start p) u .local .rest) (codeOf p u) (rest-code p [] tt u), accesses-length (codeOf p u), everywhere-getD (λ (c : List Instruction). length c ≤ 16) (p .threads) u [] (wf .sixteen) (omega arith))
 
 pub done-16 : (p : Program) → WellFormed p → (s : Schedule) → Allowed SC (start p) s → (u : ℕ) → threadOf (run SC (start p) s) u .history .done ≤ 16
 done-16 p wf s a u = omega (arith, total-run s (start p) a u, total-start p wf u)

@@ -10,13 +10,15 @@ use borrow.Author.Tests.{le-ltb}
 use lib.ListN.{length}
 use Rattle.program.specs.Program.{Program}
 use Rattle.program.specs.WellFormed.{WellFormed}
+use Rattle.program.specs.Decode.{accepted, decode}
+use Rattle.program.proofs.AcceptedWellFormed.{accepted-well-formed}
 use Rattle.schedules.specs.Order.{Schedule}
 use Rattle.machine.specs.Graph.{Graph, graph, Full}
 use Rattle.machine.specs.Text.{graphText}
 use Rattle.judge.specs.Consistent.{Consistent}
 use Rattle.judge.specs.Judge.{judge, LeastFor}
 use Rattle.judge.specs.Reading.{parsed, readGraph}
-use Rattle.judge.specs.Answer.{consistent, inconsistent, Claims, answerOf, answerTo, judgeAnswer}
+use Rattle.judge.specs.Answer.{consistent, inconsistent, answerOf, answerTo, judgeAnswer, answerFor, judgeFile, Claims}
 use Rattle.judge.proofs.Judged.{judge-yes, judge-no, judge-own}
 use Rattle.judge.proofs.RunRead.{run-text-read}
 
@@ -64,3 +66,17 @@ own-text p wf s f room h =
     let y = judge-own p wf s f in
     let a = answered p wf (graphText (graph p s)) room h (graph p s) e ∙ ap answerOf (y .1) in
     (y .0, a, judge-yes p wf (graph p s) (y .0) (y .1) .0)
+
+-- the same of the whole call, for every accepted file
+module _ (file : List ℕ) (p : Program) (ok : decode file ≡ accepted p) where
+  file-answer : (text : List ℕ) (room : ℕ) → judgeFile file text room ≡ judgeAnswer p text room
+  unfolding judgeFile answerFor
+  file-answer text room = rw ok
+
+  pub file-true : (text : List ℕ) (room : ℕ) → 24 ≤ room → (g : Graph) → readGraph (length (p .threads)) text ≡ parsed g → Claims p g (judgeFile file text room)
+  file-true text room h g e = subst (Claims p g) (sym (file-answer text room)) (answer-true p (accepted-well-formed file p ok) text room h g e)
+
+  pub file-own-text : (s : Schedule) → Full p s → (room : ℕ) → 24 ≤ room → (r : Schedule) × (judgeFile file (graphText (graph p s)) room ≡ consistent r) × LeastFor p (graph p s) r
+  file-own-text s f room h =
+      let r = own-text p (accepted-well-formed file p ok) s f room h in
+      (r .0, file-answer (graphText (graph p s)) room ∙ r .1, r .2)

@@ -10,7 +10,7 @@ use native.Mathlib.Decide.{decLt}
 use borrow.Author.Tests.{ltb-true, lt-ltb, eqb-true, eq-eqb, not-true}
 use lib.Dec.{eqb, ltb}
 use lib.ListN.{length, List·getD-eq-default}
-use Rattle.lines.proofs.DigitValues.{both}
+use Rattle.program.proofs.Tests.{both}
 use Rattle.schedules.specs.Lists.{any, all, upTo}
 use Rattle.schedules.proofs.Lists.{in-upTo, any-yes, any-of, all-at, all-of}
 use Rattle.machine.specs.Local.{Local, placeOf, takes, puts}

@@ -8,7 +8,6 @@ use borrow.Author.Tests.{eqb-true, leb-true}
 use lib.Dec.{eqb, leb}
 use lib.ListN.{length, take, drop, length-append}
 use lib.Seq.{drop-at}
-use Rattle.lines.proofs.DigitValues.{both}
 use Rattle.lines.specs.Frame.{Bytes}
 use Rattle.lines.specs.Text.{digits, text}
 use Rattle.lines.specs.Split.{lineLength}
@@ -17,6 +16,7 @@ use Rattle.lines.proofs.RoundTrip.{frame-digits, lineLength-text, take-text}
 use Rattle.lines.proofs.Text.{length-digits, length-text}
 use Rattle.lines.proofs.TextLines.{whole, split-at}
 use Rattle.program.specs.WellFormed.{Everywhere}
+use Rattle.program.proofs.Tests.{both}
 use Rattle.machine.specs.Text.{textOf}
 use Rattle.judge.specs.Reading.{Frame, byteAt, isRead, known, Reading, refusal, after, parsed, frameOf, readLines}
 use Rattle.judge.proofs.Parsed.{passed}

@@ -5,15 +5,15 @@ use mathlib.Core.Logic.{_↔_}
 use mathlib.Core.Bool.{Bool, true, false, _&&_, true≢false}
 use mathlib.Core.Option.{Option, none, some, Option·none-ne-some}
 use mathlib.Core.List.{[], _∷_}
-use Rattle.lines.proofs.DigitValues.{both}
 use Rattle.program.specs.Program.{Program}
 use Rattle.program.specs.WellFormed.{WellFormed}
+use Rattle.program.proofs.Tests.{both}
 use Rattle.schedules.specs.Order.{Schedule}
 use Rattle.schedules.specs.System.{run, ended, Allowed, FullFrom}
 use Rattle.schedules.specs.Greedy.{Fitting}
 use Rattle.schedules.proofs.Order.{AtMost, at-most-not-less}
 use Rattle.schedules.proofs.Runs.{ended-none, full-allowed, allowed-full}
-use Rattle.schedules.proofs.Greedy.{Frontable, greedy-least, commuting}
+use Rattle.schedules.proofs.Greedy.{GreedyLaws, greedy-least, commuting}
 use Rattle.machine.specs.State.{State, step, may, SC, start}
 use Rattle.machine.specs.Graph.{Graph, graphOf, graph, endOf, Full}
 use Rattle.machine.proofs.Lawful.{lawful, names-ascend, at-most-24}
@@ -39,8 +39,8 @@ module _ (p : Program) (wf : WellFormed p) (g : Graph) where
   fits-may : (σ : State) (t : ℕ) → ready σ t ≡ true → may σ t ≡ true
   fits-may σ t e = fits-is g (locationOf p (values p g 24)) σ t e .live
 
-  frontable : Frontable SC ready Goal Regular
-  frontable = commuting SC ready Goal Regular (λ σ t r e. regular-step σ t r (fits-may σ t e)) (λ σ t r o. final σ t (o .0) (ready σ t) refl)
+  greedy-laws : GreedyLaws SC ready Goal Regular
+  greedy-laws = commuting SC ready Goal Regular (λ σ t r e. regular-step σ t r (fits-may σ t e)) (λ σ t r o. final σ t (o .0) (ready σ t) refl)
       (λ σ a b r n x y. fits-commute g (locationOf p (values p g 24)) σ a b n x y) (λ σ a b r n x y. fits-stays g (locationOf p (values p g 24)) σ a b n x y)
       names-ascend (λ σ t r e. lawful .named σ t (fits-may σ t e))
     where
@@ -63,7 +63,7 @@ module _ (p : Program) (wf : WellFormed p) (g : Graph) where
   walk-least : (s : Schedule) → MadeBy p g s → MadeBy p g (walk p g) × (endOf p (walk p g) ≡ endOf p s) × ((r : Schedule) → MadeBy p g r → AtMost (walk p g) r)
   unfolding walk graph
   walk-least s m =
-      let b = greedy-least SC ready Goal Regular frontable 24 (start p) s (at-most-24 p wf s (m .0)) (regular-start p wf) (made-fitting s m) in
+      let b = greedy-least SC ready Goal Regular greedy-laws 24 (start p) s (at-most-24 p wf s (m .0)) (regular-start p wf) (made-fitting s m) in
       (fitting-full (walk p g) (start p) (b .0), b .1, λ r k. b .2 r (made-fitting r k))
 
   abbrev accepts : Bool

@@ -11,9 +11,9 @@ use borrow.Author.Tests.{leb-true, eqb-true, ltb-true}
 use lib.Dec.{eqb, leb}
 use lib.ListN.{length, getD, set, replicate, length-set, length-replicate}
 use lib.Seq.{getD-set-same, getD-set-other}
-use Rattle.lines.proofs.DigitValues.{both}
 use Rattle.lines.specs.TextLines.{TextLine, split}
 use Rattle.program.specs.Program.{Program}
+use Rattle.program.proofs.Tests.{both}
 use Rattle.schedules.specs.Lists.{all}
 use Rattle.schedules.specs.Order.{less}
 use Rattle.schedules.proofs.Lists.{all-at}
@@ -21,7 +21,7 @@ use Rattle.schedules.proofs.Order.{AtMost, less-front, less-transitive}
 use Rattle.machine.specs.State.{Event}
 use Rattle.machine.specs.Graph.{Graph}
 use Rattle.judge.specs.Consistent.{rowOf, orderOf, Descends, Distinct, Canonical}
-use Rattle.judge.specs.Reading.{Frame, byteAt, isRead, writesIn, known, isEvent, isSource, inRange, key, Reading, allNew, inOrder, refusal, withLine, after, fresh, parsed, refused, frameOf, readLines, readGraph}
+use Rattle.judge.specs.Reading.{Frame, byteAt, isRead, writesIn, known, isEvent, isSource, inRange, key, Reading, allNew, inOrder, refusal, withLine, after, fresh, parsed, refusedAt, frameOf, readLines, readGraph}
 use Rattle.judge.proofs.Readable.{Named, Source, Readable, readable-canonical, event-is, source-is, new-is, reverse-in, distinct-reverse}
 
 -- a line that passes, passes each test
@@ -179,15 +179,15 @@ module _ (n : ℕ) where
   so-far-lines (l ∷ ls) k r g F e = go (frameOf l) refl (λ s h. so-far-lines ls (k + 1) s g h)
     where
       go : (o : Option Frame) → frameOf l ≡ o → ((s : Reading) → SoFar s → readLines n (k + 1) ls s ≡ parsed g → Readable n g) → Readable n g
-      go none q ih = let i : refused 30 k ≡ parsed g = rw (q, readLines) at e in absurd (let z : _≡_ {A = ℕ} 0 1 = cc in omega arith)
+      go none q ih = let i : refusedAt 30 k ≡ parsed g = rw (q, readLines) at e in absurd (let z : _≡_ {A = ℕ} 0 1 = cc in omega arith)
       go (some f) q ih = test (eqb (refusal n r f) 0) refl
         where
-          i : cond (eqb (refusal n r f) 0) (readLines n (k + 1) ls (after f r)) (refused (refusal n r f) k) ≡ parsed g
+          i : cond (eqb (refusal n r f) 0) (readLines n (k + 1) ls (after f r)) (refusedAt (refusal n r f) k) ≡ parsed g
           i = rw (q, readLines) at e
 
           test : (b : Bool) → eqb (refusal n r f) 0 ≡ b → Readable n g
           test true h = ih (after f r) (so-far-after r F f (eqb-true (refusal n r f) 0 h)) (rw h at i)
-          test false h = let j : refused (refusal n r f) k ≡ parsed g = rw h at i in absurd (let z : _≡_ {A = ℕ} 0 1 = cc in omega arith)
+          test false h = let j : refusedAt (refusal n r f) k ≡ parsed g = rw h at i in absurd (let z : _≡_ {A = ℕ} 0 1 = cc in omega arith)
 
   -- EVERY GRAPH READ IS READABLE
   pub read-readable : (text : List ℕ) (g : Graph) → readGraph n text ≡ parsed g → Readable n g

@@ -7,8 +7,8 @@ use mathlib.Core.List.{List, [], _∷_, reverse, reverseAux, List·Memᴰ, List�
 use borrow.Author.Tests.{ltb-true, lt-ltb, leb-true, le-leb, not-true}
 use lib.Dec.{ltb, leb}
 use lib.ListN.{length, getD}
-use Rattle.lines.proofs.DigitValues.{both}
 use Rattle.program.specs.Program.{Program}
+use Rattle.program.proofs.Tests.{both}
 use Rattle.schedules.specs.Lists.{any}
 use Rattle.schedules.proofs.Lists.{any-yes, any-of}
 use Rattle.machine.specs.State.{Event, initialWrite}

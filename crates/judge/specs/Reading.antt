@@ -98,7 +98,7 @@ fresh n = record { last = []; graph = record { reads = replicate n []; writes = 
 -- a graph, or a refusal's number and place
 pub data Parsed : Type 0 where
   parsed : Graph → Parsed
-  refused : ℕ → ℕ → Parsed
+  refusedAt : ℕ → ℕ → Parsed
 
 -- refusal 30: a line that is empty, odd, without its 0a, or has another character
 unfoldable pub frameOf : TextLine → Option Frame
@@ -109,8 +109,8 @@ unfoldable pub readLines : ℕ → ℕ → List TextLine → Reading → Parsed
 readLines n k [] r = parsed (r .graph)
 readLines n k (l ∷ ls) r =
     elim (frameOf l) [
-      | none ↦ refused 30 k
-      | some f ↦ cond (eqb (refusal n r f) 0) (readLines n (k + 1) ls (after f r)) (refused (refusal n r f) k)
+      | none ↦ refusedAt 30 k
+      | some f ↦ cond (eqb (refusal n r f) 0) (readLines n (k + 1) ls (after f r)) (refusedAt (refusal n r f) k)
     ]
 
 unfoldable pub readGraph : ℕ → List ℕ → Parsed
