@@ -39,7 +39,12 @@ total σ u = threadOf σ u .history .done + accesses (threadOf σ u .local .rest
 total-step : (σ : State) (t : ℕ) → may σ t ≡ true → (u : ℕ) → total (step σ t) u ≤ total σ u
 unfolding advanced
 total-step σ t m u = thread-cases (λ k h. h .history .done + accesses (h .local .rest) ≤ total σ k) σ t (may-range σ t m)
-    (omega (arith, noted-done (takes (threadOf σ t .local)) (latest (cellOf σ (place σ t) .writes)) (threadOf σ t .history), next-fewer (threadOf σ t .local) (cellOf σ (place σ t) .value) (may-pending σ t m))) u (λ ne. omega arith)
+    (omega (
+      arith,
+      noted-done (takes (threadOf σ t .local)) (latest (cellOf σ (place σ t) .writes)) (threadOf σ t .history),
+      next-fewer
+          (threadOf σ t .local) (cellOf σ (place σ t) .value) (may-pending σ t m),
+    )) u (λ ne. omega arith)
 
 total-run : (z : Schedule) (σ : State) → Allowed SC σ z → (u : ℕ) → total (run SC σ z) u ≤ total σ u
 unfolding run
@@ -48,7 +53,14 @@ total-run (t ∷ z) σ a u = omega (arith, total-run z (step σ t) (a .1) u, tot
 
 total-start : (p : Program) → WellFormed p → (u : ℕ) → total (start p) u ≤ 16
 unfolding run codeOf
-total-start p wf u = omega (arith, start-history p u .0, suffix-accesses (threadOf (start p) u .local .rest) (codeOf p u) (rest-code p [] tt u), accesses-length (codeOf p u), everywhere-getD (λ (c : List Instruction). length c ≤ 16) (p .threads) u [] (wf .sixteen) (omega arith))
+total-start p wf u = omega (
+  arith,
+  start-history p u .0,
+  suffix-accesses (threadOf (start p) u .local .rest) (codeOf p u)
+      (rest-code p [] tt u),
+  accesses-length (codeOf p u),
+  everywhere-getD (λ (c : List Instruction). length c ≤ 16) (p .threads) u [] (wf .sixteen) (omega arith),
+)
 
 pub done-16 : (p : Program) → WellFormed p → (s : Schedule) → Allowed SC (start p) s → (u : ℕ) → threadOf (run SC (start p) s) u .history .done ≤ 16
 done-16 p wf s a u = omega (arith, total-run s (start p) a u, total-start p wf u)

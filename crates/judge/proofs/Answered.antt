@@ -59,7 +59,8 @@ module _ (p : Program) (wf : WellFormed p) (text : List ℕ) (room : ℕ) (enoug
       go (some s) e = let r = judge-yes p wf g s e in (r .1, r .0)
 
 -- EVERY FULL SCHEDULE'S GRAPH TEXT is answered yes, with the least schedule of that graph
-pub own-text : (p : Program) → WellFormed p → (s : Schedule) → Full p s → (room : ℕ) → 24 ≤ room → (r : Schedule) × (judgeAnswer p (graphText (graph p s)) room ≡ consistent r) × LeastFor p (graph p s) r
+pub own-text : (p : Program) → WellFormed p → (s : Schedule) → Full p s → (room : ℕ) → 24 ≤ room →
+    (r : Schedule) × (judgeAnswer p (graphText (graph p s)) room ≡ consistent r) × LeastFor p (graph p s) r
 unfolding answerOf
 own-text p wf s f room h =
     let e = run-text-read p wf s f in

@@ -39,7 +39,8 @@ module _ (g : Graph) (pl : Event → ℕ) (σ : State) where
       go true e = n (ap (λ (i : Event). i .0) (sym (X .writes w .0) ∙ ap (λ (l : ℕ). turnOf (orderOf g l) (length (cellOf σ l .writes))) q ∙ Y .writes e .0))
       go false e =
           let r = Y .reads (silent-reads y (Y .live) e) in
-          upcoming-undone σ y (X .writes w .1 (upcoming σ y) (latest (cellOf σ (place σ y) .writes)) (r .0) (ap (λ (l : ℕ). latest (cellOf σ l .writes)) (sym q)) (r .1 ∙ sym q) (λ i. n (sym (ap (λ (j : Event). j .0) i))))
+          upcoming-undone σ y (X .writes w .1 (upcoming σ y) (latest (cellOf σ (place σ y) .writes)) (r .0)
+          (ap (λ (l : ℕ). latest (cellOf σ l .writes)) (sym q)) (r .1 ∙ sym q) (λ i. n (sym (ap (λ (j : Event). j .0) i))))
 
   fit-independent : (a b : ℕ) → a ≢ b → FitAt g pl σ a → FitAt g pl σ b → Independent σ a b
   fit-independent a b n A B = go (ℕ-discrete (place σ a) (place σ b))

@@ -73,7 +73,8 @@ module _ (p : Program) (g : Graph) (v : Values) (x y : Event) where
   by-coherence = dec-some (λ l. Later (orderOf g l) y x) (λ l. dec-later (orderOf g l) y x) (upTo 0 (length (g .writes)))
 
   by-from-reads : Dec (After × (x ≢ y))
-  by-from-reads = Dec·and (dec-some (λ r. (r .0 ≡ x .1) × Later (coherenceOf g (locationOf p v x)) y (r .1)) (λ r. Dec·and (ℕ-discrete (r .0) (x .1)) (dec-later (coherenceOf g (locationOf p v x)) y (r .1))) (rowOf g (x .0))) (dec-not (same-event x y))
+  by-from-reads = Dec·and (dec-some (λ r. (r .0 ≡ x .1) × Later (coherenceOf g (locationOf p v x)) y (r .1))
+      (λ r. Dec·and (ℕ-discrete (r .0) (x .1)) (dec-later (coherenceOf g (locationOf p v x)) y (r .1))) (rowOf g (x .0))) (dec-not (same-event x y))
 
   abbrev Cases : Type 0
   Cases = ((x .0 ≡ y .0) × (x .1 < y .1)) ⊎ ((ReadsFrom g y x × (x ≢ initialWrite)) ⊎ (InList ⊎ (After × (x ≢ y))))

@@ -73,7 +73,8 @@ module _ (g : Graph) (place : Event → ℕ) where
         go : Dec (Done σ x) → Done σ x
         go (yes d) = d
         go (no d) =
-            let a = all-at (λ u. all (λ r. not (waits place σ l s e u r)) (rowOf g u)) (upTo 0 (length (g .reads))) (x .0) h (in-upTo 0 (length (g .reads)) (x .0) (omega arith) (omega (arith, row-in x q k))) in
+            let a = all-at (λ u. all (λ r. not (waits place σ l s e u r)) (rowOf g u)) (upTo 0 (length (g .reads))) (x .0) h
+            (in-upTo 0 (length (g .reads)) (x .0) (omega arith) (omega (arith, row-in x q k))) in
             let b = all-at (λ r. not (waits place σ l s e (x .0) r)) (rowOf g (x .0)) (x .1, q) a k in
             absurd (true≢false (sym (is-waits x q i j n d) ∙ not-true (waits place σ l s e (x .0) (x .1, q)) b))
 
@@ -104,7 +105,8 @@ module _ (g : Graph) (place : Event → ℕ) where
       go false k = rw (k, readFits)
       go true k =
           let x = f k in
-          rw (k, readFits) (both-and (any-of (λ r. sameRead r (e .1, latest (c .writes))) (rowOf g (e .0)) (e .1, latest (c .writes)) (x .0) (same-read (e .1, latest (c .writes)))) (eq-eqb (place e) (placeOf h) (x .1)))
+          rw (k, readFits) (both-and (any-of (λ r. sameRead r (e .1, latest (c .writes))) (rowOf g (e .0)) (e .1, latest (c .writes)) (x .0)
+          (same-read (e .1, latest (c .writes)))) (eq-eqb (place e) (placeOf h) (x .1)))
 
   write-is : (σ : State) (e : Event) (l : ℕ) (c : Cell) (o : Option ℕ) → writeFits g place σ e l c o ≡ true → given o ≡ true → Turn e l c (Done σ)
   unfolding writeFits given

@@ -72,4 +72,5 @@ module _ (n : ℕ) where
   pub read-frames : (fs : List Frame) (k : ℕ) (r : Reading) → Everywhere Bytes fs → Passing n r fs → readLines n k (split (textOf fs)) r ≡ parsed (afterAll fs r .graph)
   unfolding readLines afterAll textOf split
   read-frames [] k r b p = refl
-  read-frames (f ∷ fs) k r b p = ap (λ (ls : List TextLine). readLines n k ls r) (split-text f (textOf fs)) ∙ read-line f (split (textOf fs)) k r (b .0) (p .0) ∙ read-frames fs (k + 1) (after f r) (b .1) (p .1)
+  read-frames (f ∷ fs) k r b p = ap (λ (ls : List TextLine). readLines n k ls r) (split-text f (textOf fs)) ∙
+      read-line f (split (textOf fs)) k r (b .0) (p .0) ∙ read-frames fs (k + 1) (after f r) (b .1) (p .1)

@@ -49,7 +49,8 @@ module _ (p : Program) (wf : WellFormed p) (g : Graph) (v : Values) (C : Canonic
   -- what stands before an event is an event
   pub before-event : (x y : Event) → Before p g v x y → Event-of p v y → Event-of p v x
   before-event x y (program-order q h) f = earlier-event p v (x .0) (x .1) (y .1) (omega arith) (subst (λ (t : ℕ). Event-of p v (t, y .1)) (sym q) f)
-  before-event x y (reads-from r n) f = ⊎-elim (λ (q : x ≡ initialWrite). absurd (n q)) (λ (h : List·Memᴰ x (orderOf g (locationOf p v y)) × (x ≢ initialWrite)). order-event (locationOf p v y) x (h .0)) (source-cases y x r)
+  before-event x y (reads-from r n) f = ⊎-elim (λ (q : x ≡ initialWrite). absurd (n q))
+      (λ (h : List·Memᴰ x (orderOf g (locationOf p v y)) × (x ≢ initialWrite)). order-event (locationOf p v y) x (h .0)) (source-cases y x r)
   before-event x y (coherence l h) f = order-event l x (later-in (orderOf g l) y x h .1)
   before-event x y (from-reads s r h n) f = row-event x s r
 
@@ -65,8 +66,10 @@ module _ (p : Program) (wf : WellFormed p) (g : Graph) (v : Values) (C : Canonic
   pub follows-start : Follows (start p)
   follows-start = record {
     agrees = agrees-start p v wf;
-    rows = λ t. rw (start-history p t .1) (record { front = rowOf g t; whole = sym (append-nil (rowOf g t)); undone = λ r m d. none-done t (r .0) d; done = λ r m. absurd (List·Memᴰ·not-nil m) });
-    orders = λ l. rw (start-writes p l) (record { front = orderOf g l; whole = sym (append-nil (orderOf g l)); undone = λ e m d. none-done (e .0) (e .1) d; done = λ e m. absurd (List·Memᴰ·not-nil m) });
+    rows = λ t. rw (start-history p t .1)
+        (record { front = rowOf g t; whole = sym (append-nil (rowOf g t)); undone = λ r m d. none-done t (r .0) d; done = λ r m. absurd (List·Memᴰ·not-nil m) });
+    orders = λ l. rw (start-writes p l)
+        (record { front = orderOf g l; whole = sym (append-nil (orderOf g l)); undone = λ e m d. none-done (e .0) (e .1) d; done = λ e m. absurd (List·Memᴰ·not-nil m) });
   }
 
   -- everything before y is done; everything before what is done is done
@@ -93,7 +96,8 @@ module _ (p : Program) (wf : WellFormed p) (g : Graph) (v : Values) (C : Canonic
     source-latest : (s : Event) → ReadsFrom g e s → latest (here .writes) ≡ s
     source-latest s r = ap (λ (l : ℕ). latest (cellOf σ l .writes)) (sym (location p v σ (F .agrees) t)) ∙
         latest-is (Done σ) (cellOf σ (locationOf p v e) .writes) (orderOf g (locationOf p v e)) (F .orders (locationOf p v e)) s
-        (⊎-elim (λ (q : s ≡ initialWrite). inl q) (λ (h : List·Memᴰ s (orderOf g (locationOf p v e)) × (s ≢ initialWrite)). inr (h .0, ready s (reads-from r (h .1)))) (source-cases e s r))
+        (⊎-elim (λ (q : s ≡ initialWrite). inl q)
+        (λ (h : List·Memᴰ s (orderOf g (locationOf p v e)) × (s ≢ initialWrite)). inr (h .0, ready s (reads-from r (h .1)))) (source-cases e s r))
         (λ y d f. upcoming-undone σ t (cl e y (from-reads s r f (other y d)) d))
 
     pub finds : Reads p v e → v e ≡ here .value
@@ -112,7 +116,8 @@ module _ (p : Program) (wf : WellFormed p) (g : Graph) (v : Values) (C : Canonic
 
     row-own : (b : Bool) → takes (threadOf σ t .local) ≡ b → Row t (noted b (latest (here .writes)) (threadOf σ t .history) .reads)
     unfolding noted
-    row-own false k = parts-stay (λ r. Done σ (t, r .0)) (threadOf σ t .history .reads) (rowOf g t) (F .rows t) (λ r. Done (step σ t) (t, r .0)) (λ r d. done-more σ t m (t, r .0) d)
+    row-own false k = parts-stay (λ r. Done σ (t, r .0)) (threadOf σ t .history .reads) (rowOf g t) (F .rows t) (λ r. Done (step σ t) (t, r .0))
+        (λ r d. done-more σ t m (t, r .0) d)
         (λ r j d. ⊎-elim (λ (h : Done σ (t, r .0)). h)
         (λ (h : _≡_ {A = Event} (t, r .0) e).
         let i : ReadsFrom g e (r .1) = subst (λ (n : ℕ). List·Memᴰ (n, r .1) (rowOf g t)) (ap (λ (x : Event). x .1) h) j in
@@ -150,7 +155,8 @@ module _ (p : Program) (wf : WellFormed p) (g : Graph) (v : Values) (C : Canonic
         (parts-next (Done σ) (cellOf σ l .writes) (orderOf g l) (F .orders l) (Done (step σ t)) (done-more σ t m) e
         (M .writes l e .1 (location p v σ (F .agrees) t ∙ sym q, some-writes p v e x (sym (writes-as p v σ (F .agrees) t m finds) ∙ i)))
         (upcoming-undone σ t) (λ x f. ready x (coherence l f)) (done-new σ t m)
-        (λ x f d. ⊎-elim (λ (h : Done σ x). upcoming-undone σ t (cl e x (coherence l f) h)) (λ (h : x ≡ e). distinct-later (orderOf g l) e (C .once l) (subst (λ (y : Event). Later (orderOf g l) y e) h f)) (done-cases σ t m x d)))
+        (λ x f d. ⊎-elim (λ (h : Done σ x). upcoming-undone σ t (cl e x (coherence l f) h))
+        (λ (h : x ≡ e). distinct-later (orderOf g l) e (C .once l) (subst (λ (y : Event). Later (orderOf g l) y e) h f)) (done-cases σ t m x d)))
 
     pub follows-step : Follows (step σ t)
     unfolding advanced
@@ -161,4 +167,5 @@ module _ (p : Program) (wf : WellFormed p) (g : Graph) (v : Values) (C : Canonic
     }
 
     pub closed-step : Closed (step σ t)
-    closed-step x y b d = ⊎-elim (λ (h : Done σ y). done-more σ t m x (cl x y b h)) (λ (h : y ≡ e). done-more σ t m x (ready x (subst (λ (z : Event). Before p g v x z) h b))) (done-cases σ t m y d)
+    closed-step x y b d = ⊎-elim (λ (h : Done σ y). done-more σ t m x (cl x y b h))
+        (λ (h : y ≡ e). done-more σ t m x (ready x (subst (λ (z : Event). Before p g v x z) h b))) (done-cases σ t m y d)

@@ -81,7 +81,8 @@ module _ (p : Program) (wf : WellFormed p) (g : Graph) where
 
   made-accepted : MadeBy p g (walk p g) → accepts ≡ true
   unfolding graph
-  made-accepted m = both-and (full-allowed SC (start p) (walk p g) (m .0) .1) (subst (λ (h : Graph). sameGraph (graphOf (endOf p (walk p g))) h ≡ true) (m .1) (is-same-graph (graphOf (endOf p (walk p g)))))
+  made-accepted m = both-and (full-allowed SC (start p) (walk p g) (m .0) .1)
+      (subst (λ (h : Graph). sameGraph (graphOf (endOf p (walk p g))) h ≡ true) (m .1) (is-same-graph (graphOf (endOf p (walk p g)))))
 
   judge-is : (b : Bool) → accepts ≡ b → judge p g ≡ elim b [ true ↦ some (walk p g) | false ↦ none ]
   unfolding judge

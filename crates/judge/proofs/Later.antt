@@ -23,7 +23,8 @@ module _ {A : Type 0} where
 
   pub later-across : (front ws : List A) (y x : A) → List·Memᴰ y front → List·Memᴰ x ws → Later (front ++ ws) y x
   later-across [] ws y x m k = absurd (List·Memᴰ·not-nil m)
-  later-across (w ∷ front) ws y x m k = ⊎-elim (λ (q : y ≡ w). inl (q, Memᴰ·append-right front k)) (λ (j : List·Memᴰ y front). inr (later-across front ws y x j k)) (List·Memᴰ·cases-cons m)
+  later-across (w ∷ front) ws y x m k = ⊎-elim (λ (q : y ≡ w). inl (q, Memᴰ·append-right front k))
+      (λ (j : List·Memᴰ y front). inr (later-across front ws y x j k)) (List·Memᴰ·cases-cons m)
 
   pub later-cases : (front ws : List A) (y x : A) → Later (front ++ ws) y x → List·Memᴰ y front ⊎ Later ws y x
   later-cases [] ws y x f = inr f

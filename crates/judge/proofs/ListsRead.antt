@@ -51,7 +51,8 @@ module _ (n : ℕ) (R : List (List (ℕ × Event))) where
   lineOf l es = 0x41 ∷ l ∷ eventBytes es
 
   -- a `41` line that is in range, in order and new passes
-  write-passes : (l : ℕ) (es : List Event) (r : Reading) → 1 ≤ length es → l ≤ 7 → ((e : Event) → List·Memᴰ e es → Named n e) → Distinct es → ((e : Event) → List·Memᴰ e es → Unwritten (r .graph .writes) e) →
+  write-passes : (l : ℕ) (es : List Event) (r : Reading) → 1 ≤ length es → l ≤ 7 → ((e : Event) → List·Memᴰ e es → Named n e) → Distinct es →
+      ((e : Event) → List·Memᴰ e es → Unwritten (r .graph .writes) e) →
       less (r .last) (0x41 ∷ l ∷ []) ≡ true → refusal n r (lineOf l es) ≡ 0
   unfolding refusal known inRange inOrder key isRead writesIn
   write-passes l es r h c e d u k =
@@ -90,20 +91,23 @@ module _ (n : ℕ) (R : List (List (ℕ × Event))) where
     once = λ k. C .once (suc k);
     named = λ k. C .named (suc k);
     apart = λ j k e a b. let q = C .apart (suc j) (suc k) e a b in omega arith;
-    new = λ k e m j i. ⊎-elim (λ (h : List·Memᴰ e (getD pre j [])). C .new (suc k) e m j h) (λ (h : List·Memᴰ e ws). absurd (let q = C .apart 0 (suc k) e h m in omega arith)) (in-last pre ws j e i);
+    new = λ k e m j i. ⊎-elim (λ (h : List·Memᴰ e (getD pre j [])). C .new (suc k) e m j h)
+        (λ (h : List·Memᴰ e ws). absurd (let q = C .apart 0 (suc k) e h m in omega arith)) (in-last pre ws j e i);
   }
 
   -- one location: no line, or one that passes
   list-read : (ws : List Event) (lists pre : List (List Event)) (l : ℕ) (r : Reading) → length pre ≡ l → l ≤ 7 → r .graph ≡ graphOf R (pre ++ replicate (length (ws ∷ lists)) []) →
       ((k : ℕ) → l ≤ k → less (r .last) (0x41 ∷ k ∷ []) ≡ true) → Remaining (ws ∷ lists) pre →
-      Passing n r (writeFrame l ws) × (afterAll (writeFrame l ws) r .graph ≡ graphOf R (pre ++ (ws ∷ replicate (length lists) []))) × ((k : ℕ) → suc l ≤ k → less (afterAll (writeFrame l ws) r .last) (0x41 ∷ k ∷ []) ≡ true)
+      Passing n r (writeFrame l ws) × (afterAll (writeFrame l ws) r .graph ≡ graphOf R
+      (pre ++ (ws ∷ replicate (length lists) []))) × ((k : ℕ) → suc l ≤ k → less (afterAll (writeFrame l ws) r .last) (0x41 ∷ k ∷ []) ≡ true)
   unfolding afterAll writeFrame
   list-read [] lists pre l r here c g u C = (tt, g, λ k h. u k (omega arith))
   list-read (e ∷ es) lists pre l r here c g u C =
       let zs = reverse (e ∷ es) in (
         (
           write-passes l zs r (let q = length-reverse (e ∷ es) in omega arith) c (λ x m. C .named 0 x (reverse-in (e ∷ es) x m)) (distinct-reverse (e ∷ es) (C .once 0))
-              (λ x m k i. C .new 0 x (reverse-in (e ∷ es) x m) k (in-front pre (suc (length lists)) k x (subst (λ (h : Graph). List·Memᴰ x (getD (h .writes) k [])) g i))) (u l (omega arith)),
+              (λ x m k i. C .new 0 x (reverse-in (e ∷ es) x m) k
+              (in-front pre (suc (length lists)) k x (subst (λ (h : Graph). List·Memᴰ x (getD (h .writes) k [])) g i))) (u l (omega arith)),
           tt,
         ),
         line-graph l (e ∷ es) pre (replicate (length lists) []) [] r here g,

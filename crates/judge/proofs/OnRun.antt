@@ -122,7 +122,9 @@ module _ (p : Program) (wf : WellFormed p) (g : Graph) (C : Canonical p g) (N : 
 
         go : Dec (Done (step σ t) x) → ((Done (step σ t) x → ⊥) → ⊥) → ⊥
         go (no k) ih = ih k
-        go (yes k) ih = ⊎-elim (λ (h : Done σ x). n h) (λ (h : x ≡ upcoming σ t). now (subst (λ (e : Event). ReadsFrom g e s) h r) (subst (λ (e : Event). Later (coherenceOf g (locationOf p v e)) y s) h f)) (done-cases σ t (o .ends .full .0) x k)
+        go (yes k) ih = ⊎-elim (λ (h : Done σ x). n h)
+            (λ (h : x ≡ upcoming σ t). now (subst (λ (e : Event). ReadsFrom g e s) h r)
+            (subst (λ (e : Event). Later (coherenceOf g (locationOf p v e)) y s) h f)) (done-cases σ t (o .ends .full .0) x k)
 
     -- each step comes after everything that stands before its event
     pub on-ready : (σ : State) (t : ℕ) (z : Schedule) → On σ (t ∷ z) → (x : Event) → Before p g v x (upcoming σ t) → Done σ x
@@ -134,11 +136,13 @@ module _ (p : Program) (wf : WellFormed p) (g : Graph) (C : Canonical p g) (N : 
         let m = o .ends .full .0 in
         let j = on-step σ t z o in
         let k = done-before (Done (step σ t)) (cellOf (step σ t) l .writes) (orderOf g l) (on-parts (step σ t) z j l) (upcoming σ t) x (done-new σ t m) f in
-        ⊎-elim (λ (h : Done σ x). h) (λ (h : x ≡ upcoming σ t). absurd (distinct-later (orderOf g l) x (C .once l) (subst (λ (y : Event). Later (orderOf g l) y x) (sym h) f))) (done-cases σ t m x (j .ends .regular .old l x k))
+        ⊎-elim (λ (h : Done σ x). h) (λ (h : x ≡ upcoming σ t). absurd
+        (distinct-later (orderOf g l) x (C .once l) (subst (λ (y : Event). Later (orderOf g l) y x) (sym h) f))) (done-cases σ t m x (j .ends .regular .old l x k))
     on-ready σ t z o x (from-reads s r f n) = go (decLt (x .1) (threadOf σ (x .0) .history .done))
       where
         go : Dec (Done σ x) → Done σ x
         go (yes d) = d
         go (no d) =
             let m = o .ends .full .0 in
-            absurd (not-late z (step σ t) (on-step σ t z o) x (upcoming σ t) s r f (done-new σ t m) (λ k. ⊎-elim (λ (h : Done σ x). d h) (λ (h : x ≡ upcoming σ t). n h) (done-cases σ t m x k)))
+            absurd (not-late z (step σ t) (on-step σ t z o) x (upcoming σ t) s r f (done-new σ t m)
+            (λ k. ⊎-elim (λ (h : Done σ x). d h) (λ (h : x ≡ upcoming σ t). n h) (done-cases σ t m x k)))

@@ -36,7 +36,8 @@ unfolding refusal
 passed n r f e = passes (known f) (inRange n f) (inOrder r f) e
 
 -- a property of each row of rows of which one is set
-set-cases : {A : Type 0} (P : ℕ → List A → Type 0) (rows : List (List A)) (i : ℕ) (w : List A) → i < length rows → P i w → ((k : ℕ) → k ≢ i → P k (getD rows k [])) → (k : ℕ) → P k (getD (set rows i w) k [])
+set-cases : {A : Type 0} (P : ℕ → List A → Type 0) (rows : List (List A)) (i : ℕ) (w : List A) → i < length rows → P i w →
+    ((k : ℕ) → k ≢ i → P k (getD rows k [])) → (k : ℕ) → P k (getD (set rows i w) k [])
 set-cases P rows i w h own other k = go (ℕ-discrete k i)
   where
     go : Dec (k ≡ i) → P k (getD (set rows i w) k [])
@@ -44,8 +45,10 @@ set-cases P rows i w h own other k = go (ℕ-discrete k i)
     go (no q) = subst (P k) (sym (getD-set-other rows i k w [] q)) (other k q)
 
 -- who stands in such a row
-set-in : {A : Type 0} (rows : List (List A)) (i : ℕ) (w : List A) → i < length rows → (x : A) (k : ℕ) → List·Memᴰ x (getD (set rows i w) k []) → ((k ≡ i) × List·Memᴰ x w) ⊎ ((k ≢ i) × List·Memᴰ x (getD rows k []))
-set-in {A} rows i w h x = set-cases (λ k v. List·Memᴰ x v → ((k ≡ i) × List·Memᴰ x w) ⊎ ((k ≢ i) × List·Memᴰ x (getD rows k []))) rows i w h (λ m. inl (refl, m)) (λ k q m. inr (q, m))
+set-in : {A : Type 0} (rows : List (List A)) (i : ℕ) (w : List A) → i < length rows → (x : A) (k : ℕ) → List·Memᴰ x (getD (set rows i w) k []) →
+    ((k ≡ i) × List·Memᴰ x w) ⊎ ((k ≢ i) × List·Memᴰ x (getD rows k []))
+set-in {A} rows i w h x = set-cases (λ k v. List·Memᴰ x v → ((k ≡ i) × List·Memᴰ x w) ⊎ ((k ≢ i) × List·Memᴰ x (getD rows k []))) rows i w h
+    (λ m. inl (refl, m)) (λ k q m. inr (q, m))
 
 pub empty-row : {A : Type 0} (n k : ℕ) → _≡_ {A = List A} (getD (replicate n []) k []) []
 empty-row zero k = refl
@@ -107,7 +110,9 @@ module _ (n : ℕ) where
         once = R .once;
         apart = R .apart;
         reads = λ u x m. ⊎-elim
-            (λ (k : (u ≡ t) × List·Memᴰ x ((i, s) ∷ rowOf g t)). ⊎-elim (λ (q : x ≡ (i, s)). subst (λ (y : ℕ × Event). (y .0 ≤ 15) × Source n (y .1)) (sym q) (e .1, c)) (λ (j : List·Memᴰ x (rowOf g t)). R .reads t x j) (List·Memᴰ·cases-cons (k .1)))
+            (λ (k : (u ≡ t) × List·Memᴰ x ((i, s) ∷ rowOf g t)). ⊎-elim
+            (λ (q : x ≡ (i, s)). subst (λ (y : ℕ × Event). (y .0 ≤ 15) × Source n (y .1)) (sym q) (e .1, c))
+            (λ (j : List·Memᴰ x (rowOf g t)). R .reads t x j) (List·Memᴰ·cases-cons (k .1)))
             (λ (k : (u ≢ t) × List·Memᴰ x (rowOf g u)). R .reads u x (k .1)) (set-in (g .reads) t ((i, s) ∷ rowOf g t) there x u m);
         writes = R .writes;
       };
@@ -141,7 +146,8 @@ module _ (n : ℕ) where
         once = set-cases (λ u w. Distinct w) (g .writes) l (reverse es) there (distinct-reverse es (new .0)) (λ u q. R .once u);
         apart = λ u v x m j. one-list u v x (set-in (g .writes) l (reverse es) there x u m) (set-in (g .writes) l (reverse es) there x v j);
         reads = R .reads;
-        writes = λ u x m. ⊎-elim (λ (j : (u ≡ l) × List·Memᴰ x (reverse es)). e x (reverse-in es x (j .1))) (λ (j : (u ≢ l) × List·Memᴰ x (orderOf g u)). R .writes u x (j .1)) (set-in (g .writes) l (reverse es) there x u m);
+        writes = λ u x m. ⊎-elim (λ (j : (u ≡ l) × List·Memᴰ x (reverse es)). e x (reverse-in es x (j .1)))
+            (λ (j : (u ≢ l) × List·Memᴰ x (orderOf g u)). R .writes u x (j .1)) (set-in (g .writes) l (reverse es) there x u m);
       };
       keys = λ t x m. inr (at-most-less (0x40 ∷ t ∷ x .0 ∷ []) (r .last) k (F .keys t x m) h);
     }
@@ -167,11 +173,13 @@ module _ (n : ℕ) where
             let a = both (isEvent n (byteAt f 1, byteAt f 2)) (isSource n (byteAt f 3, byteAt f 4)) (rw e at (h .1)) in
             let b = both (less (r .last) (byteAt f 0 ∷ byteAt f 1 ∷ byteAt f 2 ∷ [])) true (rw e at (h .2)) in
             let k = eqb-true (byteAt f 0) 0x40 e in
-            rw e (rw k (so-far-read (byteAt f 1) (byteAt f 2) (byteAt f 3, byteAt f 4) (event-is n (byteAt f 1, byteAt f 2) (a .0)) (source-is n (byteAt f 3, byteAt f 4) (a .1)) (rw k at (b .0))))
+            rw e (rw k (so-far-read (byteAt f 1) (byteAt f 2) (byteAt f 3, byteAt f 4) (event-is n (byteAt f 1, byteAt f 2) (a .0))
+            (source-is n (byteAt f 3, byteAt f 4) (a .1)) (rw k at (b .0))))
         go false e h =
             let a = both (leb (byteAt f 1) 7) (all (isEvent n) (writesIn f)) (rw e at (h .1)) in
             let b = both (less (r .last) (byteAt f 0 ∷ byteAt f 1 ∷ [])) (allNew (g .writes) (writesIn f)) (rw e at (h .2)) in
-            rw e (so-far-write (byteAt f 0 ∷ byteAt f 1 ∷ []) (byteAt f 1) (writesIn f) (leb-true (byteAt f 1) 7 (a .0)) (λ x m. event-is n x (all-at (isEvent n) (writesIn f) x (a .1) m)) (b .1) (b .0))
+            rw e (so-far-write (byteAt f 0 ∷ byteAt f 1 ∷ []) (byteAt f 1) (writesIn f) (leb-true (byteAt f 1) 7 (a .0))
+            (λ x m. event-is n x (all-at (isEvent n) (writesIn f) x (a .1) m)) (b .1) (b .0))
 
   so-far-lines : (ls : List TextLine) (k : ℕ) (r : Reading) (g : Graph) → SoFar r → readLines n k ls r ≡ parsed g → Readable n g
   unfolding readLines

@@ -47,7 +47,8 @@ module _ {A : Type 0} (D : A → Type 0) (w ws : List A) (P : Parts D w ws) wher
     }
 
     -- a member that follows only what is done gets done, and none that follows it
-    last-undone : (y : A) (front : List A) → List·Memᴰ y front → ((x : A) → List·Memᴰ x front → D x → ⊥) → ((x : A) → Later front y x → D x) → (f : List A) × (front ≡ f ++ (y ∷ []))
+    last-undone : (y : A) (front : List A) → List·Memᴰ y front → ((x : A) → List·Memᴰ x front → D x → ⊥) → ((x : A) → Later front y x → D x) →
+        (f : List A) × (front ≡ f ++ (y ∷ []))
     last-undone y [] m n b = absurd (List·Memᴰ·not-nil m)
     last-undone y (z ∷ []) m n b = ⊎-elim (λ (q : y ≡ z). ([], ap (λ (k : A). k ∷ []) (sym q))) (λ (k : List·Memᴰ y []). absurd (List·Memᴰ·not-nil k)) (List·Memᴰ·cases-cons m)
     last-undone y (z ∷ u ∷ us) m n b =
@@ -90,14 +91,18 @@ module _ (D : Event → Type 0) (w ws : List Event) (P : Parts D w ws) where
   -- a source that is done, and after which nothing is done, is the last write done
   pub latest-is : (s : Event) → (s ≡ initialWrite) ⊎ (List·Memᴰ s ws × D s) → ((y : Event) → D y → Later with-initial y s → ⊥) → latest w ≡ s
   unfolding latest
-  latest-is s k n = go w (P .done) (λ x. parts-of D w ws P x) (⊎-elim (λ (q : s ≡ initialWrite). inl q) (λ (j : List·Memᴰ s ws × D s). inr (done-in D w ws P s (j .0) (j .1))) k) (P .whole)
+  latest-is s k n = go w (P .done) (λ x. parts-of D w ws P x)
+      (⊎-elim (λ (q : s ≡ initialWrite). inl q) (λ (j : List·Memᴰ s ws × D s). inr (done-in D w ws P s (j .0) (j .1))) k) (P .whole)
     where
-      go : (w : List Event) → ((x : Event) → List·Memᴰ x w → D x) → ((x : Event) → List·Memᴰ x w → List·Memᴰ x ws) → (s ≡ initialWrite) ⊎ List·Memᴰ s w → ws ≡ P .front ++ w → latest w ≡ s
+      go : (w : List Event) → ((x : Event) → List·Memᴰ x w → D x) → ((x : Event) → List·Memᴰ x w → List·Memᴰ x ws) →
+          (s ≡ initialWrite) ⊎ List·Memᴰ s w → ws ≡ P .front ++ w → latest w ≡ s
       go [] d u (inl q) e = sym q
       go [] d u (inr m) e = absurd (List·Memᴰ·not-nil m)
-      go (h ∷ w) d u (inl q) e = absurd (n h (d h (List·Memᴰ·head refl)) (rw q (later-across ws (initialWrite ∷ []) h initialWrite (u h (List·Memᴰ·head refl)) (List·Memᴰ·head refl))))
+      go (h ∷ w) d u (inl q) e = absurd
+          (n h (d h (List·Memᴰ·head refl)) (rw q (later-across ws (initialWrite ∷ []) h initialWrite (u h (List·Memᴰ·head refl)) (List·Memᴰ·head refl))))
       go (h ∷ w) d u (inr m) e = ⊎-elim (λ (i : s ≡ h). sym i)
-          (λ (i : List·Memᴰ s w). absurd (n h (d h (List·Memᴰ·head refl)) (append-later ws h s (rw e (later-right (P .front) (h ∷ w) h s (inl (refl, i))))))) (List·Memᴰ·cases-cons m)
+          (λ (i : List·Memᴰ s w). absurd (n h (d h (List·Memᴰ·head refl))
+          (append-later ws h s (rw e (later-right (P .front) (h ∷ w) h s (inl (refl, i))))))) (List·Memᴰ·cases-cons m)
         where
           append-later : (l : List Event) (y x : Event) → Later l y x → Later (l ++ (initialWrite ∷ [])) y x
           append-later [] y x f = absurd f
@@ -110,13 +115,17 @@ module _ (D : Event → Type 0) (w ws : List Event) (P : Parts D w ws) where
   none-later d y e f = go w (P .whole) f
     where
       go : (w : List Event) → ws ≡ P .front ++ w → Later with-initial y (latest w) → ⊥
-      go [] q f = ⊎-elim (λ (k : List·Memᴰ y ws). P .undone y (subst (List·Memᴰ y) (q ∙ nil-right (P .front)) k) e) (λ (k : Later (initialWrite ∷ []) y initialWrite). List·Memᴰ·not-nil (later-tail initialWrite [] y initialWrite k)) (later-cases ws (initialWrite ∷ []) y initialWrite f)
+      go [] q f = ⊎-elim (λ (k : List·Memᴰ y ws). P .undone y (subst (List·Memᴰ y) (q ∙ nil-right (P .front)) k) e)
+          (λ (k : Later (initialWrite ∷ []) y initialWrite). List·Memᴰ·not-nil (later-tail initialWrite [] y initialWrite k))
+          (later-cases ws (initialWrite ∷ []) y initialWrite f)
         where
           nil-right : (l : List Event) → l ++ [] ≡ l
           nil-right [] = refl
           nil-right (x ∷ l) = ap {B = List Event} (λ k. x ∷ k) (nil-right l)
       go (h ∷ w) q f =
-          let i : with-initial ≡ P .front ++ (h ∷ (w ++ (initialWrite ∷ []))) = ap (λ (l : List Event). l ++ (initialWrite ∷ [])) q ∙ append-assoc (P .front) (h ∷ w) (initialWrite ∷ []) in
+          let i : with-initial ≡ P .front ++ (h ∷ (w ++ (initialWrite ∷ []))) = ap (λ (l : List Event). l ++ (initialWrite ∷ [])) q ∙
+          append-assoc (P .front) (h ∷ w) (initialWrite ∷ []) in
           ⊎-elim (λ (k : List·Memᴰ y (P .front)). P .undone y k e)
-          (λ (k : Later (h ∷ (w ++ (initialWrite ∷ []))) y h). distinct-right (P .front) (h ∷ (w ++ (initialWrite ∷ []))) (subst Distinct i d) .0 (later-tail h (w ++ (initialWrite ∷ [])) y h k))
+          (λ (k : Later (h ∷ (w ++ (initialWrite ∷ []))) y h). distinct-right (P .front) (h ∷ (w ++ (initialWrite ∷ []))) (subst Distinct i d) .0
+          (later-tail h (w ++ (initialWrite ∷ [])) y h k))
           (later-cases (P .front) (h ∷ (w ++ (initialWrite ∷ []))) y h (subst (λ (l : List Event). Later l y h) i f))

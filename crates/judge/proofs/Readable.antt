@@ -85,7 +85,8 @@ same-any e ws h = let r = any-yes (sameEvent e) ws h in subst (λ (x : Event). L
 
 unwritten-is : (rows : List (List Event)) (e : Event) → not (written e rows) ≡ true → Unwritten rows e
 unfolding written
-unwritten-is rows e h l m = true≢false (sym (any-of (λ ws. any (sameEvent e) ws) rows (getD rows l []) (in-rows rows l e m) (any-same e (getD rows l []) m)) ∙ not-true (written e rows) h)
+unwritten-is rows e h l m = true≢false
+    (sym (any-of (λ ws. any (sameEvent e) ws) rows (getD rows l []) (in-rows rows l e m) (any-same e (getD rows l []) m)) ∙ not-true (written e rows) h)
 
 is-unwritten : (rows : List (List Event)) (e : Event) → Unwritten rows e → not (written e rows) ≡ true
 unfolding written

@@ -20,7 +20,8 @@ use Rattle.judge.proofs.Alone.{some-writes}
 use Rattle.judge.proofs.Agreement.{Agrees, agrees-start, agrees-step, location, reads-as, writes-as}
 
 -- a step that reads notes the last write of its location
-pub read-noted : (σ : State) (t : ℕ) → may σ t ≡ true → takes (threadOf σ t .local) ≡ true → List·Memᴰ (threadOf σ t .history .done, latest (cellOf σ (place σ t) .writes)) (threadOf (step σ t) t .history .reads)
+pub read-noted : (σ : State) (t : ℕ) → may σ t ≡ true → takes (threadOf σ t .local) ≡ true →
+    List·Memᴰ (threadOf σ t .history .done, latest (cellOf σ (place σ t) .writes)) (threadOf (step σ t) t .history .reads)
 unfolding advanced noted
 read-noted σ t m e = rw (thread-own σ t (may-range σ t m), e) (List·Memᴰ·head refl)
 
@@ -56,13 +57,17 @@ module _ (p : Program) (v : Values) where
 
     says-new : takes (threadOf σ t .local) ≡ true → Says t (threadOf σ t .history .done, latest (here .writes))
     says-new k =
-        let r = sym (reads-as p v σ A t) ∙ k in
-        (r, subst (λ (x : ℕ). Leaves p v (latest (here .writes)) (locationOf p v e) x) (sym (finds r)) (subst (λ (l : ℕ). Leaves p v (latest (here .writes)) l (here .value)) (sym (location p v σ A t)) (A .values (place σ t))))
+        let r = sym (reads-as p v σ A t) ∙ k in (
+          r,
+          subst (λ (x : ℕ). Leaves p v (latest (here .writes)) (locationOf p v e) x) (sym (finds r))
+              (subst (λ (l : ℕ). Leaves p v (latest (here .writes)) l (here .value)) (sym (location p v σ A t)) (A .values (place σ t))),
+        )
 
     own-read : (b : Bool) → takes (threadOf σ t .local) ≡ b → (r : ℕ × Event) → List·Memᴰ r (noted b (latest (here .writes)) (threadOf σ t .history) .reads) → Says t r
     unfolding noted
     own-read false k r j = R .noted-read t r j
-    own-read true k r j = ⊎-elim (λ (q : r ≡ (threadOf σ t .history .done, latest (here .writes))). subst (Says t) (sym q) (says-new k)) (λ (i : List·Memᴰ r (threadOf σ t .history .reads)). R .noted-read t r i) (List·Memᴰ·cases-cons j)
+    own-read true k r j = ⊎-elim (λ (q : r ≡ (threadOf σ t .history .done, latest (here .writes))). subst (Says t) (sym q) (says-new k))
+        (λ (i : List·Memᴰ r (threadOf σ t .history .reads)). R .noted-read t r i) (List·Memᴰ·cases-cons j)
 
     abbrev Sourced : Event → Type 0
     Sourced x = (s : Event) × List·Memᴰ (x .1, s) (threadOf (step σ t) (x .0) .history .reads)
@@ -97,7 +102,8 @@ module _ (p : Program) (v : Values) where
     unfolding advanced
     records-step = record {
       agrees = agrees-step p v σ A t m finds;
-      noted-read = λ u. thread-cases (λ k h. (r : ℕ × Event) → List·Memᴰ r (h .history .reads) → Says k r) σ t (may-range σ t m) (own-read (takes (threadOf σ t .local)) refl) u (λ ne. R .noted-read u);
+      noted-read = λ u. thread-cases (λ k h. (r : ℕ × Event) → List·Memᴰ r (h .history .reads) → Says k r) σ t (may-range σ t m)
+          (own-read (takes (threadOf σ t .local)) refl) u (λ ne. R .noted-read u);
       every-read = λ x d k. sourced x k (done-cases σ t m x d);
       noted-write = λ l x k. is-write l x k (changes σ (A .regular) t l);
       every-write = λ l x d k. has-write l x k (done-cases σ t m x d);

@@ -38,7 +38,8 @@ module _ (n : ℕ) (six : n ≤ 6) (g : Graph) (R : Readable n g) where
   rows-part : Passing n (fresh n) (readFrames 0 (g .reads)) × (afterAll (readFrames 0 (g .reads)) (fresh n) .graph ≡ record { reads = g .reads; writes = replicate 8 [] }) ×
       ((l : ℕ) → less (afterAll (readFrames 0 (g .reads)) (fresh n) .last) (0x41 ∷ l ∷ []) ≡ true)
   unfolding fresh
-  rows-part = rows-read n (replicate 8 []) (g .reads) [] 0 (fresh n) refl (omega (arith, R .rows)) (ap (λ (k : ℕ). let h : Graph = record { reads = replicate k []; writes = replicate 8 [] } in h) (sym (R .rows))) precedes-nothing (R .ordered) (R .reads)
+  rows-part = rows-read n (replicate 8 []) (g .reads) [] 0 (fresh n) refl (omega (arith, R .rows))
+      (ap (λ (k : ℕ). let h : Graph = record { reads = replicate k []; writes = replicate 8 [] } in h) (sym (R .rows))) precedes-nothing (R .ordered) (R .reads)
 
   lists-part : Passing n (afterAll (readFrames 0 (g .reads)) (fresh n)) (writeFrames 0 (g .writes)) × (afterAll (writeFrames 0 (g .writes)) (afterAll (readFrames 0 (g .reads)) (fresh n)) .graph ≡ g)
   lists-part = lists-read n (g .reads) (g .writes) [] 0 (afterAll (readFrames 0 (g .reads)) (fresh n)) refl (omega (arith, R .lists))
@@ -48,5 +49,6 @@ module _ (n : ℕ) (six : n ≤ 6) (g : Graph) (R : Readable n g) where
   -- TEXT TO GRAPH UNDOES GRAPH TO TEXT
   pub text-read : readGraph n (graphText g) ≡ parsed g
   unfolding readGraph graphText frames
-  text-read = read-frames n (readFrames 0 (g .reads) ++ writeFrames 0 (g .writes)) 1 (fresh n) (frames-bytes n g printable) (passing-append n (readFrames 0 (g .reads)) (writeFrames 0 (g .writes)) (fresh n) (rows-part .0) (lists-part .0))
+  text-read = read-frames n (readFrames 0 (g .reads) ++ writeFrames 0 (g .writes)) 1 (fresh n) (frames-bytes n g printable)
+      (passing-append n (readFrames 0 (g .reads)) (writeFrames 0 (g .writes)) (fresh n) (rows-part .0) (lists-part .0))
       ∙ ap (λ (r : Reading). parsed (r .graph)) (after-append (readFrames 0 (g .reads)) (writeFrames 0 (g .writes)) (fresh n)) ∙ ap parsed (lists-part .1)

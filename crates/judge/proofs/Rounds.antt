@@ -106,16 +106,19 @@ module _ (p : Program) (wf : WellFormed p) where
     Known k σ = (n : ℕ) → k ≤ n → Records p (values p g n) σ
 
     module _ (C : Canonical p g) where
-      next-round : (n k : ℕ) (σ : State) (t : ℕ) (z : Schedule) → Ends σ (t ∷ z) → Known k σ → k < n → takes (threadOf σ t .local) ≡ true → values p g n (upcoming σ t) ≡ cellOf σ (place σ t) .value
+      next-round : (n k : ℕ) (σ : State) (t : ℕ) (z : Schedule) → Ends σ (t ∷ z) → Known k σ → k < n → takes (threadOf σ t .local) ≡ true →
+          values p g n (upcoming σ t) ≡ cellOf σ (place σ t) .value
       unfolding values
       next-round zero k σ t z E K h e = absurd (omega arith)
       next-round (suc n) k σ t z E K h e =
           let R = K n (omega arith) in
           let s = source-in (rowOf g t) (threadOf σ t .history .done) (latest (cellOf σ (place σ t) .writes)) (C .ordered t) (step-source σ t z E e) in
           rw s (left-is (values p g n) (latest (cellOf σ (place σ t) .writes)) (locationOf p (values p g n) (upcoming σ t)) (cellOf σ (place σ t) .value)
-          (subst (λ (l : ℕ). Leaves p (values p g n) (latest (cellOf σ (place σ t) .writes)) l (cellOf σ (place σ t) .value)) (sym (location p (values p g n) σ (R .agrees) t)) (R .agrees .values (place σ t))))
+          (subst (λ (l : ℕ). Leaves p (values p g n) (latest (cellOf σ (place σ t) .writes)) l (cellOf σ (place σ t) .value))
+          (sym (location p (values p g n) σ (R .agrees) t)) (R .agrees .values (place σ t))))
 
-      pub round-finds : (n k : ℕ) (σ : State) (t : ℕ) (z : Schedule) → Ends σ (t ∷ z) → Known k σ → k < n → Reads p (values p g n) (upcoming σ t) → values p g n (upcoming σ t) ≡ cellOf σ (place σ t) .value
+      pub round-finds : (n k : ℕ) (σ : State) (t : ℕ) (z : Schedule) → Ends σ (t ∷ z) → Known k σ → k < n → Reads p (values p g n) (upcoming σ t) →
+          values p g n (upcoming σ t) ≡ cellOf σ (place σ t) .value
       round-finds n k σ t z E K h e = next-round n k σ t z E K h (reads-as p (values p g n) σ (K n (omega arith) .agrees) t ∙ e)
 
       pub known-step : (k : ℕ) (σ : State) (t : ℕ) (z : Schedule) → Ends σ (t ∷ z) → Known k σ → Known (suc k) (step σ t)

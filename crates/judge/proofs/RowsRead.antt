@@ -70,16 +70,22 @@ module _ (n : ℕ) (W : List (List Event)) where
         let ih = row-read rs r (d .1) h (λ y m. c y (List·Memᴰ·tail m)) R in
         let k = c x (List·Memᴰ·head refl) in
         let p = read-passes t x (afterAll fs r) (h, k .0) (k .1) (ih .1 .next (x .0) (d .0)) in
-        rw q (passing-append n fs (readFrame t x ∷ []) r (ih .0) (p, tt), subst (Row (x ∷ rs)) (sym (after-append fs (readFrame t x ∷ []) r)) (row-line x rs (afterAll fs r) (ih .1)))
+        rw q (
+          passing-append n fs (readFrame t x ∷ []) r (ih .0) (p, tt),
+          subst (Row (x ∷ rs)) (sym (after-append fs (readFrame t x ∷ []) r))
+              (row-line x rs (afterAll fs r) (ih .1)),
+        )
       where
         map-append : (l : List (ℕ × Event)) → map (readFrame t) (l ++ (x ∷ [])) ≡ map (readFrame t) l ++ (readFrame t x ∷ [])
         map-append [] = refl
         map-append (y ∷ l) = ap {B = List Frame} (λ fs. readFrame t y ∷ fs) (map-append l)
 
   -- behind the lines of all threads
-  pub rows-read : (rows pre : List (List (ℕ × Event))) (t : ℕ) (r : Reading) → length pre ≡ t → t + length rows ≤ n → r .graph ≡ graphOf (pre ++ replicate (length rows) []) W → Precedes t (r .last) →
+  pub rows-read : (rows pre : List (List (ℕ × Event))) (t : ℕ) (r : Reading) → length pre ≡ t → t + length rows ≤ n →
+      r .graph ≡ graphOf (pre ++ replicate (length rows) []) W → Precedes t (r .last) →
       ((k : ℕ) → Descends (getD rows k [])) → ((k : ℕ) (x : ℕ × Event) → List·Memᴰ x (getD rows k []) → (x .0 ≤ 15) × Source n (x .1)) →
-      Passing n r (readFrames t rows) × (afterAll (readFrames t rows) r .graph ≡ graphOf (pre ++ rows) W) × ((l : ℕ) → less (afterAll (readFrames t rows) r .last) (0x41 ∷ l ∷ []) ≡ true)
+      Passing n r (readFrames t rows) × (afterAll (readFrames t rows) r .graph ≡ graphOf (pre ++ rows) W) × ((l : ℕ) → less
+      (afterAll (readFrames t rows) r .last) (0x41 ∷ l ∷ []) ≡ true)
   unfolding afterAll readFrames
   rows-read [] pre t r here h g u d c = (tt, g, u .locations)
   rows-read (rs ∷ rows) pre t r here h g u d c =
@@ -87,7 +93,8 @@ module _ (n : ℕ) (W : List (List Event)) where
       let R : Row pre t here (replicate (length rows) []) [] r = record { graph = g; next = λ i k. u .threads t i (omega arith); precedes = precedes-later t (r .last) u } in
       let a = row-read pre t here (replicate (length rows) []) rs r (d 0) (omega arith) (c 0) R in
       let ih = rows-read rows (pre ++ (rs ∷ [])) (suc t) (afterAll fs r) (length-append pre (rs ∷ []) ∙ omega arith) (omega arith)
-      (a .1 .graph ∙ ap (λ (l : List (List (ℕ × Event))). graphOf l W) (sym (append-assoc pre (rs ∷ []) (replicate (length rows) [])))) (a .1 .precedes) (λ k. d (suc k)) (λ k. c (suc k)) in
+      (a .1 .graph ∙ ap (λ (l : List (List (ℕ × Event))). graphOf l W) (sym (append-assoc pre (rs ∷ []) (replicate (length rows) []))))
+      (a .1 .precedes) (λ k. d (suc k)) (λ k. c (suc k)) in
       let q = after-append fs (readFrames (suc t) rows) r in (
         passing-append n fs (readFrames (suc t) rows) r (a .0) (ih .0),
         ap (λ (s : Reading). s .graph) q ∙ ih .1 ∙ ap (λ (l : List (List (ℕ × Event))). graphOf l W) (append-assoc pre (rs ∷ []) rows),

@@ -61,7 +61,8 @@ module _ (p : Program) (wf : WellFormed p) (g : Graph) (C : Canonical p g) (N : 
     -- it comes later than the last write before it
     later-latest : (front : List Event) → orderOf g (place σ t) ≡ front ++ (e ∷ w) → Later (coherenceOf g (place σ t)) e (latest w)
     later-latest front q =
-        let i : coherenceOf g (place σ t) ≡ front ++ (e ∷ (w ++ (initialWrite ∷ []))) = ap (λ (l : List Event). l ++ (initialWrite ∷ [])) q ∙ append-assoc front (e ∷ w) (initialWrite ∷ []) in
+        let i : coherenceOf g (place σ t) ≡ front ++ (e ∷ (w ++ (initialWrite ∷ []))) = ap (λ (l : List Event). l ++ (initialWrite ∷ [])) q ∙
+        append-assoc front (e ∷ w) (initialWrite ∷ []) in
         subst (λ (l : List Event). Later l e (latest w)) (sym i) (later-right front (e ∷ (w ++ (initialWrite ∷ []))) e (latest w) (inl (refl, latest-behind w)))
 
     turn : (x : Option ℕ) → puts (threadOf σ t .local) (cellOf σ (place σ t) .value) ≡ x → given x ≡ true → Turn g pl e (place σ t) (cellOf σ (place σ t)) (Done σ)
@@ -70,7 +71,9 @@ module _ (p : Program) (wf : WellFormed p) (g : Graph) (C : Canonical p g) (N : 
     turn (some x) q k =
         let r = in-graph x q in (
           turn-next (orderOf g (place σ t)) (r .0) w e (r .1),
-          λ y s a i j n. on-ready p wf g C N M σ t z o y (from-reads s a (subst (λ (l : ℕ). Later (coherenceOf g l) e s) (sym j) (subst (Later (coherenceOf g (place σ t)) e) (sym i) (later-latest (r .0) (r .1)))) n),
+          λ y s a i j n. on-ready p wf g C N M σ t z o y
+              (from-reads s a (subst (λ (l : ℕ). Later (coherenceOf g l) e s) (sym j)
+              (subst (Later (coherenceOf g (place σ t)) e) (sym i) (later-latest (r .0) (r .1)))) n),
         )
 
     pub on-fits : fits g pl σ t ≡ true

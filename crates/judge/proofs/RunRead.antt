@@ -54,7 +54,8 @@ module _ (p : Program) (wf : WellFormed p) (s : Schedule) (f : Full p s) where
     ordered = canonical .ordered;
     once = canonical .once;
     apart = λ l k e a b. sym (makes .writes l e .0 a .0) ∙ makes .writes k e .0 b .0;
-    reads = λ t r m. let j = subst (List·Memᴰ r) (row-at (endOf p s) t) m in (omega (arith, regular .numbered t r j, done-16 p wf s allowed t), source-named (r .1) (regular .sourced t r j));
+    reads = λ t r m. let j = subst (List·Memᴰ r) (row-at (endOf p s) t) m in
+        (omega (arith, regular .numbered t r j, done-16 p wf s allowed t), source-named (r .1) (regular .sourced t r j));
     writes = λ l e m. done-named e (regular .old l e (subst (List·Memᴰ e) (order-at (endOf p s) l) m));
   }
 

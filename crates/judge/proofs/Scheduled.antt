@@ -51,7 +51,8 @@ unfolding pairs
 in-pairs f [] t i m h = absurd (List·Memᴰ·not-nil m)
 in-pairs f (u ∷ ts) t i m h = ⊎-elim
     (λ (q : t ≡ u). Memᴰ·append-left {s = map (λ (j : ℕ). let e : Event = (u, j) in e) (upTo 0 (f u))} (pairs f ts)
-    (subst (λ (k : ℕ). List·Memᴰ (t, i) (map (λ (j : ℕ). let e : Event = (k, j) in e) (upTo 0 (f k)))) q (Memᴰ·map (λ (j : ℕ). let e : Event = (t, j) in e) (in-upTo 0 (f t) i (omega arith) (omega arith)))))
+    (subst (λ (k : ℕ). List·Memᴰ (t, i) (map (λ (j : ℕ). let e : Event = (k, j) in e) (upTo 0 (f k)))) q
+    (Memᴰ·map (λ (j : ℕ). let e : Event = (t, j) in e) (in-upTo 0 (f t) i (omega arith) (omega arith)))))
     (λ (k : List·Memᴰ t ts). Memᴰ·append-right (map (λ (j : ℕ). let e : Event = (u, j) in e) (upTo 0 (f u))) (in-pairs f ts t i k h)) (List·Memᴰ·cases-cons m)
 
 module _ (p : Program) (wf : WellFormed p) (g : Graph) (v : Values) (C : Canonical p g) (M : Makes p g v) (acyclic : Acyclic (Before p g v)) where
@@ -89,7 +90,8 @@ module _ (p : Program) (wf : WellFormed p) (g : Graph) (v : Values) (C : Canonic
     where
       go : (t : ℕ) (b : Bool) → may σ t ≡ b → may σ t ≡ false
       go t false e = e
-      go t true e = absurd (List·Memᴰ·not-nil (subst (List·Memᴰ (upcoming σ t)) q (undone-in σ (upcoming σ t) (ap pending (sym (F .agrees .locals t)) ∙ may-pending σ t e) (upcoming-undone σ t))))
+      go t true e = absurd (List·Memᴰ·not-nil
+          (subst (List·Memᴰ (upcoming σ t)) q (undone-in σ (upcoming σ t) (ap pending (sym (F .agrees .locals t)) ∙ may-pending σ t e) (upcoming-undone σ t))))
 
   at-end : (σ : State) → Follows p wf g v C M σ → ended SC σ ≡ true → graphOf σ ≡ g
   at-end σ F e = same-graph σ g (F .agrees .threads ∙ sym (C .rows)) (F .agrees .regular .eight ∙ sym (C .lists))
@@ -131,7 +133,9 @@ module _ (p : Program) (wf : WellFormed p) (g : Graph) (v : Values) (C : Canonic
   found zero σ h F c = absurd (omega arith)
   found (suc n) σ h F c = go (undone σ) refl (λ τ. found n τ)
     where
-      go : (l : List Event) → undone σ ≡ l → ((τ : State) → size τ < n → Follows p wf g v C M τ → Closed p wf g v C M τ → (s : Schedule) × FullFrom SC τ s × (graphOf (run SC τ s) ≡ g)) → (s : Schedule) × FullFrom SC σ s × (graphOf (run SC σ s) ≡ g)
+      go : (l : List Event) → undone σ ≡ l →
+          ((τ : State) → size τ < n → Follows p wf g v C M τ → Closed p wf g v C M τ →
+          (s : Schedule) × FullFrom SC τ s × (graphOf (run SC τ s) ≡ g)) → (s : Schedule) × FullFrom SC σ s × (graphOf (run SC σ s) ≡ g)
       go [] q ih = let e = all-ended σ F q in ([], e, at-end σ F e)
       go (x ∷ xs) q ih =
           let r = minimal (Before p g v) (decided p g v) acyclic (undone σ) x (subst (List·Memᴰ x) (sym q) (List·Memᴰ·head refl)) in

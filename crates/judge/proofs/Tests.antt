@@ -69,4 +69,5 @@ same-graph-is g h e =
 
 pub is-same-graph : (g : Graph) → sameGraph g g ≡ true
 unfolding sameGraph
-is-same-graph g = both-and (same-list (sameList sameRead) (same-list sameRead same-read) (g .reads)) (same-list (sameList sameEvent) (same-list sameEvent (λ e. is-same-event e e refl)) (g .writes))
+is-same-graph g = both-and (same-list (sameList sameRead) (same-list sameRead same-read) (g .reads))
+    (same-list (sameList sameEvent) (same-list sameEvent (λ e. is-same-event e e refl)) (g .writes))

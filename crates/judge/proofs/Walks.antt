@@ -22,6 +22,7 @@ unfolding greedy
 greedy-allowed M f a zero σ = tt
 greedy-allowed M f a (suc k) σ = go (first (f σ) (M .names)) refl (λ τ. greedy-allowed M f a k τ)
   where
-    go : (o : Option ℕ) → first (f σ) (M .names) ≡ o → ((τ : M .State) → Allowed M τ (greedy M f k τ)) → Allowed M σ (elim o [ none ↦ [] | some t ↦ t ∷ greedy M f k (M .step σ t) ])
+    go : (o : Option ℕ) → first (f σ) (M .names) ≡ o → ((τ : M .State) → Allowed M τ (greedy M f k τ)) →
+        Allowed M σ (elim o [ none ↦ [] | some t ↦ t ∷ greedy M f k (M .step σ t) ])
     go none e ih = tt
     go (some t) e ih = (a σ t (first-passes (f σ) (M .names) t e), ih (M .step σ t))
