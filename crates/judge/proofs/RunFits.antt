@@ -1,12 +1,11 @@
 -- Each step of a run with this graph fits.
-use Prim.Native.Nat.{ℕ, suc, _-_}
+use Prim.Native.Nat.{ℕ}
 use mathlib.Core.Path.{_≡_, refl, sym, ap, subst, _∙_}
 use mathlib.Core.Logic.{inl}
 use mathlib.Core.Bool.{true, false≢true}
 use mathlib.Core.Option.{Option, none, some}
-use mathlib.Core.List.{List, [], _∷_, _++_, append-assoc, List·Memᴰ, List·Memᴰ·head}
-use native.Mathlib.Omega.{arith}
-use lib.ListN.{length, length-append}
+use mathlib.Core.List.{List, [], _∷_, _++_, append-assoc, reverse, reverse-append, reverse-cons, List·Memᴰ, List·Memᴰ·head}
+use lib.ListN.{length, length-reverse}
 use lib.Seq.{getD-at}
 use Rattle.program.specs.Program.{Program}
 use Rattle.program.specs.WellFormed.{WellFormed}
@@ -31,7 +30,10 @@ use Rattle.judge.proofs.Fitting.{Turn, is-fits}
 -- the write whose turn it is stands in front of those that have come
 turn-next : (ws front w : List Event) (e : Event) → ws ≡ front ++ (e ∷ w) → turnOf ws (length w) ≡ e
 unfolding turnOf
-turn-next ws front w e q = rw q (getD-at front e w initialWrite (length (front ++ (e ∷ w)) - suc (length w)) (omega (arith, length-append front (e ∷ w))))
+turn-next ws front w e q =
+    let r : reverse ws ≡ reverse w ++ (e ∷ reverse front) =
+    ap reverse q ∙ reverse-append front (e ∷ w) ∙ ap (λ (l : List Event). l ++ reverse front) (reverse-cons e w) ∙ append-assoc (reverse w) (e ∷ []) (reverse front) in
+    rw r (getD-at (reverse w) e (reverse front) initialWrite (length w) (length-reverse w))
 
 latest-behind : (w : List Event) → List·Memᴰ (latest w) (w ++ (initialWrite ∷ []))
 unfolding latest

@@ -1,11 +1,11 @@
 -- The judge. First it finds where each read goes: round after round every thread runs by itself on the values known so far, and each read
 -- is given what its source then writes. Then it walks on the machine itself, always with the least thread whose next access the graph
 -- allows, and in the end compares the graph that it made with the one that it was given.
-use Prim.Native.Nat.{ℕ, zero, suc, _-_}
+use Prim.Native.Nat.{ℕ, zero, suc}
 use mathlib.Core.Path.{_≡_}
 use mathlib.Core.Bool.{Bool, true, false, not, _&&_}
 use mathlib.Core.Option.{Option, none, some}
-use mathlib.Core.List.{List, [], _∷_}
+use mathlib.Core.List.{List, [], _∷_, reverse}
 use lib.Dec.{eqb, ltb}
 use lib.ListN.{length, getD}
 use Rattle.program.specs.Program.{Program, initial}
@@ -49,9 +49,9 @@ waits place σ l s e u r = sameEvent (r .1) s && (eqb (place (u, r .0)) l && (no
 unfoldable pub noneWaits : Graph → (Event → ℕ) → State → ℕ → Event → Event → Bool
 noneWaits g place σ l s e = all (λ u. all (λ r. not (waits place σ l s e u r)) (rowOf g u)) (upTo 0 (length (g .reads)))
 
--- the write of this list that comes when n have come; the last stands first
+-- the write of this list, whose last stands first, that comes when n have come; the initial write, which no thread does, when all have
 unfoldable pub turnOf : List Event → ℕ → Event
-turnOf ws n = getD ws (length ws - suc n) initialWrite
+turnOf ws n = getD (reverse ws) n initialWrite
 
 -- if the event e reads, the graph gives it the last write of this cell, and the table this location
 unfoldable pub readFits : Graph → (Event → ℕ) → Event → Local → Cell → Bool
