@@ -29,6 +29,7 @@ pub mod Judged
 -- graph texts: what a text gives is canonical, and the text of a full schedule's graph gives that graph back
 pub mod Readable
 pub mod Parsed
+pub mod LineTurns
 pub mod FramesRead
 pub mod RowsRead
 pub mod ListsRead
