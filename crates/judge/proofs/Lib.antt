@@ -30,6 +30,7 @@ pub mod Judged
 pub mod Readable
 pub mod Parsed
 pub mod LineTurns
+pub mod RoundTables
 pub mod FramesRead
 pub mod RowsRead
 pub mod ListsRead

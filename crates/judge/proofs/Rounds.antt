@@ -23,7 +23,7 @@ use Rattle.machine.proofs.Start.{start-threads, start-cells}
 use Rattle.machine.proofs.Histories.{upcoming, run-row, run-order}
 use Rattle.machine.proofs.Rows.{row-at, order-at, graph-sizes}
 use Rattle.judge.specs.Consistent.{rowOf, orderOf, ReadsFrom, Values, Reads, locationOf, Leaves, Descends, Distinct, Canonical}
-use Rattle.judge.specs.Judge.{sameEvent, sourceIn, orZero, leftBy, values, MadeBy}
+use Rattle.judge.specs.Judge.{sameEvent, sourceIn, orZero, leftBy, nextRound, values, MadeBy}
 use Rattle.judge.proofs.Tests.{same-event-is, is-same-event}
 use Rattle.judge.proofs.Alone.{writes-event, some-writes, event-real}
 use Rattle.judge.proofs.Agreement.{location, reads-as}
@@ -108,7 +108,7 @@ module _ (p : Program) (wf : WellFormed p) where
     module _ (C : Canonical p g) where
       next-round : (n k : ℕ) (σ : State) (t : ℕ) (z : Schedule) → Ends σ (t ∷ z) → Known k σ → k < n → takes (threadOf σ t .local) ≡ true →
           values p g n (upcoming σ t) ≡ cellOf σ (place σ t) .value
-      unfolding values
+      unfolding values nextRound
       next-round zero k σ t z E K h e = absurd (omega arith)
       next-round (suc n) k σ t z E K h e =
           let R = K n (omega arith) in

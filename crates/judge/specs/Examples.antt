@@ -18,11 +18,11 @@ use Rattle.machine.specs.State.{Event, initialWrite, SC, start, size, accessesL
 use Rattle.machine.specs.Graph.{Graph, graph}
 use Rattle.machine.specs.Examples.{seen}
 use Rattle.judge.specs.Consistent.{alone}
-use Rattle.judge.specs.Judge.{sameEvent, sameRead, sourceIn, orZero, leftBy, values, waits, noneWaits, turnOf, readFits, writeFits, fits, walk, sameList, sameGraph, judge}
+use Rattle.judge.specs.Judge.{sameEvent, sameRead, sourceIn, orZero, leftBy, nextRound, values, waits, noneWaits, turnOf, readFits, writeFits, fits, walk, sameList, sameGraph, judge}
 
 -- what a proof names on its `unfolding` line to compute with the judge
 unfoldable pub judging : Program → Graph → Option Schedule
-unfolding seen upTo any all first greedy alone sameEvent sameRead sourceIn orZero leftBy values waits noneWaits turnOf readFits writeFits fits walk sameList sameGraph judge
+unfolding seen upTo any all first greedy alone sameEvent sameRead sourceIn orZero leftBy nextRound values waits noneWaits turnOf readFits writeFits fits walk sameList sameGraph judge
 judging p g = judge p g
 
 -- threads of which none are declared alike

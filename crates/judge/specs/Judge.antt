@@ -37,10 +37,14 @@ orZero (some x) = x
 unfoldable pub leftBy : Program → Values → Event → ℕ → ℕ
 leftBy p v s l = elim (sameEvent s initialWrite) [ true ↦ getD (initial p) l 0 | false ↦ orZero (outOf p v s) ]
 
--- the values of round n: in each round a read gets what its source leaves on the values of the round before
+-- one round: each read gets what its source leaves on these values
+unfoldable pub nextRound : Program → Graph → Values → Values
+nextRound p g v e = leftBy p v (sourceIn (rowOf g (e .0)) (e .1)) (locationOf p v e)
+
+-- the values of round n
 unfoldable pub values : Program → Graph → ℕ → Values
 values p g zero e = 0
-values p g (suc n) e = leftBy p (values p g n) (sourceIn (rowOf g (e .0)) (e .1)) (locationOf p (values p g n) e)
+values p g (suc n) e = nextRound p g (values p g n) e
 
 -- the read (u, r .0) of source r .1 is another than e, takes from s at location l and is not yet done; `place` says where each read goes
 unfoldable pub waits : (Event → ℕ) → State → ℕ → Event → Event → ℕ → ℕ × Event → Bool
