@@ -37,7 +37,7 @@ module _ (g : Graph) (place : Event → ℕ) where
   FitAt σ t = Fit (may σ t) t (threadOf σ t) (cellOf σ (placeOf (threadOf σ t .local))) (Done σ)
 
   -- a read stands in one of the rows
-  row-in : (x s : Event) → ReadsFrom g x s → x .0 < length (g .reads)
+  pub row-in : (x s : Event) → ReadsFrom g x s → x .0 < length (g .reads)
   row-in x s k = go (decLt (x .0) (length (g .reads)))
     where
       go : Dec (x .0 < length (g .reads)) → x .0 < length (g .reads)

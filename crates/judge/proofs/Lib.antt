@@ -29,8 +29,6 @@ pub mod Judged
 -- graph texts: what a text gives is canonical, and the text of a full schedule's graph gives that graph back
 pub mod Readable
 pub mod Parsed
-pub mod LineTurns
-pub mod RoundTables
 pub mod FramesRead
 pub mod RowsRead
 pub mod ListsRead
@@ -39,5 +37,9 @@ pub mod AccessCount
 pub mod RunRead
 -- the answers to texts
 pub mod Answered
+-- the definitions as code meets them: line by line, and with tables of 16 numbers a thread
+pub mod LineTurns
+pub mod RoundTables
+pub mod FitTables
 -- document 01's two graphs
 pub mod Cases
