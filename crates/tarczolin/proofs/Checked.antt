@@ -1,0 +1,17 @@
+-- What the decoder's answer says of a file, by its verdict.
+use Prim.Native.Nat.{ℕ}
+use mathlib.Core.Path.{_≡_, _∙_, sym, ap}
+use Rattle.program.specs.declared.file.Answer.{Answer}
+use Rattle.program.specs.declared.file.Verdict.the-variants.{Accepted, Refused}
+use Rattle.program.specs.Decode.{Decoded}
+use Rattle.program.specs.Compiled.{answerOf, verdictOf}
+use Rattle.tarczolin.specs.Word as word
+use Rattle.tarczolin.specs.Check.{checked}
+
+pub checked-accepted : (a : Answer) (d : Decoded) → answerOf a ≡ d → a .verdict ≡ Accepted → checked d ≡ word.answered 0
+unfolding answerOf verdictOf checked
+checked-accepted a d e v = ap checked (sym e) ∙ rw v
+
+pub checked-refused : (a : Answer) (d : Decoded) (k n : ℕ) → answerOf a ≡ d → a .verdict ≡ Refused k n → checked d ≡ word.refused k n
+unfolding answerOf verdictOf checked
+checked-refused a d k n e v = ap checked (sym e) ∙ rw v

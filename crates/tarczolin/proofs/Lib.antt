@@ -1,0 +1,2 @@
+-- What a decoder's answer says.
+pub mod Checked

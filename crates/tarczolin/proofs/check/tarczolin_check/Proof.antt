@@ -1,0 +1,16 @@
+-- `tarczolin_check` says what the decoder answers.
+use borrow.Author.Needs.{needs}
+use mathlib.Core.Path.{_∙_, ap, sym}
+use Rattle.tarczolin.specs.Word.{wordOf}
+use Rattle.tarczolin.proofs.Checked.{checked-accepted, checked-refused}
+use Rattle.tarczolin.proofs.check.tarczolin_check.Statement.{statement}
+use Rattle.tarczolin.proofs.check.tarczolin_check.Tie as tie
+
+returns : tie.Need-returns
+returns c = c .answered .ensures ∙ ap wordOf (sym (checked-accepted (c .before .before .before .decode .result) _ (c .before .before .before .decode .ensures) (c .before .enum-told .given .1)))
+
+returns-2 : tie.Need-returns-2
+returns-2 c = c .refused .ensures ∙ ap wordOf (sym (checked-refused (c .before .before .before .before .decode .result) _ _ _ (c .before .before .before .before .decode .ensures) (c .before .before .v .given .1)))
+
+pub tarczolin-check-spec : {M : Type 1} → statement M
+tarczolin-check-spec = tie.close (tie.spec (λ c κs. search needs) (λ c. search needs) (λ c κs. search needs) (λ c. search needs) (λ c κs. search needs) returns returns-2)

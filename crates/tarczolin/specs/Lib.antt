@@ -1,0 +1,5 @@
+-- What a reader of this crate must believe, in reading order.
+-- what a call says, and the word that says it
+pub mod Word
+-- what the check of a program file says
+pub mod Check
