@@ -11,6 +11,8 @@ pub mod Replay
 pub mod Text
 -- what the steps of a run did, which of them conflict, and the least order of them
 pub mod Trail
+-- what the graph call says of a program file, a schedule and an output
+pub mod GraphCall
 -- a note of eight bytes for each step of a run
 pub mod Notes
 -- exchanging threads: permitted permutations, and states and graphs turned into others
