@@ -13,6 +13,8 @@ pub mod Text
 pub mod Trail
 -- what the code left to a thread could still do
 pub mod Ahead
+-- what the graph call says of a program file, a schedule and an output
+pub mod GraphCall
 -- a note of eight bytes for each step of a run
 pub mod Notes
 -- exchanging threads: permitted permutations, and states and graphs turned into others

@@ -1,0 +1,15 @@
+-- What a reader of this crate must believe, in reading order.
+-- which graphs are consistent, in document 01's words
+pub mod Consistent
+-- the judge: a greedy walk on the machine, then a comparison
+pub mod Judge
+-- graph texts and their refusals
+pub mod Reading
+-- the answer to a graph text
+pub mod Answer
+-- graphs judged by computing
+pub mod Examples
+-- what the definition of consistent says of small graphs
+pub mod SmallGraphs
+-- graph texts answered by computing
+pub mod TextExamples
