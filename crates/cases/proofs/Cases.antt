@@ -4,7 +4,8 @@ use mathlib.Core.List.{List·Memᴰ}
 use lib.Dec.{eqb}
 use borrow.Author.Tests.{eqb-true}
 use Rattle.schedules.proofs.Lists.{all-at}
-use Rattle.listing.specs.Printed.{textOf, printed}
+use Rattle.machine.specs.Text.{textOf}
+use Rattle.listing.specs.Printed.{printed}
 use Rattle.listing.proofs.Tests.{same-list}
 use Rattle.cases.specs.Rows.{Row, rows}
 use Rattle.cases.specs.Table.{computed, right, all-right}

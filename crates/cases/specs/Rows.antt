@@ -99,7 +99,7 @@ abbrev addsAlike : Row
 addsAlike = record { file = adding ++ (adding ++ (adding ++ (alike (0 ∷ 1 ∷ 2 ∷ []) ∷ []))); prints = passes (0 ∷ 1 ∷ 2 ∷ []) ∷ counts 1 0 ∷ [] }
 
 -- store 1 at location 0, load location 1, beside store 1 at location 1, load location 0
-abbrev buffering : Row
+abbrev pub buffering : Row
 buffering = record {
   file = thread ∷ store 0 (constant 1) ∷ load 0 1 ∷ thread ∷ store 1 (constant 1) ∷ load 0 0 ∷ [];
   prints = passes (0 ∷ 0 ∷ 1 ∷ 1 ∷ []) ∷ passes (0 ∷ 1 ∷ 0 ∷ 1 ∷ []) ∷ passes (1 ∷ 1 ∷ 0 ∷ 0 ∷ []) ∷ counts 3 0 ∷ [];

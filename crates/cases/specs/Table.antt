@@ -16,10 +16,11 @@ use Rattle.schedules.specs.Lists.{all}
 use Rattle.schedules.specs.Computing.{computing}
 use Rattle.machine.specs.State.{size, accessesLeft}
 use Rattle.machine.specs.Exchange.{movedEvent, movedRead, movedReads, movedWrites}
+use Rattle.machine.specs.Text.{textOf}
 use Rattle.machine.specs.Examples.{seen}
 use Rattle.listing.specs.ListOf.{together, permits, permitted, sameEvent, sameRead, sameList, turns, alikeBy, alike, listOf}
 use Rattle.listing.specs.Answers.{failing, countOf}
-use Rattle.listing.specs.Printed.{bytesOf, flag, scheduleFrame, countFrame, printedFrames, textOf, printed}
+use Rattle.listing.specs.Printed.{bytesOf, flag, scheduleFrame, countFrame, printedFrames, printed}
 use Rattle.cases.specs.Rows.{Row, rows}
 
 -- what a proof names to compute what is printed

@@ -1,5 +1,5 @@
--- DEMAND 3, the listing's promise about an accepted file, as one claim. p is the program that the file is read as, `listOf p` its list; `startOn`,
--- `continueOn`, `countOn` and `violationOn` are what the contracts of the four calls equate their answers and the later contents of their
+-- DEMAND 3, the listing's promise about an accepted file, as one claim. p is the program that the file is read as, `listOf p` its list; `startFile`,
+-- `continueFile`, `countFile` and `violationFile` are what the contracts of the four calls equate their answers and the later contents of their
 -- outputs with.
 use Prim.Native.Nat.{ℕ, _^_, _<_, _≤_}
 use mathlib.Core.Path.{_≡_}
@@ -9,7 +9,6 @@ use mathlib.Core.Option.{Option, none, some}
 use mathlib.Core.List.{List, [], _∷_, _++_, List·Memᴰ}
 use lib.ListN.{length}
 use Rattle.program.specs.Program.{Program}
-use Rattle.program.specs.Decode.{decode}
 use Rattle.schedules.specs.Lists.{keep, Ascends}
 use Rattle.schedules.specs.Order.{Schedule, less}
 use Rattle.schedules.specs.Calls.{found, nomore, turn, short, over, Result, result, called, last, due, served, member}
@@ -18,7 +17,7 @@ use Rattle.machine.specs.Graph.{endOf, Full}
 use Rattle.listing.specs.Alike.{Alike, Listed}
 use Rattle.listing.specs.ListOf.{listOf}
 use Rattle.listing.specs.Answers.{failing, fails-first, none-fails, refused-by}
-use Rattle.listing.specs.OnFile.{startOn, continueOn, counted, countOn, violationOn}
+use Rattle.listing.specs.OnFile.{startFile, continueFile, counted, countFile, violationFile}
 
 -- s is in the list of p
 abbrev pub InList : Program → Schedule → Type 0
@@ -27,8 +26,8 @@ InList p s = List·Memᴰ s (listOf p)
 -- A list of calls on one file, each with an output of any length. Until a schedule has been answered each is a start; from then on each is a
 -- continue, handed a copy of the schedule answered last, also after a refusal or a no more.
 abbrev pub call : List ℕ → Option Schedule → List ℕ → Result
-call file none out = startOn (decode file) out
-call file (some s) out = continueOn (decode file) s out
+call file none out = startFile file out
+call file (some s) out = continueFile file s out
 
 -- these outputs got these results, where this schedule was answered last before them
 abbrev pub Called : List ℕ → Option Schedule → List (List ℕ) → List Result → Type 0
@@ -58,18 +57,18 @@ pub record Demand3 (file : List ℕ) (p : Program) : Type 0 where
   pub answer-at : (before : List (List ℕ)) (out : List ℕ) (after : List (List ℕ)) (rs : List Result) → Called file none (before ++ (out ∷ after)) rs →
       (rest : List Result) × (rs ≡ due 24 (listOf p) before ++ (result (turn (short 24 out) (member (listOf p) (served 24 before))) out ∷ rest))
   -- A CONTINUE from any full schedule, listed or not, answers as it would in such a list
-  pub continues : (s : Schedule) → Full p s → (out : List ℕ) → continueOn (decode file) s out ≡ called 24 (listOf p) (some s) out
+  pub continues : (s : Schedule) → Full p s → (out : List ℕ) → continueFile file s out ≡ called 24 (listOf p) (some s) out
   -- with an output that is not too short: the least listed one after it, written in front of the output's old rest
-  pub continue-least : (s : Schedule) → Full p s → (out : List ℕ) → 24 ≤ length out → (r : Schedule) → (continueOn (decode file) s out ≡ (found r, over r out)) ↔
+  pub continue-least : (s : Schedule) → Full p s → (out : List ℕ) → 24 ≤ length out → (r : Schedule) → (continueFile file s out ≡ (found r, over r out)) ↔
       (InList p r × (less s r ≡ true) × ((q : Schedule) → InList p q → less q r ≡ true → less s q ≡ false))
   -- or no more, exactly when none is
-  pub continue-none : (s : Schedule) → Full p s → (out : List ℕ) → 24 ≤ length out → (continueOn (decode file) s out ≡ (nomore, out)) ↔ ((r : Schedule) → InList p r → less s r ≡ false)
+  pub continue-none : (s : Schedule) → Full p s → (out : List ℕ) → 24 ≤ length out → (continueFile file s out ≡ (nomore, out)) ↔ ((r : Schedule) → InList p r → less s r ≡ false)
   -- COUNT: the list's length, and the number of its members that fail
-  pub counts : countOn (decode file) ≡ counted (record { listed = length (listOf p); failed = length (keep (failing p) (listOf p)) })
+  pub counts : countFile file ≡ counted (record { listed = length (listOf p); failed = length (keep (failing p) (listOf p)) })
   -- VIOLATION, with an output that is not too short: the first member that fails, written in front of the output's old rest
-  pub violation-first : (out : List ℕ) → 24 ≤ length out → (s : Schedule) → (violationOn (decode file) out ≡ (fails-first s, over s out)) ↔
+  pub violation-first : (out : List ℕ) → 24 ≤ length out → (s : Schedule) → (violationFile file out ≡ (fails-first s, over s out)) ↔
       (InList p s × (failing p s ≡ true) × ((r : Schedule) → InList p r → less r s ≡ true → failing p r ≡ false))
   -- and none exactly when no schedule at all fails
-  pub violation-none : (out : List ℕ) → 24 ≤ length out → (violationOn (decode file) out ≡ (none-fails, out)) ↔ ((s : Schedule) → Full p s → failing p s ≡ false)
+  pub violation-none : (out : List ℕ) → 24 ≤ length out → (violationFile file out ≡ (none-fails, out)) ↔ ((s : Schedule) → Full p s → failing p s ≡ false)
   -- 22 exactly when it is too short
-  pub violation-short : (out : List ℕ) → (violationOn (decode file) out ≡ (refused-by 22 0, out)) ↔ (length out < 24)
+  pub violation-short : (out : List ℕ) → (violationFile file out ≡ (refused-by 22 0, out)) ↔ (length out < 24)

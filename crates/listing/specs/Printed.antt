@@ -3,10 +3,10 @@
 use Prim.Native.Nat.{ℕ, zero, suc, _/_, _%_, _^_}
 use mathlib.Core.Bool.{Bool, true, false}
 use mathlib.Core.List.{List, [], _∷_, _++_, map}
-use Rattle.lines.specs.Text.{text}
 use Rattle.program.specs.Program.{Program}
 use Rattle.program.specs.Decode.{Decoded, accepted, refused, decode}
 use Rattle.schedules.specs.Order.{Schedule}
+use Rattle.machine.specs.Text.{textOf}
 use Rattle.listing.specs.ListOf.{listOf}
 use Rattle.listing.specs.Answers.{failing, Counts, countOf}
 
@@ -28,11 +28,6 @@ countFrame c = 0x51 ∷ (bytesOf 8 (c .listed) ++ bytesOf 8 (c .failed))
 unfoldable pub printedFrames : Decoded → List (List ℕ)
 printedFrames (accepted p) = map (scheduleFrame p) (listOf p) ++ (countFrame (countOf p) ∷ [])
 printedFrames (refused n k) = (0x52 ∷ n ∷ bytesOf 2 k) ∷ []
-
--- these frames as text, a line a frame
-unfoldable pub textOf : List (List ℕ) → List ℕ
-textOf [] = []
-textOf (f ∷ fs) = text f ++ textOf fs
 
 -- from the file's bytes to the printed bytes
 unfoldable pub printed : List ℕ → List ℕ
