@@ -40,3 +40,6 @@ pub mod Frames
 pub mod Text
 pub mod TextLength
 pub mod Printed
+-- the notes of a run say its graph
+pub mod Collected
+pub mod NoteGraph

@@ -13,6 +13,8 @@ pub mod Text
 pub mod Trail
 -- a note of eight bytes for each step of a run
 pub mod Notes
+-- the text of a graph, read off the notes, and what its writer promises
+pub mod NoteText
 -- exchanging threads: permitted permutations, and states and graphs turned into others
 pub mod Exchange
 -- the definitions computed
