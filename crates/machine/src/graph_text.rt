@@ -71,6 +71,7 @@ fn writes_to(trail: &[u8; 192], k: usize, l: u8) -> bool
 fn fill_order(frame: &mut [u8; 64], trail: &[u8; 192], steps: usize, l: u8) -> usize
     requires { ⌜ (length (now frame) ≡ 64) × (steps ≤ 24) ⌝ }
     ensures count { λ n. ⌜ n ≡ length (0x41 ∷ l ∷ eventBytes (writesIn l (notesAt (now (trail .entry)) steps))) ⌝ }
+    ensures few { λ n. ⌜ n ≤ 50 ⌝ }
     ensures content { λ n. ⌜ now (frame .exit) ≡ over (0x41 ∷ l ∷ eventBytes (writesIn l (notesAt (now (trail .entry)) steps))) (now (frame .entry)) ⌝ }
 {
     frame[0] = 0x41;
