@@ -48,3 +48,13 @@ pub mod FixedState
 pub mod FreeSteps
 pub mod Ahead
 pub mod Remote
+-- the notes of a run say its graph
+pub mod Collected
+pub mod NoteGraph
+-- the text of notes: its length, the lines written one after the other, and the notes that an array holds
+pub mod NoteLength
+pub mod WrittenLines
+pub mod NotesHeld
+pub mod NoteWriting
+-- the whole text stands in front of the buffer
+pub mod GraphWritten

@@ -17,6 +17,8 @@ pub mod Ahead
 pub mod GraphCall
 -- a note of eight bytes for each step of a run
 pub mod Notes
+-- the text of a graph, read off the notes, and what its writer promises
+pub mod NoteText
 -- exchanging threads: permitted permutations, and states and graphs turned into others
 pub mod Exchange
 -- the steps of an exchanged run

@@ -1,0 +1,34 @@
+-- What is collected from the members of a list, and from the numbers 0, 1, .. in order.
+use Prim.Native.Nat.{ℕ, zero, suc, _+_}
+use native.Mathlib.Numerals.{add-one}
+use native.Mathlib.Omega.{arith}
+use mathlib.Core.Path.{_≡_, refl, sym, ap, _∙_}
+use mathlib.Core.List.{List, [], _∷_, _++_, append-assoc, append-nil, map, flatMap}
+use lib.ListN.{length, getD}
+use Rattle.schedules.specs.Lists.{upTo}
+
+pub collected-append : {A B : Type 0} (f : A → List B) (xs ys : List A) → flatMap f (xs ++ ys) ≡ flatMap f xs ++ flatMap f ys
+unfolding flatMap
+collected-append f [] ys = refl
+collected-append {A} {B} f (x ∷ xs) ys = ap (λ (k : List B). f x ++ k) (collected-append f xs ys) ∙ sym (append-assoc (f x) (flatMap f xs) (flatMap f ys))
+
+-- one more number
+upTo-last : (a n k : ℕ) → k ≡ a + n → upTo a (suc n) ≡ upTo a n ++ (k ∷ [])
+unfolding upTo
+upTo-last a zero k e = let q : a ≡ k = omega arith in ap (λ (j : ℕ). j ∷ []) q
+upTo-last a (suc n) k e = ap (λ (l : List ℕ). a ∷ l) (upTo-last (suc a) n k (omega arith))
+
+pub upTo-next : (k : ℕ) → upTo 0 (k + 1) ≡ upTo 0 k ++ (k ∷ [])
+upTo-next k = ap (upTo 0) (add-one k) ∙ upTo-last 0 k k (omega arith)
+
+pub collected-next : {B : Type 0} (f : ℕ → List B) (k : ℕ) → flatMap f (upTo 0 (k + 1)) ≡ flatMap f (upTo 0 k) ++ f k
+unfolding flatMap
+collected-next {B} f k =
+    ap (flatMap f) (upTo-next k)
+    ∙ collected-append f (upTo 0 k) (k ∷ [])
+    ∙ ap (λ (l : List B). flatMap f (upTo 0 k) ++ l) (append-nil (f k))
+
+pub upTo-length : (a n : ℕ) → length (upTo a n) ≡ n
+unfolding upTo
+upTo-length a zero = refl
+upTo-length a (suc n) = ap suc (upTo-length (suc a) n)

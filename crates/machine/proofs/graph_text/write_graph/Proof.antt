@@ -1,0 +1,24 @@
+-- `write_graph` writes the lines of the reads, then those of the locations behind them.
+use borrow.Author.Needs.{needs}
+use native.Mathlib.Omega.{arith}
+use lib.ListN.{length}
+use borrow.Rule.Slice.PartMut.{mid-len}
+use Rattle.machine.proofs.WrittenLines.{wrote-within}
+use Rattle.machine.proofs.GraphWritten.{notes-written}
+use Rattle.machine.proofs.graph_text.write_graph.Statement.{statement}
+use Rattle.machine.proofs.graph_text.write_graph.Tie as tie
+
+sub-write-orders : tie.Need-sub-write-orders
+sub-write-orders c = let h = wrote-within _ _ _ _ (c .before .before .write-reads .ensures) in omega arith
+
+part-write-orders-start : tie.Need-part-write-orders-start
+part-write-orders-start c = let h = wrote-within _ _ _ _ (c .before .before .write-reads .ensures) in omega arith
+
+add-result : tie.Need-add-result
+add-result c = let h = wrote-within _ _ _ _ (c .before .before .before .before .before .before .write-reads .ensures) in let m = mid-len (c .before .before .before .before .before .before .write-reads .result) (length (c .before .before .before .before .before .before .write-reads .last .0)) (c .before .before .before .before .before .before .write-reads .last .0) (omega arith) in let k = wrote-within _ _ _ _ (c .before .before .write-orders .ensures) in omega arith
+
+returns : tie.Need-returns
+returns c = notes-written (c .before .before .before .before .before .before .before .before .before .args .trail .now) (c .before .before .before .before .before .before .before .before .before .args .out .now) _ _ (c .before .before .before .before .before .before .before .before .before .args .steps) _ _ (c .before .before .before .before .before .before .before .before .before .pre .0) (c .before .before .before .before .before .before .write-reads .ensures) (c .before .before .write-orders .ensures)
+
+pub write-graph-spec : {M : Type 1} → statement M
+write-graph-spec = tie.close (tie.spec (λ c κs. search needs) sub-write-orders part-write-orders-start (λ c. search needs) (λ c κs. search needs) add-result (λ c. search needs) returns)
