@@ -1,8 +1,6 @@
 -- Document 01's two graph texts, answered by the judge from the bytes of the file and of the text: no; and yes, with the least schedule.
-use Prim.Native.Nat.{ℕ}
 use mathlib.Core.Path.{_≡_, refl}
 use mathlib.Core.List.{List, [], _∷_, map}
-use Rattle.program.specs.Decode.{decode}
 use Rattle.machine.specs.Text.{textOf}
 use Rattle.judge.specs.Answer.{Answer, consistent, inconsistent, answerFor, judgeFile}
 use Rattle.judge.specs.TextExamples.{answering}
