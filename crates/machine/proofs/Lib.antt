@@ -40,3 +40,6 @@ pub mod Frames
 pub mod Text
 pub mod TextLength
 pub mod Printed
+-- How the machine's functions meet the definitions.
+-- settling by turns
+pub mod HeldTurns

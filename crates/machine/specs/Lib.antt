@@ -1,6 +1,8 @@
 -- What a reader of this crate must believe, in reading order.
 -- a thread by itself: settling, and the four functions by which an access is seen
 pub mod Local
+-- one instruction, as the code carries it out
+pub mod Turns
 -- threads and memory, steps, and sequential consistency as a step system
 pub mod State
 -- schedules of a program, full and failing, and their graphs

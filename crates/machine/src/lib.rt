@@ -1,1 +1,8 @@
 // Runs under sequential consistency: threads and memory, steps, graphs and their text.
+
+// A thread by itself: operands, and what an instruction that is no access does.
+mod local;
+// A thread carried to its next access.
+mod settling;
+// What an access does.
+mod accessing;
