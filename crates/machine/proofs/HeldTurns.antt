@@ -13,7 +13,7 @@ use Rattle.program.specs.Compiled.{instructionAt, threadCode}
 use Rattle.program.proofs.Tabulate.{length-tabulate, getD-tabulate}
 use Rattle.machine.specs.Local.{Local, eval, skipped, settle}
 use Rattle.machine.specs.declared.local.Turn.{Turn}
-use Rattle.machine.specs.declared.settling.Settled.{Settled}
+use Rattle.machine.specs.declared.state.ThreadState.{ThreadState}
 use Rattle.machine.specs.Turns.{standing, going, failing, turnOf, localOf}
 
 -- ---- one instruction
@@ -98,12 +98,12 @@ pub code-end : (code : List ℕ) (t n i : ℕ) → n ≤ i → drop i (threadCod
 code-end code t n i h = drop-of-length-le (threadCode code t n) {i = i} (omega (arith, length-code code t n))
 
 -- ---- the loop: thread t of n instructions stands at instruction i with registers rs, and S is what settling from there on gives
-module _ (code : List ℕ) (t n : ℕ) (S : Local) (i : ℕ) (rs : List ℕ) (left : S ≡ settle 0 rs (drop i (threadCode code t n))) where
+module _ (code : List ℕ) (t n : ℕ) (S : Local) (i : ℕ) (rs : List ℕ) (d : ℕ) (left : S ≡ settle 0 rs (drop i (threadCode code t n))) where
   abbrev c : List Instruction
   c = threadCode code t n
 
   -- the code is used up
-  pub loop-ends : n ≤ i → localOf c (record { registers = rs; at = n; failed = false }) ≡ S
+  pub loop-ends : n ≤ i → localOf c (record { registers = rs; at = n; done = d; failed = false }) ≡ S
   unfolding settle
   loop-ends h = sym (left ∙ ap (settle 0 rs) (code-end code t n i h) ∙ ap (λ (is : List Instruction). record { registers = rs; rest = is; failed = false }) (sym (code-end code t n n (omega arith))))
 
@@ -113,13 +113,13 @@ module _ (code : List ℕ) (t n : ℕ) (S : Local) (i : ℕ) (rs : List ℕ) (le
     here = code-at code t n i h ∙ ap (λ (j : Instruction). j ∷ drop (suc i) c) (sym ex)
 
     -- an access comes next
-    pub loop-stands : r .access ≡ true → localOf c (record { registers = rs; at = i; failed = false }) ≡ S
+    pub loop-stands : r .access ≡ true → localOf c (record { registers = rs; at = i; done = d; failed = false }) ≡ S
     loop-stands e =
         sym (left ∙ ap (settle 0 rs) here ∙ turn-stands x (drop (suc i) c) rs (ap (λ (k : Turn). k .access) (sym er) ∙ e)
         ∙ ap (λ (is : List Instruction). record { registers = rs; rest = is; failed = false }) (sym here))
 
     -- an assertion fails
-    pub loop-fails : r .failed ≡ true → localOf c (record { registers = rs; at = n; failed = true }) ≡ S
+    pub loop-fails : r .failed ≡ true → localOf c (record { registers = rs; at = n; done = d; failed = true }) ≡ S
     loop-fails e =
         sym (left ∙ ap (settle 0 rs) here ∙ turn-fails x (drop (suc i) c) rs (ap (λ (k : Turn). k .failed) (sym er) ∙ e)
         ∙ ap (λ (is : List Instruction). record { registers = rs; rest = is; failed = true }) (sym (code-end code t n n (omega arith))))

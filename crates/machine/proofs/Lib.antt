@@ -43,3 +43,7 @@ pub mod Printed
 -- How the machine's functions meet the definitions.
 -- settling by turns
 pub mod HeldTurns
+-- an access as the code does it
+pub mod HeldAccess
+-- a step
+pub mod HeldStep

@@ -1,8 +1,6 @@
 -- What a reader of this crate must believe, in reading order.
 -- a thread by itself: settling, and the four functions by which an access is seen
 pub mod Local
--- one instruction, as the code carries it out
-pub mod Turns
 -- threads and memory, steps, and sequential consistency as a step system
 pub mod State
 -- schedules of a program, full and failing, and their graphs
@@ -15,6 +13,9 @@ pub mod Text
 pub mod Trail
 -- a note of eight bytes for each step of a run
 pub mod Notes
+-- how the code carries out one instruction, and how its arrays hold a state; for its own functions
+pub mod Turns
+pub mod Held
 -- exchanging threads: permitted permutations, and states and graphs turned into others
 pub mod Exchange
 -- the definitions computed

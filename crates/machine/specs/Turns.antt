@@ -9,7 +9,7 @@ use Rattle.program.specs.declared.instruction.Instruction.{Instruction}
 use Rattle.program.specs.declared.instruction.Instruction.the-variants.{Store, Load, FetchAdd, CompareSwap, Assign, AddAssign, SkipUnless, Assert}
 use Rattle.machine.specs.declared.local.Turn.{Turn}
 use Rattle.machine.specs.declared.accessing.Access.{Access}
-use Rattle.machine.specs.declared.settling.Settled.{Settled}
+use Rattle.machine.specs.declared.state.ThreadState.{ThreadState}
 use Rattle.machine.specs.Local.{Local, eval, sum32}
 
 -- an access, which a thread by itself stands before
@@ -36,7 +36,7 @@ turnOf (SkipUnless r p n) rs = cond (eqb (getD rs r 0) (eval rs p)) (going rs 0)
 turnOf (Assert r p) rs = cond (eqb (getD rs r 0) (eval rs p)) (going rs 0) (failing rs)
 
 -- what the code's counter and registers say of a thread whose code this is
-abbrev pub localOf : List Instruction → Settled → Local
+abbrev pub localOf : List Instruction → ThreadState → Local
 localOf c s = record { registers = s .registers; rest = drop (s .at) c; failed = s .failed }
 
 -- an access: its location, whether it reads (1 or 0), the registers behind it, whether it writes (1 or 0) and what

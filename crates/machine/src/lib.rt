@@ -6,3 +6,7 @@ mod local;
 mod settling;
 // What an access does.
 mod accessing;
+// The machine's state: threads, memory, last writes.
+mod state;
+// A step.
+mod step;
