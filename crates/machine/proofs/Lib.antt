@@ -58,3 +58,10 @@ pub mod NotesHeld
 pub mod NoteWriting
 -- the whole text stands in front of the buffer
 pub mod GraphWritten
+-- How the machine's functions meet the definitions.
+-- settling by turns
+pub mod HeldTurns
+-- an access as the code does it
+pub mod HeldAccess
+-- a step
+pub mod HeldStep

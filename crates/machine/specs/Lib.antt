@@ -19,6 +19,9 @@ pub mod GraphCall
 pub mod Notes
 -- the text of a graph, read off the notes, and what its writer promises
 pub mod NoteText
+-- how the code carries out one instruction, and how its arrays hold a state; for its own functions
+pub mod Turns
+pub mod Held
 -- exchanging threads: permitted permutations, and states and graphs turned into others
 pub mod Exchange
 -- the steps of an exchanged run

@@ -2,3 +2,13 @@
 
 // The text of a graph, written from the notes of a run.
 mod graph_text;
+// A thread by itself: operands, and what an instruction that is no access does.
+mod local;
+// A thread carried to its next access.
+mod settling;
+// What an access does.
+mod accessing;
+// The machine's state: threads, memory, last writes.
+mod state;
+// A step.
+mod step;
