@@ -3,8 +3,7 @@ use Prim.Native.Nat.{ℕ, zero, suc, _+_}
 use native.Mathlib.Numerals.{add-one}
 use native.Mathlib.Omega.{arith}
 use mathlib.Core.Path.{_≡_, refl, sym, ap, _∙_}
-use mathlib.Core.List.{List, [], _∷_, _++_, append-assoc, append-nil, map, flatMap}
-use lib.ListN.{length, getD}
+use mathlib.Core.List.{List, [], _∷_, _++_, append-assoc, append-nil, flatMap}
 use Rattle.schedules.specs.Lists.{upTo}
 
 pub collected-append : {A B : Type 0} (f : A → List B) (xs ys : List A) → flatMap f (xs ++ ys) ≡ flatMap f xs ++ flatMap f ys
@@ -27,8 +26,3 @@ collected-next {B} f k =
     ap (flatMap f) (upTo-next k)
     ∙ collected-append f (upTo 0 k) (k ∷ [])
     ∙ ap (λ (l : List B). flatMap f (upTo 0 k) ++ l) (append-nil (f k))
-
-pub upTo-length : (a n : ℕ) → length (upTo a n) ≡ n
-unfolding upTo
-upTo-length a zero = refl
-upTo-length a (suc n) = ap suc (upTo-length (suc a) n)

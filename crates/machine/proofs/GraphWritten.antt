@@ -2,8 +2,8 @@
 -- keeps its value.
 use Prim.Native.Nat.{ℕ, _+_, _-_, _≤_}
 use native.Mathlib.Omega.{arith}
-use mathlib.Core.Path.{_≡_, refl, sym, ap, _∙_}
-use mathlib.Core.List.{List, [], _∷_, _++_}
+use mathlib.Core.Path.{_≡_, sym, ap, _∙_}
+use mathlib.Core.List.{List, _++_}
 use lib.ListN.{length}
 use borrow.Rule.Slice.PartMut.{midOf, putMid}
 use Rattle.lines.specs.Over.{over}
@@ -11,12 +11,12 @@ use Rattle.program.specs.Program.{Program}
 use Rattle.program.specs.WellFormed.{WellFormed}
 use Rattle.schedules.specs.Order.{Schedule}
 use Rattle.schedules.specs.System.{Allowed}
-use Rattle.machine.specs.State.{State, step, SC, start}
+use Rattle.machine.specs.State.{SC, start}
 use Rattle.machine.specs.Graph.{graph}
 use Rattle.machine.specs.Text.{textOf, graphText}
 use Rattle.machine.specs.Notes.{Note, notes, Noted}
 use Rattle.machine.specs.NoteText.{readFramesIn, orderFramesIn, noteFrames, notesAt, Wrote}
-use Rattle.machine.proofs.NoteGraph.{graph-text-notes}
+use Rattle.machine.proofs.NoteGraph.{notes-length, graph-text-notes}
 use Rattle.machine.proofs.NoteLength.{notes-400}
 use Rattle.machine.proofs.NotesHeld.{notes-held}
 use Rattle.machine.proofs.WrittenLines.{wrote-more, wrote-whole}
@@ -29,12 +29,6 @@ notes-written trail out mid last steps a b h v w ns held e =
     let q : notesAt trail steps ≡ ns = ap (notesAt trail) (sym e) ∙ notes-held trail ns held in
     let f : noteFrames ns ≡ readFramesIn 6 (notesAt trail steps) ++ orderFramesIn 8 (notesAt trail steps) = ap noteFrames (sym q) in
     wrote-whole (noteFrames ns) out (putMid a (length mid - a) mid last) (a + b) (omega (arith, notes-400 ns (held .most))) (wrote-more _ _ (noteFrames ns) out mid last a b f v w)
-
--- a note for each step
-pub notes-length : (s : Schedule) (σ : State) → length (notes σ s) ≡ length s
-unfolding notes
-notes-length [] σ = refl
-notes-length (t ∷ s) σ = let ih = notes-length s (step σ t) in omega arith
 
 -- what the writer promises of the notes, said of the graph
 pub graph-written : (p : Program) → WellFormed p → (s : Schedule) → Allowed SC (start p) s → (trail out later : List ℕ) (steps n : ℕ) →

@@ -35,10 +35,9 @@ pub mod Determined
 pub mod Trails
 pub mod FirstFits
 pub mod SameGraph
--- graph text: it tells graphs apart, and is at most 400 bytes long
+-- graph text: it tells graphs apart
 pub mod Frames
 pub mod Text
-pub mod TextLength
 pub mod Printed
 -- for the listing: graphs and trails of exchanged schedules, what an exchange leaves as it is, steps that can be moved, and what is left to do
 pub mod Turning
@@ -48,15 +47,15 @@ pub mod FixedState
 pub mod FreeSteps
 pub mod Ahead
 pub mod Remote
--- the notes of a run say its graph
+-- the notes of a run say its graph, so the text of 24 notes, and of a graph, is at most 400 bytes long
 pub mod Collected
 pub mod NoteGraph
--- the text of notes: its length, the lines written one after the other, and the notes that an array holds
 pub mod NoteLength
+pub mod TextLength
+-- how the text is written: lines one after the other, the notes that an array holds, one note and one location, the whole
 pub mod WrittenLines
 pub mod NotesHeld
 pub mod NoteWriting
--- the whole text stands in front of the buffer
 pub mod GraphWritten
 -- How the machine's functions meet the definitions.
 -- settling by turns

@@ -2,13 +2,12 @@
 use Prim.Native.Nat.{ℕ, zero, suc, _+_, _-_, _<_, _≤_}
 use mathlib.Core.Path.{_≡_, refl, sym, ap, ap₂, _∙_}
 use mathlib.Core.Logic.{_≢_}
-use mathlib.Core.Bool.{Bool, true, false, cond, false≢true, true≢false}
+use mathlib.Core.Bool.{Bool, true, false, cond, true≢false}
 use mathlib.Core.Option.{Option, none, some}
 use mathlib.Core.List.{List, [], _∷_, _++_, append-nil, append-assoc, map, reverse, reverse-append, reverse-reverse, flatMap}
 use native.Mathlib.Omega.{arith}
 use native.Mathlib.Decide.{ℕ-discrete}
 use borrow.Author.Tests.{eq-eqb, ne-eqb}
-use lib.Dec.{eqb}
 use lib.ListN.{length, getD, length-reverse}
 use Rattle.program.specs.Program.{Program}
 use Rattle.program.specs.WellFormed.{WellFormed}
@@ -20,7 +19,7 @@ use Rattle.machine.specs.State.{Event, Cell, State, threadOf, cellOf, pl
 use Rattle.machine.specs.Graph.{graphOf, graph, endOf}
 use Rattle.machine.specs.Text.{readFrame, readFrames, eventBytes, writeFrame, writeFrames, frames, textOf, graphText}
 use Rattle.machine.specs.Trail.{given, writes}
-use Rattle.machine.specs.Notes.{Note, note, notes}
+use Rattle.machine.specs.Notes.{note, notes}
 use Rattle.machine.specs.NoteText.{readIn, writeIn, readsIn, writesIn, threadFrames, orderFrame, readFramesIn, orderFramesIn, noteFrames}
 use Rattle.machine.proofs.Steps.{may-range, cell-own, cell-other, run-threads, run-cells}
 use Rattle.machine.proofs.Change.{thread-cases, addedRead, noted-reads, written-none}
@@ -28,6 +27,12 @@ use Rattle.machine.proofs.Start.{start-threads, start-cells, start-writ
 use Rattle.machine.proofs.Regular.{Regular, place-in, regular-step, regular-start}
 use Rattle.machine.proofs.Trails.{writes-own}
 use Rattle.machine.proofs.Rows.{row-at, order-at, graph-sizes}
+
+-- a note for each step
+pub notes-length : (s : Schedule) (σ : State) → length (notes σ s) ≡ length s
+unfolding notes
+notes-length [] σ = refl
+notes-length (t ∷ s) σ = let ih = notes-length s (step σ t) in omega arith
 
 -- ---- one step
 reversed-read : (b : Bool) (i : ℕ) (e : Event) → addedRead b i e ≡ reverse (cond b ((i, e) ∷ []) [])

@@ -1,11 +1,11 @@
 -- The notes that an array holds, one after the other, and the frames that each adds.
-use Prim.Native.Nat.{ℕ, zero, suc, _+_, _*_, _<_, _≤_}
+use Prim.Native.Nat.{ℕ, suc, _+_, _*_, _<_}
 use native.Mathlib.Omega.{arith}
-use mathlib.Core.Path.{_≡_, refl, sym, ap, ap₂, _∙_}
+use mathlib.Core.Path.{_≡_, refl, ap, ap₂, _∙_}
 use mathlib.Core.Bool.{Bool, true, false, cond}
 use mathlib.Core.List.{List, [], _∷_, _++_, append-nil, map, map-append, flatMap}
 use lib.Dec.{eqb, lit<}
-use lib.ListN.{length, getD, length-append}
+use lib.ListN.{length, getD}
 use Rattle.schedules.specs.Lists.{upTo}
 use Rattle.machine.specs.State.{Event}
 use Rattle.machine.specs.Text.{readFrame}

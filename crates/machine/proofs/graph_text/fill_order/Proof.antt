@@ -4,7 +4,7 @@ use Prim.Native.Nat.{_≤_, _-_, _+_, _*_}
 use mathlib.Core.Path.{_≡_, _∙_}
 use native.Mathlib.Omega.{arith}
 use mathlib.Core.Logic.{⊎-elim}
-use lib.ListN.{length, length-set}
+use lib.ListN.{length}
 use Rattle.machine.proofs.NoteWriting.{Filled, filled-none, filled-all, headed-length, filled-length, filled-more, filled-same}
 use Rattle.machine.proofs.graph_text.fill_order.Statement.{statement}
 use Rattle.machine.proofs.graph_text.fill_order.Tie as tie

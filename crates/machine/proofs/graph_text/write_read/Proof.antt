@@ -1,6 +1,5 @@
 -- `write_read` tests the note's thread and its kind, then writes one line.
 use borrow.Author.Needs.{needs}
-use mathlib.Core.Path.{sym, _≡_}
 use Rattle.machine.proofs.NoteWriting.{unwritten, other-thread, no-read, read-line}
 use Rattle.machine.proofs.graph_text.write_read.Statement.{statement}
 use Rattle.machine.proofs.graph_text.write_read.Tie as tie
