@@ -32,7 +32,7 @@ use Rattle.machine.proofs.HeldTurns.{length-code, code-at}
 use Rattle.machine.proofs.HeldAccess.{Meets, access-meets}
 
 -- settled code of which something is left begins with an access
-settled-pending : (h : Local) (c : List Instruction) (k : ℕ) → Settled h → h .rest ≡ drop k c → k < length c → pending h ≡ true
+pub settled-pending : (h : Local) (c : List Instruction) (k : ℕ) → Settled h → h .rest ≡ drop k c → k < length c → pending h ≡ true
 settled-pending h c k (inl e) q l = absurd (omega (arith, ap length (sym q ∙ e), length-drop k c))
 settled-pending h c k (inr p) q l = p
 

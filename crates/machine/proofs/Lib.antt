@@ -64,3 +64,9 @@ pub mod HeldTurns
 pub mod HeldAccess
 -- a step
 pub mod HeldStep
+-- the state before the first step
+pub mod HeldStart
+-- who may step, whether all have ended, whether an assertion failed
+pub mod HeldAsking
+-- notes in the trail
+pub mod HeldNotes

@@ -5,7 +5,9 @@ use mathlib.Core.Bool.{Bool, true, false}
 use mathlib.Core.List.{List, []}
 use lib.ListN.{length, getD, drop}
 use Rattle.program.specs.declared.instruction.Instruction.{Instruction}
-use Rattle.program.specs.Compiled.{threadCode}
+use Rattle.program.specs.Program.{Program}
+use Rattle.program.specs.WellFormed.{WellFormed}
+use Rattle.program.specs.Compiled.{tabulate, threadCode}
 use Rattle.machine.specs.declared.state.ThreadState.{ThreadState}
 use Rattle.machine.specs.declared.state.LastWrite.{LastWrite}
 use Rattle.machine.specs.declared.state.Machine.{Machine}
@@ -49,6 +51,16 @@ pub record Holds (code lengths : List ℕ) (m : Machine) (σ : State) : Type 0 w
   pub registers : (t : ℕ) → t < length (σ .threads) → threadOf σ t .local .registers ≡ threadAt m t .registers
   pub values : (l : ℕ) → l < 8 → cellOf σ l .value ≡ getD (m .memory) l 0
   pub sources : (l : ℕ) → l < 8 → latest (cellOf σ l .writes) ≡ eventOf (lastAt m l)
+
+-- a thread's own part of that
+abbrev pub HoldsAt : List ℕ → List ℕ → ThreadState → State → ℕ → Type 0
+HoldsAt code lengths k σ t =
+    HoldsThread (threadCode code t (getD lengths t 0)) k (threadOf σ t) × (t < length (σ .threads) → threadOf σ t .local .registers ≡ k .registers)
+
+-- the threads of this well-formed program stand in these rows
+pub record Loaded (code lengths : List ℕ) (threads : ℕ) (p : Program) : Type 0 where
+  pub wellFormed : WellFormed p
+  pub codes : p .threads ≡ tabulate (λ t. threadCode code t (getD lengths t 0)) threads
 
 -- thread t has an instruction left, among at most sixteen
 pub record Ready (lengths : List ℕ) (m : Machine) (t : ℕ) : Type 0 where

@@ -12,3 +12,9 @@ mod accessing;
 mod state;
 // A step.
 mod step;
+// The state before the first step.
+mod starting;
+// What may be asked of a state.
+mod asking;
+// The notes of a run.
+mod noting;
