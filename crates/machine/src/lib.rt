@@ -16,3 +16,5 @@ mod starting;
 mod asking;
 // The notes of a run.
 mod noting;
+// A schedule carried out.
+mod replaying;
