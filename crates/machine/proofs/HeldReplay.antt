@@ -11,7 +11,7 @@ use Rattle.schedules.specs.Order.{Schedule}
 use Rattle.schedules.specs.System.{run, ended, Allowed}
 use Rattle.schedules.proofs.Runs.{run-nil, run-snoc, allowed-join, allowed-length}
 use Rattle.machine.specs.declared.state.Machine.{Machine}
-use Rattle.machine.specs.declared.step.Stepped.{Stepped}
+use Rattle.machine.specs.declared.stepping.Stepped.{Stepped}
 use Rattle.machine.specs.declared.replaying.Verdict.the-variants.{Whole, Refused}
 use Rattle.machine.specs.declared.replaying.Run.{Run}
 use Rattle.machine.specs.State.{State, place, step, may, SC, start}

@@ -2,9 +2,9 @@
 use crate::asking::ended_all;
 use crate::asking::may;
 use crate::noting::put_note;
-use crate::starting::start;
+use crate::starting::started;
 use crate::state::Machine;
-use crate::step::step;
+use crate::stepping::step;
 ghost use Rattle.program.specs.Program.{Program};
 ghost use Rattle.machine.specs.Held.{Loaded, HoldsRun};
 
@@ -23,11 +23,11 @@ pub struct Run {
 }
 
 // Carries out a schedule of the program in these rows.
-pub fn replay(code: &[u8; 1536], lengths: &[usize; 6], threads: usize, schedule: &[u8]) -> Run
+pub fn replayed(code: &[u8; 1536], lengths: &[usize; 6], threads: usize, schedule: &[u8]) -> Run
     requires { ⌜ ((p : Program) × Loaded (now code) (now lengths) threads p) ⌝ }
     ensures { λ r. ⌜ ((p : Program) → Loaded (now (code .entry)) (now (lengths .entry)) threads p → HoldsRun (now (code .entry)) (now (lengths .entry)) p (now (schedule .entry)) r) ⌝ }
 {
-    let mut m = start(code, lengths, threads);
+    let mut m = started(code, lengths, threads);
     let mut trail = [0u8; 192];
     let mut k = 0;
     while k < schedule.len() {
