@@ -18,7 +18,7 @@ use Rattle.machine.specs.declared.accessing.Access.{Access}
 use Rattle.machine.specs.declared.state.ThreadState.{ThreadState}
 use Rattle.machine.specs.declared.state.LastWrite.{LastWrite}
 use Rattle.machine.specs.declared.state.Machine.{Machine}
-use Rattle.machine.specs.declared.step.Stepped.{Stepped}
+use Rattle.machine.specs.declared.stepping.Stepped.{Stepped}
 use Rattle.machine.specs.Local.{Local, settle, beginsWithAccess, firstPlace, firstTakes, firstPuts, firstNext, pending, placeOf, takes, puts, next}
 use Rattle.machine.specs.State.{Event, Thread, Cell, State, threadOf, cellOf, place, latest, advanced, step, may}
 use Rattle.machine.specs.Trail.{given, writes}

@@ -70,3 +70,5 @@ pub mod HeldStart
 pub mod HeldAsking
 -- notes in the trail
 pub mod HeldNotes
+-- a schedule carried out
+pub mod HeldReplay

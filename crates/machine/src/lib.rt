@@ -11,10 +11,26 @@ mod accessing;
 // The machine's state: threads, memory, last writes.
 mod state;
 // A step.
-mod step;
+mod stepping;
 // The state before the first step.
 mod starting;
 // What may be asked of a state.
 mod asking;
 // The notes of a run.
 mod noting;
+// A schedule carried out.
+mod replaying;
+
+pub use asking::ended_all;
+pub use asking::fails;
+pub use asking::may;
+pub use noting::put_note;
+pub use replaying::Run;
+pub use replaying::Verdict;
+pub use replaying::replayed;
+pub use starting::started;
+pub use state::LastWrite;
+pub use state::Machine;
+pub use state::ThreadState;
+pub use stepping::Stepped;
+pub use stepping::step;

@@ -27,7 +27,7 @@ fn opened(code: &[u8; 1536], lengths: &[usize; 6], threads: usize, t: usize) -> 
 }
 
 // The state of the program in these rows.
-pub fn start(code: &[u8; 1536], lengths: &[usize; 6], threads: usize) -> Machine
+pub fn started(code: &[u8; 1536], lengths: &[usize; 6], threads: usize) -> Machine
     requires { ⌜ ((p : Program) × Loaded (now code) (now lengths) threads p) ⌝ }
     ensures { λ m. ⌜ ((p : Program) → Loaded (now (code .entry)) (now (lengths .entry)) threads p → Holds (now (code .entry)) (now (lengths .entry)) m (start p)) ⌝ }
 {

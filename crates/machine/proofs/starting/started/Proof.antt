@@ -1,4 +1,4 @@
--- `start` opens one thread after the other. The invariant: those before t stand where they should.
+-- `started` opens one thread after the other. The invariant: those before t stand where they should.
 use borrow.Author.Needs.{needs}
 use Prim.Native.Nat.{ℕ, _-_, _<_, _≤_}
 use mathlib.Core.Path.{_≡_, refl, _∙_}
@@ -8,8 +8,8 @@ use Rattle.program.specs.Program.{Program}
 use Rattle.machine.specs.State.{start}
 use Rattle.machine.specs.Held.{idle, HoldsAt, Loaded}
 use Rattle.machine.proofs.HeldStart.{short-held, one-more, start-held}
-use Rattle.machine.proofs.starting.start.Statement.{statement}
-use Rattle.machine.proofs.starting.start.Tie as tie
+use Rattle.machine.proofs.starting.started.Statement.{statement}
+use Rattle.machine.proofs.starting.started.Tie as tie
 
 abbrev Inv-loop : tie.InvT-loop
 Inv-loop code lengths threads all₀ t₀ all t =
@@ -30,5 +30,5 @@ loop-again c = (search needs, length-set (c .before .before .loop .all) (c .befo
 returns : tie.Need-returns Inv-loop μ-loop
 returns c = λ p loaded. start-held (c .before .before .args .code .now) (c .before .before .args .lengths .now) (c .before .before .args .threads) p loaded (c .before .loop .all) (c .before .loop .t) (c .before .loop .inv .1) (c .loop-test .left) (c .before .loop .inv .2 p loaded)
 
-pub start-spec : {M : Type 1} → statement M
-start-spec = tie.close (tie.spec Inv-loop μ-loop loop-holds opened-requires (λ c. search needs) (λ c. search needs) (λ c. search needs) (λ c. search needs) loop-again returns)
+pub started-spec : {M : Type 1} → statement M
+started-spec = tie.close (tie.spec Inv-loop μ-loop loop-holds opened-requires (λ c. search needs) (λ c. search needs) (λ c. search needs) (λ c. search needs) loop-again returns)

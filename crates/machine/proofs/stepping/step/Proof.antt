@@ -6,8 +6,8 @@ use native.Mathlib.Omega.{arith}
 use lib.ListN.{length, getD}
 use Rattle.machine.specs.Held.{threadAt}
 use Rattle.machine.proofs.HeldStep.{step-written, step-still}
-use Rattle.machine.proofs.step.step.Statement.{statement}
-use Rattle.machine.proofs.step.step.Tie as tie
+use Rattle.machine.proofs.stepping.step.Statement.{statement}
+use Rattle.machine.proofs.stepping.step.Tie as tie
 
 add-instruction-at : tie.Need-add-instruction-at
 add-instruction-at c = omega (arith, (subst (λ (v : ℕ). threadAt (c .before .before .before .before .before .before .args .m) v .at < getD (c .before .before .before .before .before .before .args .lengths .now) v 0) (sym (c .before .before .wide .ensures)) (c .before .before .before .before .before .before .pre .left)), (subst (λ (v : ℕ). v < 6) (sym (c .before .before .wide .ensures)) (c .before .before .before .before .before .before .pre .six)), (subst (λ (v : ℕ). getD (c .before .before .before .before .before .before .args .lengths .now) v 0 ≤ 16) (sym (c .before .before .wide .ensures)) (c .before .before .before .before .before .before .pre .sixteen)), (subst (λ (v : ℕ). threadAt (c .before .before .before .before .before .before .args .m) v .done ≤ threadAt (c .before .before .before .before .before .before .args .m) v .at) (sym (c .before .before .wide .ensures)) (c .before .before .before .before .before .before .pre .bounded)))
