@@ -8,11 +8,12 @@ use mathlib.Core.Option.{Option, none, some}
 use mathlib.Core.List.{List, [], _∷_, List·Memᴰ}
 use native.Mathlib.Omega.{arith}
 use lib.ListN.{length}
+use Rattle.lines.specs.Over.{over}
 use Rattle.program.specs.Program.{Program}
 use Rattle.program.specs.Decode.{Decoded, accepted, decode}
 use Rattle.schedules.specs.Lists.{first}
 use Rattle.schedules.specs.Order.{Schedule, less}
-use Rattle.schedules.specs.Calls.{Answer, found, nomore, over, offer, turn, short, Result, result, called, last, Dialogue, due}
+use Rattle.schedules.specs.Calls.{Answer, found, nomore, offer, turn, short, Result, result, called, last, Dialogue, due}
 use Rattle.schedules.proofs.Calls.{called-found, called-nomore, dialogue-answers}
 use Rattle.schedules.proofs.First.{first-none, next-first}
 use Rattle.machine.specs.Graph.{endOf, Full}
