@@ -18,7 +18,8 @@ use Rattle.machine.specs.State.{size, accessesLeft}
 use Rattle.machine.specs.Exchange.{movedEvent, movedRead, movedReads, movedWrites}
 use Rattle.machine.specs.Text.{textOf}
 use Rattle.machine.specs.Examples.{seen}
-use Rattle.listing.specs.ListOf.{together, permits, permitted, sameEvent, sameRead, sameList, turns, alikeBy, alike, listOf}
+use Rattle.judge.specs.Judge.{sameEvent, sameRead, sameList}
+use Rattle.listing.specs.ListOf.{together, permits, permitted, turns, alikeBy, alike, listOf}
 use Rattle.listing.specs.Answers.{failing, countOf}
 use Rattle.listing.specs.Printed.{bytesOf, flag, scheduleFrame, countFrame, printedFrames, printed}
 use Rattle.cases.specs.Rows.{Row, rows}

@@ -14,6 +14,7 @@ use Rattle.schedules.specs.Greedy.{Fitting}
 use Rattle.schedules.proofs.Order.{AtMost, at-most-not-less}
 use Rattle.schedules.proofs.Runs.{ended-none, full-allowed, allowed-full}
 use Rattle.schedules.proofs.Greedy.{GreedyLaws, greedy-least, commuting}
+use Rattle.schedules.proofs.GreedyAllowed.{greedy-allowed}
 use Rattle.machine.specs.State.{State, step, may, SC, start}
 use Rattle.machine.specs.Graph.{Graph, graphOf, graph, endOf, Full}
 use Rattle.machine.proofs.Lawful.{lawful, names-ascend, at-most-24}
@@ -23,7 +24,6 @@ use Rattle.judge.specs.Judge.{values, fits, walk, sameGraph, judge, Made
 use Rattle.judge.proofs.Tests.{both-and, same-graph-is, is-same-graph}
 use Rattle.judge.proofs.Rounds.{run-canonical}
 use Rattle.judge.proofs.OnRun.{on-start}
-use Rattle.judge.proofs.Walks.{greedy-allowed}
 use Rattle.judge.proofs.ConsistentIff.{run-makes, consistent-iff}
 use Rattle.judge.proofs.Fitting.{fits-is}
 use Rattle.judge.proofs.Commuting.{fits-commute, fits-stays}

@@ -24,7 +24,6 @@ pub mod ConsistentIff
 pub mod Fitting
 pub mod Commuting
 pub mod RunFits
-pub mod Walks
 pub mod Judged
 -- graph texts: what a text gives is canonical, and the text of a full schedule's graph gives that graph back
 pub mod Readable

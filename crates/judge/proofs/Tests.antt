@@ -45,14 +45,14 @@ unfolding sameRead
 same-read a = both-and (eq-eqb (a .0) (a .0) refl) (is-same-event (a .1) (a .1) refl)
 
 module _ {A : Type 0} (f : A → A → Bool) where
-  same-list-is : ((x y : A) → f x y ≡ true → x ≡ y) → (xs ys : List A) → sameList f xs ys ≡ true → xs ≡ ys
+  pub same-list-is : ((x y : A) → f x y ≡ true → x ≡ y) → (xs ys : List A) → sameList f xs ys ≡ true → xs ≡ ys
   unfolding sameList
   same-list-is s [] [] e = refl
   same-list-is s [] (y ∷ ys) e = absurd (false≢true e)
   same-list-is s (x ∷ xs) [] e = absurd (false≢true e)
   same-list-is s (x ∷ xs) (y ∷ ys) e = let r = both (f x y) (sameList f xs ys) e in ap₂ (λ (a : A) (b : List A). a ∷ b) (s x y (r .0)) (same-list-is s xs ys (r .1))
 
-  same-list : ((x : A) → f x x ≡ true) → (xs : List A) → sameList f xs xs ≡ true
+  pub same-list : ((x : A) → f x x ≡ true) → (xs : List A) → sameList f xs xs ≡ true
   unfolding sameList
   same-list s [] = refl
   same-list s (x ∷ xs) = both-and (s x) (same-list s xs)

@@ -9,6 +9,7 @@ use lib.Dec.{eqb}
 use borrow.Author.Tests.{ne-eqb}
 use Rattle.program.specs.Program.{Program}
 use Rattle.program.specs.WellFormed.{WellFormed}
+use Rattle.program.proofs.Tests.{both}
 use Rattle.schedules.specs.Lists.{upTo, all}
 use Rattle.schedules.specs.Order.{Schedule}
 use Rattle.schedules.specs.System.{run, FullFrom}
@@ -27,7 +28,6 @@ use Rattle.machine.proofs.FreeSteps.{free-append}
 use Rattle.machine.proofs.Remote.{Remote, nothing-meets, remote-free}
 use Rattle.listing.specs.Alike.{Smaller}
 use Rattle.listing.specs.Rules.{late, taken, asleep}
-use Rattle.listing.proofs.Tests.{and-both}
 use Rattle.listing.proofs.Late.{late-passes, passed-smaller}
 
 not-true : (b : Bool) → not b ≡ true → b ≡ false
@@ -53,8 +53,8 @@ module _ (p : Program) (w : WellFormed p) where
   unfolding asleep
   asleep-smaller v z t e f =
       let σ : State = endOf p v in
-      let a = and-both (may σ t) _ e in
-      let b = and-both (late (taken p v) (action σ t)) _ (a .1) in
+      let a = both (may σ t) _ e in
+      let b = both (late (taken p v) (action σ t)) _ (a .1) in
       let q = late-passes p v t (b .0) in
       let s = full-split SC (start p) v z f in
       let h = first-turn z σ t (s .1) (a .0) in

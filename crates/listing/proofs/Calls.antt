@@ -8,12 +8,14 @@ use mathlib.Core.Option.{Option, none, some}
 use mathlib.Core.List.{List, [], _∷_, List·Memᴰ}
 use native.Mathlib.Omega.{arith}
 use lib.ListN.{length}
+use Rattle.lines.specs.Over.{over}
 use Rattle.program.specs.Program.{Program}
 use Rattle.program.specs.Decode.{Decoded, accepted, decode}
 use Rattle.schedules.specs.Lists.{first}
 use Rattle.schedules.specs.Order.{Schedule, less}
-use Rattle.schedules.specs.Calls.{Answer, found, nomore, over, offer, turn, short, Result, result, called, last, Dialogue, due}
+use Rattle.schedules.specs.Calls.{Answer, found, nomore, offer, turn, short, Result, result, called, last, Dialogue, due}
 use Rattle.schedules.proofs.Calls.{called-found, called-nomore, dialogue-answers}
+use Rattle.schedules.proofs.Offered.{offer-in, offer-next, turn-short, last-turn}
 use Rattle.schedules.proofs.First.{first-none, next-first}
 use Rattle.machine.specs.Graph.{endOf, Full}
 use Rattle.machine.specs.Replay.{whole, replay}
@@ -22,7 +24,6 @@ use Rattle.listing.specs.ListOf.{listOf}
 use Rattle.listing.specs.Answers.{startOf, continued, continueOf}
 use Rattle.listing.specs.OnFile.{startOn, continueOn}
 use Rattle.listing.specs.Demand3.{call, Called}
-use Rattle.listing.proofs.Offered.{offer-in, offer-next, turn-short, last-turn}
 use Rattle.listing.proofs.FirstIn.{FirstIn, first-in, in-first, none-first}
 use Rattle.listing.proofs.TheList.{list-exact, list-ascends}
 

@@ -7,6 +7,7 @@ use mathlib.Core.List.{[], _∷_, _++_, append-assoc}
 use native.Mathlib.Omega.{arith}
 use Rattle.program.specs.Program.{Program}
 use Rattle.program.specs.WellFormed.{WellFormed}
+use Rattle.program.proofs.Tests.{either}
 use Rattle.schedules.specs.Lists.{upTo, any}
 use Rattle.schedules.specs.Order.{Schedule}
 use Rattle.schedules.proofs.Lists.{of-upTo, any-yes}
@@ -15,14 +16,13 @@ use Rattle.machine.specs.Graph.{endOf, Full}
 use Rattle.machine.specs.Trail.{action}
 use Rattle.listing.specs.Alike.{Smaller}
 use Rattle.listing.specs.Rules.{late, taken, twin, asleep, cut}
-use Rattle.listing.proofs.Tests.{or-either}
 use Rattle.listing.proofs.Late.{run-more, late-smaller}
 use Rattle.listing.proofs.Twins.{twin-smaller}
 use Rattle.listing.proofs.Asleep.{asleep-smaller}
 
 pub cut-smaller : (p : Program) → WellFormed p → (v : Schedule) (t : ℕ) (z : Schedule) → cut p v (endOf p v) t ≡ true → Full p (v ++ (t ∷ z)) → Smaller p (v ++ (t ∷ z))
 unfolding cut
-cut-smaller p w v t z e f = go (or-either (late (taken p v) (action σ t)) _ e)
+cut-smaller p w v t z e f = go (either (late (taken p v) (action σ t)) _ e)
   where
     σ : State
     σ = endOf p v
@@ -37,4 +37,4 @@ cut-smaller p w v t z e f = go (or-either (late (taken p v) (action σ t)) _ e)
 
     go : (late (taken p v) (action σ t) ≡ true) ⊎ ((any (twin p σ t) (upTo 0 t) || any (asleep p (v ++ (t ∷ [])) (step σ t)) (upTo 0 6)) ≡ true) → Smaller p (v ++ (t ∷ z))
     go (inl q) = late-smaller p w v t z q f
-    go (inr q) = rules (or-either (any (twin p σ t) (upTo 0 t)) _ q)
+    go (inr q) = rules (either (any (twin p σ t) (upTo 0 t)) _ q)

@@ -10,6 +10,7 @@ use Rattle.program.specs.WellFormed.{WellFormed}
 use Rattle.program.specs.Decode.{Decoded, accepted, decode}
 use Rattle.program.proofs.AcceptedWellFormed.{accepted-well-formed}
 use Rattle.schedules.specs.Lists.{keep}
+use Rattle.schedules.proofs.SomeRun.{some-full}
 use Rattle.schedules.proofs.Calls.{due-at}
 use Rattle.machine.specs.State.{SC, start, size}
 use Rattle.machine.proofs.Lawful.{lawful, at-most-24, fits-64-bits}
@@ -19,7 +20,6 @@ use Rattle.listing.specs.OnFile.{counted, countOn, violationOn}
 use Rattle.listing.specs.Demand3.{Demand3}
 use Rattle.listing.proofs.TheList.{list-exact, list-ascends, list-length}
 use Rattle.listing.proofs.Outcome.{alike-fails, alike-memory, one-each, none-fails-at-all}
-use Rattle.listing.proofs.SomeRun.{some-full}
 use Rattle.listing.proofs.Calls.{continue-file, continue-least, continue-none, calls-due}
 use Rattle.listing.proofs.Violations as Violations
 

@@ -23,10 +23,7 @@ pub mod Outcome
 -- the first member that passes a test; what violation answers
 pub mod FirstIn
 pub mod Violations
--- every program has a run
-pub mod SomeRun
 -- a list of calls walks the list
-pub mod Offered
 pub mod Calls
 -- demand 3 holds
 pub mod Demand3

@@ -1,79 +1,42 @@
 -- What the executable tests say: `turns` is Turns, a member of `permitted` acts as a permitted exchange and every permitted exchange is one
 -- of them, and so `alike` is Alike.
-use Prim.Native.Nat.{ℕ, zero, suc, _<_}
-use mathlib.Core.Path.{_≡_, refl, sym, ap, ap₂, subst, fun-ext, _∙_}
+use Prim.Native.Nat.{ℕ, _<_}
+use mathlib.Core.Path.{_≡_, refl, sym, ap, subst, fun-ext, _∙_}
 use mathlib.Core.Logic.{_⊎_, inl, inr, _↔_}
-use mathlib.Core.Bool.{Bool, true, false, false≢true, _&&_, _||_}
-use mathlib.Core.List.{List, [], _∷_, map, List·Memᴰ, Memᴰ·of-map}
+use mathlib.Core.Bool.{Bool, true, false, _&&_, _||_}
+use mathlib.Core.List.{List, [], map, List·Memᴰ, Memᴰ·of-map}
 use native.Mathlib.Omega.{arith}
 use native.Mathlib.Decide.{decLt}
 use lib.Dec.{eqb}
 use lib.ListN.{length, getD, length-map, List·getD-map, List·getD-eq-default}
 use borrow.Author.Tests.{eqb-true, eq-eqb}
 use Rattle.program.specs.Program.{Program}
+use Rattle.program.proofs.Tests.{both, either}
 use Rattle.schedules.specs.Lists.{upTo, any}
 use Rattle.schedules.specs.Order.{Schedule}
-use Rattle.schedules.specs.Permutations.{NoDuplicates, permutations, moved}
+use Rattle.schedules.specs.Permutations.{permutations, moved}
 use Rattle.schedules.proofs.Lists.{in-upTo, of-upTo, any-yes, any-of, all-at, all-of, in-keep, of-keep}
 use Rattle.schedules.proofs.Permutations.{permutations-complete}
-use Rattle.schedules.proofs.Group.{moved-same, identity-moved, identity-member, member-permutation, inverse-left, inverse-right, moved-below, moved-above}
+use Rattle.schedules.proofs.Group.{getD-any, distinct-map, moved-same, identity-moved, identity-member, member-permutation, inverse-left, inverse-right, moved-below, moved-above}
 use Rattle.schedules.specs.Permutations as Lists6
 use Rattle.machine.specs.State.{Event}
 use Rattle.machine.specs.Graph.{Graph, graph}
 use Rattle.machine.specs.Exchange.{Permutation, movedReads, movedWrites, Turns}
 use Rattle.machine.proofs.Exchange.{injective}
 use Rattle.machine.proofs.Permitted.{only-identity}
+use Rattle.judge.specs.Judge.{sameEvent, sameRead, sameList}
+use Rattle.judge.proofs.Tests.{both-and, same-event-is, is-same-event, same-read-is, same-read, same-list-is, same-list}
 use Rattle.listing.specs.Alike.{Exchange, Alike}
-use Rattle.listing.specs.ListOf.{together, permits, permitted, sameEvent, sameRead, sameList, turns, alikeBy, alike}
+use Rattle.listing.specs.ListOf.{together, permits, permitted, turns, alikeBy, alike}
 use Rattle.listing.proofs.Exchanges.{Together}
 
--- both tests, and one of two
-pub and-both : (a b : Bool) → (a && b) ≡ true → (a ≡ true) × (b ≡ true)
-and-both true b e = (refl, e)
-and-both false b e = absurd (false≢true e)
-
-pub both-and : {a b : Bool} → a ≡ true → b ≡ true → (a && b) ≡ true
-both-and p q = rw (p, q)
-
-pub or-either : (a b : Bool) → (a || b) ≡ true → (a ≡ true) ⊎ (b ≡ true)
-or-either true b e = inl refl
-or-either false b e = inr e
-
+-- one of two tests
 or-left : (a b : Bool) → a ≡ true → (a || b) ≡ true
 or-left a b e = rw e
 
 or-right : (a b : Bool) → b ≡ true → (a || b) ≡ true
 or-right true b e = refl
 or-right false b e = e
-
--- lists compared place by place
-pub same-list : {A : Type 0} (same : A → A → Bool) → ((x y : A) → same x y ≡ true → x ≡ y) → (xs ys : List A) → sameList same xs ys ≡ true → xs ≡ ys
-unfolding sameList
-same-list same h [] [] e = refl
-same-list same h [] (y ∷ ys) e = absurd (false≢true e)
-same-list same h (x ∷ xs) [] e = absurd (false≢true e)
-same-list {A} same h (x ∷ xs) (y ∷ ys) e = let r = and-both (same x y) (sameList same xs ys) e in ap₂ {C = List A} (λ z zs. z ∷ zs) (h x y (r .0)) (same-list same h xs ys (r .1))
-
-pub list-same : {A : Type 0} (same : A → A → Bool) → ((x : A) → same x x ≡ true) → (xs : List A) → sameList same xs xs ≡ true
-unfolding sameList
-list-same same h [] = refl
-list-same same h (x ∷ xs) = both-and (h x) (list-same same h xs)
-
-same-event : (a b : Event) → sameEvent a b ≡ true → a ≡ b
-unfolding sameEvent
-same-event a b e = let r = and-both (eqb (a .0) (b .0)) (eqb (a .1) (b .1)) e in ap₂ (λ (x y : ℕ). let z : Event = (x, y) in z) (eqb-true (a .0) (b .0) (r .0)) (eqb-true (a .1) (b .1) (r .1))
-
-event-same : (a : Event) → sameEvent a a ≡ true
-unfolding sameEvent
-event-same a = both-and (eq-eqb (a .0) (a .0) refl) (eq-eqb (a .1) (a .1) refl)
-
-pub same-read : (a b : ℕ × Event) → sameRead a b ≡ true → a ≡ b
-unfolding sameRead
-same-read a b e = let r = and-both (eqb (a .0) (b .0)) (sameEvent (a .1) (b .1)) e in ap₂ (λ (x : ℕ) (y : Event). let z : ℕ × Event = (x, y) in z) (eqb-true (a .0) (b .0) (r .0)) (same-event (a .1) (b .1) (r .1))
-
-read-same : (a : ℕ × Event) → sameRead a a ≡ true
-unfolding sameRead
-read-same a = both-and (eq-eqb (a .0) (a .0) refl) (event-same (a .1))
 
 -- THE TEST OF A GRAPH
 abbrev rowTest : (ℕ → ℕ) → Graph → Graph → ℕ → Bool
@@ -85,17 +48,17 @@ columnTest π g h = sameList (sameList sameEvent) (map (movedWrites π) (g .writ
 pub turns-true : (π : ℕ → ℕ) (g h : Graph) → turns π g h ≡ true → Turns π g h
 unfolding turns
 turns-true π g h e =
-    let r = and-both (columnTest π g h) _ e in record {
-      reads = λ t i. sym (same-list sameRead same-read _ _ (all-at (rowTest π g h) (upTo 0 (length (g .reads))) t (r .1) (in-upTo 0 (length (g .reads)) t (omega arith) (omega arith))));
-      writes = sym (same-list (sameList sameEvent) (same-list sameEvent same-event) _ _ (r .0));
+    let r = both (columnTest π g h) _ e in record {
+      reads = λ t i. sym (same-list-is sameRead same-read-is _ _ (all-at (rowTest π g h) (upTo 0 (length (g .reads))) t (r .1) (in-upTo 0 (length (g .reads)) t (omega arith) (omega arith))));
+      writes = sym (same-list-is (sameList sameEvent) (same-list-is sameEvent same-event-is) _ _ (r .0));
     }
 
 pub true-turns : (π : ℕ → ℕ) (g h : Graph) → Turns π g h → turns π g h ≡ true
 unfolding turns
 true-turns π g h r = both-and
-    (subst (λ (k : List (List Event)). sameList (sameList sameEvent) (map (movedWrites π) (g .writes)) k ≡ true) (sym (r .writes)) (list-same (sameList sameEvent) (list-same sameEvent event-same) (map (movedWrites π) (g .writes))))
+    (subst (λ (k : List (List Event)). sameList (sameList sameEvent) (map (movedWrites π) (g .writes)) k ≡ true) (sym (r .writes)) (same-list (sameList sameEvent) (same-list sameEvent (λ e. is-same-event e e refl)) (map (movedWrites π) (g .writes))))
     (all-of (rowTest π g h) (upTo 0 (length (g .reads))) (λ t m. let i = of-upTo 0 (length (g .reads)) t m .1 in
-    subst (λ (k : List (ℕ × Event)). sameList sameRead (movedReads π (getD (g .reads) t [])) k ≡ true) (sym (r .reads t (omega arith))) (list-same sameRead read-same (movedReads π (getD (g .reads) t [])))))
+    subst (λ (k : List (ℕ × Event)). sameList sameRead (movedReads π (getD (g .reads) t [])) k ≡ true) (sym (r .reads t (omega arith))) (same-list sameRead same-read (movedReads π (getD (g .reads) t [])))))
 
 -- THE PERMITTED ONES
 member-test : (t : ℕ) (g : List ℕ) → any (eqb t) g ≡ true → List·Memᴰ t g
@@ -108,7 +71,7 @@ pub together-true : (p : Program) (t u : ℕ) → together (p .groups) t u ≡ t
 unfolding together
 together-true p t u e =
     let r = any-yes (λ g. any (eqb t) g && any (eqb u) g) (p .groups) e in
-    let k = and-both (any (eqb t) (r .0)) (any (eqb u) (r .0)) (r .2) in
+    let k = both (any (eqb t) (r .0)) (any (eqb u) (r .0)) (r .2) in
     (r .0, r .1, member-test t (r .0) (k .0), member-test u (r .0) (k .1))
 
 true-together : (p : Program) (t u : ℕ) → Together p t u → together (p .groups) t u ≡ true
@@ -134,18 +97,12 @@ permitted-exchange p π m = (
     split t (inr e) = inr (together-true p t (moved π t) e)
 
     at : (t : ℕ) → Dec (t < 6) → (moved π t ≡ t) ⊎ Together p t (moved π t)
-    at t (yes h) = split t (or-either (eqb (moved π t) t) (together (p .groups) t (moved π t)) (all-at (stayTest p π) (upTo 0 6) t (k .1) (in-upTo 0 6 t (omega arith) h)))
+    at t (yes h) = split t (either (eqb (moved π t) t) (together (p .groups) t (moved π t)) (all-at (stayTest p π) (upTo 0 6) t (k .1) (in-upTo 0 6 t (omega arith) h)))
     at t (no h) = inl (moved-above π (k .0) t (omega arith))
 
 -- every permutation of six as a list
 unfoldable pub tabled : (ℕ → ℕ) → List ℕ
 tabled π = map π (upTo 0 6)
-
--- the default does not matter inside a list
-getD-any : (l : List ℕ) (i d e : ℕ) → i < length l → getD l i d ≡ getD l i e
-getD-any [] i d e h = absurd (omega arith)
-getD-any (x ∷ xs) zero d e h = refl
-getD-any (x ∷ xs) (suc i) d e h = getD-any xs i d e (omega arith)
 
 six : length (upTo 0 6) ≡ 6
 six = member-permutation (upTo 0 6) identity-member .six
@@ -161,16 +118,12 @@ tabled-moved π q t = go (decLt t 6)
     go (yes h) = getD-any (map π (upTo 0 6)) t t (π t) (omega (arith, size)) ∙ List·getD-map π (upTo 0 6) t t ∙ ap π (identity-moved t)
     go (no h) = List·getD-eq-default (map π (upTo 0 6)) t {n = t} (omega (arith, size)) ∙ sym (q .stays t (omega arith))
 
-map-distinct : (f : ℕ → ℕ) → ((x y : ℕ) → f x ≡ f y → x ≡ y) → (l : List ℕ) → NoDuplicates l → NoDuplicates (map f l)
-map-distinct f inj [] d = tt
-map-distinct f inj (x ∷ l) d = ((λ m. let r = Memᴰ·of-map f l m in d .0 (subst (λ (z : ℕ). List·Memᴰ z l) (inj (r .0) x (r .2)) (r .1))), map-distinct f inj l (d .1))
-
 tabled-member : (π : ℕ → ℕ) → Permutation π → List·Memᴰ (tabled π) permutations
 unfolding tabled
 tabled-member π q = permutations-complete (map π (upTo 0 6)) (record {
   six = length-map (upTo 0 6) π ∙ six;
   below = λ x m. let r = Memᴰ·of-map π (upTo 0 6) m in subst (λ (z : ℕ). z < 6) (r .2) (q .below (r .0) (of-upTo 0 6 (r .0) (r .1) .1));
-  distinct = map-distinct π (injective π q) (upTo 0 6) (member-permutation (upTo 0 6) identity-member .distinct);
+  distinct = distinct-map π (injective π q) (upTo 0 6) (member-permutation (upTo 0 6) identity-member .distinct);
 })
 
 -- every permitted exchange is a member

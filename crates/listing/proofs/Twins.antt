@@ -12,6 +12,7 @@ use borrow.Author.Tests.{eqb-true, eq-eqb}
 use Rattle.program.specs.Program.{Program, codeOf}
 use Rattle.program.specs.WellFormed.{WellFormed, Group}
 use Rattle.program.specs.declared.instruction.Instruction.{Instruction}
+use Rattle.program.proofs.Tests.{both}
 use Rattle.schedules.specs.Lists.{all}
 use Rattle.schedules.specs.Order.{Schedule, less}
 use Rattle.schedules.specs.System.{run, Allowed}
@@ -31,12 +32,14 @@ use Rattle.machine.proofs.Histories.{rest-code}
 use Rattle.machine.proofs.Exchange.{moves-full}
 use Rattle.machine.proofs.ExchangedTrail.{moved-cons}
 use Rattle.machine.proofs.ProgramGraphs.{graph-moved-end}
+use Rattle.judge.specs.Judge.{sameRead, sameList}
+use Rattle.judge.proofs.Tests.{same-read-is, same-list-is}
 use Rattle.listing.specs.Alike.{Smaller}
-use Rattle.listing.specs.ListOf.{together, sameRead, sameList}
+use Rattle.listing.specs.ListOf.{together}
 use Rattle.listing.specs.Rules.{sameFlag, sameLocal, sameHistory, silent, twin}
 use Rattle.listing.proofs.Exchanges.{Together}
 use Rattle.listing.proofs.Equivalence.{alike-sym}
-use Rattle.listing.proofs.Tests.{and-both, same-list, same-read, together-true}
+use Rattle.listing.proofs.Tests.{together-true}
 use Rattle.listing.proofs.Swapped.{swapped, swapped-high, swapped-exchange, Silent, swapped-state}
 
 -- what the tests say
@@ -53,9 +56,9 @@ mkLocal rs is b = record { registers = rs; rest = is; failed = b }
 same-local : (h k : Local) → (length (h .rest) ≡ length (k .rest) → h .rest ≡ k .rest) → sameLocal h k ≡ true → h ≡ k
 unfolding sameLocal
 same-local h k f e =
-    let a = and-both (eqb (length (h .rest)) (length (k .rest))) _ e in
-    let b = and-both (sameList eqb (h .registers) (k .registers)) _ (a .1) in
-    let r1 = same-list eqb eqb-true (h .registers) (k .registers) (b .0) in
+    let a = both (eqb (length (h .rest)) (length (k .rest))) _ e in
+    let b = both (sameList eqb (h .registers) (k .registers)) _ (a .1) in
+    let r1 = same-list-is eqb eqb-true (h .registers) (k .registers) (b .0) in
     let r2 = f (eqb-true (length (h .rest)) (length (k .rest)) (a .0)) in
     let r3 = same-flag (h .failed) (k .failed) (b .1) in
     let s : mkLocal (h .registers) (h .rest) (h .failed) ≡ mkLocal (k .registers) (k .rest) (k .failed) = rw (r1, r2, r3) in
@@ -64,8 +67,8 @@ same-local h k f e =
 same-history : (h k : History) → sameHistory h k ≡ true → h ≡ k
 unfolding sameHistory
 same-history h k e =
-    let a = and-both (eqb (h .done) (k .done)) _ e in
-    ap₂ (λ (d : ℕ) (rs : List (ℕ × Event)). let z : History = record { done = d; reads = rs } in z) (eqb-true (h .done) (k .done) (a .0)) (same-list sameRead same-read (h .reads) (k .reads) (a .1))
+    let a = both (eqb (h .done) (k .done)) _ e in
+    ap₂ (λ (d : ℕ) (rs : List (ℕ × Event)). let z : History = record { done = d; reads = rs } in z) (eqb-true (h .done) (k .done) (a .0)) (same-list-is sameRead same-read-is (h .reads) (k .reads) (a .1))
 
 not-own : (u : ℕ) (e : Event) → not (eqb (e .0) u) ≡ true → e .0 ≢ u
 not-own u e q i = false≢true (let k = eq-eqb (e .0) u i in rw k at q)
@@ -96,10 +99,10 @@ module _ (p : Program) (w : WellFormed p) where
   unfolding twin
   twin-smaller v u t z h e f =
       let σ : State = endOf p v in
-      let a = and-both (together (p .groups) u t) _ e in
-      let b = and-both (sameLocal (threadOf σ u .local) (threadOf σ t .local)) _ (a .1) in
-      let c = and-both (sameHistory (threadOf σ u .history) (threadOf σ t .history)) _ (b .1) in
-      let d = and-both (silent σ u) (silent σ t) (c .1) in
+      let a = both (together (p .groups) u t) _ e in
+      let b = both (sameLocal (threadOf σ u .local) (threadOf σ t .local)) _ (a .1) in
+      let c = both (sameHistory (threadOf σ u .history) (threadOf σ t .history)) _ (b .1) in
+      let d = both (silent σ u) (silent σ t) (c .1) in
       let s = full-split SC (start p) v (t ∷ z) f in
       let k = together-true p u t (a .0) in
       let m = members u t k in

@@ -8,10 +8,11 @@ use mathlib.Core.List.{List, List·Memᴰ}
 use native.Mathlib.Omega.{arith}
 use lib.ListN.{length}
 use borrow.Author.Tests.{lt-ltb, le-ltb, ltb-true}
+use Rattle.lines.specs.Over.{over}
 use Rattle.program.specs.Program.{Program}
 use Rattle.schedules.specs.Lists.{first}
 use Rattle.schedules.specs.Order.{Schedule}
-use Rattle.schedules.specs.Calls.{short, over}
+use Rattle.schedules.specs.Calls.{short}
 use Rattle.schedules.proofs.First.{first-none}
 use Rattle.listing.specs.ListOf.{listOf}
 use Rattle.listing.specs.Answers.{failing, Violation, fails-first, none-fails, refused-by, violationBy, violationContent, violationOf}

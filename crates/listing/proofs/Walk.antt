@@ -7,10 +7,10 @@ use Rattle.program.specs.Program.{Program}
 use Rattle.program.specs.WellFormed.{WellFormed}
 use Rattle.schedules.specs.Order.{Schedule}
 use Rattle.schedules.proofs.Calls.{Behind, behind-next, offer-behind}
+use Rattle.schedules.proofs.Offered.{head-none, head-some}
 use Rattle.listing.specs.ListOf.{listOf}
 use Rattle.listing.specs.Search.{search24}
 use Rattle.listing.proofs.TheList.{list-ascends, search-offers}
-use Rattle.listing.proofs.Offered.{head-none, head-some}
 
 module _ (p : Program) (w : WellFormed p) where
   -- before the walk all members are to come

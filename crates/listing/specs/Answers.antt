@@ -5,10 +5,11 @@ use mathlib.Core.Bool.{Bool, true, false}
 use mathlib.Core.Option.{Option, none, some}
 use mathlib.Core.List.{List}
 use lib.ListN.{length}
+use Rattle.lines.specs.Over.{over}
 use Rattle.program.specs.Program.{Program}
 use Rattle.schedules.specs.Lists.{keep, first}
 use Rattle.schedules.specs.Order.{Schedule}
-use Rattle.schedules.specs.Calls.{Answer, refused, offer, turn, short, over, Result, result, called}
+use Rattle.schedules.specs.Calls.{Answer, refused, offer, turn, short, Result, result, called}
 use Rattle.machine.specs.State.{fails}
 use Rattle.machine.specs.Graph.{endOf}
 use Rattle.machine.specs.Replay.{Replayed, whole, replay}

@@ -8,10 +8,11 @@ use mathlib.Core.Bool.{true, false}
 use mathlib.Core.Option.{Option, none, some}
 use mathlib.Core.List.{List, [], _∷_, _++_, List·Memᴰ}
 use lib.ListN.{length}
+use Rattle.lines.specs.Over.{over}
 use Rattle.program.specs.Program.{Program}
 use Rattle.schedules.specs.Lists.{keep, Ascends}
 use Rattle.schedules.specs.Order.{Schedule, less}
-use Rattle.schedules.specs.Calls.{found, nomore, turn, short, over, Result, result, called, last, due, served, member}
+use Rattle.schedules.specs.Calls.{found, nomore, turn, short, Result, result, called, last, due, served, member}
 use Rattle.machine.specs.State.{memoryOf}
 use Rattle.machine.specs.Graph.{endOf, Full}
 use Rattle.listing.specs.Alike.{Alike, Listed}

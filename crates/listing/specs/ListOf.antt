@@ -1,8 +1,8 @@
 -- The list, executable: all full schedules in order, of which those stay to which no earlier one is alike. Exchanges are tried one after the
 -- other, among the permutations of six that move each thread only within its `02` line.
 use Prim.Native.Nat.{ℕ}
-use mathlib.Core.Bool.{Bool, true, false, _&&_, _||_}
-use mathlib.Core.List.{List, [], _∷_, map}
+use mathlib.Core.Bool.{Bool, _&&_, _||_}
+use mathlib.Core.List.{List, [], map}
 use lib.Dec.{eqb}
 use lib.ListN.{length, getD}
 use Rattle.program.specs.Program.{Program}
@@ -10,9 +10,10 @@ use Rattle.schedules.specs.Lists.{upTo, any, all, keep}
 use Rattle.schedules.specs.Order.{Schedule}
 use Rattle.schedules.specs.Listed as Listed
 use Rattle.schedules.specs.Permutations.{permutations, moved}
-use Rattle.machine.specs.State.{Event, SC, start}
+use Rattle.machine.specs.State.{SC, start}
 use Rattle.machine.specs.Graph.{Graph, graph}
 use Rattle.machine.specs.Exchange.{movedReads, movedWrites}
+use Rattle.judge.specs.Judge.{sameEvent, sameRead, sameList}
 
 -- whether threads t and u stand in one of these `02` lines
 unfoldable pub together : List (List ℕ) → ℕ → ℕ → Bool
@@ -25,20 +26,6 @@ permits groups π = all (λ t. eqb (moved π t) t || together groups t (moved π
 -- the permitted permutations, ascending
 unfoldable pub permitted : Program → List (List ℕ)
 permitted p = keep (permits (p .groups)) permutations
-
-unfoldable pub sameEvent : Event → Event → Bool
-sameEvent a b = eqb (a .0) (b .0) && eqb (a .1) (b .1)
-
--- the same access number and the same source
-unfoldable pub sameRead : ℕ × Event → ℕ × Event → Bool
-sameRead a b = eqb (a .0) (b .0) && sameEvent (a .1) (b .1)
-
--- whether two lists are equally long and the same place by place
-unfoldable pub sameList : {A : Type 0} → (A → A → Bool) → List A → List A → Bool
-sameList same [] [] = true
-sameList same [] (y ∷ ys) = false
-sameList same (x ∷ xs) [] = false
-sameList same (x ∷ xs) (y ∷ ys) = same x y && sameList same xs ys
 
 -- whether π turns the first graph into the second
 unfoldable pub turns : (ℕ → ℕ) → Graph → Graph → Bool

@@ -14,7 +14,8 @@ use Rattle.machine.specs.State.{Event, History, Cell, State, threadOf, place, s
 use Rattle.machine.specs.Trail.{Action, action, trail, conflict, leastOf}
 use Rattle.machine.specs.Ahead.{mayPut, couldMeet}
 use Rattle.machine.specs.ExchangedTrail.{movedAction}
-use Rattle.listing.specs.ListOf.{together, permitted, sameRead, sameList}
+use Rattle.judge.specs.Judge.{sameRead, sameList}
+use Rattle.listing.specs.ListOf.{together, permitted}
 
 -- R1, the step comes late: going back over steps of other threads that do not conflict with it, it passes one of a greater thread, so that
 -- it could have been taken earlier. The steps are given latest first.

@@ -3,7 +3,7 @@ use Prim.Native.Nat.{ℕ, suc, _+_, _<_}
 use native.Mathlib.Omega.{arith}
 use mathlib.Core.Path.{_≡_, refl, sym, ap, _∙_}
 use mathlib.Core.Bool.{Bool, true, false, cond, not, _||_, false≢true}
-use mathlib.Core.List.{List, [], _∷_, _++_, List·Memᴰ, List·Memᴰ·head, List·Memᴰ·tail}
+use mathlib.Core.List.{List, [], _∷_, _++_}
 use lib.ListN.{length, getD, set, drop, length-append, length-set}
 use lib.Seq.{getD-set-same, getD-set-other}
 use lib.Dec.{eqb}
@@ -14,18 +14,10 @@ use Rattle.program.specs.Decode.{Reading, threadAt, among, grouped, memb
 use Rattle.program.specs.Held.{marked, groupedCounts, frameAt, lineAt, classFrom, Holds, Lined}
 use Rattle.program.proofs.Tests.{second, neither}
 use Rattle.program.proofs.Everywhere.{everywhere-at}
+use Rattle.program.proofs.InstructionFrames.{among-member}
 use Rattle.program.proofs.GroupLines.{members, member-free}
 use Rattle.program.proofs.Sound.{passes}
 use Rattle.program.proofs.HeldAfter.{first-declares}
-
-among-member : (t : ℕ) (g : List ℕ) → among t g ≡ true → List·Memᴰ t g
-unfolding among
-among-member t [] e = absurd (false≢true e)
-among-member t (u ∷ us) e = go (eqb t u) refl (λ q. among-member t us (second (eqb t u) (among t us) e q))
-  where
-    go : (b : Bool) → eqb t u ≡ b → (eqb t u ≡ false → List·Memᴰ t us) → List·Memᴰ t (u ∷ us)
-    go true q later = List·Memᴰ·head (eqb-true t u q)
-    go false q later = List·Memᴰ·tail (later q)
 
 -- ---- the members get the number, all others keep theirs
 unmarked : (g t : ℕ) (ts class : List ℕ) → among t ts ≡ false → getD (marked g ts class) t 0 ≡ getD class t 0

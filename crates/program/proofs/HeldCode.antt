@@ -12,7 +12,7 @@ use borrow.Author.Tests.{eq-eqb, eqb-true}
 use Rattle.program.specs.declared.counts.Counts.{Counts}
 use Rattle.program.specs.Frames.{Frame, byte}
 use Rattle.program.specs.Decode.{Placed, Reading, threadAt, same, sameCode}
-use Rattle.program.specs.Held.{agree, codeAgrees, noInstruction, frameAt, Holds}
+use Rattle.program.specs.Held.{agree, codeAgrees, noInstruction, frameAt, Bounded, Holds}
 use Rattle.program.proofs.Tests.{both}
 use Rattle.program.proofs.GroupLines.{framesOf, same-frames}
 use Rattle.program.proofs.FrameBytes.{sizes-same}
@@ -47,6 +47,10 @@ frame-map xs i = List·getD-map (λ (x : Placed). x .code) xs i noInstruction
 length-frames : (xs : List Placed) → length (framesOf xs) ≡ length xs
 unfolding framesOf
 length-frames xs = length-map xs (λ (x : Placed). x .code)
+
+-- no thread that has been read is longer than 16
+pub held-short : (code : List ℕ) (s : Counts) (r : Reading) → Bounded s → Holds code s r → (t : ℕ) → length (threadAt r t) ≤ 16
+held-short code s r bounded held t = let b = bounded .sixteen t in let l = held .lengths t in omega arith
 
 module _ (code : List ℕ) (s : Counts) (r : Reading) (held : Holds code s r) (t u : ℕ) where
   -- the byte at k of thread t's rows

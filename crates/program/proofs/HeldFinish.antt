@@ -8,11 +8,9 @@ use borrow.Author.Tests.{eq-eqb, ne-eqb}
 use Rattle.program.specs.declared.counts.Counts.{Counts}
 use Rattle.program.specs.Decode.{Reading, threadAt, firstFarSkip, programIn, Decoded, accepted, refused, finish}
 use Rattle.program.specs.Held.{frameAt, lineAt, Bounded, Holds, Lined, HeldThreads}
+use Rattle.program.proofs.HeldCode.{held-short}
 
 module _ (code rows : List ℕ) (s : Counts) (r : Reading) (bounded : Bounded s) (held : Holds code s r) (lined : Lined rows r) where
-  pub held-short : (t : ℕ) → length (threadAt r t) ≤ 16
-  held-short t = let b = bounded .sixteen t in let l = held .lengths t in omega arith
-
   -- the threads, as the arrays hold them
   pub held-threads : HeldThreads code rows (s .threads) (s .lengths) (r .threads)
   unfolding threadAt frameAt lineAt
@@ -20,7 +18,7 @@ module _ (code rows : List ℕ) (s : Counts) (r : Reading) (bounded : Bounded s)
     threads = held .threads;
     lengths = held .lengths;
     each = λ t. record {
-      bytes = λ i j h k. let b = held-short t in held .bytes t i j (omega arith) k;
+      bytes = λ i j h k. let b = held-short code s r bounded held t in held .bytes t i j (omega arith) k;
       lines = λ i h. lined .lines t i h;
     };
   }

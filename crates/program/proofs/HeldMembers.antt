@@ -14,7 +14,7 @@ use Rattle.program.specs.Frames.{Frame, byte}
 use Rattle.program.specs.Decode.{Reading, threadAt, sameCode, among, grouped, memberFits, followersFit, membersFit}
 use Rattle.program.specs.Held.{codeAgrees, classFrom, Bounded, Holds}
 use Rattle.program.proofs.Tests.{both}
-use Rattle.program.proofs.HeldCode.{codes-agree}
+use Rattle.program.proofs.HeldCode.{held-short, codes-agree}
 
 -- no group has a thread exactly when its number is 0
 class-none : (k t : ℕ) (gs : List (List ℕ)) → eqb (classFrom (suc k) t gs) 0 ≡ not (grouped t gs)
@@ -35,9 +35,6 @@ pub free-below : (s : Counts) (t : ℕ) → isFree s t ≡ true → t < 6
 free-below s t e = ltb-true t 6 (both (ltb t 6) _ (both (ltb t (s .threads)) _ e .1) .0)
 
 module _ (code : List ℕ) (s : Counts) (r : Reading) (bounded : Bounded s) (held : Holds code s r) where
-  short : (v : ℕ) → length (threadAt r v) ≤ 16
-  short v = let b = bounded .sixteen v in let l = held .lengths v in omega arith
-
   pub free-member : (t : ℕ) → isFree s t ≡ memberFits r t
   unfolding memberFits
   free-member t = go (ltb t (s .threads)) refl
@@ -67,7 +64,7 @@ module _ (code : List ℕ) (s : Counts) (r : Reading) (bounded : Bounded s) (hel
       ap (followersFit r t) (drop-cons f j 0 h)
       ∙ ap (λ (v : ℕ). memberFits r v && (ltb t v && (sameCode (threadAt r t) (threadAt r v) && followersFit r v (drop (suc j) f)))) (sym e)
       ∙ ap (λ (b : Bool). b && (ltb t u && (sameCode (threadAt r t) (threadAt r u) && followersFit r u (drop (suc j) f)))) (sym (free-member u))
-      ∙ ap (λ (b : Bool). isFree s u && (ltb t u && (b && followersFit r u (drop (suc j) f)))) (sym (codes-agree code s r held t u short))
+      ∙ ap (λ (b : Bool). isFree s u && (ltb t u && (b && followersFit r u (drop (suc j) f)))) (sym (codes-agree code s r held t u (held-short code s r bounded held)))
       ∙ ap (λ (i : ℕ). isFree s u && (ltb t u && (codeAgrees code (s .lengths) t u && followersFit r u (drop i f)))) (sym (add-one j))
 
   -- behind the last member

@@ -1,11 +1,9 @@
 -- What tests that are joined by `&&`, `||`, `not` and `cond` tell of their parts.
 use mathlib.Core.Path.{_≡_, refl, sym}
 use mathlib.Core.Logic.{_⊎_, inl, inr}
-use mathlib.Core.Bool.{Bool, true, false, _&&_, _||_, false≢true}
-
-pub both : (a b : Bool) → (a && b) ≡ true → (a ≡ true) × (b ≡ true)
-both true b e = (refl, e)
-both false b e = absurd (false≢true e)
+use mathlib.Core.Bool.{Bool, true, false, _||_, false≢true}
+-- two tests of which both hold
+pub use Rattle.lines.proofs.DigitValues.{both}
 
 pub either : (a b : Bool) → (a || b) ≡ true → (a ≡ true) ⊎ (b ≡ true)
 either true b e = inl refl

@@ -8,9 +8,10 @@ use Prim.Native.Nat.{ℕ, zero, suc, _<_, _≤_}
 use borrow.Author.Tests.{lt-ltb, le-ltb}
 use lib.ListN.{length, drop}
 use lib.Seq.{drop-nil}
+use Rattle.lines.specs.Over.{over}
 use Rattle.schedules.specs.Lists.{headOf, Ascends}
 use Rattle.schedules.specs.Order.{Schedule, less}
-use Rattle.schedules.specs.Calls.{found, nomore, refused, next, offer, turn, short, over, content, Result, result, called, last, Dialogue, left, due, served, member}
+use Rattle.schedules.specs.Calls.{found, nomore, refused, next, offer, turn, short, content, Result, result, called, last, Dialogue, left, due, served, member}
 use Rattle.schedules.proofs.Order.{less-irreflexive, less-asymmetric}
 
 -- one call: refused exactly where the output is too short, and otherwise it answers what there is

@@ -1,7 +1,7 @@
 -- The first answer: of a test over a list, of a function over a list of numbers, and behind a common beginning.
 use mathlib.Core.Path.{_≡_, refl, sym, ap, ap₂, _∙_}
 use mathlib.Core.Bool.{Bool, true, false, false≢true}
-use mathlib.Core.Option.{Option, none, some}
+use mathlib.Core.Option.{Option, none, some, Option·none-ne-some}
 use mathlib.Core.List.{List, [], _∷_, _++_, append-assoc, List·Memᴰ, List·Memᴰ·head, List·Memᴰ·tail}
 use Prim.Native.Nat.{ℕ, zero, suc, _+_}
 use native.Mathlib.Omega.{arith}
@@ -33,6 +33,15 @@ pub first-none : {A : Type 0} (f : A → Bool) (l : List A) → ((x : A) → Lis
 unfolding first
 first-none f [] h = refl
 first-none f (x ∷ l) h = rw (h x (List·Memᴰ·head refl), first) (first-none f l (λ y m. h y (List·Memᴰ·tail m)))
+
+pub first-passes : {A : Type 0} (f : A → Bool) (l : List A) (s : A) → first f l ≡ some s → f s ≡ true
+unfolding first
+first-passes f [] s e = absurd (Option·none-ne-some s e)
+first-passes f (x ∷ l) s e = go (f x) refl (λ k. first-passes f l s k)
+  where
+    go : (b : Bool) → f x ≡ b → (first f l ≡ some s → f s ≡ true) → f s ≡ true
+    go true q ih = let i : x ≡ s = let k = sym (first-yes f x l q) ∙ e in cc in ap f (sym i) ∙ q
+    go false q ih = ih (sym (first-no f x l q) ∙ e)
 
 pub first-same : {A : Type 0} (f g : A → Bool) (l : List A) → ((x : A) → f x ≡ g x) → first f l ≡ first g l
 unfolding first

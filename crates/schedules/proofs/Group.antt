@@ -47,8 +47,8 @@ permutation-is π e =
       distinct = distinct-is π (both-right (all (λ x. ltb x 6) π) _ r);
     }
 
--- reading a list
-getD-any : (l : List ℕ) (i d e : ℕ) → i < length l → getD l i d ≡ getD l i e
+-- reading inside a list: the default does not matter, and what is read is a member
+pub getD-any : (l : List ℕ) (i d e : ℕ) → i < length l → getD l i d ≡ getD l i e
 getD-any [] i d e h = absurd (not-suc-le-zero h)
 getD-any (x ∷ xs) zero d e h = refl
 getD-any (x ∷ xs) (suc i) d e h = getD-any xs i d e (le-of-suc-le-suc h)
@@ -127,14 +127,15 @@ module _ (π : List ℕ) (m : List·Memᴰ π permutations) where
   pub moved-above : (x : ℕ) → 6 ≤ x → moved π x ≡ x
   moved-above x h = List·getD-eq-default π x {n = x} (omega (arith, member-permutation .six))
 
--- composition stays among them
-distinct-map : (f : ℕ → ℕ) → ((x y : ℕ) → f x ≡ f y → x ≡ y) → (l : List ℕ) → NoDuplicates l → NoDuplicates (map f l)
+-- what has no duplicates keeps none under an injective function
+pub distinct-map : (f : ℕ → ℕ) → ((x y : ℕ) → f x ≡ f y → x ≡ y) → (l : List ℕ) → NoDuplicates l → NoDuplicates (map f l)
 distinct-map f inj [] d = tt
 distinct-map f inj (x ∷ l) d = (
   (λ m. let r = Memᴰ·of-map f l m in d .0 (subst (λ (z : ℕ). List·Memᴰ z l) (inj (r .0) x (r .2)) (r .1))),
   distinct-map f inj l (d .1),
 )
 
+-- composition stays among them
 pub compose-member : (ρ π : List ℕ) → List·Memᴰ ρ permutations → List·Memᴰ π permutations → List·Memᴰ (compose ρ π) permutations
 unfolding compose
 compose-member ρ π m n =

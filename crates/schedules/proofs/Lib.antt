@@ -5,12 +5,16 @@ pub mod Order
 pub mod Lists
 -- runs and full schedules over `++`, and how long they can be
 pub mod Runs
+-- every state of a lawful system has a full schedule
+pub mod SomeRun
 -- the list of full schedules: exact, ascending, bounded
 pub mod Fulls
 -- the first of each class: exact, ascending, one for every member
 pub mod Classes
 -- the claim about a list of calls over any ascending list
 pub mod Calls
+-- what a call offers, and what it answers
+pub mod Offered
 -- the first answer: of a test over a list, of a function over numbers, behind a beginning
 pub mod First
 -- the search finds the first listed full schedule above the bound
@@ -21,6 +25,8 @@ pub mod Listed
 pub mod Front
 -- the greedy walk is least among the lists of fitting bytes, if a fitting byte can be taken first
 pub mod Greedy
+-- the greedy walk names only bytes that may step, if only these fit
+pub mod GreedyAllowed
 -- the greedy walk is least among the full schedules that end in a goal, from F1, F2 and F3
 pub mod GreedyFull
 -- what is left to take of a run's actions: a system in which the greedy walk is least

@@ -6,9 +6,10 @@ use Prim.Native.Nat.{ℕ, zero, suc}
 use mathlib.Core.Path.{_≡_}
 use mathlib.Core.Bool.{Bool, true, false}
 use mathlib.Core.Option.{Option, none, some}
-use mathlib.Core.List.{List, [], _∷_, _++_, tail}
+use mathlib.Core.List.{List, [], _∷_, tail}
 use lib.Dec.{ltb}
-use lib.ListN.{length, drop}
+use lib.ListN.{length}
+use Rattle.lines.specs.Over.{over}
 use Rattle.schedules.specs.Lists.{headOf}
 use Rattle.schedules.specs.Order.{Schedule, less}
 
@@ -33,10 +34,6 @@ unfoldable pub turn : Bool → Option Schedule → Answer
 turn true o = refused 22 0
 turn false none = nomore
 turn false (some s) = found s
-
--- a list with a text over its front
-unfoldable pub over : List ℕ → List ℕ → List ℕ
-over t l = t ++ drop (length t) l
 
 -- the output behind an answer: a schedule stands in front of the old rest, and nothing else changes a byte
 unfoldable pub content : Answer → List ℕ → List ℕ

@@ -2,13 +2,14 @@
 -- names the one or two definitions that it opens.
 use Prim.Native.Nat.{ℕ}
 use mathlib.Core.List.{List}
+use Rattle.lines.specs.Over.{over}
 use Rattle.schedules.specs.Lists.{upTo, both, any, all, keep, first, headOf}
 use Rattle.schedules.specs.Order.{less}
 use Rattle.schedules.specs.System.{run, none-may, ended}
 use Rattle.schedules.specs.Fulls.{fronts, branch, fullsFrom, fulls}
 use Rattle.schedules.specs.Classes.{firstsFrom, firsts}
 use Rattle.schedules.specs.Listed.{listOf}
-use Rattle.schedules.specs.Calls.{next, offer, turn, over, content, last, left, due, served, member}
+use Rattle.schedules.specs.Calls.{next, offer, turn, content, last, left, due, served, member}
 use Rattle.schedules.specs.Search.{orElse, children, low, past, leaf, kid, searchFrom}
 use Rattle.schedules.specs.Greedy.{greedy}
 use Rattle.schedules.specs.Orders.{trace, nextOf, clear, clearOf, ready, takeOut, leastOrder}

@@ -6,7 +6,8 @@ use native.Mathlib.Omega.{arith}
 use lib.ListN.{length}
 use Rattle.program.specs.Decode.{Reading, accepted}
 use Rattle.program.specs.Compiled.{answerOf, verdictOf}
-use Rattle.program.proofs.HeldFinish.{held-short, held-threads, finish-none, finish-far, finish-program}
+use Rattle.program.proofs.HeldCode.{held-short}
+use Rattle.program.proofs.HeldFinish.{held-threads, finish-none, finish-far, finish-program}
 use Rattle.program.proofs.HeldProgram.{program-held}
 use Rattle.program.proofs.file.finished.Statement.{statement}
 use Rattle.program.proofs.file.finished.Tie as tie
@@ -22,7 +23,7 @@ returns-2 c = λ r held lined grouped. c .refused2 .ensures ∙ sym (finish-far 
 
 returns-3 : tie.Need-returns-3
 unfolding answerOf verdictOf
-returns-3 c = λ r held lined grouped. ap accepted (program-held (c .before .before .before .before .before .before .before .before .args .t1) (c .before .before .before .before .before .before .before .before .args .s) r held (omega (arith, held .threads, c .before .before .before .before .before .before .before .before .pre .six)) (held-short (c .before .before .before .before .before .before .before .before .args .t1) (c .before .before .before .before .before .before .before .before .args .t2) (c .before .before .before .before .before .before .before .before .args .s) r (c .before .before .before .before .before .before .before .before .pre) held lined) grouped) ∙ sym (finish-program (c .before .before .before .before .before .before .before .before .args .t1) (c .before .before .before .before .before .before .before .before .args .t2) (c .before .before .before .before .before .before .before .before .args .s) r (c .before .before .before .before .before .before .before .before .pre) held lined (c .before .before .far-skip .result) (c .before .before .before .before .before .before .if1 .left) (c .before .before .far-skip .ensures _ (held-threads (c .before .before .before .before .before .before .before .before .args .t1) (c .before .before .before .before .before .before .before .before .args .t2) (c .before .before .before .before .before .before .before .before .args .s) r (c .before .before .before .before .before .before .before .before .pre) held lined)) (c .before .if2 .left))
+returns-3 c = λ r held lined grouped. ap accepted (program-held (c .before .before .before .before .before .before .before .before .args .t1) (c .before .before .before .before .before .before .before .before .args .s) r held (omega (arith, held .threads, c .before .before .before .before .before .before .before .before .pre .six)) (held-short (c .before .before .before .before .before .before .before .before .args .t1) (c .before .before .before .before .before .before .before .before .args .s) r (c .before .before .before .before .before .before .before .before .pre) held) grouped) ∙ sym (finish-program (c .before .before .before .before .before .before .before .before .args .t1) (c .before .before .before .before .before .before .before .before .args .t2) (c .before .before .before .before .before .before .before .before .args .s) r (c .before .before .before .before .before .before .before .before .pre) held lined (c .before .before .far-skip .result) (c .before .before .before .before .before .before .if1 .left) (c .before .before .far-skip .ensures _ (held-threads (c .before .before .before .before .before .before .before .before .args .t1) (c .before .before .before .before .before .before .before .before .args .t2) (c .before .before .before .before .before .before .before .before .args .s) r (c .before .before .before .before .before .before .before .before .pre) held lined)) (c .before .if2 .left))
 
 pub finished-spec : {M : Type 1} → statement M
 finished-spec = tie.close (tie.spec (λ c κs. search needs) returns far-skip-requires (λ c κs. search needs) returns-2 returns-3)

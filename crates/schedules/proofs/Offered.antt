@@ -1,13 +1,13 @@
--- What a walk offers is a member of its list; and what a call with enough room answers.
+-- What a call offers is a member of its list; what a refused call answers; what was answered last behind a call.
 use Prim.Native.Nat.{ℕ}
 use mathlib.Core.Path.{_≡_, refl, sym}
 use mathlib.Core.Bool.{Bool, true, false}
 use mathlib.Core.Option.{Option, none, some}
 use mathlib.Core.List.{List, [], _∷_, List·Memᴰ, List·Memᴰ·head, List·Memᴰ·tail}
 use native.Mathlib.Omega.{arith}
 use Rattle.schedules.specs.Lists.{headOf}
 use Rattle.schedules.specs.Order.{Schedule, less}
 use Rattle.schedules.specs.Calls.{refused, next, offer, turn, last}
 
 pub head-none : headOf {A = Schedule} [] ≡ none
 unfolding headOf
