@@ -22,6 +22,7 @@ use Rattle.machine.proofs.Steps.{may-range, run-threads}
 use Rattle.machine.proofs.Start.{start-threads}
 use Rattle.machine.proofs.Lawful.{lawful, start-24}
 use Rattle.machine.proofs.Regular.{Regular, place-in, regular-run, regular-start}
+use Rattle.machine.proofs.NoteGraph.{notes-length}
 use Rattle.machine.proofs.Replay.{nil-full, nil-short, cons-goes, cons-stops}
 use Rattle.machine.proofs.HeldStart.{threads-held, short-held}
 use Rattle.machine.proofs.HeldAsking.{ready-held}
@@ -32,11 +33,6 @@ notes-snoc : (u : Schedule) (σ : State) (t : ℕ) → notes σ (u ++ (t ∷ [])
 unfolding notes run
 notes-snoc [] σ t = refl
 notes-snoc (b ∷ u) σ t = ap (λ (ns : List Note). note σ b ∷ ns) (notes-snoc u (step σ b) t)
-
-notes-length : (u : Schedule) (σ : State) → length (notes σ u) ≡ length u
-unfolding notes
-notes-length [] σ = refl
-notes-length (t ∷ u) σ = ap suc (notes-length u (step σ t))
 
 -- behind the first k bytes of s
 pub record Progress (code lengths : List ℕ) (p : Program) (s : Schedule) (m : Machine) (trail : List ℕ) (k : ℕ) : Type 0 where
@@ -66,6 +62,7 @@ module _ (code lengths : List ℕ) (threads : ℕ) (p : Program) (loaded : Loade
     pub replay-stops : may σ t ≡ false → HoldsRun code lengths p s (record { verdict = Refused 20 k; machine = m; trail = trail; steps = k })
     unfolding verdictOf
     replay-stops e = record {
+      counted = done .within;
       allowed = done .allowed;
       holds = done .holds;
       noted = done .noted;
@@ -115,11 +112,12 @@ module _ (code lengths : List ℕ) (threads : ℕ) (p : Program) (loaded : Loade
 
     pub replay-whole : ended SC σ ≡ true → HoldsRun code lengths p s (record { verdict = Whole; machine = m; trail = trail; steps = k })
     unfolding verdictOf
-    replay-whole e = record { allowed = done .allowed; holds = done .holds; noted = done .noted; answer = sym (finished ∙ nil-full k σ e); all = λ q. take-all k s h }
+    replay-whole e = record { counted = done .within; allowed = done .allowed; holds = done .holds; noted = done .noted; answer = sym (finished ∙ nil-full k σ e); all = λ q. take-all k s h }
 
     pub replay-short : ended SC σ ≡ false → HoldsRun code lengths p s (record { verdict = Refused 21 k; machine = m; trail = trail; steps = k })
     unfolding verdictOf
     replay-short e = record {
+      counted = done .within;
       allowed = done .allowed;
       holds = done .holds;
       noted = done .noted;

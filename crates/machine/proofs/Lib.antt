@@ -72,3 +72,5 @@ pub mod HeldAsking
 pub mod HeldNotes
 -- a schedule carried out
 pub mod HeldReplay
+-- what the graph call answers
+pub mod GraphCalled

@@ -87,6 +87,7 @@ verdictOf (Refused n k) σ = refused n k
 
 -- what carrying out a schedule leaves: the steps that were made, each of which might be, the state behind them, their notes, and the answer
 pub record HoldsRun (code lengths : List ℕ) (p : Program) (s : Schedule) (r : Run) : Type 0 where
+  pub counted : r .steps ≤ length s
   pub allowed : Allowed SC (start p) (take (r .steps) s)
   pub holds : Holds code lengths (r .machine) (run SC (start p) (take (r .steps) s))
   pub noted : Noted (r .trail) (notes (start p) (take (r .steps) s))

@@ -15,6 +15,8 @@ pub mod Trail
 pub mod Ahead
 -- what the graph call says of a program file, a schedule and an output
 pub mod GraphCall
+-- its answer as the code gives it
+pub mod GraphWord
 -- a note of eight bytes for each step of a run
 pub mod Notes
 -- the text of a graph, read off the notes, and what its writer promises

@@ -20,10 +20,14 @@ mod asking;
 mod noting;
 // A schedule carried out.
 mod replaying;
+// The graph call.
+mod graph_call;
 
 pub use asking::ended_all;
 pub use asking::fails;
 pub use asking::may;
+pub use graph_call::GraphAnswer;
+pub use graph_call::graph;
 pub use noting::put_note;
 pub use replaying::Run;
 pub use replaying::Verdict;

@@ -3,3 +3,5 @@
 pub mod Word
 -- what the check of a program file says
 pub mod Check
+-- what the graph call says
+pub mod Graphed

@@ -4,5 +4,8 @@
 mod word;
 // Program files: tarczolin_check.
 mod check;
+// Graphs of schedules: tarczolin_graph.
+mod graph;
 
 pub use check::tarczolin_check;
+pub use graph::tarczolin_graph;
