@@ -1,2 +1,4 @@
 -- What a decoder's answer says.
 pub mod Checked
+-- What the machine's answer to a graph call says.
+pub mod Graphs

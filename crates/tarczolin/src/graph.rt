@@ -2,7 +2,6 @@
 use crate::word::answered;
 use crate::word::refused;
 use machine::GraphAnswer;
-
 ghost use mathlib.Core.Path.{_≡_};
 ghost use lib.ListN.{length};
 ghost use Rattle.machine.specs.GraphCall.{graphFile, graphOutput};
