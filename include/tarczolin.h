@@ -23,6 +23,12 @@ extern "C" {
  * place (the line, from 1; 0 for 1 and 9). The file is only read. */
 uint64_t tarczolin_check(const uint8_t *file, size_t file_len);
 
+/* The graph of a full schedule. Answered: the graph text stands in front of the output, the answer carries its length,
+ * and the bytes behind it keep their value. Refused, in this order: the program's (1 to 9); 22 at place 0, an output of
+ * under 512 bytes; 20 at the first step that names no thread or an ended one (from 0); 21 at the schedule's length where
+ * it is not full. A refusal changes no byte. */
+uint64_t tarczolin_graph(const uint8_t *file, size_t file_len, const uint8_t *schedule, size_t schedule_len, uint8_t *out, size_t out_len);
+
 #ifdef __cplusplus
 }
 #endif

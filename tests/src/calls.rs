@@ -1,5 +1,9 @@
 //! The calls of the static library, made safe.
 
+mod graph;
+
+pub use graph::graph;
+
 extern "C" {
     fn tarczolin_check(file: *const u8, file_len: usize) -> u64;
 }

@@ -1,6 +1,7 @@
-//! Random inputs from a fixed seed: numbers, programs, and damaged program files.
+//! Random inputs from a fixed seed: numbers, programs, schedules, and damaged program files.
 pub mod damage;
 pub mod program;
+pub mod schedule;
 
 /// A small generator of random numbers (splitmix64): the same seed gives the same numbers on every machine.
 pub struct Random(u64);

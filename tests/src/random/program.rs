@@ -50,6 +50,21 @@ pub fn frames(random: &mut Random, size: Size) -> Vec<Vec<u8>> {
     all
 }
 
+/// The frames of a program of 24 accesses and nothing else: every full schedule has 24 steps.
+pub fn straight(random: &mut Random, locations: usize) -> Vec<Vec<u8>> {
+    let size = Size { locations, registers: 2, constants: 3, ..ANY };
+    let threads = random.pick(&[2, 3, 4, 6]);
+    let mut all = Vec::new();
+    for _ in 0..threads {
+        all.push(vec![0x01]);
+        for _ in 0..ANY.accesses / threads {
+            let kind = random.pick(&[0x10, 0x11, 0x12, 0x13]);
+            all.push(instruction(random, size, kind));
+        }
+    }
+    all
+}
+
 /// Is this the frame of an access?
 pub fn is_access(frame: &[u8]) -> bool {
     (0x10..=0x13).contains(&frame[0])

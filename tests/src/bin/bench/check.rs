@@ -1,21 +1,9 @@
-//! Times of the library beside plain Rust, best of many, both measured in one run in turns. Nothing is asserted.
+//! Decoding a program file.
+use crate::timing::best;
 use std::hint::black_box;
-use std::time::Instant;
 use tarczolin_tests::calls::check_word;
 use tarczolin_tests::files::text;
 use tarczolin_tests::oracle::decode::decode;
-
-const ROUNDS: usize = 300;
-const CALLS: usize = 100;
-
-/// Nanoseconds a call, over one round of calls.
-fn time<T>(mut call: impl FnMut() -> T) -> f64 {
-    let began = Instant::now();
-    for _ in 0..CALLS {
-        black_box(call());
-    }
-    began.elapsed().as_nanos() as f64 / CALLS as f64
-}
 
 /// The longest accepted file: six threads of equal code, each four compare and swaps and twelve skips; three 02 lines.
 fn longest() -> Vec<u8> {
@@ -41,18 +29,14 @@ fn full() -> Vec<u8> {
 }
 
 /// Prints the best times for one file.
-fn report(name: &str, file: &[u8]) {
-    let (mut library, mut plain) = (f64::MAX, f64::MAX);
-    for _ in 0..ROUNDS {
-        library = library.min(time(|| check_word(black_box(file))));
-        plain = plain.min(time(|| decode(black_box(file)).is_ok()));
-    }
+fn row(name: &str, file: &[u8]) {
+    let (library, plain) = best(|| check_word(black_box(file)), || decode(black_box(file)).is_ok());
     println!("{name}: {} bytes, library {library:.0} ns, plain Rust {plain:.0} ns, ratio {:.2}", file.len(), library / plain);
 }
 
-fn main() {
+pub fn report() {
     println!("tarczolin_check beside a plain Rust decoder (one pass, a list of instructions for each thread, no other allocation)");
-    report("longest accepted file", &longest());
-    report("4,096 bytes, refused for the last", &full());
-    report("one empty thread", b"01\n");
+    row("longest accepted file", &longest());
+    row("4,096 bytes, refused for the last", &full());
+    row("one empty thread", b"01\n");
 }

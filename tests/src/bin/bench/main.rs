@@ -1,0 +1,9 @@
+//! Times of the library beside plain Rust, both measured in one run. Nothing is asserted.
+mod check;
+mod graph;
+mod timing;
+
+fn main() {
+    check::report();
+    graph::report();
+}
