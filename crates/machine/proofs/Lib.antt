@@ -40,3 +40,18 @@ pub mod Frames
 pub mod Text
 pub mod TextLength
 pub mod Printed
+-- How the machine's functions meet the definitions.
+-- settling by turns
+pub mod HeldTurns
+-- an access as the code does it
+pub mod HeldAccess
+-- a step
+pub mod HeldStep
+-- the state before the first step
+pub mod HeldStart
+-- who may step, whether all have ended, whether an assertion failed
+pub mod HeldAsking
+-- notes in the trail
+pub mod HeldNotes
+-- a schedule carried out
+pub mod HeldReplay

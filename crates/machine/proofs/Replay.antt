@@ -24,19 +24,19 @@ pub data Outcome (k : ℕ) (σ : State) (s : Schedule) : Type 0 where
   stops : (u : Schedule) → StopsBehind σ u s → replayFrom k σ s ≡ refused 20 (k + length u) → Outcome k σ s
   short : Allowed SC σ s → ended SC (run SC σ s) ≡ false → replayFrom k σ s ≡ refused 21 (k + length s) → Outcome k σ s
 
-nil-full : (k : ℕ) (σ : State) → ended SC σ ≡ true → replayFrom k σ [] ≡ whole σ
+pub nil-full : (k : ℕ) (σ : State) → ended SC σ ≡ true → replayFrom k σ [] ≡ whole σ
 unfolding replayFrom
 nil-full k σ e = rw (e, replayFrom)
 
-nil-short : (k : ℕ) (σ : State) → ended SC σ ≡ false → replayFrom k σ [] ≡ refused 21 k
+pub nil-short : (k : ℕ) (σ : State) → ended SC σ ≡ false → replayFrom k σ [] ≡ refused 21 k
 unfolding replayFrom
 nil-short k σ e = rw (e, replayFrom)
 
-cons-goes : (k : ℕ) (σ : State) (t : ℕ) (s : Schedule) → may σ t ≡ true → replayFrom k σ (t ∷ s) ≡ replayFrom (suc k) (step σ t) s
+pub cons-goes : (k : ℕ) (σ : State) (t : ℕ) (s : Schedule) → may σ t ≡ true → replayFrom k σ (t ∷ s) ≡ replayFrom (suc k) (step σ t) s
 unfolding replayFrom
 cons-goes k σ t s e = rw (e, replayFrom)
 
-cons-stops : (k : ℕ) (σ : State) (t : ℕ) (s : Schedule) → may σ t ≡ false → replayFrom k σ (t ∷ s) ≡ refused 20 k
+pub cons-stops : (k : ℕ) (σ : State) (t : ℕ) (s : Schedule) → may σ t ≡ false → replayFrom k σ (t ∷ s) ≡ refused 20 k
 unfolding replayFrom
 cons-stops k σ t s e = rw (e, replayFrom)
 

@@ -13,6 +13,9 @@ pub mod Text
 pub mod Trail
 -- a note of eight bytes for each step of a run
 pub mod Notes
+-- how the code carries out one instruction, and how its arrays hold a state; for its own functions
+pub mod Turns
+pub mod Held
 -- exchanging threads: permitted permutations, and states and graphs turned into others
 pub mod Exchange
 -- the definitions computed

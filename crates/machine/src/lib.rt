@@ -1,1 +1,34 @@
 // Runs under sequential consistency: threads and memory, steps, graphs and their text.
+
+// A thread by itself: operands, and what an instruction that is no access does.
+mod local;
+// A thread carried to its next access.
+mod settling;
+// What an access does.
+mod accessing;
+// The machine's state: threads, memory, last writes.
+mod state;
+// A step.
+mod stepping;
+// The state before the first step.
+mod starting;
+// What may be asked of a state.
+mod asking;
+// The notes of a run.
+mod noting;
+// A schedule carried out.
+mod replaying;
+
+pub use asking::ended_all;
+pub use asking::fails;
+pub use asking::may;
+pub use noting::put_note;
+pub use replaying::Run;
+pub use replaying::Verdict;
+pub use replaying::replayed;
+pub use starting::started;
+pub use state::LastWrite;
+pub use state::Machine;
+pub use state::ThreadState;
+pub use stepping::Stepped;
+pub use stepping::step;

@@ -1,0 +1,110 @@
+-- The state before the first step: each thread carried to its first access, memory at its initial values.
+use Prim.Native.Nat.{ℕ, zero, suc, _+_, _<_, _≤_}
+use native.Mathlib.Omega.{arith}
+use native.Mathlib.Decide.{ℕ-discrete}
+use mathlib.Core.Path.{_≡_, refl, sym, ap, subst, _∙_}
+use mathlib.Core.Bool.{false}
+use mathlib.Core.List.{List, [], _∷_, map}
+use lib.ListN.{length, getD, set, drop, replicate, length-replicate, getD-replicate, List·getD-eq-default}
+use lib.Seq.{getD-set-same, getD-set-other}
+use Rattle.program.specs.declared.instruction.Instruction.{Instruction}
+use Rattle.program.specs.Program.{Program, codeOf, initial}
+use Rattle.program.specs.WellFormed.{WellFormed}
+use Rattle.program.specs.Compiled.{tabulate, threadCode}
+use Rattle.program.proofs.Tabulate.{length-tabulate, getD-tabulate}
+use Rattle.program.proofs.Everywhere.{everywhere-getD}
+use Rattle.machine.specs.declared.state.ThreadState.{ThreadState}
+use Rattle.machine.specs.declared.state.LastWrite.{LastWrite}
+use Rattle.machine.specs.declared.state.Machine.{Machine}
+use Rattle.machine.specs.Local.{Local, settle, begin}
+use Rattle.machine.specs.State.{Event, Thread, noThread, freshCell, threadOf, cellOf, latest, initialWrite, opened, start}
+use Rattle.machine.specs.Turns.{localOf}
+use Rattle.machine.specs.Held.{idle, unwritten, threadAt, lastAt, eventOf, HoldsThread, HoldsAt, Holds, Loaded}
+use Rattle.machine.proofs.Access.{begin-law}
+use Rattle.machine.proofs.Steps.{missing}
+use Rattle.machine.proofs.Start.{start-threads, start-cells, start-thread, start-writes}
+use Rattle.machine.proofs.HeldTurns.{length-code, code-end}
+use Rattle.machine.proofs.HeldStep.{settled-pending}
+
+-- a location starts with its initial value
+fresh-value : (vs : List ℕ) (l : ℕ) → getD (map freshCell vs) l (freshCell 0) .value ≡ getD vs l 0
+unfolding freshCell
+fresh-value [] l = refl
+fresh-value (v ∷ vs) zero = refl
+fresh-value (v ∷ vs) (suc l) = fresh-value vs l
+
+start-value : (p : Program) (l : ℕ) → cellOf (start p) l .value ≡ getD (initial p) l 0
+unfolding cellOf start
+start-value p l = fresh-value (initial p) l
+
+module _ (code lengths : List ℕ) (threads : ℕ) (p : Program) (loaded : Loaded code lengths threads p) where
+  pub threads-held : length (p .threads) ≡ threads
+  threads-held = ap length (loaded .codes) ∙ length-tabulate (λ t. threadCode code t (getD lengths t 0)) threads
+
+  pub code-held : (t : ℕ) → t < threads → codeOf p t ≡ threadCode code t (getD lengths t 0)
+  unfolding codeOf
+  code-held t h = ap (λ (cs : List (List Instruction)). getD cs t []) (loaded .codes) ∙ getD-tabulate (λ t. threadCode code t (getD lengths t 0)) threads t [] h
+
+  -- at most sixteen instructions
+  pub short-held : (t : ℕ) → t < threads → getD lengths t 0 ≤ 16
+  unfolding codeOf
+  short-held t h =
+      let n : length (codeOf p t) ≤ 16 = everywhere-getD (λ (c : List Instruction). length c ≤ 16) (p .threads) t [] (loaded .wellFormed .sixteen) (omega arith) in
+      omega (arith, n, ap length (code-held t h) ∙ length-code code t (getD lengths t 0))
+
+  -- a thread that exists
+  pub opened-held : (t : ℕ) (k : ThreadState) → t < threads → localOf (threadCode code t (getD lengths t 0)) k ≡ settle 0 (replicate 4 0) (drop 0 (threadCode code t (getD lengths t 0))) → k .done ≡ 0
+      → HoldsAt code lengths k (start p) t
+  unfolding opened begin
+  opened-held t k h e d =
+      let c = threadCode code t (getD lengths t 0) in
+      let own : threadOf (start p) t ≡ opened c = start-thread p t (omega (arith, threads-held)) ∙ ap opened (code-held t h) in
+      let local : threadOf (start p) t .local ≡ localOf c k = ap (λ (g : Thread). g .local) own ∙ sym e in (
+        record {
+          rest = ap (λ (l : Local). l .rest) local;
+          failed = ap (λ (l : Local). l .failed) local;
+          done = ap (λ (g : Thread). g .history .done) own ∙ sym d;
+          settled = λ b. settled-pending (threadOf (start p) t .local) c (k .at) (rw own (begin-law c .0)) (ap (λ (l : Local). l .rest) local) b;
+          bounded = omega arith;
+        },
+        λ b. ap (λ (l : Local). l .registers) local,
+      )
+
+  -- one that does not
+  pub missing-held : (t : ℕ) (rs : List ℕ) → threads ≤ t → HoldsAt code lengths (record { registers = rs; at = getD lengths t 0; done = 0; failed = false }) (start p) t
+  unfolding noThread
+  missing-held t rs h =
+      let c = threadCode code t (getD lengths t 0) in
+      let none : threadOf (start p) t ≡ noThread = missing (start p) t (omega (arith, start-threads p, threads-held)) in (
+        record {
+          rest = ap (λ (g : Thread). g .local .rest) none ∙ sym (code-end code t (getD lengths t 0) (getD lengths t 0) (omega arith));
+          failed = ap (λ (g : Thread). g .local .failed) none;
+          done = ap (λ (g : Thread). g .history .done) none;
+          settled = λ b. absurd (omega (arith, length-code code t (getD lengths t 0)));
+          bounded = omega arith;
+        },
+        λ b. absurd (omega (arith, start-threads p, threads-held)),
+      )
+
+  -- one thread more
+  pub one-more : (all : List ThreadState) (t : ℕ) (k : ThreadState) → length all ≡ 6 → t < 6 → ((u : ℕ) → u < t → HoldsAt code lengths (getD all u idle) (start p) u)
+      → HoldsAt code lengths k (start p) t → (u : ℕ) → u < t + 1 → HoldsAt code lengths (getD (set all t k) u idle) (start p) u
+  one-more all t k n h before own u b = go (ℕ-discrete u t)
+    where
+      go : Dec (u ≡ t) → HoldsAt code lengths (getD (set all t k) u idle) (start p) u
+      go (yes q) = subst (λ (v : ℕ). HoldsAt code lengths (getD (set all t k) v idle) (start p) v) (sym q) (subst (λ (j : ThreadState). HoldsAt code lengths j (start p) t) (sym (getD-set-same all t k idle (omega arith))) own)
+      go (no q) = subst (λ (j : ThreadState). HoldsAt code lengths j (start p) u) (sym (getD-set-other all t u k idle q)) (before u (omega (arith, q)))
+
+  -- all threads, and memory
+  pub start-held : (all : List ThreadState) (t : ℕ) → length all ≡ 6 → 6 ≤ t → ((u : ℕ) → u < t → HoldsAt code lengths (getD all u idle) (start p) u)
+      → Holds code lengths (record { threads = all; memory = replicate 8 0; last = replicate 8 (record { thread = 255; number = 255 }) }) (start p)
+  unfolding initial latest initialWrite
+  start-held all t n h each = record {
+    sizes = (n, length-replicate {A = ℕ} 8 0, length-replicate {A = LastWrite} 8 (record { thread = 255; number = 255 }));
+    six = omega (arith, start-threads p, loaded .wellFormed .six);
+    eight = start-cells p;
+    threads = λ u b. each u (omega arith) .0;
+    registers = λ u b. each u (omega (arith, start-threads p, loaded .wellFormed .six)) .1 b;
+    values = λ l b. start-value p l;
+    sources = λ l b. ap latest (start-writes p l) ∙ ap eventOf (sym (getD-replicate 8 l (record { thread = 255; number = 255 }) unwritten b));
+  }

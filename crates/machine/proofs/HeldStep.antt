@@ -1,0 +1,243 @@
+-- A step of the machine: the thread behind its access, the location, and so the whole state.
+use Prim.Native.Nat.{ℕ, zero, suc, _+_, _*_, _%_, _<_, _≤_}
+use native.Mathlib.Omega.{arith}
+use native.Mathlib.Decide.{ℕ-discrete}
+use native.Mathlib.Nat.{mod-eq-of-lt}
+use mathlib.Core.Path.{_≡_, refl, sym, ap, subst, _∙_}
+use mathlib.Core.Logic.{_⊎_, inl, inr, _≢_}
+use mathlib.Core.Bool.{Bool, true, false, cond}
+use mathlib.Core.Option.{Option, none, some}
+use mathlib.Core.List.{List, [], _∷_}
+use lib.Dec.{eqb}
+use lib.ListN.{length, getD, set, drop, length-drop, length-set}
+use lib.Seq.{getD-set-other, getD-set-same}
+use borrow.Author.Tests.{eq-eqb, ne-eqb}
+use Rattle.program.specs.declared.instruction.Instruction.{Instruction}
+use Rattle.program.specs.Compiled.{instructionAt, threadCode}
+use Rattle.machine.specs.declared.accessing.Access.{Access}
+use Rattle.machine.specs.declared.state.ThreadState.{ThreadState}
+use Rattle.machine.specs.declared.state.LastWrite.{LastWrite}
+use Rattle.machine.specs.declared.state.Machine.{Machine}
+use Rattle.machine.specs.declared.stepping.Stepped.{Stepped}
+use Rattle.machine.specs.Local.{Local, settle, beginsWithAccess, firstPlace, firstTakes, firstPuts, firstNext, pending, placeOf, takes, puts, next}
+use Rattle.machine.specs.State.{Event, Thread, Cell, State, threadOf, cellOf, place, latest, advanced, step, may}
+use Rattle.machine.specs.Trail.{given, writes}
+use Rattle.machine.specs.Notes.{Note, note, noteBytes}
+use Rattle.machine.specs.Turns.{accessOf, localOf}
+use Rattle.machine.specs.Held.{idle, unwritten, threadAt, lastAt, eventOf, HoldsThread, Holds, HoldsStep}
+use Rattle.machine.proofs.Access.{Settled, settle-law}
+use Rattle.machine.proofs.Steps.{may-small, may-pending, may-range, thread-own, thread-other, cell-other, step-threads, step-cells}
+use Rattle.machine.proofs.Change.{thread-cases, noted-done, wrote-own, Change, kept, wrote, change}
+use Rattle.machine.proofs.HeldTurns.{length-code, code-at}
+use Rattle.machine.proofs.HeldAccess.{Meets, access-meets}
+
+-- settled code of which something is left begins with an access
+pub settled-pending : (h : Local) (c : List Instruction) (k : ℕ) → Settled h → h .rest ≡ drop k c → k < length c → pending h ≡ true
+settled-pending h c k (inl e) q l = absurd (omega (arith, ap length (sym q ∙ e), length-drop k c))
+settled-pending h c k (inr p) q l = p
+
+-- thread t of the machine m, at its next access: x the instruction, a what it does, k the thread behind it
+module _ (code lengths : List ℕ) (m : Machine) (σ : State) (t : ℕ) (held : Holds code lengths m σ) (ok : may σ t ≡ true) (near : place σ t < 8)
+    (x : Instruction) (a : Access) (k : ThreadState)
+    (left : threadAt m t .at < getD lengths t 0)
+    (ex : x ≡ instructionAt code (t * 16 + threadAt m t .at)) (ea : a ≡ accessOf x (threadAt m t .registers) (m .memory))
+    (ek : localOf (threadCode code t (getD lengths t 0)) k ≡ settle 0 (a .registers) (drop (threadAt m t .at + 1) (threadCode code t (getD lengths t 0))))
+    (later : threadAt m t .at + 1 ≤ k .at) (counted : k .done ≡ threadAt m t .done + 1) where
+  abbrev h : Thread
+  h = threadOf σ t
+
+  abbrev c : List Instruction
+  c = threadCode code t (getD lengths t 0)
+
+  abbrev is : List Instruction
+  is = drop (threadAt m t .at + 1) c
+
+  own : HoldsThread c (threadAt m t) h
+  own = held .threads t (may-small σ t ok)
+
+  rest : h .local .rest ≡ x ∷ is
+  rest = own .rest ∙ code-at code t (getD lengths t 0) (threadAt m t .at) left ∙ rw (← ex) (ap (λ (j : ℕ). x ∷ drop j c) (let z : suc (threadAt m t .at) ≡ threadAt m t .at + 1 = omega arith in z))
+
+  begins : beginsWithAccess (x ∷ is) ≡ true
+  unfolding pending
+  begins = subst (λ (j : List Instruction). beginsWithAccess j ≡ true) rest (may-pending σ t ok)
+
+  meets : Meets (h .local) x is (m .memory) a
+  meets =
+      subst (Meets (h .local) x is (m .memory)) (ap (λ (rs : List ℕ). accessOf x rs (m .memory)) (held .registers t (may-range σ t ok)) ∙ sym ea)
+      (access-meets (h .local) x is (m .memory) begins)
+
+  pub at-place : place σ t ≡ a .location
+  unfolding place placeOf
+  at-place = ap firstPlace rest ∙ meets .place
+
+  found : cellOf σ (place σ t) .value ≡ getD (m .memory) (a .location) 0
+  found = held .values (place σ t) near ∙ ap (λ (l : ℕ). getD (m .memory) l 0) at-place
+
+  puts-here : puts (h .local) (cellOf σ (place σ t) .value) ≡ cond (eqb (a .writes) 1) (some (a .value)) none
+  unfolding puts
+  puts-here = ap (λ (j : List Instruction). firstPuts (h .local .registers) j (cellOf σ (place σ t) .value)) rest ∙ ap (firstPuts (h .local .registers) (x ∷ is)) found ∙ meets .puts
+
+  behind : next (h .local) (cellOf σ (place σ t) .value) ≡ settle 0 (a .registers) is
+  unfolding next
+  behind = ap (λ (j : List Instruction). firstNext (h .local) j (cellOf σ (place σ t) .value)) rest ∙ ap (firstNext (h .local) (x ∷ is)) found ∙ meets .next
+
+  -- ---- the thread
+  thread-behind : HoldsThread c k (advanced h (cellOf σ (place σ t)))
+  unfolding advanced
+  thread-behind =
+      let e : next (h .local) (cellOf σ (place σ t) .value) ≡ localOf c k = behind ∙ sym ek in
+      record {
+        rest = ap (λ (l : Local). l .rest) e;
+        failed = ap (λ (l : Local). l .failed) e;
+        done = noted-done _ _ _ ∙ omega (arith, own .done, counted);
+        settled = λ l. settled-pending (next (h .local) (cellOf σ (place σ t) .value)) c (k .at) (subst Settled (sym behind) (settle-law is 0 (a .registers) .0)) (ap (λ (l : Local). l .rest) e) l;
+        bounded = omega (arith, own .bounded);
+      }
+
+  registers-behind : advanced h (cellOf σ (place σ t)) .local .registers ≡ k .registers
+  unfolding advanced
+  registers-behind = ap (λ (l : Local). l .registers) (behind ∙ sym ek)
+
+  -- ---- the whole, in a machine that has this thread in its place
+  module _ (m' : Machine) (et : m' .threads ≡ set (m .threads) t k) where
+    thread-same : threadAt m' t ≡ k
+    thread-same = ap (λ (l : List ThreadState). getD l t idle) et ∙ getD-set-same (m .threads) t k idle (omega (arith, may-small σ t ok, held .sizes .0))
+
+    thread-else : (u : ℕ) → u ≢ t → threadAt m' u ≡ threadAt m u
+    thread-else u ne = ap (λ (l : List ThreadState). getD l u idle) et ∙ getD-set-other (m .threads) t u k idle ne
+
+    threads-behind : (u : ℕ) → u < 6 → HoldsThread (threadCode code u (getD lengths u 0)) (threadAt m' u) (threadOf (step σ t) u)
+    threads-behind u b =
+        thread-cases (λ (u : ℕ) (g : Thread). HoldsThread (threadCode code u (getD lengths u 0)) (threadAt m' u) g) σ t (may-range σ t ok)
+        (subst (λ (j : ThreadState). HoldsThread c j (advanced h (cellOf σ (place σ t)))) (sym thread-same) thread-behind) u
+        (λ ne. subst (λ (j : ThreadState). HoldsThread (threadCode code u (getD lengths u 0)) j (threadOf σ u)) (sym (thread-else u ne)) (held .threads u b))
+
+    registers-all : (u : ℕ) → u < length (step σ t .threads) → threadOf (step σ t) u .local .registers ≡ threadAt m' u .registers
+    registers-all u b =
+        thread-cases (λ (u : ℕ) (g : Thread). g .local .registers ≡ threadAt m' u .registers) σ t (may-range σ t ok)
+        (registers-behind ∙ ap (λ (j : ThreadState). j .registers) (sym thread-same)) u
+        (λ ne. held .registers u (omega (arith, step-threads σ t)) ∙ ap (λ (j : ThreadState). j .registers) (sym (thread-else u ne)))
+
+    behind-all : length (m' .memory) ≡ 8 → length (m' .last) ≡ 8 → ((l : ℕ) → l < 8 → cellOf (step σ t) l .value ≡ getD (m' .memory) l 0) → ((l : ℕ) → l < 8 → latest (cellOf (step σ t) l .writes) ≡ eventOf (lastAt m' l)) → Holds code lengths m' (step σ t)
+    behind-all b d v w = record {
+      sizes = (ap length et ∙ length-set (m .threads) t k ∙ held .sizes .0, b, d);
+      six = omega (arith, step-threads σ t, held .six);
+      eight = step-cells σ t ∙ held .eight;
+      threads = threads-behind;
+      registers = registers-all;
+      values = v;
+      sources = w;
+    }
+
+    -- the access wrote nothing
+    still : (a .writes ≡ 1 → ⊥) → (l : ℕ) → cellOf (step σ t) l ≡ cellOf σ l
+    still n l = go (change σ t (omega (arith, held .eight)) l)
+      where
+        go : Change σ t l → cellOf (step σ t) l ≡ cellOf σ l
+        go (kept q) = q
+        go (wrote q v e w y) = absurd (let z : some v ≡ none = sym e ∙ puts-here ∙ ap (λ (b : Bool). cond b (some (a .value)) none) (ne-eqb (a .writes) 1 n) in let y : _≡_ {A = ℕ} 0 1 = cc in omega arith)
+
+    pub holds-still : (a .writes ≡ 1 → ⊥) → m' .memory ≡ m .memory → m' .last ≡ m .last → Holds code lengths m' (step σ t)
+    holds-still n em el = behind-all (ap length em ∙ held .sizes .1) (ap length el ∙ held .sizes .2)
+        (λ l b. ap (λ (c : Cell). c .value) (still n l) ∙ held .values l b ∙ ap (λ (j : List ℕ). getD j l 0) (sym em))
+        (λ l b. ap (λ (c : Cell). latest (c .writes)) (still n l) ∙ held .sources l b ∙ ap (λ (j : List LastWrite). eventOf (getD j l unwritten)) (sym el))
+
+    -- the access wrote at location l
+    module _ (l : ℕ) (el : l ≡ a .location) (w : a .writes ≡ 1)
+        (em : m' .memory ≡ set (m .memory) l (a .value)) (es : m' .last ≡ set (m .last) l (record { thread = t; number = threadAt m t .done })) where
+      here : place σ t ≡ l
+      here = at-place ∙ sym el
+
+      puts-it : puts (h .local) (cellOf σ (place σ t) .value) ≡ some (a .value)
+      puts-it = puts-here ∙ ap (λ (b : Bool). cond b (some (a .value)) none) (eq-eqb (a .writes) 1 w)
+
+      value-at : (j : ℕ) → j < 8 → cellOf (step σ t) j .value ≡ getD (m' .memory) j 0
+      value-at j b = go (ℕ-discrete j (place σ t))
+        where
+          go : Dec (j ≡ place σ t) → cellOf (step σ t) j .value ≡ getD (m' .memory) j 0
+          go (yes q) =
+              wrote-own σ t j (a .value) (omega (arith, held .eight)) q puts-it .1
+              ∙ sym (ap (λ (g : List ℕ). getD g j 0) em ∙ ap (λ (i : ℕ). getD (set (m .memory) l (a .value)) i 0) (q ∙ here) ∙ getD-set-same (m .memory) l (a .value) 0 (omega (arith, here, held .sizes .1)))
+          go (no q) =
+              ap (λ (c : Cell). c .value) (cell-other σ t j q) ∙ held .values j b
+              ∙ sym (ap (λ (g : List ℕ). getD g j 0) em ∙ getD-set-other (m .memory) l j (a .value) 0 (λ e. q (e ∙ sym here)))
+
+      last-at : (j : ℕ) → j < 8 → latest (cellOf (step σ t) j .writes) ≡ eventOf (lastAt m' j)
+      unfolding latest
+      last-at j b = go (ℕ-discrete j (place σ t))
+        where
+          new : LastWrite
+          new = record { thread = t; number = threadAt m t .done }
+
+          go : Dec (j ≡ place σ t) → latest (cellOf (step σ t) j .writes) ≡ eventOf (lastAt m' j)
+          go (yes q) =
+              ap latest (wrote-own σ t j (a .value) (omega (arith, held .eight)) q puts-it .0)
+              ∙ ap (λ (d : ℕ). (t, d)) (own .done)
+              ∙ sym (ap eventOf (ap (λ (g : List LastWrite). getD g j unwritten) es ∙ ap (λ (i : ℕ). getD (set (m .last) l new) i unwritten) (q ∙ here) ∙ getD-set-same (m .last) l new unwritten (omega (arith, here, held .sizes .2))))
+          go (no q) =
+              ap (λ (c : Cell). latest (c .writes)) (cell-other σ t j q) ∙ held .sources j b
+              ∙ sym (ap eventOf (ap (λ (g : List LastWrite). getD g j unwritten) es ∙ getD-set-other (m .last) l j new unwritten (λ e. q (e ∙ sym here))))
+
+      pub holds-written : Holds code lengths m' (step σ t)
+      holds-written = behind-all (ap length em ∙ length-set (m .memory) l (a .value) ∙ held .sizes .1) (ap length es ∙ length-set (m .last) l _ ∙ held .sizes .2) value-at last-at
+
+  -- ---- the note
+  wrote-here : cond (writes σ t) 1 0 ≡ a .writes
+  unfolding writes puts
+  wrote-here =
+      ap (λ (j : List Instruction). cond (given (firstPuts (h .local .registers) j (cellOf σ (place σ t) .value))) 1 0) rest
+      ∙ ap (λ (v : ℕ). cond (given (firstPuts (h .local .registers) (x ∷ is) v)) 1 0) found ∙ meets .wrote
+
+  pub note-behind : (e : LastWrite) → e ≡ lastAt m (a .location)
+      → (t ∷ threadAt m t .done ∷ a .location ∷ a .reads ∷ e .thread ∷ e .number ∷ a .writes ∷ 0 ∷ []) ≡ noteBytes (note σ t)
+  unfolding noteBytes note takes
+  note-behind e q =
+      let source : latest (cellOf σ (place σ t) .writes) ≡ eventOf e = held .sources (place σ t) near ∙ ap (λ (l : ℕ). eventOf (lastAt m l)) at-place ∙ ap eventOf (sym q) in
+      let reads : cond (takes (h .local)) 1 0 ≡ a .reads = ap (λ (j : List Instruction). cond (firstTakes j) 1 0) rest ∙ meets .reads in
+      sym (λ i. t ∷ own .done i ∷ at-place i ∷ reads i ∷ source i .0 ∷ source i .1 ∷ wrote-here i ∷ 0 ∷ [])
+
+-- ---- the code's step: it names its thread t by u, and location l by its remainder
+module _ (code lengths : List ℕ) (m : Machine) (σ : State) (t u : ℕ) (eu : u ≡ t) (held : Holds code lengths m σ) (ok : may σ t ≡ true) (near : place σ t < 8)
+    (x : Instruction) (a : Access) (k : ThreadState) (l : ℕ)
+    (left : threadAt m u .at < getD lengths u 0)
+    (ex : x ≡ instructionAt code (u * 16 + threadAt m u .at)) (ea : a ≡ accessOf x (threadAt m u .registers) (m .memory))
+    (ek : localOf (threadCode code u (getD lengths u 0)) k ≡ settle 0 (a .registers) (drop (threadAt m u .at + 1) (threadCode code u (getD lengths u 0))))
+    (later : threadAt m u .at + 1 ≤ k .at) (counted : k .done ≡ threadAt m u .done + 1) (el : l ≡ a .location) where
+  ok' : may σ u ≡ true
+  ok' = subst (λ (v : ℕ). may σ v ≡ true) (sym eu) ok
+
+  near' : place σ u < 8
+  near' = subst (λ (v : ℕ). place σ v < 8) (sym eu) near
+
+  own-location : l % 8 ≡ a .location
+  own-location = ap (λ (v : ℕ). v % 8) el ∙ mod-eq-of-lt (let q = at-place code lengths m σ u held ok' near' x a k left ex ea ek later counted in omega (arith, q, near'))
+
+  noted-here : (t ∷ threadAt m u .done ∷ a .location ∷ a .reads ∷ lastAt m (l % 8) .thread ∷ lastAt m (l % 8) .number ∷ a .writes ∷ 0 ∷ []) ≡ noteBytes (note σ t)
+  noted-here =
+      ap (λ (v : ℕ). v ∷ threadAt m u .done ∷ a .location ∷ a .reads ∷ lastAt m (l % 8) .thread ∷ lastAt m (l % 8) .number ∷ a .writes ∷ 0 ∷ []) (sym eu)
+      ∙ note-behind code lengths m σ u held ok' near' x a k left ex ea ek later counted (lastAt m (l % 8)) (ap (lastAt m) own-location)
+      ∙ ap (λ (v : ℕ). noteBytes (note σ v)) eu
+
+  -- nothing was written
+  pub step-still : (a .writes ≡ 1 → ⊥) → HoldsStep code lengths σ t (record {
+    machine = record { threads = set (m .threads) u k; memory = m .memory; last = m .last };
+    note = t ∷ threadAt m u .done ∷ a .location ∷ a .reads ∷ lastAt m (l % 8) .thread ∷ lastAt m (l % 8) .number ∷ a .writes ∷ 0 ∷ [];
+  })
+  step-still n = record {
+    holds = subst (λ (v : ℕ). Holds code lengths (record { threads = set (m .threads) u k; memory = m .memory; last = m .last }) (step σ v)) eu
+        (holds-still code lengths m σ u held ok' near' x a k left ex ea ek later counted _ refl n refl refl);
+    noted = noted-here;
+  }
+
+  -- something was
+  pub step-written : a .writes ≡ 1 → HoldsStep code lengths σ t (record {
+    machine = record { threads = set (m .threads) u k; memory = set (m .memory) (l % 8) (a .value); last = set (m .last) (l % 8) (record { thread = t; number = threadAt m u .done }) };
+    note = t ∷ threadAt m u .done ∷ a .location ∷ a .reads ∷ lastAt m (l % 8) .thread ∷ lastAt m (l % 8) .number ∷ a .writes ∷ 0 ∷ [];
+  })
+  step-written w = record {
+    holds = subst (λ (v : ℕ). Holds code lengths (record { threads = set (m .threads) u k; memory = set (m .memory) (l % 8) (a .value); last = set (m .last) (l % 8) (record { thread = t; number = threadAt m u .done }) }) (step σ v)) eu
+        (holds-written code lengths m σ u held ok' near' x a k left ex ea ek later counted _ refl (l % 8) own-location w refl
+        (ap (λ (v : ℕ). set (m .last) (l % 8) (record { thread = v; number = threadAt m u .done })) (sym eu)));
+    noted = noted-here;
+  }

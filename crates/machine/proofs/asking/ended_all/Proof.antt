@@ -1,0 +1,31 @@
+-- `ended_all` asks one thread after the other. The invariant: those before t have ended.
+use borrow.Author.Needs.{needs}
+use Prim.Native.Nat.{ℕ, _+_, _-_, _<_, _≤_}
+use mathlib.Core.Path.{_≡_, sym, subst}
+use native.Mathlib.Omega.{arith}
+use lib.ListN.{getD}
+use Rattle.machine.specs.Held.{threadAt}
+use Rattle.machine.proofs.HeldAsking.{one-more, not-ended-held, ended-held}
+use Rattle.machine.proofs.asking.ended_all.Statement.{statement}
+use Rattle.machine.proofs.asking.ended_all.Tie as tie
+
+abbrev Inv-loop : tie.InvT-loop
+Inv-loop lengths m t₀ t = (t ≤ 6) × ((u : ℕ) → u < t → getD lengths u 0 ≤ threadAt m u .at)
+
+abbrev μ-loop : tie.MeasureT-loop
+μ-loop lengths m t₀ t = 6 - t
+
+loop-holds : tie.Need-loop-holds Inv-loop μ-loop
+loop-holds c = (search needs, λ u b. absurd (omega arith))
+
+returns : tie.Need-returns Inv-loop μ-loop
+returns c = λ code σ held. sym (not-ended-held code (c .before .before .before .before .before .before .args .lengths .now) (c .before .before .before .before .before .before .args .t2) σ held (c .before .before .before .before .before .loop .t) (c .before .before .before .before .loop-test .taken) (c .if1 .taken))
+
+loop-again : tie.Need-loop-again Inv-loop μ-loop
+loop-again c = (search needs, λ u b. one-more (λ (u : ℕ). getD (c .before .before .before .before .before .before .args .lengths .now) u 0 ≤ threadAt (c .before .before .before .before .before .before .args .t2) u .at) (c .before .before .before .before .before .loop .t) (c .before .before .before .before .before .loop .inv .1) (c .if1 .left) u b)
+
+returns-2 : tie.Need-returns-2 Inv-loop μ-loop
+returns-2 c = λ code σ held. sym (ended-held code (c .before .before .args .lengths .now) (c .before .before .args .t2) σ held (λ u b. c .before .loop .inv .1 u (omega arith)))
+
+pub ended-all-spec : {M : Type 1} → statement M
+ended-all-spec = tie.close (tie.spec Inv-loop μ-loop loop-holds (λ c. search needs) (λ c. search needs) (λ c. search needs) (λ c. search needs) returns (λ c. search needs) (λ c. search needs) loop-again returns-2)

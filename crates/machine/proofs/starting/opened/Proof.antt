@@ -1,0 +1,19 @@
+-- A thread exists or it does not.
+use borrow.Author.Needs.{needs}
+use mathlib.Core.Path.{_≡_, refl}
+use native.Mathlib.Omega.{arith}
+use Rattle.machine.proofs.HeldStart.{opened-held, missing-held}
+use Rattle.machine.proofs.starting.opened.Statement.{statement}
+use Rattle.machine.proofs.starting.opened.Tie as tie
+
+settle-requires : tie.Need-settle-requires
+settle-requires c κs = (search needs, c .before .before .pre .1 (c .if1 .taken), omega arith)
+
+returns : tie.Need-returns
+returns c = λ p loaded. opened-held (c .before .before .before .args .code .now) (c .before .before .before .args .lengths .now) (c .before .before .before .args .threads) p loaded (c .before .before .before .args .t) (c .settle .result) (c .before .if1 .taken) (c .settle .ensures .0) (c .settle .ensures .1 .2)
+
+returns-2 : tie.Need-returns-2
+returns-2 c = λ p loaded. missing-held (c .before .before .args .code .now) (c .before .before .args .lengths .now) (c .before .before .args .threads) p loaded (c .before .before .args .t) _ (c .if1 .left)
+
+pub opened-spec : {M : Type 1} → statement M
+opened-spec = tie.close (tie.spec (λ c. search needs) (λ c. search needs) settle-requires returns returns-2)

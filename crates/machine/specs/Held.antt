@@ -1,0 +1,94 @@
+-- How the machine's arrays hold a state of the specification. What each thread read is not in them: it stands in the notes.
+use Prim.Native.Nat.{ℕ, _*_, _<_, _≤_}
+use mathlib.Core.Path.{_≡_}
+use mathlib.Core.Bool.{Bool, true, false}
+use mathlib.Core.List.{List, []}
+use lib.ListN.{length, getD, drop, take}
+use Rattle.program.specs.declared.instruction.Instruction.{Instruction}
+use Rattle.program.specs.Program.{Program}
+use Rattle.program.specs.WellFormed.{WellFormed}
+use Rattle.program.specs.Compiled.{tabulate, threadCode}
+use Rattle.schedules.specs.Order.{Schedule}
+use Rattle.schedules.specs.System.{run, Allowed}
+use Rattle.machine.specs.declared.state.ThreadState.{ThreadState}
+use Rattle.machine.specs.declared.state.LastWrite.{LastWrite}
+use Rattle.machine.specs.declared.state.Machine.{Machine}
+use Rattle.machine.specs.declared.stepping.Stepped.{Stepped}
+use Rattle.machine.specs.declared.replaying.Verdict.{Verdict}
+use Rattle.machine.specs.declared.replaying.Verdict.the-variants.{Whole, Refused}
+use Rattle.machine.specs.declared.replaying.Run.{Run}
+use Rattle.machine.specs.Local.{pending}
+use Rattle.machine.specs.State.{Event, Thread, State, threadOf, cellOf, latest, step, SC, start}
+use Rattle.machine.specs.Notes.{note, notes, noteBytes, Noted}
+use Rattle.machine.specs.Replay.{Replayed, whole, refused, replay}
+
+-- what an array of threads, and one of last writes, reads as behind its end
+abbrev pub idle : ThreadState
+idle = record { registers = []; at = 0; done = 0; failed = false }
+
+abbrev pub unwritten : LastWrite
+unwritten = record { thread = 0; number = 0 }
+
+-- thread t of the machine, of its six
+abbrev pub threadAt : Machine → ℕ → ThreadState
+threadAt m t = getD (m .threads) t idle
+
+-- the last write of location l, of its eight
+abbrev pub lastAt : Machine → ℕ → LastWrite
+lastAt m l = getD (m .last) l unwritten
+
+abbrev pub eventOf : LastWrite → Event
+eventOf e = (e .thread, e .number)
+
+-- a thread whose code this is: what is left of it, whether it failed and how many accesses it did; it stands before an access or at the end
+pub record HoldsThread (c : List Instruction) (k : ThreadState) (h : Thread) : Type 0 where
+  pub rest : h .local .rest ≡ drop (k .at) c
+  pub failed : h .local .failed ≡ k .failed
+  pub done : h .history .done ≡ k .done
+  pub settled : k .at < length c → pending (h .local) ≡ true
+  pub bounded : k .done ≤ k .at
+
+-- the machine holds this state, of a program whose code stands in these rows, in threads of these lengths
+pub record Holds (code lengths : List ℕ) (m : Machine) (σ : State) : Type 0 where
+  pub sizes : (length (m .threads) ≡ 6) × (length (m .memory) ≡ 8) × (length (m .last) ≡ 8)
+  pub six : length (σ .threads) ≤ 6
+  pub eight : length (σ .cells) ≡ 8
+  pub threads : (t : ℕ) → t < 6 → HoldsThread (threadCode code t (getD lengths t 0)) (threadAt m t) (threadOf σ t)
+  pub registers : (t : ℕ) → t < length (σ .threads) → threadOf σ t .local .registers ≡ threadAt m t .registers
+  pub values : (l : ℕ) → l < 8 → cellOf σ l .value ≡ getD (m .memory) l 0
+  pub sources : (l : ℕ) → l < 8 → latest (cellOf σ l .writes) ≡ eventOf (lastAt m l)
+
+-- a thread's own part of that
+abbrev pub HoldsAt : List ℕ → List ℕ → ThreadState → State → ℕ → Type 0
+HoldsAt code lengths k σ t =
+    HoldsThread (threadCode code t (getD lengths t 0)) k (threadOf σ t) × (t < length (σ .threads) → threadOf σ t .local .registers ≡ k .registers)
+
+-- the threads of this well-formed program stand in these rows
+pub record Loaded (code lengths : List ℕ) (threads : ℕ) (p : Program) : Type 0 where
+  pub wellFormed : WellFormed p
+  pub codes : p .threads ≡ tabulate (λ t. threadCode code t (getD lengths t 0)) threads
+
+-- thread t has an instruction left, among at most sixteen
+pub record Ready (lengths : List ℕ) (m : Machine) (t : ℕ) : Type 0 where
+  pub six : t < 6
+  pub sixteen : getD lengths t 0 ≤ 16
+  pub left : threadAt m t .at < getD lengths t 0
+  pub bounded : threadAt m t .done ≤ threadAt m t .at
+
+-- what a step of thread t leaves: the next state, and the step's note
+pub record HoldsStep (code lengths : List ℕ) (σ : State) (t : ℕ) (r : Stepped) : Type 0 where
+  pub holds : Holds code lengths (r .machine) (step σ t)
+  pub noted : r .note ≡ noteBytes (note σ t)
+
+-- a verdict on a schedule that led to this state
+unfoldable pub verdictOf : Verdict → State → Replayed
+verdictOf Whole σ = whole σ
+verdictOf (Refused n k) σ = refused n k
+
+-- what carrying out a schedule leaves: the steps that were made, each of which might be, the state behind them, their notes, and the answer
+pub record HoldsRun (code lengths : List ℕ) (p : Program) (s : Schedule) (r : Run) : Type 0 where
+  pub allowed : Allowed SC (start p) (take (r .steps) s)
+  pub holds : Holds code lengths (r .machine) (run SC (start p) (take (r .steps) s))
+  pub noted : Noted (r .trail) (notes (start p) (take (r .steps) s))
+  pub answer : verdictOf (r .verdict) (run SC (start p) (take (r .steps) s)) ≡ replay p s
+  pub all : r .verdict ≡ Whole → take (r .steps) s ≡ s

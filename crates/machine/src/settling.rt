@@ -1,0 +1,55 @@
+// A thread carried to its next access, or to its end.
+use crate::local::turned;
+use crate::local::wide;
+use crate::state::ThreadState;
+use program::instruction_at;
+ghost use mathlib.Core.Path.{_≡_};
+ghost use Prim.Native.Nat.{_+_, _*_, _<_, _≤_};
+ghost use lib.ListN.{drop};
+ghost use Rattle.program.specs.Compiled.{threadCode};
+ghost use Rattle.machine.specs.Local.{settle};
+ghost use Rattle.machine.specs.Turns.{localOf};
+
+// Thread t, of n instructions, from instruction `from` on with these registers, having done so many accesses.
+pub fn settle(
+    code: &[u8; 1536],
+    t: usize,
+    n: usize,
+    from: usize,
+    registers: [u32; 4],
+    done: u8,
+) -> ThreadState
+    requires { ⌜ (t < 6) × (n ≤ 16) × (from ≤ n) ⌝ }
+    ensures local { λ s. ⌜ localOf (threadCode (now (code .entry)) t n) s ≡ settle 0 registers (drop from (threadCode (now (code .entry)) t n)) ⌝ }
+    ensures within { λ s. ⌜ (from ≤ s .at) × (s .at ≤ n) × (s .done ≡ done) ⌝ }
+{
+    let mut rs = registers;
+    let mut i = from;
+    while i < n {
+        let turn = turned(instruction_at(code, t * 16 + i), rs);
+        if turn.access {
+            return ThreadState {
+                registers: rs,
+                at: i,
+                done: done,
+                failed: false,
+            };
+        }
+        if turn.failed {
+            return ThreadState {
+                registers: rs,
+                at: n,
+                done: done,
+                failed: true,
+            };
+        }
+        rs = turn.registers;
+        i = i + wide(turn.skip) + 1;
+    }
+    ThreadState {
+        registers: rs,
+        at: n,
+        done: done,
+        failed: false,
+    }
+}

@@ -1,0 +1,53 @@
+// The state before the first step: each thread carried to its first access, memory at its initial values.
+use crate::settling::settle;
+use crate::state::LastWrite;
+use crate::state::Machine;
+use crate::state::ThreadState;
+ghost use Prim.Native.Nat.{_<_, _≤_};
+ghost use lib.ListN.{getD};
+ghost use Rattle.program.specs.Program.{Program};
+ghost use Rattle.machine.specs.State.{start};
+ghost use Rattle.machine.specs.Held.{Loaded, HoldsAt, Holds};
+
+// Thread t before its first step; one that does not exist stands at its end.
+fn opened(code: &[u8; 1536], lengths: &[usize; 6], threads: usize, t: usize) -> ThreadState
+    requires { ⌜ (t < 6) × (t < threads → getD (now lengths) t 0 ≤ 16) ⌝ }
+    ensures { λ r. ⌜ ((p : Program) → Loaded (now (code .entry)) (now (lengths .entry)) threads p → HoldsAt (now (code .entry)) (now (lengths .entry)) r (start p) t) ⌝ }
+{
+    let n = lengths[t];
+    if t < threads {
+        return settle(code, t, n, 0, [0u32; 4], 0);
+    }
+    ThreadState {
+        registers: [0u32; 4],
+        at: n,
+        done: 0,
+        failed: false,
+    }
+}
+
+// The state of the program in these rows.
+pub fn started(code: &[u8; 1536], lengths: &[usize; 6], threads: usize) -> Machine
+    requires { ⌜ ((p : Program) × Loaded (now code) (now lengths) threads p) ⌝ }
+    ensures { λ m. ⌜ ((p : Program) → Loaded (now (code .entry)) (now (lengths .entry)) threads p → Holds (now (code .entry)) (now (lengths .entry)) m (start p)) ⌝ }
+{
+    let mut all = [ThreadState {
+        registers: [0u32; 4],
+        at: 0,
+        done: 0,
+        failed: false,
+    }; 6];
+    let mut t = 0;
+    while t < 6 {
+        all[t] = opened(code, lengths, threads, t);
+        t += 1;
+    }
+    Machine {
+        threads: all,
+        memory: [0u32; 8],
+        last: [LastWrite {
+            thread: 255,
+            number: 255,
+        }; 8],
+    }
+}
