@@ -40,5 +40,15 @@ pub mod Answered
 pub mod LineTurns
 pub mod RoundTables
 pub mod FitTables
+-- the reader's code: the writes of a line, marks of events, places of lines, entries of the table, and that the table holds what has been read
+pub mod LineWrites
+pub mod Marks
+pub mod MarkTurns
+pub mod Ranks
+pub mod Entries
+pub mod HeldRefusal
+pub mod HeldAfter
+pub mod HeldAfterWrites
+pub mod HeldText
 -- document 01's two graphs
 pub mod Cases

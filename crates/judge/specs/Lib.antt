@@ -7,6 +7,8 @@ pub mod Judge
 pub mod Reading
 -- the answer to a graph text
 pub mod Answer
+-- how arrays hold a graph and what has been read of its text; for the judge's own functions
+pub mod Held
 -- graphs judged by computing
 pub mod Examples
 -- what the definition of consistent says of small graphs
