@@ -33,3 +33,5 @@ pub mod Demand3
 -- for the code: the list walked by the search, and the rules as loops meet them
 pub mod Walk
 pub mod Loops
+-- R1 over the notes, one step back at a time
+pub mod GoingBack

@@ -1,5 +1,4 @@
--- The rules as loops in code meet them: R1 goes back over an array of steps by its index, and the test at a full schedule over the numbers of the
--- permitted permutations.
+-- The test at a full schedule as a loop in code meets it, over the numbers of the permitted permutations.
 use Prim.Native.Nat.{ℕ, suc, _-_, _<_, _≤_}
 use mathlib.Core.Path.{_≡_, refl, sym, ap, _∙_}
 use mathlib.Core.Logic.{_≢_}
@@ -19,43 +18,6 @@ use Rattle.machine.specs.State.{start}
 use Rattle.machine.specs.Trail.{Action, trail, conflict}
 use Rattle.listing.specs.ListOf.{permits, permitted}
 use Rattle.listing.specs.Rules.{late, leastBy, unbeaten}
-
--- R1, with i steps still to go back over
-module _ (acts : List Action) (i : ℕ) (b d : Action) (more : 0 < i) (inside : i ≤ length acts) where
-  abbrev here : Action
-  here = getD acts (i - 1) d
-
-  abbrev left : List Action
-  left = reverse (take (i - 1) acts)
-
-  turn : late (reverse (take i acts)) b ≡ late (here ∷ left) b
-  turn =
-      let e : suc (i - 1) ≡ i = omega arith in
-      ap (λ (k : List Action). late (reverse k) b) (ap (λ (n : ℕ). take n acts) (sym e) ∙ take-suc acts (i - 1) d (omega arith)) ∙ ap (λ (k : List Action). late k b) (reverse-append (take (i - 1) acts) (here ∷ []))
-
-  -- a step of the same thread, or one in conflict, ends it
-  pub late-own : getD acts (i - 1) d .thread ≡ b .thread → late (reverse (take i acts)) b ≡ false
-  unfolding late
-  late-own e = let k = eq-eqb (here .thread) (b .thread) e in turn ∙ (rw (k, late))
-
-  pub late-conflict : getD acts (i - 1) d .thread ≢ b .thread → conflict (getD acts (i - 1) d) b ≡ true → late (reverse (take i acts)) b ≡ false
-  unfolding late
-  late-conflict n c = let k = ne-eqb (here .thread) (b .thread) n in turn ∙ (rw (k, c, late))
-
-  -- a greater thread that is passed
-  pub late-passes-greater : getD acts (i - 1) d .thread ≢ b .thread → conflict (getD acts (i - 1) d) b ≡ false → b .thread < getD acts (i - 1) d .thread → late (reverse (take i acts)) b ≡ true
-  unfolding late
-  late-passes-greater n c l = let k = ne-eqb (here .thread) (b .thread) n in let q = lt-ltb (b .thread) (here .thread) l in turn ∙ (rw (k, c, q, late))
-
-  -- a smaller one: go on
-  pub late-further : getD acts (i - 1) d .thread ≢ b .thread → conflict (getD acts (i - 1) d) b ≡ false → getD acts (i - 1) d .thread ≤ b .thread → late (reverse (take i acts)) b ≡ late (reverse (take (i - 1) acts)) b
-  unfolding late
-  late-further n c l = let k = ne-eqb (here .thread) (b .thread) n in let q = le-ltb (b .thread) (here .thread) l in turn ∙ (rw (k, c, q, late))
-
--- nothing to go back over
-pub late-over : (acts : List Action) (b : Action) → late (reverse (take 0 acts)) b ≡ false
-unfolding late
-late-over acts b = refl
 
 -- tests and filters of a mapped list
 keep-nil : {A : Type 0} (f : A → Bool) → keep f [] ≡ []

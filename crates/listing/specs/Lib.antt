@@ -15,3 +15,5 @@ pub mod OnFile
 pub mod Demand3
 -- what the listing program prints
 pub mod Printed
+-- the notes of a run, read as actions; for the code
+pub mod NotedSteps

@@ -1,1 +1,4 @@
 // The list of a program: one full schedule of each class of alike ones, the least; and the calls that walk it.
+
+// Steps that come late.
+mod lateness;
