@@ -30,8 +30,13 @@ pub mod Offered
 pub mod Calls
 -- demand 3 holds
 pub mod Demand3
--- for the code: the list walked by the search, and the rules as loops meet them
+-- for the code: the list walked by the search
 pub mod Walk
-pub mod Loops
 -- R1 over the notes, one step back at a time
 pub mod GoingBack
+-- threads of one class stand in one line
+pub mod ClassGroups
+-- tests and filters over numbers, one number at a time
+pub mod Numbers
+-- the permitted permutations by their numbers, and the test at a full schedule
+pub mod Loops

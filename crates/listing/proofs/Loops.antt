@@ -1,23 +1,22 @@
 -- The test at a full schedule as a loop in code meets it, over the numbers of the permitted permutations.
-use Prim.Native.Nat.{ℕ, suc, _-_, _<_, _≤_}
+use Prim.Native.Nat.{ℕ}
 use mathlib.Core.Path.{_≡_, refl, sym, ap, _∙_}
-use mathlib.Core.Logic.{_≢_}
 use mathlib.Core.Bool.{Bool, true, false, not, true≢false}
-use mathlib.Core.List.{List, [], _∷_, map, reverse, reverse-append, List·Memᴰ, List·Memᴰ·head, List·Memᴰ·not-nil, Memᴰ·map, Memᴰ·of-map}
-use native.Mathlib.Omega.{arith}
-use lib.ListN.{length, getD, take}
-use lib.Seq.{take-suc}
-use borrow.Author.Tests.{eq-eqb, ne-eqb, lt-ltb, le-ltb}
+use mathlib.Core.List.{List, [], _∷_, map, List·Memᴰ, List·Memᴰ·head, List·Memᴰ·not-nil, Memᴰ·map, Memᴰ·of-map}
 use Rattle.program.specs.Program.{Program}
+use Rattle.program.specs.Compiled.{programOf}
+use Rattle.program.specs.declared.file.Compiled.{Compiled}
 use Rattle.schedules.specs.Lists.{upTo, all, keep}
 use Rattle.schedules.specs.Order.{Schedule, less}
 use Rattle.schedules.specs.Permutations.{permutationOf}
 use Rattle.schedules.proofs.Lists.{all-at, all-not, keep-yes, keep-no, of-keep}
 use Rattle.schedules.proofs.Numbered.{numbered}
 use Rattle.machine.specs.State.{start}
-use Rattle.machine.specs.Trail.{Action, trail, conflict}
+use Rattle.machine.specs.Trail.{trail}
 use Rattle.listing.specs.ListOf.{permits, permitted}
-use Rattle.listing.specs.Rules.{late, leastBy, unbeaten}
+use Rattle.listing.specs.Rules.{leastBy, unbeaten}
+use Rattle.listing.specs.ClassGroups.{groupsOf}
+use Rattle.listing.proofs.ClassGroups.{program-groups}
 
 -- tests and filters of a mapped list
 keep-nil : {A : Type 0} (f : A → Bool) → keep f [] ≡ []
@@ -50,6 +49,11 @@ all-map f g l = go (all f (map g l)) refl (all (λ x. f (g x)) l) refl
 -- the numbers of the permitted permutations
 unfoldable pub permittedNumbers : Program → List ℕ
 permittedNumbers p = keep (λ k. permits (p .groups) (permutationOf k)) (upTo 0 720)
+
+-- as the code finds them, by the classes of a decoded program
+pub permitted-classes : (c : Compiled) → keep (λ k. permits (groupsOf (c .class) (c .groups)) (permutationOf k)) (upTo 0 720) ≡ permittedNumbers (programOf c)
+unfolding permittedNumbers
+permitted-classes c = ap (λ (g : List (List ℕ)). keep (λ k. permits g (permutationOf k)) (upTo 0 720)) (sym (program-groups c))
 
 pub permitted-numbered : (p : Program) → permitted p ≡ map permutationOf (permittedNumbers p)
 unfolding permitted permittedNumbers

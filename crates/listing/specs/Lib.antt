@@ -17,3 +17,5 @@ pub mod Demand3
 pub mod Printed
 -- the notes of a run, read as actions; for the code
 pub mod NotedSteps
+-- the groups as classes of threads; for the code
+pub mod ClassGroups

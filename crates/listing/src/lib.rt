@@ -2,3 +2,5 @@
 
 // Steps that come late.
 mod lateness;
+// The permitted permutations, by their numbers.
+mod permitted_numbers;
