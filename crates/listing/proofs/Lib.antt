@@ -40,3 +40,6 @@ pub mod ClassGroups
 pub mod Numbers
 -- the permitted permutations by their numbers, and the test at a full schedule
 pub mod Loops
+-- the steps left, place by place; the first one left of a thread
+pub mod LeftSteps
+pub mod FirstLeft

@@ -19,3 +19,5 @@ pub mod Printed
 pub mod NotedSteps
 -- the groups as classes of threads; for the code
 pub mod ClassGroups
+-- the steps still to be put in order; for the code
+pub mod LeftSteps

@@ -9,7 +9,7 @@ ghost use Rattle.listing.specs.Rules.{late};
 ghost use Rattle.listing.specs.NotedSteps.{did, doing, actionAt};
 
 // Whether the step noted in place k conflicts with an access of location l.
-fn conflicts(trail: &[u8; 192], k: usize, t: u8, l: u8, wrote: bool) -> bool
+pub fn conflicts(trail: &[u8; 192], k: usize, t: u8, l: u8, wrote: bool) -> bool
     requires { ⌜ k < 24 ⌝ }
     ensures { λ r. ⌜ r ≡ conflict (actionAt (now (trail .entry)) k) (doing t l wrote) ⌝ }
 {

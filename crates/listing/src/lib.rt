@@ -4,3 +4,5 @@
 mod lateness;
 // The permitted permutations, by their numbers.
 mod permitted_numbers;
+// The least order of a run's steps.
+mod least_order;
