@@ -43,3 +43,5 @@ pub mod Loops
 -- the steps left, place by place; the first one left of a thread
 pub mod LeftSteps
 pub mod FirstLeft
+-- the least order of steps beside another, one step at a time
+pub mod NextSteps
