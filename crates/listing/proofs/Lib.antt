@@ -27,6 +27,18 @@ pub mod Violations
 pub mod Calls
 -- demand 3 holds
 pub mod Demand3
--- for the code: the list walked by the search, and the rules as loops meet them
+-- for the code: the list walked by the search
 pub mod Walk
+-- R1 over the notes, one step back at a time
+pub mod GoingBack
+-- threads of one class stand in one line
+pub mod ClassGroups
+-- tests and filters over numbers, one number at a time
+pub mod Numbers
+-- the permitted permutations by their numbers, and the test at a full schedule
 pub mod Loops
+-- the steps left, place by place; the first one left of a thread
+pub mod LeftSteps
+pub mod FirstLeft
+-- the least order of steps beside another, one step at a time
+pub mod NextSteps

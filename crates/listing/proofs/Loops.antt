@@ -1,61 +1,22 @@
--- The rules as loops in code meet them: R1 goes back over an array of steps by its index, and the test at a full schedule over the numbers of the
--- permitted permutations.
-use Prim.Native.Nat.{ℕ, suc, _-_, _<_, _≤_}
+-- The test at a full schedule as a loop in code meets it, over the numbers of the permitted permutations.
+use Prim.Native.Nat.{ℕ}
 use mathlib.Core.Path.{_≡_, refl, sym, ap, _∙_}
-use mathlib.Core.Logic.{_≢_}
 use mathlib.Core.Bool.{Bool, true, false, not, true≢false}
-use mathlib.Core.List.{List, [], _∷_, map, reverse, reverse-append, List·Memᴰ, List·Memᴰ·head, List·Memᴰ·not-nil, Memᴰ·map, Memᴰ·of-map}
-use native.Mathlib.Omega.{arith}
-use lib.ListN.{length, getD, take}
-use lib.Seq.{take-suc}
-use borrow.Author.Tests.{eq-eqb, ne-eqb, lt-ltb, le-ltb}
+use mathlib.Core.List.{List, [], _∷_, map, List·Memᴰ, List·Memᴰ·head, List·Memᴰ·not-nil, Memᴰ·map, Memᴰ·of-map}
 use Rattle.program.specs.Program.{Program}
+use Rattle.program.specs.Compiled.{programOf}
+use Rattle.program.specs.declared.file.Compiled.{Compiled}
 use Rattle.schedules.specs.Lists.{upTo, all, keep}
 use Rattle.schedules.specs.Order.{Schedule, less}
 use Rattle.schedules.specs.Permutations.{permutationOf}
 use Rattle.schedules.proofs.Lists.{all-at, all-not, keep-yes, keep-no, of-keep}
 use Rattle.schedules.proofs.Numbered.{numbered}
 use Rattle.machine.specs.State.{start}
-use Rattle.machine.specs.Trail.{Action, trail, conflict}
+use Rattle.machine.specs.Trail.{trail}
 use Rattle.listing.specs.ListOf.{permits, permitted}
-use Rattle.listing.specs.Rules.{late, leastBy, unbeaten}
-
--- R1, with i steps still to go back over
-module _ (acts : List Action) (i : ℕ) (b d : Action) (more : 0 < i) (inside : i ≤ length acts) where
-  abbrev here : Action
-  here = getD acts (i - 1) d
-
-  abbrev left : List Action
-  left = reverse (take (i - 1) acts)
-
-  turn : late (reverse (take i acts)) b ≡ late (here ∷ left) b
-  turn =
-      let e : suc (i - 1) ≡ i = omega arith in
-      ap (λ (k : List Action). late (reverse k) b) (ap (λ (n : ℕ). take n acts) (sym e) ∙ take-suc acts (i - 1) d (omega arith)) ∙ ap (λ (k : List Action). late k b) (reverse-append (take (i - 1) acts) (here ∷ []))
-
-  -- a step of the same thread, or one in conflict, ends it
-  pub late-own : getD acts (i - 1) d .thread ≡ b .thread → late (reverse (take i acts)) b ≡ false
-  unfolding late
-  late-own e = let k = eq-eqb (here .thread) (b .thread) e in turn ∙ (rw (k, late))
-
-  pub late-conflict : getD acts (i - 1) d .thread ≢ b .thread → conflict (getD acts (i - 1) d) b ≡ true → late (reverse (take i acts)) b ≡ false
-  unfolding late
-  late-conflict n c = let k = ne-eqb (here .thread) (b .thread) n in turn ∙ (rw (k, c, late))
-
-  -- a greater thread that is passed
-  pub late-passes-greater : getD acts (i - 1) d .thread ≢ b .thread → conflict (getD acts (i - 1) d) b ≡ false → b .thread < getD acts (i - 1) d .thread → late (reverse (take i acts)) b ≡ true
-  unfolding late
-  late-passes-greater n c l = let k = ne-eqb (here .thread) (b .thread) n in let q = lt-ltb (b .thread) (here .thread) l in turn ∙ (rw (k, c, q, late))
-
-  -- a smaller one: go on
-  pub late-further : getD acts (i - 1) d .thread ≢ b .thread → conflict (getD acts (i - 1) d) b ≡ false → getD acts (i - 1) d .thread ≤ b .thread → late (reverse (take i acts)) b ≡ late (reverse (take (i - 1) acts)) b
-  unfolding late
-  late-further n c l = let k = ne-eqb (here .thread) (b .thread) n in let q = le-ltb (b .thread) (here .thread) l in turn ∙ (rw (k, c, q, late))
-
--- nothing to go back over
-pub late-over : (acts : List Action) (b : Action) → late (reverse (take 0 acts)) b ≡ false
-unfolding late
-late-over acts b = refl
+use Rattle.listing.specs.Rules.{leastBy, unbeaten}
+use Rattle.listing.specs.ClassGroups.{groupsOf}
+use Rattle.listing.proofs.ClassGroups.{program-groups}
 
 -- tests and filters of a mapped list
 keep-nil : {A : Type 0} (f : A → Bool) → keep f [] ≡ []
@@ -88,6 +49,11 @@ all-map f g l = go (all f (map g l)) refl (all (λ x. f (g x)) l) refl
 -- the numbers of the permitted permutations
 unfoldable pub permittedNumbers : Program → List ℕ
 permittedNumbers p = keep (λ k. permits (p .groups) (permutationOf k)) (upTo 0 720)
+
+-- as the code finds them, by the classes of a decoded program
+pub permitted-classes : (c : Compiled) → keep (λ k. permits (groupsOf (c .class) (c .groups)) (permutationOf k)) (upTo 0 720) ≡ permittedNumbers (programOf c)
+unfolding permittedNumbers
+permitted-classes c = ap (λ (g : List (List ℕ)). keep (λ k. permits g (permutationOf k)) (upTo 0 720)) (sym (program-groups c))
 
 pub permitted-numbered : (p : Program) → permitted p ≡ map permutationOf (permittedNumbers p)
 unfolding permitted permittedNumbers

@@ -74,7 +74,7 @@ together-true p t u e =
     let k = both (any (eqb t) (r .0)) (any (eqb u) (r .0)) (r .2) in
     (r .0, r .1, member-test t (r .0) (k .0), member-test u (r .0) (k .1))
 
-true-together : (p : Program) (t u : ℕ) → Together p t u → together (p .groups) t u ≡ true
+pub true-together : (p : Program) (t u : ℕ) → Together p t u → together (p .groups) t u ≡ true
 unfolding together
 true-together p t u k = any-of (λ g. any (eqb t) g && any (eqb u) g) (p .groups) (k .0) (k .1) (both-and (test-member t (k .0) (k .2)) (test-member u (k .0) (k .3)))
 

@@ -15,3 +15,9 @@ pub mod OnFile
 pub mod Demand3
 -- what the listing program prints
 pub mod Printed
+-- the notes of a run, read as actions; for the code
+pub mod NotedSteps
+-- the groups as classes of threads; for the code
+pub mod ClassGroups
+-- the steps still to be put in order; for the code
+pub mod LeftSteps

@@ -1,1 +1,8 @@
 // The list of a program: one full schedule of each class of alike ones, the least; and the calls that walk it.
+
+// Steps that come late.
+mod lateness;
+// The permitted permutations, by their numbers.
+mod permitted_numbers;
+// The least order of a run's steps.
+mod least_order;

@@ -1,0 +1,45 @@
+-- The first step left of a thread: what it is, whether it is clear, and what stays when it goes.
+use Prim.Native.Nat.{ℕ, zero, suc, _+_, _-_, _<_, _≤_}
+use mathlib.Core.Path.{_≡_, refl, sym, ap, _∙_, subst}
+use mathlib.Core.Logic.{_≢_, ⊎-elim}
+use mathlib.Core.Bool.{Bool, true, false, not, _&&_}
+use mathlib.Core.Option.{Option, none, some}
+use mathlib.Core.List.{List, [], _∷_, map}
+use native.Mathlib.Omega.{arith}
+use native.Mathlib.Nat.{eq-or-lt-of-le}
+use lib.Dec.{eqb}
+use lib.ListN.{length, getD, set}
+use lib.Seq.{getD-set-same, getD-set-other}
+use borrow.Author.Tests.{eq-eqb, ne-eqb, eqb-true, eqb-false}
+use Rattle.schedules.specs.Lists.{upTo, keep, all}
+use Rattle.schedules.specs.Orders.{nextOf, clear, takeOut}
+use Rattle.schedules.proofs.Lists.{keep-yes, keep-no}
+use Rattle.schedules.proofs.Remaining.{next-same, next-other, clear-same}
+use Rattle.machine.specs.Trail.{Action, conflict, who}
+use Rattle.listing.specs.NotedSteps.{actionAt, actionsAt}
+use Rattle.listing.specs.LeftSteps.{leftAt, FirstOf, waits}
+
+-- ---- one place
+pub left-none : (trail gone : List ℕ) (k : ℕ) → leftAt trail gone k 0 ≡ []
+unfolding leftAt upTo keep
+left-none trail gone k = refl
+
+pub left-here : (trail gone : List ℕ) (k n : ℕ) → getD gone k 0 ≡ 0 → leftAt trail gone k (suc n) ≡ actionAt trail k ∷ leftAt trail gone (suc k) n
+unfolding leftAt upTo
+left-here trail gone k n e = ap (map (actionAt trail)) (keep-yes (λ i. eqb (getD gone i 0) 0) k (upTo (suc k) n) (eq-eqb (getD gone k 0) 0 e))
+
+pub left-gone : (trail gone : List ℕ) (k n : ℕ) → getD gone k 0 ≢ 0 → leftAt trail gone k (suc n) ≡ leftAt trail gone (suc k) n
+unfolding leftAt upTo
+left-gone trail gone k n e = ap (map (actionAt trail)) (keep-no (λ i. eqb (getD gone i 0) 0) k (upTo (suc k) n) (ne-eqb (getD gone k 0) 0 e))
+
+-- ---- looking for the first step of a thread, and for one that it waits for
+pub before-more : (trail gone : List ℕ) (t j : ℕ) → ((k : ℕ) → k < j → getD gone k 0 ≡ 0 → actionAt trail k .thread ≢ t) → (getD gone j 0 ≡ 0 → actionAt trail j .thread ≢ t)
+    → (k : ℕ) → k < j + 1 → getD gone k 0 ≡ 0 → actionAt trail k .thread ≢ t
+before-more trail gone t j before here k h =
+    ⊎-elim (λ (e : k ≡ j). subst (λ (i : ℕ). getD gone i 0 ≡ 0 → actionAt trail i .thread ≢ t) (sym e) here) (λ (l : k < j). before k l) (eq-or-lt-of-le {n = k} {m = j} (omega arith))
+
+pub waits-not : (trail gone : List ℕ) (j k : ℕ) → getD gone k 0 ≢ 0 → not (waits trail gone j k) ≡ true
+waits-not trail gone j k e = rw (ne-eqb (getD gone k 0) 0 e)
+
+pub waits-by : (trail gone : List ℕ) (j k : ℕ) (b : Bool) → getD gone k 0 ≡ 0 → conflict (actionAt trail k) (actionAt trail j) ≡ b → not (waits trail gone j k) ≡ not b
+waits-by trail gone j k b e q = rw (eq-eqb (getD gone k 0) 0 e, q)

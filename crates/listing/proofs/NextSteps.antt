@@ -1,0 +1,111 @@
+-- The least order of a run's steps as a loop in code meets it, beside another order: the place that goes next, then what is left decides.
+use Prim.Native.Nat.{ℕ, zero, suc, _+_, _-_, _<_, _≤_}
+use mathlib.Core.Path.{_≡_, refl, sym, ap, ap₂, _∙_, subst}
+use mathlib.Core.Logic.{_≢_}
+use mathlib.Core.Bool.{Bool, true, false, not}
+use mathlib.Core.Option.{Option, none, some}
+use mathlib.Core.List.{List, [], _∷_, map}
+use native.Mathlib.Omega.{arith}
+use lib.Dec.{eqb, ltb}
+use lib.ListN.{length, getD, set, replicate, length-map}
+use borrow.Author.Tests.{eq-eqb, ne-eqb}
+use Rattle.schedules.specs.Lists.{upTo, all, first}
+use Rattle.schedules.specs.Order.{Schedule, less}
+use Rattle.schedules.specs.Greedy.{greedy}
+use Rattle.schedules.specs.Orders.{ready, takeOut, Remaining, leastOrder}
+use Rattle.schedules.proofs.Loops.{upTo-none, upTo-more, first-here, first-later, greedy-over, greedy-stuck, greedy-step}
+use Rattle.machine.specs.Trail.{Action, conflict, who, leastOf}
+use Rattle.machine.specs.NoteText.{noteAt, notesAt}
+use Rattle.machine.proofs.Collected.{upTo-length}
+use Rattle.listing.specs.NotedSteps.{did, actionAt, actionsAt}
+use Rattle.listing.specs.LeftSteps.{leftAt, FirstOf, waits, NextPlace, threadsAt}
+use Rattle.listing.proofs.LeftSteps.{left-none, left-here}
+use Rattle.listing.proofs.FirstLeft.{ready-first, ready-none, out-first}
+
+-- ---- the thread that goes next
+module _ (trail gone : List ℕ) (steps t j : ℕ) where
+  abbrev may : ℕ → Bool
+  may = ready who conflict (leftAt trail gone 0 steps)
+
+  pub found-next : t < 6 → first (ready who conflict (leftAt trail gone 0 steps)) (upTo 0 6) ≡ first (ready who conflict (leftAt trail gone 0 steps)) (upTo t (6 - t)) → FirstOf trail gone steps t j → j < steps
+      → all (λ k. not (waits trail gone j k)) (upTo 0 j) ≡ true → NextPlace trail gone steps j
+  found-next h inv f i e =
+      let own = f .here i .1 in
+      record {
+        within = f .within;
+        over = λ q. absurd (omega arith);
+        place = λ q. subst (λ (u : ℕ). FirstOf trail gone steps u j) (sym own) f;
+        least = λ q. inv ∙ first-here may t (6 - t) (omega arith) (ready-first trail gone steps t j f i ∙ e) ∙ ap some (sym own);
+      }
+
+  pub next-further : t < 6 → first (ready who conflict (leftAt trail gone 0 steps)) (upTo 0 6) ≡ first (ready who conflict (leftAt trail gone 0 steps)) (upTo t (6 - t)) → ready who conflict (leftAt trail gone 0 steps) t ≡ false
+      → first (ready who conflict (leftAt trail gone 0 steps)) (upTo 0 6) ≡ first (ready who conflict (leftAt trail gone 0 steps)) (upTo (t + 1) (6 - (t + 1)))
+  next-further h inv e = let n : 6 - t - 1 ≡ 6 - (t + 1) = omega arith in inv ∙ first-later may t (6 - t) (omega arith) e ∙ ap (λ (m : ℕ). first may (upTo (t + 1) m)) n
+
+-- ---- the two orders
+threads-more : (trail : List ℕ) (k n : ℕ) → 0 < n → threadsAt trail k n ≡ actionAt trail k .thread ∷ threadsAt trail (k + 1) (n - 1)
+unfolding threadsAt
+threads-more trail k n h = ap (map (λ i. actionAt trail i .thread)) (upTo-more k n h)
+
+threads-none : (trail : List ℕ) (k n : ℕ) → n ≡ 0 → threadsAt trail k n ≡ []
+unfolding threadsAt
+threads-none trail k n e = ap (map (λ i. actionAt trail i .thread)) (upTo-none k n e)
+
+same-front : (x y : ℕ) (a b : Schedule) → x ≡ y → less (x ∷ a) (y ∷ b) ≡ less a b
+unfolding less
+same-front x y a b e = let q = eq-eqb x y e in rw (q, less)
+
+-- the least order of the steps left, at most n of them
+unfoldable pub rest : List ℕ → List ℕ → ℕ → ℕ → Schedule
+rest moved gone steps n = greedy (Remaining who conflict (upTo 0 6)) (ready who conflict) n (leftAt moved gone 0 steps)
+
+module _ (moved gone trail : List ℕ) (steps j i n : ℕ) (next : NextPlace moved gone steps j) (more : 0 < n) where
+  pub order-stuck : j ≡ steps → less (rest moved gone steps n) (threadsAt trail i n) ≡ true
+  unfolding rest less
+  order-stuck e = ap₂ less (greedy-stuck (Remaining who conflict (upTo 0 6)) (ready who conflict) n (leftAt moved gone 0 steps) (next .over e)) (threads-more trail i n more)
+
+  abbrev there : ℕ
+  there = actionAt moved j .thread
+
+  rest-more : j < steps → rest moved gone steps n ≡ there ∷ greedy (Remaining who conflict (upTo 0 6)) (ready who conflict) (n - 1) (takeOut who conflict (leftAt moved gone 0 steps) there)
+  unfolding rest
+  rest-more h = greedy-step (Remaining who conflict (upTo 0 6)) (ready who conflict) n (leftAt moved gone 0 steps) there more (next .least h)
+
+  pub order-differ : j < steps → actionAt moved j .thread ≢ actionAt trail i .thread → less (rest moved gone steps n) (threadsAt trail i n) ≡ ltb (actionAt moved j .thread) (actionAt trail i .thread)
+  unfolding less
+  order-differ h d = let e = ne-eqb there (actionAt trail i .thread) d in ap₂ less (rest-more h) (threads-more trail i n more) ∙ (rw (e, less))
+
+  pub order-equal : j < steps → j < length gone → actionAt moved j .thread ≡ actionAt trail i .thread → less (rest moved gone steps n) (threadsAt trail i n) ≡ less (rest moved (set gone j 1) steps (n - 1)) (threadsAt trail (i + 1) (n - 1))
+  unfolding less rest
+  order-equal h l q =
+      let f = next .place h in
+      let z = f .here h in
+      ap₂ less (rest-more h) (threads-more trail i n more)
+      ∙ same-front there (actionAt trail i .thread) (greedy (Remaining who conflict (upTo 0 6)) (ready who conflict) (n - 1) (takeOut who conflict (leftAt moved gone 0 steps) there)) (threadsAt trail (i + 1) (n - 1)) q
+      ∙ (ap (λ (k : List Action). less (greedy (Remaining who conflict (upTo 0 6)) (ready who conflict) (n - 1) k) (threadsAt trail (i + 1) (n - 1))) (out-first moved gone there j (z .0) (z .1) (f .before) steps h l))
+
+pub order-over : (moved gone trail : List ℕ) (steps i n : ℕ) → n ≡ 0 → less (rest moved gone steps n) (threadsAt trail i n) ≡ false
+unfolding rest less
+order-over moved gone trail steps i n e = ap₂ less (greedy-over (Remaining who conflict (upTo 0 6)) (ready who conflict) n (leftAt moved gone 0 steps) e) (threads-none trail i n e)
+
+-- ---- before the first step all are left
+pub zeros : (n k : ℕ) → getD {A = ℕ} (replicate n 0) k 0 ≡ 0
+zeros zero k = refl
+zeros (suc n) zero = refl
+zeros (suc n) (suc k) = zeros n k
+
+left-all : (trail gone : List ℕ) (k n : ℕ) → ((i : ℕ) → getD gone i 0 ≡ 0) → leftAt trail gone k n ≡ map (actionAt trail) (upTo k n)
+unfolding upTo
+left-all trail gone k zero z = left-none trail gone k
+left-all trail gone k (suc n) z = left-here trail gone k n (z k) ∙ ap (λ (l : List Action). actionAt trail k ∷ l) (left-all trail gone (suc k) n z)
+
+actions-mapped : (trail : List ℕ) (l : List ℕ) → map did (map (noteAt trail) l) ≡ map (actionAt trail) l
+actions-mapped trail [] = refl
+actions-mapped trail (k ∷ l) = ap (λ (r : List Action). actionAt trail k ∷ r) (actions-mapped trail l)
+
+pub order-start : (moved gone : List ℕ) (steps : ℕ) → ((k : ℕ) → getD gone k 0 ≡ 0) → leastOf (actionsAt moved steps) ≡ rest moved gone steps steps
+unfolding rest leastOrder actionsAt notesAt
+order-start moved gone steps z =
+    let e : actionsAt moved steps ≡ leftAt moved gone 0 steps = actions-mapped moved (upTo 0 steps) ∙ sym (left-all moved gone 0 steps z) in
+    let n : length (actionsAt moved steps) ≡ steps = length-map (map (noteAt moved) (upTo 0 steps)) did ∙ length-map (upTo 0 steps) (noteAt moved) ∙ upTo-length 0 steps in
+    ap₂ (λ (k : ℕ) (l : List Action). greedy (Remaining who conflict (upTo 0 6)) (ready who conflict) k l) n e

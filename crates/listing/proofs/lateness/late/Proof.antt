@@ -1,0 +1,44 @@
+-- `late` goes back over the notes. The invariant: what is left to go back over decides.
+use borrow.Author.Needs.{needs}
+use Prim.Native.Nat.{ℕ, _≤_}
+use mathlib.Core.Path.{_≡_, refl, sym, ap, _∙_}
+use native.Mathlib.Omega.{arith}
+use mathlib.Core.List.{List, reverse}
+use Rattle.machine.specs.Trail.{Action}
+use Rattle.machine.specs.NoteText.{noteAt}
+use Rattle.listing.specs.Rules.{late}
+use Rattle.listing.specs.NotedSteps.{did, doing, actionsAt}
+use Rattle.listing.proofs.GoingBack.{actions-held, late-own, late-conflict, late-passes-greater, late-further, late-over}
+use Rattle.listing.proofs.lateness.late.Statement.{statement}
+use Rattle.listing.proofs.lateness.late.Tie as tie
+
+abbrev Inv-loop : tie.InvT-loop
+Inv-loop trail steps t l wrote i₀ i = (i ≤ steps) × (late (reverse (actionsAt trail steps)) (doing t l wrote) ≡ late (reverse (actionsAt trail i)) (doing t l wrote))
+
+abbrev μ-loop : tie.MeasureT-loop
+μ-loop trail steps t l wrote i₀ i = i
+
+loop-holds : tie.Need-loop-holds Inv-loop μ-loop
+loop-holds c = (search needs, refl)
+
+returns : tie.Need-returns Inv-loop μ-loop
+unfolding did noteAt
+returns c = λ ns held e. sym (ap (λ (k : List Action). late (reverse k) (doing (c .before .before .before .before .args .t) (c .before .before .before .before .args .l) (c .before .before .before .before .args .wrote))) (sym (actions-held (c .before .before .before .before .args .trail .now) ns (c .before .before .before .before .args .steps) held e)) ∙ c .before .before .before .loop .inv .1 ∙ late-own (c .before .before .before .before .args .trail .now) (c .before .before .before .loop .i) (doing (c .before .before .before .before .args .t) (c .before .before .before .before .args .l) (c .before .before .before .before .args .wrote)) (c .before .before .loop-test .taken) (c .if1 .taken))
+
+returns-2 : tie.Need-returns-2 Inv-loop μ-loop
+unfolding did noteAt
+returns-2 c = λ ns held e. sym (ap (λ (k : List Action). late (reverse k) (doing (c .before .before .before .before .before .before .args .t) (c .before .before .before .before .before .before .args .l) (c .before .before .before .before .before .before .args .wrote))) (sym (actions-held (c .before .before .before .before .before .before .args .trail .now) ns (c .before .before .before .before .before .before .args .steps) held e)) ∙ c .before .before .before .before .before .loop .inv .1 ∙ late-conflict (c .before .before .before .before .before .before .args .trail .now) (c .before .before .before .before .before .loop .i) (doing (c .before .before .before .before .before .before .args .t) (c .before .before .before .before .before .before .args .l) (c .before .before .before .before .before .before .args .wrote)) (c .before .before .before .before .loop-test .taken) (c .before .before .if1 .left) (sym (c .before .conflicts .ensures) ∙ c .if2 .taken))
+
+returns-3 : tie.Need-returns-3 Inv-loop μ-loop
+unfolding did noteAt
+returns-3 c = λ ns held e. sym (ap (λ (k : List Action). late (reverse k) (doing (c .before .before .before .before .before .before .before .args .t) (c .before .before .before .before .before .before .before .args .l) (c .before .before .before .before .before .before .before .args .wrote))) (sym (actions-held (c .before .before .before .before .before .before .before .args .trail .now) ns (c .before .before .before .before .before .before .before .args .steps) held e)) ∙ c .before .before .before .before .before .before .loop .inv .1 ∙ late-passes-greater (c .before .before .before .before .before .before .before .args .trail .now) (c .before .before .before .before .before .before .loop .i) (doing (c .before .before .before .before .before .before .before .args .t) (c .before .before .before .before .before .before .before .args .l) (c .before .before .before .before .before .before .before .args .wrote)) (c .before .before .before .before .before .loop-test .taken) (c .before .before .before .if1 .left) (sym (c .before .before .conflicts .ensures) ∙ c .before .if2 .left) (c .if3 .taken))
+
+loop-again : tie.Need-loop-again Inv-loop μ-loop
+unfolding did noteAt
+loop-again c = (search needs, c .before .before .before .before .before .before .loop .inv .1 ∙ late-further (c .before .before .before .before .before .before .before .args .trail .now) (c .before .before .before .before .before .before .loop .i) (doing (c .before .before .before .before .before .before .before .args .t) (c .before .before .before .before .before .before .before .args .l) (c .before .before .before .before .before .before .before .args .wrote)) (c .before .before .before .before .before .loop-test .taken) (c .before .before .before .if1 .left) (sym (c .before .before .conflicts .ensures) ∙ c .before .if2 .left) (c .if3 .left))
+
+returns-4 : tie.Need-returns-4 Inv-loop μ-loop
+returns-4 c = let z : c .before .loop .i ≡ 0 = omega (arith, c .loop-test .left) in λ ns held e. sym (ap (λ (k : List Action). late (reverse k) (doing (c .before .before .args .t) (c .before .before .args .l) (c .before .before .args .wrote))) (sym (actions-held (c .before .before .args .trail .now) ns (c .before .before .args .steps) held e)) ∙ c .before .loop .inv .1 ∙ ap (λ (i : ℕ). late (reverse (actionsAt (c .before .before .args .trail .now) i)) (doing (c .before .before .args .t) (c .before .before .args .l) (c .before .before .args .wrote))) z ∙ late-over (c .before .before .args .trail .now) (doing (c .before .before .args .t) (c .before .before .args .l) (c .before .before .args .wrote)))
+
+pub late-spec : {M : Type 1} → statement M
+late-spec = tie.close (tie.spec Inv-loop μ-loop loop-holds (λ c. search needs) (λ c. search needs) (λ c. search needs) returns (λ c κs. search needs) returns-2 returns-3 (λ c. search needs) loop-again returns-4)

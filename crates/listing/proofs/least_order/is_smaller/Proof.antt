@@ -1,0 +1,43 @@
+-- `is_smaller` takes the steps of the least order one after the other. The invariant: what is left of the two orders decides.
+use borrow.Author.Needs.{needs}
+use Prim.Native.Nat.{ℕ, _<_, _≤_, _-_, _+_}
+use mathlib.Core.Path.{_≡_, refl, sym, ap, ap₂, _∙_}
+use native.Mathlib.Omega.{arith}
+use mathlib.Core.Bool.{Bool}
+use mathlib.Core.List.{List}
+use lib.ListN.{length, set}
+use Rattle.schedules.specs.Order.{Schedule, less}
+use Rattle.machine.specs.Trail.{leastOf}
+use Rattle.machine.specs.NoteText.{noteAt}
+use Rattle.listing.specs.NotedSteps.{did, actionsAt}
+use Rattle.listing.specs.LeftSteps.{threadsAt}
+use Rattle.listing.proofs.NextSteps.{rest, zeros, order-start, order-stuck, order-differ, order-equal, order-over}
+use Rattle.listing.proofs.least_order.is_smaller.Statement.{statement}
+use Rattle.listing.proofs.least_order.is_smaller.Tie as tie
+
+abbrev Inv-loop : tie.InvT-loop
+Inv-loop moved trail steps gone₀ i₀ gone i =
+    (i ≤ steps) × (length gone ≡ 24) × (less (leastOf (actionsAt moved steps)) (threadsAt trail 0 steps) ≡ less (rest moved gone steps (steps - i)) (threadsAt trail i (steps - i)))
+
+abbrev μ-loop : tie.MeasureT-loop
+μ-loop moved trail steps gone₀ i₀ gone i = steps - i
+
+loop-holds : tie.Need-loop-holds Inv-loop μ-loop
+loop-holds c = let n : (c .args .steps) ≡ (c .args .steps) - 0 = omega arith in (search needs, search needs, ap₂ less (order-start (c .args .moved .now) _ (c .args .steps) (zeros 24) ∙ ap (rest (c .args .moved .now) _ (c .args .steps)) n) (ap (threadsAt (c .args .trail .now) 0) n))
+
+returns : tie.Need-returns Inv-loop μ-loop
+returns c = let w = c .before .next-place .ensures .within in sym (c .before .before .before .before .loop .inv .2 ∙ order-stuck (c .before .before .before .before .before .args .moved .now) (c .before .before .before .before .loop .gone) (c .before .before .before .before .before .args .trail .now) (c .before .before .before .before .before .args .steps) (c .before .next-place .result) (c .before .before .before .before .loop .i) ((c .before .before .before .before .before .args .steps) - (c .before .before .before .before .loop .i)) (c .before .next-place .ensures) (omega (arith, c .before .before .before .loop-test .taken)) (omega (arith, w, c .if1 .taken)))
+
+returns-2 : tie.Need-returns-2 Inv-loop μ-loop
+unfolding did noteAt
+returns-2 c = sym (c .before .before .before .before .before .before .before .loop .inv .2 ∙ order-differ (c .before .before .before .before .before .before .before .before .args .moved .now) (c .before .before .before .before .before .before .before .loop .gone) (c .before .before .before .before .before .before .before .before .args .trail .now) (c .before .before .before .before .before .before .before .before .args .steps) (c .before .before .before .before .next-place .result) (c .before .before .before .before .before .before .before .loop .i) ((c .before .before .before .before .before .before .before .before .args .steps) - (c .before .before .before .before .before .before .before .loop .i)) (c .before .before .before .before .next-place .ensures) (omega (arith, c .before .before .before .before .before .before .loop-test .taken)) (c .before .before .before .if1 .left) (c .if2 .taken))
+
+loop-again : tie.Need-loop-again Inv-loop μ-loop
+unfolding did noteAt
+loop-again c = let n : (c .before .before .before .before .before .before .before .before .args .steps) - (c .before .before .before .before .before .before .before .loop .i) - 1 ≡ (c .before .before .before .before .before .before .before .before .args .steps) - ((c .before .before .before .before .before .before .before .loop .i) + 1) = omega arith in (search needs, search needs, c .before .before .before .before .before .before .before .loop .inv .2 ∙ order-equal (c .before .before .before .before .before .before .before .before .args .moved .now) (c .before .before .before .before .before .before .before .loop .gone) (c .before .before .before .before .before .before .before .before .args .trail .now) (c .before .before .before .before .before .before .before .before .args .steps) (c .before .before .before .before .next-place .result) (c .before .before .before .before .before .before .before .loop .i) ((c .before .before .before .before .before .before .before .before .args .steps) - (c .before .before .before .before .before .before .before .loop .i)) (c .before .before .before .before .next-place .ensures) (omega (arith, c .before .before .before .before .before .before .loop-test .taken)) (c .before .before .before .if1 .left) (omega (arith, c .before .before .before .before .before .before .before .loop .inv .1, c .before .before .before .if1 .left, c .before .before .before .before .before .before .before .before .pre)) (c .if2 .left) ∙ ap (λ (k : ℕ). less (rest (c .before .before .before .before .before .before .before .before .args .moved .now) (set (c .before .before .before .before .before .before .before .loop .gone) (c .before .before .before .before .next-place .result) 1) (c .before .before .before .before .before .before .before .before .args .steps) k) (threadsAt (c .before .before .before .before .before .before .before .before .args .trail .now) ((c .before .before .before .before .before .before .before .loop .i) + 1) k)) n)
+
+returns-3 : tie.Need-returns-3 Inv-loop μ-loop
+returns-3 c = sym (c .before .loop .inv .2 ∙ order-over (c .before .before .args .moved .now) (c .before .loop .gone) (c .before .before .args .trail .now) (c .before .before .args .steps) (c .before .loop .i) ((c .before .before .args .steps) - c .before .loop .i) (omega (arith, c .loop-test .left)))
+
+pub is-smaller-spec : {M : Type 1} → statement M
+is-smaller-spec = tie.close (tie.spec Inv-loop μ-loop loop-holds (λ c κs. search needs) returns (λ c. search needs) (λ c. search needs) (λ c. search needs) (λ c. search needs) returns-2 (λ c. search needs) (λ c. search needs) (λ c. search needs) loop-again returns-3)

@@ -1,0 +1,37 @@
+-- `next_place` goes through the threads. The invariant: those that are left decide.
+use borrow.Author.Needs.{needs}
+use Prim.Native.Nat.{ℕ, _<_, _≤_, _-_, _+_}
+use mathlib.Core.Path.{_≡_, refl, sym, ap, _∙_}
+use native.Mathlib.Omega.{arith}
+use mathlib.Core.Logic.{⊎-elim}
+use mathlib.Core.List.{List}
+use Rattle.schedules.specs.Lists.{upTo, first}
+use Rattle.schedules.specs.Orders.{ready}
+use Rattle.schedules.proofs.Loops.{first-none-left}
+use Rattle.machine.specs.Trail.{conflict, who}
+use Rattle.listing.specs.LeftSteps.{leftAt}
+use Rattle.listing.proofs.FirstLeft.{ready-first, ready-none}
+use Rattle.listing.proofs.NextSteps.{found-next, next-further}
+use Rattle.listing.proofs.least_order.next_place.Statement.{statement}
+use Rattle.listing.proofs.least_order.next_place.Tie as tie
+
+abbrev Inv-loop : tie.InvT-loop
+Inv-loop trail gone steps t₀ t = (t ≤ 6) × (first (ready who conflict (leftAt trail gone 0 steps)) (upTo 0 6) ≡ first (ready who conflict (leftAt trail gone 0 steps)) (upTo t (6 - t)))
+
+abbrev μ-loop : tie.MeasureT-loop
+μ-loop trail gone steps t₀ t = 6 - t
+
+loop-holds : tie.Need-loop-holds Inv-loop μ-loop
+loop-holds c = (search needs, refl)
+
+returns : tie.Need-returns Inv-loop μ-loop
+returns c = found-next (c .before .before .before .before .before .before .args .trail .now) (c .before .before .before .before .before .before .args .gone .now) (c .before .before .before .before .before .before .args .steps) (c .before .before .before .before .before .loop .t) (c .before .before .before .first-of .result) (c .before .before .before .before .loop-test .taken) (c .before .before .before .before .before .loop .inv .1) (c .before .before .before .first-of .ensures) (c .before .before .if1 .taken) (sym (c .before .is-clear .ensures) ∙ c .if2 .taken)
+
+loop-again : tie.Need-loop-again Inv-loop μ-loop
+loop-again c = (search needs, next-further (c .before .before .before .before .args .trail .now) (c .before .before .before .before .args .gone .now) (c .before .before .before .before .args .steps) (c .before .before .before .loop .t) (c .before .first-of .result) (c .before .before .loop-test .taken) (c .before .before .before .loop .inv .1) (⊎-elim (λ w. ready-first (c .before .before .before .before .args .trail .now) (c .before .before .before .before .args .gone .now) (c .before .before .before .before .args .steps) (c .before .before .before .loop .t) (c .before .first-of .result) (c .before .first-of .ensures) (w .0 .taken) ∙ sym (w .1 .ensures) ∙ w .2 .left) (λ w. let q = c .before .first-of .ensures .within in ready-none (c .before .before .before .before .args .trail .now) (c .before .before .before .before .args .gone .now) (c .before .before .before .before .args .steps) (c .before .before .before .loop .t) (c .before .first-of .result) (c .before .first-of .ensures) (omega (arith, q, w .left))) (c .if1 .came)))
+
+returns-2 : tie.Need-returns-2 Inv-loop μ-loop
+returns-2 c = record { within = omega arith; over = λ e. c .before .loop .inv .1 ∙ first-none-left (ready who conflict (leftAt (c .before .before .args .trail .now) (c .before .before .args .gone .now) 0 (c .before .before .args .steps))) (c .before .loop .t) (6 - c .before .loop .t) (omega (arith, c .loop-test .left)); place = λ h. absurd (omega arith); least = λ h. absurd (omega arith) }
+
+pub next-place-spec : {M : Type 1} → statement M
+next-place-spec = tie.close (tie.spec Inv-loop μ-loop loop-holds (λ c κs. search needs) (λ c κs. search needs) returns (λ c. search needs) (λ c. search needs) loop-again returns-2)
