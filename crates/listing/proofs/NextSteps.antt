@@ -16,7 +16,7 @@ use Rattle.schedules.specs.Orders.{ready, takeOut, Remaining, leastOrder}
 use Rattle.schedules.proofs.Loops.{upTo-none, upTo-more, first-here, first-later, greedy-over, greedy-stuck, greedy-step}
 use Rattle.machine.specs.Trail.{Action, conflict, who, leastOf}
 use Rattle.machine.specs.NoteText.{noteAt, notesAt}
-use Rattle.machine.proofs.Collected.{upTo-length}
+use Rattle.schedules.proofs.Lists.{upTo-length}
 use Rattle.listing.specs.NotedSteps.{did, actionAt, actionsAt}
 use Rattle.listing.specs.LeftSteps.{leftAt, FirstOf, waits, NextPlace, threadsAt}
 use Rattle.listing.proofs.LeftSteps.{left-none, left-here}

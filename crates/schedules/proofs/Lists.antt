@@ -8,6 +8,7 @@ use Prim.Native.Nat.{ℕ, zero, suc, _+_, _<_, _≤_}
 use native.Mathlib.Omega.{arith}
 use native.Mathlib.Nat.{eq-or-lt-of-le}
 use lib.Dec.{ltb}
+use lib.ListN.{length}
 use borrow.Author.Tests.{lt-ltb}
 use Rattle.schedules.specs.Lists.{upTo, both, any, all, keep, first, Ascends}
 
@@ -170,3 +171,9 @@ module _ {A : Type 0} (less : A → A → Bool) where
 
         rest : {v w : A} (z : A) (zs : List A) → ((k : A) → List·Memᴰ k zs → less w k ≡ true) → v ≡ w → less v z ≡ true → List·Memᴰ z (w ∷ zs) → List·Memᴰ z zs
         rest {v} {w} z zs h e q m = ⊎-elim (λ (i : z ≡ w). absurd (true≢false (sym q ∙ ap₂ less e i ∙ irreflexive w))) (λ (k : List·Memᴰ z zs). k) (List·Memᴰ·cases-cons m)
+
+-- so many numbers
+pub upTo-length : (a n : ℕ) → length (upTo a n) ≡ n
+unfolding upTo
+upTo-length a zero = refl
+upTo-length a (suc n) = ap suc (upTo-length (suc a) n)
