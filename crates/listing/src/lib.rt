@@ -6,3 +6,5 @@ mod lateness;
 mod permitted_numbers;
 // The least order of a run's steps.
 mod least_order;
+// The steps of an exchanged run.
+mod exchanged_steps;
