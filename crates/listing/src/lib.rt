@@ -8,3 +8,5 @@ mod permitted_numbers;
 mod least_order;
 // The steps of an exchanged run.
 mod exchanged_steps;
+// The test at a full schedule.
+mod testing;
