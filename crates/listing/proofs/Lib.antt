@@ -42,3 +42,5 @@ pub mod LeftSteps
 pub mod FirstLeft
 -- the least order of steps beside another, one step at a time
 pub mod NextSteps
+-- the steps of the exchanged run, one written at a time
+pub mod MovedSteps

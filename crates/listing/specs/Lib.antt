@@ -21,3 +21,5 @@ pub mod NotedSteps
 pub mod ClassGroups
 -- the steps still to be put in order; for the code
 pub mod LeftSteps
+-- the test at a full schedule, read off the notes; for the code
+pub mod UnbeatenBy

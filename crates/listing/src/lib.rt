@@ -6,3 +6,7 @@ mod lateness;
 mod permitted_numbers;
 // The least order of a run's steps.
 mod least_order;
+// The steps of an exchanged run.
+mod exchanged_steps;
+// The test at a full schedule.
+mod testing;

@@ -1,0 +1,28 @@
+-- `exchanged` writes step after step. The invariant: the first k are written.
+use borrow.Author.Needs.{needs}
+use Prim.Native.Nat.{ℕ, _<_, _≤_, _-_}
+use mathlib.Core.Path.{_≡_, sym, ap, _∙_}
+use native.Mathlib.Omega.{arith}
+use lib.ListN.{length}
+use Rattle.listing.proofs.MovedSteps.{Moved, stepWritten, moved-more, moved-all}
+use Rattle.listing.proofs.exchanged_steps.exchanged.Statement.{statement}
+use Rattle.listing.proofs.exchanged_steps.exchanged.Tie as tie
+
+abbrev Inv-loop : tie.InvT-loop
+Inv-loop trail steps a out₀ k₀ out k = (k ≤ steps) × (length out ≡ 192) × Moved trail a out k
+
+abbrev μ-loop : tie.MeasureT-loop
+μ-loop trail steps a out₀ k₀ out k = steps - k
+
+loop-holds : tie.Need-loop-holds Inv-loop μ-loop
+loop-holds c = (search needs, search needs, λ i h. absurd (omega arith))
+
+loop-again : tie.Need-loop-again Inv-loop μ-loop
+unfolding stepWritten
+loop-again c = (search needs, search needs, moved-more (c .before .before .before .before .before .before .args .trail .now) (c .before .before .before .before .before .before .args .a) (c .before .before .before .before .before .loop .out) (c .before .before .before .before .before .loop .k) (c .before .before .moved-thread .result) (c .before .before .before .before .before .loop .inv .1) (omega (arith, c .before .before .before .before .loop-test .taken, c .before .before .before .before .before .before .pre)) (c .before .before .before .before .before .loop .inv .2) (c .before .before .moved-thread .ensures))
+
+returns : tie.Need-returns Inv-loop μ-loop
+returns c = let e : c .before .loop .k ≡ c .before .before .args .steps = omega (arith, c .loop-test .left, c .before .loop .inv .0) in moved-all (c .before .before .args .trail .now) (c .before .before .args .a) (c .before .loop .out) (c .before .before .args .steps) (λ i h. c .before .loop .inv .2 i (omega (arith, e)))
+
+pub exchanged-spec : {M : Type 1} → statement M
+exchanged-spec = tie.close (tie.spec Inv-loop μ-loop loop-holds (λ c. search needs) (λ c. search needs) (λ c κs. search needs) (λ c. search needs) (λ c. search needs) (λ c. search needs) (λ c. search needs) (λ c. search needs) (λ c. search needs) (λ c. search needs) (λ c. search needs) (λ c. search needs) (λ c. search needs) (λ c. search needs) loop-again returns)

@@ -1,0 +1,55 @@
+-- `is_unbeaten` goes through the numbers. The invariant: those that are left decide.
+use borrow.Author.Needs.{needs}
+use Prim.Native.Nat.{ℕ, _<_, _≤_, _-_, _+_}
+use mathlib.Core.Path.{_≡_, sym, ap, _∙_}
+use native.Mathlib.Omega.{arith}
+use mathlib.Core.Bool.{Bool, true, false, not}
+use mathlib.Core.List.{List, map}
+use lib.ListN.{getD}
+use Rattle.schedules.specs.Lists.{upTo, all}
+use Rattle.schedules.specs.Order.{less}
+use Rattle.schedules.specs.Permutations.{permutationOf, moved}
+use Rattle.machine.specs.Trail.{Action, leastOf}
+use Rattle.machine.specs.ExchangedTrail.{movedAction}
+use Rattle.listing.specs.Rules.{leastBy}
+use Rattle.listing.specs.NotedSteps.{actionsAt}
+use Rattle.listing.specs.LeftSteps.{threadsAt}
+use Rattle.listing.specs.UnbeatenBy.{unbeatenBy}
+use Rattle.listing.proofs.Numbers.{all-over, all-further, all-fails}
+use Rattle.listing.proofs.testing.is_unbeaten.Statement.{statement}
+use Rattle.listing.proofs.testing.is_unbeaten.Tie as tie
+
+-- the test by the number in place i
+abbrev passed : List ℕ → ℕ → List ℕ → ℕ → Bool
+passed trail steps numbers = λ i. unbeatenBy trail steps (getD numbers i 0)
+
+-- the test as the code makes it
+tested : (trail m π : List ℕ) (steps k j : ℕ) (r v : Bool) → j ≡ k → π ≡ permutationOf j → actionsAt m steps ≡ map (movedAction (moved π)) (actionsAt trail steps)
+    → r ≡ less (leastOf (actionsAt m steps)) (threadsAt trail 0 steps) → r ≡ v → unbeatenBy trail steps k ≡ not v
+unfolding unbeatenBy leastBy
+tested trail m π steps k j r v e q x y z =
+    ap (λ (i : ℕ). not (less (leastBy (permutationOf i) (actionsAt trail steps)) (threadsAt trail 0 steps))) (sym e)
+    ∙ ap (λ (a : List ℕ). not (less (leastBy a (actionsAt trail steps)) (threadsAt trail 0 steps))) (sym q)
+    ∙ ap (λ (l : List Action). not (less (leastOf l) (threadsAt trail 0 steps))) (sym x)
+    ∙ ap not (sym y ∙ z)
+
+abbrev Inv-loop : tie.InvT-loop
+Inv-loop trail steps numbers count i₀ i = (i ≤ count) × (all (passed trail steps numbers) (upTo 0 count) ≡ all (passed trail steps numbers) (upTo i (count - i)))
+
+abbrev μ-loop : tie.MeasureT-loop
+μ-loop trail steps numbers count i₀ i = count - i
+
+loop-holds : tie.Need-loop-holds Inv-loop μ-loop
+loop-holds c = let n : (c .args .count) ≡ (c .args .count) - 0 = omega arith in (search needs, ap (λ (n : ℕ). all (passed (c .args .trail .now) (c .args .steps) (c .args .numbers .now)) (upTo 0 n)) n)
+
+returns : tie.Need-returns Inv-loop μ-loop
+returns c = sym (c .before .before .before .before .before .before .before .before .loop .inv .1 ∙ all-fails (passed (c .before .before .before .before .before .before .before .before .before .args .trail .now) (c .before .before .before .before .before .before .before .before .before .args .steps) (c .before .before .before .before .before .before .before .before .before .args .numbers .now)) (c .before .before .before .before .before .before .before .before .loop .i) ((c .before .before .before .before .before .before .before .before .before .args .count) - (c .before .before .before .before .before .before .before .before .loop .i)) (omega (arith, c .before .before .before .before .before .before .before .loop-test .taken)) (tested (c .before .before .before .before .before .before .before .before .before .args .trail .now) (c .before .before .before .exchanged .result) (c .before .before .before .before .permutation .result) (c .before .before .before .before .before .before .before .before .before .args .steps) _ (c .before .before .before .before .before .wide-number .result) (c .before .is-smaller .result) true (c .before .before .before .before .before .wide-number .ensures) (c .before .before .before .before .permutation .ensures) (c .before .before .before .exchanged .ensures) (c .before .is-smaller .ensures) (c .if1 .taken)))
+
+loop-again : tie.Need-loop-again Inv-loop μ-loop
+loop-again c = let n : (c .before .before .before .before .before .before .before .before .before .args .count) - (c .before .before .before .before .before .before .before .before .loop .i) - 1 ≡ (c .before .before .before .before .before .before .before .before .before .args .count) - ((c .before .before .before .before .before .before .before .before .loop .i) + 1) = omega arith in (search needs, c .before .before .before .before .before .before .before .before .loop .inv .1 ∙ all-further (passed (c .before .before .before .before .before .before .before .before .before .args .trail .now) (c .before .before .before .before .before .before .before .before .before .args .steps) (c .before .before .before .before .before .before .before .before .before .args .numbers .now)) (c .before .before .before .before .before .before .before .before .loop .i) ((c .before .before .before .before .before .before .before .before .before .args .count) - (c .before .before .before .before .before .before .before .before .loop .i)) (omega (arith, c .before .before .before .before .before .before .before .loop-test .taken)) (tested (c .before .before .before .before .before .before .before .before .before .args .trail .now) (c .before .before .before .exchanged .result) (c .before .before .before .before .permutation .result) (c .before .before .before .before .before .before .before .before .before .args .steps) _ (c .before .before .before .before .before .wide-number .result) (c .before .is-smaller .result) false (c .before .before .before .before .before .wide-number .ensures) (c .before .before .before .before .permutation .ensures) (c .before .before .before .exchanged .ensures) (c .before .is-smaller .ensures) (c .if1 .left)) ∙ ap (λ (m : ℕ). all (passed (c .before .before .before .before .before .before .before .before .before .args .trail .now) (c .before .before .before .before .before .before .before .before .before .args .steps) (c .before .before .before .before .before .before .before .before .before .args .numbers .now)) (upTo ((c .before .before .before .before .before .before .before .before .loop .i) + 1) m)) n)
+
+returns-2 : tie.Need-returns-2 Inv-loop μ-loop
+returns-2 c = sym (c .before .loop .inv .1 ∙ all-over (passed (c .before .before .args .trail .now) (c .before .before .args .steps) (c .before .before .args .numbers .now)) (c .before .loop .i) ((c .before .before .args .count) - (c .before .loop .i)) (omega (arith, c .loop-test .left)))
+
+pub is-unbeaten-spec : {M : Type 1} → statement M
+is-unbeaten-spec = tie.close (tie.spec Inv-loop μ-loop loop-holds (λ c. search needs) (λ c. search needs) (λ c κs. search needs) (λ c κs. search needs) (λ c κs. search needs) (λ c κs. search needs) returns (λ c. search needs) (λ c. search needs) loop-again returns-2)
