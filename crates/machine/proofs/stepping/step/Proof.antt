@@ -1,9 +1,9 @@
 -- A step. Two ways through it: the access writes, or it does not.
 use borrow.Author.Needs.{needs}
 use Prim.Native.Nat.{ℕ, _<_, _≤_}
-use mathlib.Core.Path.{_≡_, sym, subst}
+use mathlib.Core.Path.{sym, subst}
 use native.Mathlib.Omega.{arith}
-use lib.ListN.{length, getD}
+use lib.ListN.{getD}
 use Rattle.machine.specs.Held.{threadAt}
 use Rattle.machine.proofs.HeldStep.{step-written, step-still}
 use Rattle.machine.proofs.stepping.step.Statement.{statement}
