@@ -1,16 +1,16 @@
 -- An access as the code does it: where it goes, whether it reads, what it writes, and the thread behind it.
 use Prim.Native.Nat.{ℕ}
-use mathlib.Core.Path.{_≡_, refl, sym, ap, _∙_}
+use mathlib.Core.Path.{_≡_, refl, ap}
 use mathlib.Core.Bool.{Bool, true, false, cond, false≢true}
 use mathlib.Core.Option.{Option, none, some}
-use mathlib.Core.List.{List, [], _∷_}
+use mathlib.Core.List.{List, _∷_}
 use lib.Dec.{eqb}
 use lib.ListN.{getD, set}
 use Rattle.program.specs.declared.instruction.Operand.{Operand}
 use Rattle.program.specs.declared.instruction.Instruction.{Instruction}
 use Rattle.program.specs.declared.instruction.Instruction.the-variants.{Store, Load, FetchAdd, CompareSwap, Assign, AddAssign, SkipUnless, Assert}
 use Rattle.machine.specs.declared.accessing.Access.{Access}
-use Rattle.machine.specs.Local.{Local, eval, sum32, settle, beginsWithAccess, firstPlace, firstTakes, firstPuts, firstNext}
+use Rattle.machine.specs.Local.{Local, eval, settle, beginsWithAccess, firstPlace, firstTakes, firstPuts, firstNext}
 use Rattle.machine.specs.Trail.{given}
 use Rattle.machine.specs.Turns.{accessing, accessOf}
 

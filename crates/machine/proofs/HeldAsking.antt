@@ -6,13 +6,12 @@ use mathlib.Core.Path.{_≡_, refl, sym, ap, subst, _∙_}
 use mathlib.Core.Bool.{Bool, true, false, true≢false}
 use mathlib.Core.List.{List}
 use lib.Dec.{ltb}
-use lib.ListN.{length, getD}
+use lib.ListN.{getD}
 use borrow.Author.Tests.{lt-ltb, le-ltb}
-use Rattle.program.specs.Compiled.{threadCode}
 use Rattle.schedules.specs.System.{ended}
 use Rattle.schedules.proofs.Runs.{ended-of, not-ended}
 use Rattle.machine.specs.declared.state.Machine.{Machine}
-use Rattle.machine.specs.State.{Thread, State, noThread, threadOf, may, SC, failedOf, fails}
+use Rattle.machine.specs.State.{State, noThread, threadOf, may, SC, failedOf, fails}
 use Rattle.machine.specs.Held.{threadAt, Holds, Ready}
 use Rattle.machine.proofs.Access.{nothing-pending}
 use Rattle.machine.proofs.Steps.{may-of, may-small, may-pending, missing}

@@ -1,19 +1,18 @@
 -- A schedule carried out byte by byte: what has been done and what is left make the answer.
-use Prim.Native.Nat.{ℕ, zero, suc, _+_, _<_, _≤_}
+use Prim.Native.Nat.{ℕ, suc, _+_, _<_, _≤_}
 use native.Mathlib.Omega.{arith}
 use mathlib.Core.Path.{_≡_, refl, sym, ap, subst, _∙_}
 use mathlib.Core.Bool.{true, false}
 use mathlib.Core.List.{List, [], _∷_, _++_}
-use lib.ListN.{length, getD, take, drop, drop-of-length-le, length-take}
+use lib.ListN.{length, getD, take, drop, drop-of-length-le}
 use lib.Seq.{take-suc, take-all, drop-cons, length-take-le}
 use Rattle.program.specs.Program.{Program}
 use Rattle.schedules.specs.Order.{Schedule}
 use Rattle.schedules.specs.System.{run, ended, Allowed}
-use Rattle.schedules.proofs.Runs.{run-nil, run-snoc, allowed-join, allowed-length}
+use Rattle.schedules.proofs.Runs.{run-snoc, allowed-join, allowed-length}
 use Rattle.machine.specs.declared.state.Machine.{Machine}
 use Rattle.machine.specs.declared.stepping.Stepped.{Stepped}
 use Rattle.machine.specs.declared.replaying.Verdict.the-variants.{Whole, Refused}
-use Rattle.machine.specs.declared.replaying.Run.{Run}
 use Rattle.machine.specs.State.{State, place, step, may, SC, start}
 use Rattle.machine.specs.Notes.{Note, note, notes, noteBytes, Noted}
 use Rattle.machine.specs.Replay.{replayFrom, replay}
@@ -21,8 +20,8 @@ use Rattle.machine.specs.Held.{Holds, Ready, HoldsStep, Loaded, verdictO
 use Rattle.machine.proofs.Steps.{may-range, run-threads}
 use Rattle.machine.proofs.Start.{start-threads}
 use Rattle.machine.proofs.Lawful.{lawful, start-24}
-use Rattle.machine.proofs.Regular.{Regular, place-in, regular-run, regular-start}
 use Rattle.machine.proofs.NoteGraph.{notes-length}
+use Rattle.machine.proofs.Regular.{place-in, regular-run, regular-start}
 use Rattle.machine.proofs.Replay.{nil-full, nil-short, cons-goes, cons-stops}
 use Rattle.machine.proofs.HeldStart.{threads-held, short-held}
 use Rattle.machine.proofs.HeldAsking.{ready-held}

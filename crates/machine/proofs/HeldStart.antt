@@ -5,21 +5,21 @@ use native.Mathlib.Decide.{ℕ-discrete}
 use mathlib.Core.Path.{_≡_, refl, sym, ap, subst, _∙_}
 use mathlib.Core.Bool.{false}
 use mathlib.Core.List.{List, [], _∷_, map}
-use lib.ListN.{length, getD, set, drop, replicate, length-replicate, getD-replicate, List·getD-eq-default}
+use lib.ListN.{length, getD, set, drop, replicate, length-replicate, getD-replicate}
 use lib.Seq.{getD-set-same, getD-set-other}
 use Rattle.program.specs.declared.instruction.Instruction.{Instruction}
 use Rattle.program.specs.Program.{Program, codeOf, initial}
 use Rattle.program.specs.WellFormed.{WellFormed}
-use Rattle.program.specs.Compiled.{tabulate, threadCode}
+use Rattle.program.specs.declared.file.Compiled.{Compiled}
+use Rattle.program.specs.Compiled.{threadCode, programOf}
 use Rattle.program.proofs.Tabulate.{length-tabulate, getD-tabulate}
 use Rattle.program.proofs.Everywhere.{everywhere-getD}
 use Rattle.machine.specs.declared.state.ThreadState.{ThreadState}
 use Rattle.machine.specs.declared.state.LastWrite.{LastWrite}
-use Rattle.machine.specs.declared.state.Machine.{Machine}
 use Rattle.machine.specs.Local.{Local, settle, begin}
-use Rattle.machine.specs.State.{Event, Thread, noThread, freshCell, threadOf, cellOf, latest, initialWrite, opened, start}
+use Rattle.machine.specs.State.{Thread, noThread, freshCell, threadOf, cellOf, latest, initialWrite, opened, start}
 use Rattle.machine.specs.Turns.{localOf}
-use Rattle.machine.specs.Held.{idle, unwritten, threadAt, lastAt, eventOf, HoldsThread, HoldsAt, Holds, Loaded}
+use Rattle.machine.specs.Held.{idle, unwritten, eventOf, HoldsAt, Holds, Loaded}
 use Rattle.machine.proofs.Access.{begin-law}
 use Rattle.machine.proofs.Steps.{missing}
 use Rattle.machine.proofs.Start.{start-threads, start-cells, start-thread, start-writes}
@@ -36,6 +36,11 @@ fresh-value (v ∷ vs) (suc l) = fresh-value vs l
 start-value : (p : Program) (l : ℕ) → cellOf (start p) l .value ≡ getD (initial p) l 0
 unfolding cellOf start
 start-value p l = fresh-value (initial p) l
+
+-- the rows of an accepted program
+pub loaded-compiled : (c : Compiled) → WellFormed (programOf c) → Loaded (c .code) (c .lengths) (c .threads) (programOf c)
+unfolding programOf
+loaded-compiled c w = record { wellFormed = w; codes = refl }
 
 module _ (code lengths : List ℕ) (threads : ℕ) (p : Program) (loaded : Loaded code lengths threads p) where
   pub threads-held : length (p .threads) ≡ threads

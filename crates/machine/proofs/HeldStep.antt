@@ -1,12 +1,12 @@
 -- A step of the machine: the thread behind its access, the location, and so the whole state.
-use Prim.Native.Nat.{ℕ, zero, suc, _+_, _*_, _%_, _<_, _≤_}
+use Prim.Native.Nat.{ℕ, suc, _+_, _*_, _%_, _<_, _≤_}
 use native.Mathlib.Omega.{arith}
 use native.Mathlib.Decide.{ℕ-discrete}
 use native.Mathlib.Nat.{mod-eq-of-lt}
 use mathlib.Core.Path.{_≡_, refl, sym, ap, subst, _∙_}
-use mathlib.Core.Logic.{_⊎_, inl, inr, _≢_}
-use mathlib.Core.Bool.{Bool, true, false, cond}
-use mathlib.Core.Option.{Option, none, some}
+use mathlib.Core.Logic.{inl, inr, _≢_}
+use mathlib.Core.Bool.{Bool, true, cond}
+use mathlib.Core.Option.{none, some}
 use mathlib.Core.List.{List, [], _∷_}
 use lib.Dec.{eqb}
 use lib.ListN.{length, getD, set, drop, length-drop, length-set}
@@ -18,17 +18,16 @@ use Rattle.machine.specs.declared.accessing.Access.{Access}
 use Rattle.machine.specs.declared.state.ThreadState.{ThreadState}
 use Rattle.machine.specs.declared.state.LastWrite.{LastWrite}
 use Rattle.machine.specs.declared.state.Machine.{Machine}
-use Rattle.machine.specs.declared.stepping.Stepped.{Stepped}
 use Rattle.machine.specs.Local.{Local, settle, beginsWithAccess, firstPlace, firstTakes, firstPuts, firstNext, pending, placeOf, takes, puts, next}
-use Rattle.machine.specs.State.{Event, Thread, Cell, State, threadOf, cellOf, place, latest, advanced, step, may}
+use Rattle.machine.specs.State.{Thread, Cell, State, threadOf, cellOf, place, latest, advanced, step, may}
 use Rattle.machine.specs.Trail.{given, writes}
-use Rattle.machine.specs.Notes.{Note, note, noteBytes}
+use Rattle.machine.specs.Notes.{note, noteBytes}
 use Rattle.machine.specs.Turns.{accessOf, localOf}
 use Rattle.machine.specs.Held.{idle, unwritten, threadAt, lastAt, eventOf, HoldsThread, Holds, HoldsStep}
 use Rattle.machine.proofs.Access.{Settled, settle-law}
-use Rattle.machine.proofs.Steps.{may-small, may-pending, may-range, thread-own, thread-other, cell-other, step-threads, step-cells}
+use Rattle.machine.proofs.Steps.{may-small, may-pending, may-range, cell-other, step-threads, step-cells}
 use Rattle.machine.proofs.Change.{thread-cases, noted-done, wrote-own, Change, kept, wrote, change}
-use Rattle.machine.proofs.HeldTurns.{length-code, code-at}
+use Rattle.machine.proofs.HeldTurns.{code-at}
 use Rattle.machine.proofs.HeldAccess.{Meets, access-meets}
 
 -- settled code of which something is left begins with an access

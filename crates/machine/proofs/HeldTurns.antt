@@ -5,7 +5,7 @@ use mathlib.Core.Path.{_≡_, refl, sym, ap, _∙_}
 use mathlib.Core.Bool.{Bool, true, false, cond, true≢false, false≢true}
 use mathlib.Core.List.{List, [], _∷_}
 use lib.Dec.{eqb}
-use lib.ListN.{length, getD, set, drop, drop-of-length-le}
+use lib.ListN.{length, getD, drop, drop-of-length-le}
 use lib.Seq.{drop-cons, drop-drop}
 use Rattle.program.specs.declared.instruction.Instruction.{Instruction}
 use Rattle.program.specs.declared.instruction.Instruction.the-variants.{Store, Load, FetchAdd, CompareSwap, Assign, AddAssign, SkipUnless, Assert}
@@ -13,8 +13,7 @@ use Rattle.program.specs.Compiled.{instructionAt, threadCode}
 use Rattle.program.proofs.Tabulate.{length-tabulate, getD-tabulate}
 use Rattle.machine.specs.Local.{Local, eval, skipped, settle}
 use Rattle.machine.specs.declared.local.Turn.{Turn}
-use Rattle.machine.specs.declared.state.ThreadState.{ThreadState}
-use Rattle.machine.specs.Turns.{standing, going, failing, turnOf, localOf}
+use Rattle.machine.specs.Turns.{going, failing, turnOf, localOf}
 
 -- ---- one instruction
 turn-stands : (i : Instruction) (is : List Instruction) (rs : List ℕ) → turnOf i rs .access ≡ true → settle 0 rs (i ∷ is) ≡ record { registers = rs; rest = i ∷ is; failed = false }

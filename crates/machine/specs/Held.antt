@@ -1,7 +1,7 @@
 -- How the machine's arrays hold a state of the specification. What each thread read is not in them: it stands in the notes.
-use Prim.Native.Nat.{ℕ, _*_, _<_, _≤_}
+use Prim.Native.Nat.{ℕ, _<_, _≤_}
 use mathlib.Core.Path.{_≡_}
-use mathlib.Core.Bool.{Bool, true, false}
+use mathlib.Core.Bool.{true, false}
 use mathlib.Core.List.{List, []}
 use lib.ListN.{length, getD, drop, take}
 use Rattle.program.specs.declared.instruction.Instruction.{Instruction}

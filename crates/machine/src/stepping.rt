@@ -22,19 +22,19 @@ pub fn step(code: &[u8; 1536], lengths: &[usize; 6], m: Machine, t: u8) -> Stepp
     requires { ⌜ Ready (now lengths) m t ⌝ }
     ensures { λ r. ⌜ ((σ : State) → Holds (now (code .entry)) (now (lengths .entry)) m σ → may σ t ≡ true → place σ t < 8 → HoldsStep (now (code .entry)) (now (lengths .entry)) σ t r) ⌝ }
 {
-    let mut threads = m.threads;
-    let mut memory = m.memory;
-    let mut last = m.last;
+    let mut n = m;
     let u = wide(t);
-    let thread = threads[u];
+    let thread = n.threads[u];
     let at = thread.at;
     let done = thread.done;
     let registers = thread.registers;
+    let memory = n.memory;
     let a = accessed(instruction_at(code, u * 16 + at), registers, memory);
     let rs = a.registers;
-    threads[u] = settle(code, u, lengths[u], at + 1, rs, done + 1);
+    let k = settle(code, u, lengths[u], at + 1, rs, done + 1);
+    n.threads[u] = k;
     let l = wide(a.location) % 8;
-    let e = last[l];
+    let e = n.last[l];
     let note = [
         t,
         done,
@@ -46,26 +46,18 @@ pub fn step(code: &[u8; 1536], lengths: &[usize; 6], m: Machine, t: u8) -> Stepp
         0,
     ];
     if a.writes == 1 {
-        memory[l] = a.value;
-        last[l] = LastWrite {
+        n.memory[l] = a.value;
+        n.last[l] = LastWrite {
             thread: t,
             number: done,
         };
         return Stepped {
-            machine: Machine {
-                threads: threads,
-                memory: memory,
-                last: last,
-            },
+            machine: n,
             note: note,
         };
     }
     Stepped {
-        machine: Machine {
-            threads: threads,
-            memory: memory,
-            last: last,
-        },
+        machine: n,
         note: note,
     }
 }

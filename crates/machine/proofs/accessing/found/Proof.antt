@@ -1,7 +1,7 @@
 -- `found` is total: 0 where there is no such location.
 use borrow.Author.Needs.{needs}
-use mathlib.Core.Path.{sym, _≡_, _∙_, ap}
-use lib.ListN.{length, getD, List·getD-eq-default}
+use mathlib.Core.Path.{sym, _≡_}
+use lib.ListN.{length, List·getD-eq-default}
 use native.Mathlib.Omega.{arith}
 use Rattle.machine.proofs.accessing.found.Statement.{statement}
 use Rattle.machine.proofs.accessing.found.Tie as tie

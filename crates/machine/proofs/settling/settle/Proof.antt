@@ -3,7 +3,6 @@
 use borrow.Author.Needs.{needs}
 use Prim.Native.Nat.{_≤_, _-_}
 use mathlib.Core.Path.{_≡_, refl}
-use native.Mathlib.Omega.{arith}
 use lib.ListN.{drop}
 use Rattle.program.specs.Compiled.{threadCode}
 use Rattle.machine.specs.Local.{settle}

@@ -1,6 +1,5 @@
 -- A thread exists or it does not.
 use borrow.Author.Needs.{needs}
-use mathlib.Core.Path.{_≡_, refl}
 use native.Mathlib.Omega.{arith}
 use Rattle.machine.proofs.HeldStart.{opened-held, missing-held}
 use Rattle.machine.proofs.starting.opened.Statement.{statement}
