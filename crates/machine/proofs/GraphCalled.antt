@@ -9,7 +9,6 @@ use borrow.Author.Tests.{lt-ltb, le-ltb}
 use Rattle.lines.specs.Over.{over}
 use Rattle.program.specs.Program.{Program}
 use Rattle.program.specs.WellFormed.{WellFormed}
-use Rattle.program.specs.declared.file.Compiled.{Compiled}
 use Rattle.program.specs.declared.file.Answer.{Answer}
 use Rattle.program.specs.declared.file.Verdict as FileVerdict
 use Rattle.program.specs.declared.file.Verdict.the-variants as File
@@ -32,14 +31,9 @@ use Rattle.machine.specs.Notes.{Note, notes, Noted}
 use Rattle.machine.specs.NoteText.{noteFrames}
 use Rattle.machine.specs.GraphCall.{GraphSaid, texted, refusing, texting, graphAnswer, graphOn, graphFile, graphOutput}
 use Rattle.machine.specs.GraphWord.{saidOf}
-use Rattle.machine.specs.Held.{Loaded, verdictOf, HoldsRun}
+use Rattle.machine.specs.Held.{verdictOf, HoldsRun}
 use Rattle.machine.proofs.NoteGraph.{notes-length}
 use Rattle.machine.proofs.GraphWritten.{graph-written}
-
--- an accepted program's threads stand in its rows
-pub loaded-program : (c : Compiled) → WellFormed (programOf c) → Loaded (c .code) (c .lengths) (c .threads) (programOf c)
-unfolding programOf
-loaded-program c w = record { wellFormed = w; codes = refl }
 
 -- too short an output
 pub graph-short : (p : Program) (s : Schedule) (room : ℕ) → room < 512 → graphAnswer p s room ≡ refusing 22 0
