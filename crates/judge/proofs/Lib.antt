@@ -51,5 +51,9 @@ pub mod HeldRefusal
 pub mod HeldAfter
 pub mod HeldAfterWrites
 pub mod HeldText
+-- the rounds' code: a thread by itself on the machine, a round access after access, the values of 24 rounds
+pub mod HeldAlone
+pub mod HeldRoundTurns
+pub mod HeldValues
 -- document 01's two graphs
 pub mod Cases

@@ -10,6 +10,10 @@ mod refusal;
 mod taken;
 // The whole text.
 mod text;
+// A thread by itself.
+mod by_itself;
+// The rounds.
+mod valuing;
 
 pub use table::Table;
 pub use text::Reply;
