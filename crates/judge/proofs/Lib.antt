@@ -55,5 +55,10 @@ pub mod HeldText
 pub mod HeldAlone
 pub mod HeldRoundTurns
 pub mod HeldValues
+-- one table, one graph; a row's line by its entry
+pub mod TabledGraph
+-- the walk's code: reads that wait, and whether a step fits, by the tables
+pub mod EntriesWait
+pub mod AllowedSteps
 -- document 01's two graphs
 pub mod Cases

@@ -11,6 +11,8 @@ pub mod Answer
 pub mod Held
 -- how they hold a thread that runs by itself, and a round
 pub mod HeldRounds
+-- what the walk goes by
+pub mod HeldWalk
 -- graphs judged by computing
 pub mod Examples
 -- what the definition of consistent says of small graphs

@@ -14,6 +14,10 @@ mod text;
 mod by_itself;
 // The rounds.
 mod valuing;
+// Reads that wait for a write.
+mod waiting;
+// Whether the graph allows a step.
+mod allowing;
 
 pub use table::Table;
 pub use text::Reply;
