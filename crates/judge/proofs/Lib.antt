@@ -50,5 +50,14 @@ pub mod HeldRefusal
 pub mod HeldAfter
 pub mod HeldAfterWrites
 pub mod HeldText
+-- the rounds' code: a thread by itself on the machine, a round access after access, the values of 24 rounds
+pub mod HeldAlone
+pub mod HeldRoundTurns
+pub mod HeldValues
+-- one table, one graph; a row's line by its entry
+pub mod TabledGraph
+-- the walk's code: reads that wait, and whether a step fits, by the tables
+pub mod EntriesWait
+pub mod AllowedSteps
 -- document 01's two graphs
 pub mod Cases

@@ -9,6 +9,10 @@ pub mod Reading
 pub mod Answer
 -- how arrays hold a graph and what has been read of its text; for the judge's own functions
 pub mod Held
+-- how they hold a thread that runs by itself, and a round
+pub mod HeldRounds
+-- what the walk goes by
+pub mod HeldWalk
 -- graphs judged by computing
 pub mod Examples
 -- what the definition of consistent says of small graphs

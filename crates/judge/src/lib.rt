@@ -10,6 +10,14 @@ mod refusal;
 mod taken;
 // The whole text.
 mod text;
+// A thread by itself.
+mod by_itself;
+// The rounds.
+mod valuing;
+// Reads that wait for a write.
+mod waiting;
+// Whether the graph allows a step.
+mod allowing;
 
 pub use table::Table;
 pub use text::Reply;

@@ -1,0 +1,28 @@
+-- `next_values` follows one source after the other. The invariant: the values so far are found.
+use borrow.Author.Needs.{needs}
+use Prim.Native.Nat.{ℕ, _≤_, _<_, _-_, _+_}
+use mathlib.Core.Path.{_≡_, _∙_, sym}
+use native.Mathlib.Omega.{arith}
+use lib.ListN.{length, getD, length-set}
+use Rattle.judge.specs.HeldRounds.{sourced}
+use Rattle.judge.proofs.HeldValues.{filled}
+use Rattle.judge.proofs.valuing.next_values.Statement.{statement}
+use Rattle.judge.proofs.valuing.next_values.Tie as tie
+
+abbrev Inv-loop : tie.InvT-loop
+Inv-loop pairs left vs₀ k₀ vs k = (k ≤ 96) × (length vs ≡ 96) × ((j : ℕ) → j < k → getD vs j 0 ≡ sourced pairs left j)
+
+abbrev μ-loop : tie.MeasureT-loop
+μ-loop pairs left vs₀ k₀ vs k = 96 - k
+
+loop-holds : tie.Need-loop-holds Inv-loop μ-loop
+loop-holds c = (search needs, search needs, λ j h. absurd (omega arith))
+
+loop-again : tie.Need-loop-again Inv-loop μ-loop
+loop-again c = (search needs, length-set (c .before .before .loop .vs) (c .before .before .loop .k) (c .found .result) ∙ c .before .before .loop .inv .1, filled (c .before .before .before .args .pairs) (c .before .before .before .args .left) (c .before .before .loop .vs) (c .before .before .loop .k) (c .found .result) (c .before .before .loop .inv .1) (c .before .loop-test .taken) (c .before .before .loop .inv .2) (c .found .ensures))
+
+returns : tie.Need-returns Inv-loop μ-loop
+returns c = λ j h. c .before .loop .inv .2 j (omega (arith, c .before .loop .inv .0))
+
+pub next-values-spec : {M : Type 1} → statement M
+next-values-spec = tie.close (tie.spec Inv-loop μ-loop loop-holds (λ c κs. search needs) (λ c. search needs) (λ c. search needs) (λ c. search needs) (λ c. search needs) loop-again returns)

@@ -1,0 +1,47 @@
+-- `places` makes 24 rounds. The invariant: the table holds the values of the rounds made.
+use borrow.Author.Needs.{needs}
+use Prim.Native.Nat.{ℕ, _≤_, _<_, _-_, _+_}
+use mathlib.Core.Path.{_≡_, _∙_, sym}
+use native.Mathlib.Omega.{arith}
+use mathlib.Core.List.{List}
+use lib.ListN.{length}
+use Rattle.program.specs.Program.{Program}
+use Rattle.machine.specs.State.{Event}
+use Rattle.machine.specs.Graph.{Graph}
+use Rattle.machine.specs.Held.{Loaded}
+use Rattle.judge.specs.Judge.{values}
+use Rattle.judge.specs.Reading.{parsed, readGraph}
+use Rattle.judge.specs.Held.{Tabled}
+use Rattle.judge.specs.HeldRounds.{valuesIn}
+use Rattle.judge.proofs.Readable.{Named}
+use Rattle.judge.proofs.Parsed.{read-readable}
+use Rattle.judge.proofs.HeldRoundTurns.{six-held}
+use Rattle.judge.proofs.HeldValues.{values-start, values-more, places-are}
+use Rattle.judge.proofs.valuing.places.Statement.{statement}
+use Rattle.judge.proofs.valuing.places.Tie as tie
+
+abbrev Inv-loop : tie.InvT-loop
+Inv-loop code lengths threads pairs vs₀ k₀ vs k =
+    (k ≤ 24) × ((p : Program) (text counts : List ℕ) (g : Graph) → Loaded code lengths threads p → readGraph threads text ≡ parsed g → Tabled pairs counts g →
+    (e : Event) → Named threads e → valuesIn vs e ≡ values p g k e)
+
+abbrev μ-loop : tie.MeasureT-loop
+μ-loop code lengths threads pairs vs₀ k₀ vs k = 24 - k
+
+loop-holds : tie.Need-loop-holds Inv-loop μ-loop
+loop-holds c = (search needs, λ p text counts g loaded e T x h. values-start p g x)
+
+in-round-requires : tie.Need-in-round-requires Inv-loop μ-loop
+in-round-requires c κs = c .before .before .pre
+
+loop-again : tie.Need-loop-again Inv-loop μ-loop
+loop-again c = (search needs, λ p text counts g loaded e T x h. values-more (c .before .before .before .before .before .args .threads) (six-held (c .before .before .before .before .before .args .code .now) (c .before .before .before .before .before .args .lengths .now) (c .before .before .before .before .before .args .threads) p loaded) p (c .before .before .before .before .loop .vs) (c .before .before .in-round .result .places) (c .before .before .in-round .result .left) (c .before .before .in-round .ensures p loaded) (c .before .before .before .before .before .args .pairs) counts g (read-readable (c .before .before .before .before .before .args .threads) text g e) T (c .before .before .before .before .loop .k) (c .before .before .before .before .loop .inv .1 p text counts g loaded e T) (c .next-values .result) (c .next-values .ensures) x h)
+
+in-round-requires-2 : tie.Need-in-round-requires-2 Inv-loop μ-loop
+in-round-requires-2 c κs = c .before .before .pre
+
+returns : tie.Need-returns Inv-loop μ-loop
+returns c = λ p text counts g loaded e T. places-are (c .before .before .before .before .args .threads) (six-held (c .before .before .before .before .args .code .now) (c .before .before .before .before .args .lengths .now) (c .before .before .before .before .args .threads) p loaded) p (c .before .before .before .loop .vs) (c .before .in-round2 .result .places) (c .before .in-round2 .result .left) (c .before .in-round2 .ensures p loaded) (c .before .before .before .before .args .pairs) counts g (read-readable (c .before .before .before .before .args .threads) text g e) T (c .before .before .before .loop .k) (c .before .before .before .loop .inv .1 p text counts g loaded e T) (omega (arith, c .before .before .before .loop .inv .0))
+
+pub places-spec : {M : Type 1} → statement M
+places-spec = tie.close (tie.spec Inv-loop μ-loop loop-holds in-round-requires (λ c κs. search needs) (λ c. search needs) (λ c. search needs) loop-again in-round-requires-2 returns)
