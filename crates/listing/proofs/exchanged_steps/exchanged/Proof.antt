@@ -19,7 +19,15 @@ loop-holds c = (search needs, search needs, λ i h. absurd (omega arith))
 
 loop-again : tie.Need-loop-again Inv-loop μ-loop
 unfolding stepWritten
-loop-again c = (search needs, search needs, moved-more (c .before .before .before .before .before .before .args .trail .now) (c .before .before .before .before .before .before .args .a) (c .before .before .before .before .before .loop .out) (c .before .before .before .before .before .loop .k) (c .before .before .moved-thread .result) (c .before .before .before .before .before .loop .inv .1) (omega (arith, c .before .before .before .before .loop-test .taken, c .before .before .before .before .before .before .pre)) (c .before .before .before .before .before .loop .inv .2) (c .before .before .moved-thread .ensures))
+loop-again c =
+    let c4 = c .before .before .before .before in
+    let c5 = c4 .before in
+    let c6 = c5 .before in (
+      search needs,
+      search needs,
+      moved-more (c6 .args .trail .now) (c6 .args .a) (c5 .loop .out) (c5 .loop .k) (c .before .before .moved-thread
+          .result) (c5 .loop .inv .1) (omega (arith, c4 .loop-test .taken, c6 .pre)) (c5 .loop .inv .2) (c .before .before .moved-thread .ensures),
+    )
 
 returns : tie.Need-returns Inv-loop μ-loop
 returns c = let e : c .before .loop .k ≡ c .before .before .args .steps = omega (arith, c .loop-test .left, c .before .loop .inv .0) in moved-all (c .before .before .args .trail .now) (c .before .before .args .a) (c .before .loop .out) (c .before .before .args .steps) (λ i h. c .before .loop .inv .2 i (omega (arith, e)))

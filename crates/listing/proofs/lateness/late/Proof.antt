@@ -23,19 +23,46 @@ loop-holds c = (search needs, refl)
 
 returns : tie.Need-returns Inv-loop μ-loop
 unfolding did noteAt
-returns c = λ ns held e. sym (ap (λ (k : List Action). late (reverse k) (doing (c .before .before .before .before .args .t) (c .before .before .before .before .args .l) (c .before .before .before .before .args .wrote))) (sym (actions-held (c .before .before .before .before .args .trail .now) ns (c .before .before .before .before .args .steps) held e)) ∙ c .before .before .before .loop .inv .1 ∙ late-own (c .before .before .before .before .args .trail .now) (c .before .before .before .loop .i) (doing (c .before .before .before .before .args .t) (c .before .before .before .before .args .l) (c .before .before .before .before .args .wrote)) (c .before .before .loop-test .taken) (c .if1 .taken))
+returns c =
+    let c3 = c .before .before .before in
+    let c4 = c3 .before in
+    λ ns held e. sym (ap (λ (k : List Action). late (reverse k) (doing (c4 .args .t) (c4 .args .l) (c4 .args .wrote))) (sym (actions-held (c4 .args
+    .trail .now) ns (c4 .args .steps) held e)) ∙ c3 .loop .inv .1 ∙ late-own (c4 .args .trail .now) (c3 .loop .i) (doing (c4 .args .t) (c4 .args .l)
+    (c4 .args .wrote)) (c .before .before .loop-test .taken) (c .if1 .taken))
 
 returns-2 : tie.Need-returns-2 Inv-loop μ-loop
 unfolding did noteAt
-returns-2 c = λ ns held e. sym (ap (λ (k : List Action). late (reverse k) (doing (c .before .before .before .before .before .before .args .t) (c .before .before .before .before .before .before .args .l) (c .before .before .before .before .before .before .args .wrote))) (sym (actions-held (c .before .before .before .before .before .before .args .trail .now) ns (c .before .before .before .before .before .before .args .steps) held e)) ∙ c .before .before .before .before .before .loop .inv .1 ∙ late-conflict (c .before .before .before .before .before .before .args .trail .now) (c .before .before .before .before .before .loop .i) (doing (c .before .before .before .before .before .before .args .t) (c .before .before .before .before .before .before .args .l) (c .before .before .before .before .before .before .args .wrote)) (c .before .before .before .before .loop-test .taken) (c .before .before .if1 .left) (sym (c .before .conflicts .ensures) ∙ c .if2 .taken))
+returns-2 c =
+    let c4 = c .before .before .before .before in
+    let c5 = c4 .before in
+    let c6 = c5 .before in
+    λ ns held e. sym (ap (λ (k : List Action). late (reverse k) (doing (c6 .args .t) (c6 .args .l) (c6 .args .wrote))) (sym (actions-held (c6 .args
+    .trail .now) ns (c6 .args .steps) held e)) ∙ c5 .loop .inv .1 ∙ late-conflict (c6 .args .trail .now) (c5 .loop .i) (doing (c6 .args .t) (c6 .args
+    .l) (c6 .args .wrote)) (c4 .loop-test .taken) (c .before .before .if1 .left) (sym (c .before .conflicts .ensures) ∙ c .if2 .taken))
 
 returns-3 : tie.Need-returns-3 Inv-loop μ-loop
 unfolding did noteAt
-returns-3 c = λ ns held e. sym (ap (λ (k : List Action). late (reverse k) (doing (c .before .before .before .before .before .before .before .args .t) (c .before .before .before .before .before .before .before .args .l) (c .before .before .before .before .before .before .before .args .wrote))) (sym (actions-held (c .before .before .before .before .before .before .before .args .trail .now) ns (c .before .before .before .before .before .before .before .args .steps) held e)) ∙ c .before .before .before .before .before .before .loop .inv .1 ∙ late-passes-greater (c .before .before .before .before .before .before .before .args .trail .now) (c .before .before .before .before .before .before .loop .i) (doing (c .before .before .before .before .before .before .before .args .t) (c .before .before .before .before .before .before .before .args .l) (c .before .before .before .before .before .before .before .args .wrote)) (c .before .before .before .before .before .loop-test .taken) (c .before .before .before .if1 .left) (sym (c .before .before .conflicts .ensures) ∙ c .before .if2 .left) (c .if3 .taken))
+returns-3 c =
+    let c3 = c .before .before .before in
+    let c5 = c3 .before .before in
+    let c6 = c5 .before in
+    let c7 = c6 .before in
+    λ ns held e. sym (ap (λ (k : List Action). late (reverse k) (doing (c7 .args .t) (c7 .args .l) (c7 .args .wrote))) (sym (actions-held (c7 .args
+    .trail .now) ns (c7 .args .steps) held e)) ∙ c6 .loop .inv .1 ∙ late-passes-greater (c7 .args .trail .now) (c6 .loop .i) (doing (c7 .args .t) (c7
+    .args .l) (c7 .args .wrote)) (c5 .loop-test .taken) (c3 .if1 .left) (sym (c .before .before .conflicts .ensures) ∙ c .before .if2 .left) (c .if3
+    .taken))
 
 loop-again : tie.Need-loop-again Inv-loop μ-loop
 unfolding did noteAt
-loop-again c = (search needs, c .before .before .before .before .before .before .loop .inv .1 ∙ late-further (c .before .before .before .before .before .before .before .args .trail .now) (c .before .before .before .before .before .before .loop .i) (doing (c .before .before .before .before .before .before .before .args .t) (c .before .before .before .before .before .before .before .args .l) (c .before .before .before .before .before .before .before .args .wrote)) (c .before .before .before .before .before .loop-test .taken) (c .before .before .before .if1 .left) (sym (c .before .before .conflicts .ensures) ∙ c .before .if2 .left) (c .if3 .left))
+loop-again c =
+    let c3 = c .before .before .before in
+    let c5 = c3 .before .before in
+    let c6 = c5 .before in
+    let c7 = c6 .before in (
+      search needs,
+      c6 .loop .inv .1 ∙ late-further (c7 .args .trail .now) (c6 .loop .i) (doing (c7 .args .t) (c7 .args .l) (c7 .args .wrote)) (c5
+          .loop-test .taken) (c3 .if1 .left) (sym (c .before .before .conflicts .ensures) ∙ c .before .if2 .left) (c .if3 .left),
+    )
 
 returns-4 : tie.Need-returns-4 Inv-loop μ-loop
 returns-4 c = let z : c .before .loop .i ≡ 0 = omega (arith, c .loop-test .left) in λ ns held e. sym (ap (λ (k : List Action). late (reverse k) (doing (c .before .before .args .t) (c .before .before .args .l) (c .before .before .args .wrote))) (sym (actions-held (c .before .before .args .trail .now) ns (c .before .before .args .steps) held e)) ∙ c .before .loop .inv .1 ∙ ap (λ (i : ℕ). late (reverse (actionsAt (c .before .before .args .trail .now) i)) (doing (c .before .before .args .t) (c .before .before .args .l) (c .before .before .args .wrote))) z ∙ late-over (c .before .before .args .trail .now) (doing (c .before .before .args .t) (c .before .before .args .l) (c .before .before .args .wrote)))

@@ -22,11 +22,19 @@ loop-holds c = (search needs, λ k h. absurd (omega arith))
 
 returns : tie.Need-returns Inv-loop μ-loop
 unfolding did noteAt
-returns c = record { within = c .before .before .before .before .before .loop .inv .0; before = c .before .before .before .before .before .loop .inv .1; here = λ h. (c .before .before .if1 .taken, c .if2 .taken) }
+returns c =
+    let c5 = c .before .before .before .before .before in
+    record { within = c5 .loop .inv .0; before = c5 .loop .inv .1; here = λ h. (c .before .before .if1 .taken, c .if2 .taken) }
 
 loop-again : tie.Need-loop-again Inv-loop μ-loop
 unfolding did noteAt
-loop-again c = (search needs, before-more (c .before .before .before .before .args .trail .now) (c .before .before .before .before .args .gone .now) (c .before .before .before .before .args .t) (c .before .before .before .loop .j) (c .before .before .before .loop .inv .1) (⊎-elim (λ w e. w .2 .left) (λ w e. absurd (w .left e)) (c .if1 .came)))
+loop-again c =
+    let c3 = c .before .before .before in
+    let c4 = c3 .before in (
+      search needs,
+      before-more (c4 .args .trail .now) (c4 .args .gone .now) (c4 .args .t) (c3 .loop .j) (c3 .loop .inv .1) (⊎-elim (λ w e. w .2 .left)
+          (λ w e. absurd (w .left e)) (c .if1 .came)),
+    )
 
 returns-2 : tie.Need-returns-2 Inv-loop μ-loop
 returns-2 c = let e : c .before .loop .j ≡ c .before .before .args .steps = omega (arith, c .loop-test .left, c .before .loop .inv .0) in record { within = omega arith; before = λ k h. c .before .loop .inv .1 k (omega (arith, e)); here = λ h. absurd (omega arith) }

@@ -26,18 +26,46 @@ abbrev μ-loop : tie.MeasureT-loop
 μ-loop trail gone j row t l wrote k₀ k = j - k
 
 loop-holds : tie.Need-loop-holds Inv-loop μ-loop
-loop-holds c = let n : (c .before .before .before .args .j) ≡ (c .before .before .before .args .j) - 0 = omega arith in (search needs, ap (λ (n : ℕ). all (clearOf (c .before .before .before .args .trail .now) (c .before .before .before .args .gone .now) (c .before .before .before .args .j)) (upTo 0 n)) n)
+loop-holds c =
+    let c3 = c .before .before .before in
+    let n : (c3 .args .j) ≡ (c3 .args .j) - 0 = omega arith in (
+      search needs,
+      ap (λ (n : ℕ). all (clearOf (c3 .args .trail .now) (c3 .args .gone .now)
+          (c3 .args .j)) (upTo 0 n)) n,
+    )
 
 returns : tie.Need-returns Inv-loop μ-loop
 unfolding did noteAt
-returns c = sym (c .before .before .before .before .before .loop .inv .1 ∙ all-fails (clearOf (c .before .before .before .before .before .before .before .before .before .args .trail .now) (c .before .before .before .before .before .before .before .before .before .args .gone .now) (c .before .before .before .before .before .before .before .before .before .args .j)) (c .before .before .before .before .before .loop .k) ((c .before .before .before .before .before .before .before .before .before .args .j) - (c .before .before .before .before .before .loop .k)) (omega (arith, c .before .before .before .before .loop-test .taken)) (waits-by (c .before .before .before .before .before .before .before .before .before .args .trail .now) (c .before .before .before .before .before .before .before .before .before .args .gone .now) (c .before .before .before .before .before .before .before .before .before .args .j) (c .before .before .before .before .before .loop .k) true (c .before .before .if1 .taken) (sym (c .before .conflicts .ensures) ∙ c .if2 .taken)))
+returns c =
+    let c4 = c .before .before .before .before in
+    let c5 = c4 .before in
+    let c9 = c5 .before .before .before .before in
+    sym (c5 .loop .inv .1 ∙ all-fails (clearOf (c9 .args .trail .now) (c9 .args .gone .now) (c9 .args .j)) (c5 .loop .k) ((c9 .args .j) - (c5 .loop
+    .k)) (omega (arith, c4 .loop-test .taken)) (waits-by (c9 .args .trail .now) (c9 .args .gone .now) (c9 .args .j) (c5 .loop .k) true (c .before
+    .before .if1 .taken) (sym (c .before .conflicts .ensures) ∙ c .if2 .taken)))
 
 loop-again : tie.Need-loop-again Inv-loop μ-loop
 unfolding did noteAt
-loop-again c = let i : (c .before .before .before .before .before .before .before .args .j) - (c .before .before .before .loop .k) - 1 ≡ (c .before .before .before .before .before .before .before .args .j) - ((c .before .before .before .loop .k) + 1) = omega arith in (search needs, c .before .before .before .loop .inv .1 ∙ all-further (clearOf (c .before .before .before .before .before .before .before .args .trail .now) (c .before .before .before .before .before .before .before .args .gone .now) (c .before .before .before .before .before .before .before .args .j)) (c .before .before .before .loop .k) ((c .before .before .before .before .before .before .before .args .j) - (c .before .before .before .loop .k)) (omega (arith, c .before .before .loop-test .taken)) (⊎-elim (λ w. waits-by (c .before .before .before .before .before .before .before .args .trail .now) (c .before .before .before .before .before .before .before .args .gone .now) (c .before .before .before .before .before .before .before .args .j) (c .before .before .before .loop .k) false (w .0 .taken) (sym (w .1 .ensures) ∙ w .2 .left)) (λ w. waits-not (c .before .before .before .before .before .before .before .args .trail .now) (c .before .before .before .before .before .before .before .args .gone .now) (c .before .before .before .before .before .before .before .args .j) (c .before .before .before .loop .k) (w .left)) (c .if1 .came)) ∙ ap (λ (n : ℕ). all (clearOf (c .before .before .before .before .before .before .before .args .trail .now) (c .before .before .before .before .before .before .before .args .gone .now) (c .before .before .before .before .before .before .before .args .j)) (upTo ((c .before .before .before .loop .k) + 1) n)) i)
+loop-again c =
+    let c3 = c .before .before .before in
+    let c7 = c3 .before .before .before .before in
+    let i : (c7 .args .j) - (c3 .loop .k) - 1 ≡ (c7 .args .j) - ((c3 .loop .k) + 1) = omega arith in (
+      search needs,
+      c3 .loop .inv .1 ∙ all-further
+          (clearOf (c7 .args .trail .now) (c7 .args .gone .now) (c7 .args .j)) (c3 .loop .k) ((c7 .args .j) - (c3 .loop .k)) (omega (
+            arith,
+            c .before
+                .before .loop-test .taken,
+          )) (⊎-elim (λ w. waits-by (c7 .args .trail .now) (c7 .args .gone .now) (c7 .args .j) (c3 .loop .k) false (w .0 .taken)
+          (sym (w .1 .ensures) ∙ w .2 .left)) (λ w. waits-not (c7 .args .trail .now) (c7 .args .gone .now) (c7 .args .j) (c3 .loop .k) (w .left)) (c .if1
+          .came)) ∙ ap (λ (n : ℕ). all (clearOf (c7 .args .trail .now) (c7 .args .gone .now) (c7 .args .j)) (upTo ((c3 .loop .k) + 1) n)) i,
+    )
 
 returns-2 : tie.Need-returns-2 Inv-loop μ-loop
-returns-2 c = sym (c .before .loop .inv .1 ∙ all-over (clearOf (c .before .before .before .before .before .args .trail .now) (c .before .before .before .before .before .args .gone .now) (c .before .before .before .before .before .args .j)) (c .before .loop .k) ((c .before .before .before .before .before .args .j) - (c .before .loop .k)) (omega (arith, c .loop-test .left)))
+returns-2 c =
+    let c5 = c .before .before .before .before .before in
+    sym (c .before .loop .inv .1 ∙ all-over (clearOf (c5 .args .trail .now) (c5 .args .gone .now) (c5 .args .j)) (c .before .loop .k) ((c5 .args .j) -
+    (c .before .loop .k)) (omega (arith, c .loop-test .left)))
 
 pub is-clear-spec : {M : Type 1} → statement M
 is-clear-spec = tie.close (tie.spec Inv-loop μ-loop (λ c. search needs) (λ c. search needs) (λ c. search needs) (λ c. search needs) (λ c. search needs) (λ c. search needs) loop-holds (λ c. search needs) (λ c κs. search needs) returns (λ c. search needs) (λ c. search needs) loop-again returns-2)

@@ -26,15 +26,47 @@ loop-holds : tie.Need-loop-holds Inv-loop μ-loop
 loop-holds c = let n : (c .args .steps) ≡ (c .args .steps) - 0 = omega arith in (search needs, search needs, ap₂ less (order-start (c .args .moved .now) _ (c .args .steps) (zeros 24) ∙ ap (rest (c .args .moved .now) _ (c .args .steps)) n) (ap (threadsAt (c .args .trail .now) 0) n))
 
 returns : tie.Need-returns Inv-loop μ-loop
-returns c = let w = c .before .next-place .ensures .within in sym (c .before .before .before .before .loop .inv .2 ∙ order-stuck (c .before .before .before .before .before .args .moved .now) (c .before .before .before .before .loop .gone) (c .before .before .before .before .before .args .trail .now) (c .before .before .before .before .before .args .steps) (c .before .next-place .result) (c .before .before .before .before .loop .i) ((c .before .before .before .before .before .args .steps) - (c .before .before .before .before .loop .i)) (c .before .next-place .ensures) (omega (arith, c .before .before .before .loop-test .taken)) (omega (arith, w, c .if1 .taken)))
+returns c =
+    let c3 = c .before .before .before in
+    let c4 = c3 .before in
+    let c5 = c4 .before in
+    let w = c .before .next-place .ensures .within in sym (c4 .loop .inv .2 ∙ order-stuck (c5 .args .moved .now) (c4 .loop .gone) (c5 .args .trail
+    .now) (c5 .args .steps) (c .before .next-place .result) (c4 .loop .i) ((c5 .args .steps) - (c4 .loop .i)) (c .before .next-place .ensures) (omega
+    (arith, c3 .loop-test .taken)) (omega (arith, w, c .if1 .taken)))
 
 returns-2 : tie.Need-returns-2 Inv-loop μ-loop
 unfolding did noteAt
-returns-2 c = sym (c .before .before .before .before .before .before .before .loop .inv .2 ∙ order-differ (c .before .before .before .before .before .before .before .before .args .moved .now) (c .before .before .before .before .before .before .before .loop .gone) (c .before .before .before .before .before .before .before .before .args .trail .now) (c .before .before .before .before .before .before .before .before .args .steps) (c .before .before .before .before .next-place .result) (c .before .before .before .before .before .before .before .loop .i) ((c .before .before .before .before .before .before .before .before .args .steps) - (c .before .before .before .before .before .before .before .loop .i)) (c .before .before .before .before .next-place .ensures) (omega (arith, c .before .before .before .before .before .before .loop-test .taken)) (c .before .before .before .if1 .left) (c .if2 .taken))
+returns-2 c =
+    let c3 = c .before .before .before in
+    let c4 = c3 .before in
+    let c6 = c4 .before .before in
+    let c7 = c6 .before in
+    let c8 = c7 .before in
+    sym (c7 .loop .inv .2 ∙ order-differ (c8 .args .moved .now) (c7 .loop .gone) (c8 .args .trail .now) (c8 .args .steps) (c4 .next-place .result) (c7
+    .loop .i) ((c8 .args .steps) - (c7 .loop .i)) (c4 .next-place .ensures) (omega (arith, c6 .loop-test .taken)) (c3 .if1 .left) (c .if2 .taken))
 
 loop-again : tie.Need-loop-again Inv-loop μ-loop
 unfolding did noteAt
-loop-again c = let n : (c .before .before .before .before .before .before .before .before .args .steps) - (c .before .before .before .before .before .before .before .loop .i) - 1 ≡ (c .before .before .before .before .before .before .before .before .args .steps) - ((c .before .before .before .before .before .before .before .loop .i) + 1) = omega arith in (search needs, search needs, c .before .before .before .before .before .before .before .loop .inv .2 ∙ order-equal (c .before .before .before .before .before .before .before .before .args .moved .now) (c .before .before .before .before .before .before .before .loop .gone) (c .before .before .before .before .before .before .before .before .args .trail .now) (c .before .before .before .before .before .before .before .before .args .steps) (c .before .before .before .before .next-place .result) (c .before .before .before .before .before .before .before .loop .i) ((c .before .before .before .before .before .before .before .before .args .steps) - (c .before .before .before .before .before .before .before .loop .i)) (c .before .before .before .before .next-place .ensures) (omega (arith, c .before .before .before .before .before .before .loop-test .taken)) (c .before .before .before .if1 .left) (omega (arith, c .before .before .before .before .before .before .before .loop .inv .1, c .before .before .before .if1 .left, c .before .before .before .before .before .before .before .before .pre)) (c .if2 .left) ∙ ap (λ (k : ℕ). less (rest (c .before .before .before .before .before .before .before .before .args .moved .now) (set (c .before .before .before .before .before .before .before .loop .gone) (c .before .before .before .before .next-place .result) 1) (c .before .before .before .before .before .before .before .before .args .steps) k) (threadsAt (c .before .before .before .before .before .before .before .before .args .trail .now) ((c .before .before .before .before .before .before .before .loop .i) + 1) k)) n)
+loop-again c =
+    let c3 = c .before .before .before in
+    let c4 = c3 .before in
+    let c6 = c4 .before .before in
+    let c7 = c6 .before in
+    let c8 = c7 .before in
+    let n : (c8 .args .steps) - (c7 .loop .i) - 1 ≡ (c8 .args .steps) - ((c7 .loop .i) + 1) = omega arith in (
+      search needs,
+      search needs,
+      c7 .loop
+          .inv .2 ∙ order-equal (c8 .args .moved .now) (c7 .loop .gone) (c8 .args .trail .now) (c8 .args .steps) (c4 .next-place .result) (c7 .loop .i) ((c8
+          .args .steps) - (c7 .loop .i)) (c4 .next-place .ensures) (omega (arith, c6 .loop-test .taken)) (c3 .if1 .left) (omega (
+            arith,
+            c7 .loop .inv .1,
+            c3
+                .if1 .left,
+            c8 .pre,
+          )) (c .if2 .left) ∙ ap (λ (k : ℕ). less (rest (c8 .args .moved .now) (set (c7 .loop .gone) (c4 .next-place .result) 1) (c8
+          .args .steps) k) (threadsAt (c8 .args .trail .now) ((c7 .loop .i) + 1) k)) n,
+    )
 
 returns-3 : tie.Need-returns-3 Inv-loop μ-loop
 returns-3 c = sym (c .before .loop .inv .2 ∙ order-over (c .before .before .args .moved .now) (c .before .loop .gone) (c .before .before .args .trail .now) (c .before .before .args .steps) (c .before .loop .i) ((c .before .before .args .steps) - c .before .loop .i) (omega (arith, c .loop-test .left)))

@@ -25,10 +25,25 @@ loop-holds : tie.Need-loop-holds Inv-loop μ-loop
 loop-holds c = (search needs, refl)
 
 returns : tie.Need-returns Inv-loop μ-loop
-returns c = found-next (c .before .before .before .before .before .before .args .trail .now) (c .before .before .before .before .before .before .args .gone .now) (c .before .before .before .before .before .before .args .steps) (c .before .before .before .before .before .loop .t) (c .before .before .before .first-of .result) (c .before .before .before .before .loop-test .taken) (c .before .before .before .before .before .loop .inv .1) (c .before .before .before .first-of .ensures) (c .before .before .if1 .taken) (sym (c .before .is-clear .ensures) ∙ c .if2 .taken)
+returns c =
+    let c3 = c .before .before .before in
+    let c4 = c3 .before in
+    let c5 = c4 .before in
+    let c6 = c5 .before in
+    found-next (c6 .args .trail .now) (c6 .args .gone .now) (c6 .args .steps) (c5 .loop .t) (c3 .first-of .result) (c4 .loop-test .taken) (c5 .loop
+    .inv .1) (c3 .first-of .ensures) (c .before .before .if1 .taken) (sym (c .before .is-clear .ensures) ∙ c .if2 .taken)
 
 loop-again : tie.Need-loop-again Inv-loop μ-loop
-loop-again c = (search needs, next-further (c .before .before .before .before .args .trail .now) (c .before .before .before .before .args .gone .now) (c .before .before .before .before .args .steps) (c .before .before .before .loop .t) (c .before .first-of .result) (c .before .before .loop-test .taken) (c .before .before .before .loop .inv .1) (⊎-elim (λ w. ready-first (c .before .before .before .before .args .trail .now) (c .before .before .before .before .args .gone .now) (c .before .before .before .before .args .steps) (c .before .before .before .loop .t) (c .before .first-of .result) (c .before .first-of .ensures) (w .0 .taken) ∙ sym (w .1 .ensures) ∙ w .2 .left) (λ w. let q = c .before .first-of .ensures .within in ready-none (c .before .before .before .before .args .trail .now) (c .before .before .before .before .args .gone .now) (c .before .before .before .before .args .steps) (c .before .before .before .loop .t) (c .before .first-of .result) (c .before .first-of .ensures) (omega (arith, q, w .left))) (c .if1 .came)))
+loop-again c =
+    let c3 = c .before .before .before in
+    let c4 = c3 .before in (
+      search needs,
+      next-further (c4 .args .trail .now) (c4 .args .gone .now) (c4 .args .steps) (c3 .loop .t) (c .before .first-of .result) (c .before
+          .before .loop-test .taken) (c3 .loop .inv .1) (⊎-elim (λ w. ready-first (c4 .args .trail .now) (c4 .args .gone .now) (c4 .args .steps) (c3 .loop
+          .t) (c .before .first-of .result) (c .before .first-of .ensures) (w .0 .taken) ∙ sym (w .1 .ensures) ∙ w .2 .left) (λ w. let q = c .before
+          .first-of .ensures .within in ready-none (c4 .args .trail .now) (c4 .args .gone .now) (c4 .args .steps) (c3 .loop .t) (c .before .first-of
+          .result) (c .before .first-of .ensures) (omega (arith, q, w .left))) (c .if1 .came)),
+    )
 
 returns-2 : tie.Need-returns-2 Inv-loop μ-loop
 returns-2 c = record { within = omega arith; over = λ e. c .before .loop .inv .1 ∙ first-none-left (ready who conflict (leftAt (c .before .before .args .trail .now) (c .before .before .args .gone .now) 0 (c .before .before .args .steps))) (c .before .loop .t) (6 - c .before .loop .t) (omega (arith, c .loop-test .left)); place = λ h. absurd (omega arith); least = λ h. absurd (omega arith) }

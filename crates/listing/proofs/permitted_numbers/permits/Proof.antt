@@ -35,10 +35,31 @@ loop-holds c = (search needs, refl)
 
 returns : tie.Need-returns Inv-loop μ-loop
 unfolding permits
-returns c = let l : length (c .before .before .before .before .before .args .t3) ≡ 6 = search needs in sym (c .before .before .before .before .loop .inv .1 ∙ all-fails (stayTest (c .before .before .before .before .before .args .class) (c .before .before .before .before .before .args .groups) (c .before .before .before .before .before .args .t3)) (c .before .before .before .before .loop .t) (6 - c .before .before .before .before .loop .t) (omega (arith, c .before .before .before .loop-test .taken)) (made (c .before .before .before .before .before .args .class) (c .before .before .before .before .before .args .groups) (c .before .before .before .before .before .args .t3) (c .before .before .before .before .loop .t) (c .before .before .wide .result) (c .before .stays .result) false (omega (arith, l, c .before .before .before .loop-test .taken)) (c .before .before .wide .ensures) (c .before .stays .ensures) (not-true _ (c .if1 .taken))))
+returns c =
+    let c3 = c .before .before .before in
+    let c4 = c3 .before in
+    let c5 = c4 .before in
+    let l : length (c5 .args .t3) ≡ 6 = search needs in sym (c4 .loop .inv .1 ∙ all-fails (stayTest (c5 .args .class) (c5 .args .groups) (c5 .args
+    .t3)) (c4 .loop .t) (6 - c4 .loop .t) (omega (arith, c3 .loop-test .taken)) (made (c5 .args .class) (c5 .args .groups) (c5 .args .t3) (c4 .loop
+    .t) (c .before .before .wide .result) (c .before .stays .result) false (omega (arith, l, c3 .loop-test .taken)) (c .before .before .wide .ensures)
+    (c .before .stays .ensures) (not-true _ (c .if1 .taken))))
 
 loop-again : tie.Need-loop-again Inv-loop μ-loop
-loop-again c = let l : length (c .before .before .before .before .before .args .t3) ≡ 6 = search needs in let j : 6 - c .before .before .before .before .loop .t - 1 ≡ 6 - (c .before .before .before .before .loop .t + 1) = omega arith in (search needs, c .before .before .before .before .loop .inv .1 ∙ all-further (stayTest (c .before .before .before .before .before .args .class) (c .before .before .before .before .before .args .groups) (c .before .before .before .before .before .args .t3)) (c .before .before .before .before .loop .t) (6 - c .before .before .before .before .loop .t) (omega (arith, c .before .before .before .loop-test .taken)) (made (c .before .before .before .before .before .args .class) (c .before .before .before .before .before .args .groups) (c .before .before .before .before .before .args .t3) (c .before .before .before .before .loop .t) (c .before .before .wide .result) (c .before .stays .result) true (omega (arith, l, c .before .before .before .loop-test .taken)) (c .before .before .wide .ensures) (c .before .stays .ensures) (not-false _ (c .if1 .left))) ∙ ap (λ (i : ℕ). all (stayTest (c .before .before .before .before .before .args .class) (c .before .before .before .before .before .args .groups) (c .before .before .before .before .before .args .t3)) (upTo (c .before .before .before .before .loop .t + 1) i)) j)
+loop-again c =
+    let c3 = c .before .before .before in
+    let c4 = c3 .before in
+    let c5 = c4 .before in
+    let l : length (c5 .args .t3) ≡ 6 = search needs in let j : 6 - c4 .loop .t - 1 ≡ 6 - (c4 .loop .t + 1) = omega arith in (
+      search needs,
+      c4 .loop
+          .inv .1 ∙ all-further (stayTest (c5 .args .class) (c5 .args .groups) (c5 .args .t3)) (c4 .loop .t) (6 - c4 .loop .t) (omega (
+            arith,
+            c3 .loop-test
+                .taken,
+          )) (made (c5 .args .class) (c5 .args .groups) (c5 .args .t3) (c4 .loop .t) (c .before .before .wide .result) (c .before .stays .result) true
+          (omega (arith, l, c3 .loop-test .taken)) (c .before .before .wide .ensures) (c .before .stays .ensures) (not-false _ (c .if1 .left))) ∙ ap (λ (i :
+          ℕ). all (stayTest (c5 .args .class) (c5 .args .groups) (c5 .args .t3)) (upTo (c4 .loop .t + 1) i)) j,
+    )
 
 returns-2 : tie.Need-returns-2 Inv-loop μ-loop
 unfolding permits

@@ -50,7 +50,15 @@ loop-holds : tie.Need-loop-holds Inv-loop μ-loop
 loop-holds c = (search needs, search needs, search needs, refl)
 
 loop-again : tie.Need-loop-again Inv-loop μ-loop
-loop-again c = ⊎-elim (λ w. let t : permits (groupsOf (c .before .before .before .before .before .args .class) (c .before .before .before .before .before .args .groups)) (permutationOf (c .before .before .before .before .loop .k)) ≡ true = sym (c .before .permits .ensures ∙ ap (permits (groupsOf (c .before .before .before .before .before .args .class) (c .before .before .before .before .before .args .groups))) (c .before .before .permutation .ensures)) ∙ w .0 .taken in found-more _ _ _ _ _ _ _ (c .before .before .before .before .loop .inv) (c .before .before .before .loop-test .taken) t (w .1) (w .2)) (λ w. let t : permits (groupsOf (c .before .before .before .before .before .args .class) (c .before .before .before .before .before .args .groups)) (permutationOf (c .before .before .before .before .loop .k)) ≡ false = sym (c .before .permits .ensures ∙ ap (permits (groupsOf (c .before .before .before .before .before .args .class) (c .before .before .before .before .before .args .groups))) (c .before .before .permutation .ensures)) ∙ w .0 .left in found-other _ _ _ _ _ _ _ (c .before .before .before .before .loop .inv) (c .before .before .before .loop-test .taken) t (w .1) (w .2)) (c .if1 .came)
+loop-again c =
+    let c3 = c .before .before .before in
+    let c4 = c3 .before in
+    let c5 = c4 .before in
+    ⊎-elim (λ w. let t : permits (groupsOf (c5 .args .class) (c5 .args .groups)) (permutationOf (c4 .loop .k)) ≡ true = sym (c .before .permits
+    .ensures ∙ ap (permits (groupsOf (c5 .args .class) (c5 .args .groups))) (c .before .before .permutation .ensures)) ∙ w .0 .taken in found-more _ _
+    _ _ _ _ _ (c4 .loop .inv) (c3 .loop-test .taken) t (w .1) (w .2)) (λ w. let t : permits (groupsOf (c5 .args .class) (c5 .args .groups))
+    (permutationOf (c4 .loop .k)) ≡ false = sym (c .before .permits .ensures ∙ ap (permits (groupsOf (c5 .args .class) (c5 .args .groups))) (c .before
+    .before .permutation .ensures)) ∙ w .0 .left in found-other _ _ _ _ _ _ _ (c4 .loop .inv) (c3 .loop-test .taken) t (w .1) (w .2)) (c .if1 .came)
 
 returns : tie.Need-returns Inv-loop μ-loop
 returns c = let n : 720 - (c .before .loop .k) ≡ 0 = omega (arith, c .loop-test .left) in (omega (arith, c .before .loop .inv .0, c .before .loop .inv .1), sym (kept-over (λ k. permits (groupsOf (c .before .before .args .class) (c .before .before .args .groups)) (permutationOf k)) (c .before .loop .k) (720 - (c .before .loop .k)) (c .before .loop .numbers) (c .before .loop .count) n) ∙ c .before .loop .inv .3)

@@ -15,13 +15,27 @@ returns-2 : tie.Need-returns-2
 returns-2 c = let n = not-together (c .before .before .args .t1) (c .before .before .args .groups) (c .before .before .args .t) (c .before .before .args .u) (λ e. let k = together-class (c .before .before .args .t1) (c .before .before .args .groups) (c .before .before .args .t) (c .before .before .args .u) e in omega (arith, k .0, c .if2 .taken)) in rw (ne-eqb _ _ (c .before .if1 .left), n)
 
 returns-3 : tie.Need-returns-3
-returns-3 c = let n = not-together (c .before .before .before .args .t1) (c .before .before .before .args .groups) (c .before .before .before .args .t) (c .before .before .before .args .u) (λ e. let k = together-class (c .before .before .before .args .t1) (c .before .before .before .args .groups) (c .before .before .before .args .t) (c .before .before .before .args .u) e in omega (arith, k .1, c .if3 .taken)) in rw (ne-eqb _ _ (c .before .before .if1 .left), n)
+returns-3 c =
+    let c3 = c .before .before .before in
+    let n = not-together (c3 .args .t1) (c3 .args .groups) (c3 .args .t) (c3 .args .u) (λ e. let k = together-class (c3 .args .t1) (c3 .args .groups)
+    (c3 .args .t) (c3 .args .u) e in omega (arith, k .1, c .if3 .taken)) in rw (ne-eqb _ _ (c .before .before .if1 .left), n)
 
 returns-4 : tie.Need-returns-4
-returns-4 c = let n = not-together (c .before .before .before .before .args .t1) (c .before .before .before .before .args .groups) (c .before .before .before .before .args .t) (c .before .before .before .before .args .u) (λ e. let k = together-class (c .before .before .before .before .args .t1) (c .before .before .before .before .args .groups) (c .before .before .before .before .args .t) (c .before .before .before .before .args .u) e in omega (arith, k .2, c .if4 .taken)) in rw (ne-eqb _ _ (c .before .before .before .if1 .left), n)
+returns-4 c =
+    let c3 = c .before .before .before in
+    let c4 = c3 .before in
+    let n = not-together (c4 .args .t1) (c4 .args .groups) (c4 .args .t) (c4 .args .u) (λ e. let k = together-class (c4 .args .t1) (c4 .args .groups)
+    (c4 .args .t) (c4 .args .u) e in omega (arith, k .2, c .if4 .taken)) in rw (ne-eqb _ _ (c3 .if1 .left), n)
 
 returns-5 : tie.Need-returns-5
-returns-5 c = rw (ne-eqb _ _ (c .before .before .before .if1 .left)) (together-test (c .before .before .before .before .args .t1) (c .before .before .before .before .args .groups) (c .before .before .before .before .args .t) (c .before .before .before .before .args .u) (c .before .before .before .before .pre) (omega (arith, c .before .before .if2 .left)) (omega (arith, c .before .if3 .left)) (omega (arith, c .if4 .left)))
+returns-5 c =
+    let c3 = c .before .before .before in
+    let c4 = c3 .before in
+    rw (ne-eqb _ _ (c3 .if1 .left)) (together-test (c4 .args .t1) (c4 .args .groups) (c4 .args .t) (c4 .args .u) (c4 .pre) (omega (
+      arith,
+      c .before
+          .before .if2 .left,
+    )) (omega (arith, c .before .if3 .left)) (omega (arith, c .if4 .left)))
 
 pub stays-spec : {M : Type 1} → statement M
 stays-spec = tie.close (tie.spec returns returns-2 (λ c. search needs) (λ c. search needs) returns-3 returns-4 (λ c. search needs) (λ c. search needs) returns-5)

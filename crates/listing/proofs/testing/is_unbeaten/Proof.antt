@@ -43,10 +43,35 @@ loop-holds : tie.Need-loop-holds Inv-loop μ-loop
 loop-holds c = let n : (c .args .count) ≡ (c .args .count) - 0 = omega arith in (search needs, ap (λ (n : ℕ). all (passed (c .args .trail .now) (c .args .steps) (c .args .numbers .now)) (upTo 0 n)) n)
 
 returns : tie.Need-returns Inv-loop μ-loop
-returns c = sym (c .before .before .before .before .before .before .before .before .loop .inv .1 ∙ all-fails (passed (c .before .before .before .before .before .before .before .before .before .args .trail .now) (c .before .before .before .before .before .before .before .before .before .args .steps) (c .before .before .before .before .before .before .before .before .before .args .numbers .now)) (c .before .before .before .before .before .before .before .before .loop .i) ((c .before .before .before .before .before .before .before .before .before .args .count) - (c .before .before .before .before .before .before .before .before .loop .i)) (omega (arith, c .before .before .before .before .before .before .before .loop-test .taken)) (tested (c .before .before .before .before .before .before .before .before .before .args .trail .now) (c .before .before .before .exchanged .result) (c .before .before .before .before .permutation .result) (c .before .before .before .before .before .before .before .before .before .args .steps) _ (c .before .before .before .before .before .wide-number .result) (c .before .is-smaller .result) true (c .before .before .before .before .before .wide-number .ensures) (c .before .before .before .before .permutation .ensures) (c .before .before .before .exchanged .ensures) (c .before .is-smaller .ensures) (c .if1 .taken)))
+returns c =
+    let c3 = c .before .before .before in
+    let c4 = c3 .before in
+    let c5 = c4 .before in
+    let c7 = c5 .before .before in
+    let c8 = c7 .before in
+    let c9 = c8 .before in
+    sym (c8 .loop .inv .1 ∙ all-fails (passed (c9 .args .trail .now) (c9 .args .steps) (c9 .args .numbers .now)) (c8 .loop .i) ((c9 .args .count) -
+    (c8 .loop .i)) (omega (arith, c7 .loop-test .taken)) (tested (c9 .args .trail .now) (c3 .exchanged .result) (c4 .permutation .result) (c9 .args
+    .steps) _ (c5 .wide-number .result) (c .before .is-smaller .result) true (c5 .wide-number .ensures) (c4 .permutation .ensures) (c3 .exchanged
+    .ensures) (c .before .is-smaller .ensures) (c .if1 .taken)))
 
 loop-again : tie.Need-loop-again Inv-loop μ-loop
-loop-again c = let n : (c .before .before .before .before .before .before .before .before .before .args .count) - (c .before .before .before .before .before .before .before .before .loop .i) - 1 ≡ (c .before .before .before .before .before .before .before .before .before .args .count) - ((c .before .before .before .before .before .before .before .before .loop .i) + 1) = omega arith in (search needs, c .before .before .before .before .before .before .before .before .loop .inv .1 ∙ all-further (passed (c .before .before .before .before .before .before .before .before .before .args .trail .now) (c .before .before .before .before .before .before .before .before .before .args .steps) (c .before .before .before .before .before .before .before .before .before .args .numbers .now)) (c .before .before .before .before .before .before .before .before .loop .i) ((c .before .before .before .before .before .before .before .before .before .args .count) - (c .before .before .before .before .before .before .before .before .loop .i)) (omega (arith, c .before .before .before .before .before .before .before .loop-test .taken)) (tested (c .before .before .before .before .before .before .before .before .before .args .trail .now) (c .before .before .before .exchanged .result) (c .before .before .before .before .permutation .result) (c .before .before .before .before .before .before .before .before .before .args .steps) _ (c .before .before .before .before .before .wide-number .result) (c .before .is-smaller .result) false (c .before .before .before .before .before .wide-number .ensures) (c .before .before .before .before .permutation .ensures) (c .before .before .before .exchanged .ensures) (c .before .is-smaller .ensures) (c .if1 .left)) ∙ ap (λ (m : ℕ). all (passed (c .before .before .before .before .before .before .before .before .before .args .trail .now) (c .before .before .before .before .before .before .before .before .before .args .steps) (c .before .before .before .before .before .before .before .before .before .args .numbers .now)) (upTo ((c .before .before .before .before .before .before .before .before .loop .i) + 1) m)) n)
+loop-again c =
+    let c3 = c .before .before .before in
+    let c4 = c3 .before in
+    let c5 = c4 .before in
+    let c7 = c5 .before .before in
+    let c8 = c7 .before in
+    let c9 = c8 .before in
+    let n : (c9 .args .count) - (c8 .loop .i) - 1 ≡ (c9 .args .count) - ((c8 .loop .i) + 1) = omega arith in (
+      search needs,
+      c8 .loop .inv .1 ∙
+          all-further (passed (c9 .args .trail .now) (c9 .args .steps) (c9 .args .numbers .now)) (c8 .loop .i) ((c9 .args .count) - (c8 .loop .i)) (omega
+          (arith, c7 .loop-test .taken)) (tested (c9 .args .trail .now) (c3 .exchanged .result) (c4 .permutation .result) (c9 .args .steps) _ (c5
+          .wide-number .result) (c .before .is-smaller .result) false (c5 .wide-number .ensures) (c4 .permutation .ensures) (c3 .exchanged .ensures) (c
+          .before .is-smaller .ensures) (c .if1 .left)) ∙ ap (λ (m : ℕ). all (passed (c9 .args .trail .now) (c9 .args .steps) (c9 .args .numbers .now))
+          (upTo ((c8 .loop .i) + 1) m)) n,
+    )
 
 returns-2 : tie.Need-returns-2 Inv-loop μ-loop
 returns-2 c = sym (c .before .loop .inv .1 ∙ all-over (passed (c .before .before .args .trail .now) (c .before .before .args .steps) (c .before .before .args .numbers .now)) (c .before .loop .i) ((c .before .before .args .count) - (c .before .loop .i)) (omega (arith, c .loop-test .left)))

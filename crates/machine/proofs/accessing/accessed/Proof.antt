@@ -6,20 +6,68 @@ use Rattle.machine.proofs.accessing.accessed.Statement.{statement}
 use Rattle.machine.proofs.accessing.accessed.Tie as tie
 
 returns : tie.Need-returns
-returns c = rw (c .before .before .before .before .before .before .before .before .i4 .given .1, c .done4 .ensures, c .before .value4 .ensures, c .before .before .before .before .with-register3 .ensures, c .before .before .before .before .before .wide3 .ensures, c .before .before .before .before .before .before .found3 .ensures, eq-eqb _ _ (simp (c .before .before .before .value3 .ensures, c .before .before .before .before .before .before .found3 .ensures) at (c .before .before .if1 .taken)))
+returns c =
+    let c3 = c .before .before .before in
+    let c4 = c3 .before in
+    let c5 = c4 .before in
+    let c6 = c5 .before in
+    let c8 = c6 .before .before in
+    rw (
+      c8 .i4 .given .1,
+      c .done4 .ensures,
+      c .before .value4 .ensures,
+      c4 .with-register3 .ensures,
+      c5 .wide3 .ensures,
+      c6 .found3 .ensures,
+      eq-eqb
+          _ _ (simp (c3 .value3 .ensures, c6 .found3 .ensures) at (c .before .before .if1 .taken)),
+    )
 
 returns-2 : tie.Need-returns-2
 returns-2 c = rw (c .before .before .before .i .given .1, c .done .ensures, c .before .value .ensures)
 
 returns-3 : tie.Need-returns-3
-returns-3 c = rw (c .before .before .before .before .before .i2 .given .1, c .done2 .ensures, c .before .with-register .ensures, c .before .before .wide .ensures, c .before .before .before .found .ensures)
+returns-3 c =
+    let c3 = c .before .before .before in
+    let c5 = c3 .before .before in
+    rw (c5 .i2 .given .1, c .done2 .ensures, c .before .with-register .ensures, c .before .before .wide .ensures, c3 .found .ensures)
 
 returns-4 : tie.Need-returns-4
 unfolding sum32
-returns-4 c = rw (c .before .before .before .before .before .before .before .i3 .given .1, c .done3 .ensures, c .before .with-register2 .ensures, c .before .before .wide2 .ensures, c .before .before .before .wrapping-add-u32 .ensures, c .before .before .before .before .value2 .ensures, c .before .before .before .before .before .found2 .ensures)
+returns-4 c =
+    let c3 = c .before .before .before in
+    let c4 = c3 .before in
+    let c5 = c4 .before in
+    let c7 = c5 .before .before in
+    rw (
+      c7 .i3 .given .1,
+      c .done3 .ensures,
+      c .before .with-register2 .ensures,
+      c .before .before .wide2 .ensures,
+      c3 .wrapping-add-u32 .ensures,
+      c4
+          .value2 .ensures,
+      c5 .found2 .ensures,
+    )
 
 returns-5 : tie.Need-returns-5
-returns-5 c = rw (c .before .before .before .before .before .before .before .i4 .given .1, c .done5 .ensures, c .before .before .before .with-register3 .ensures, c .before .before .before .before .wide3 .ensures, c .before .before .before .before .before .found3 .ensures, ne-eqb _ _ (simp (c .before .before .value3 .ensures, c .before .before .before .before .before .found3 .ensures) at (c .before .if1 .left)))
+returns-5 c =
+    let c3 = c .before .before .before in
+    let c4 = c3 .before in
+    let c5 = c4 .before in
+    let c7 = c5 .before .before in
+    rw (
+      c7 .i4 .given .1,
+      c .done5 .ensures,
+      c3 .with-register3 .ensures,
+      c4 .wide3 .ensures,
+      c5 .found3 .ensures,
+      ne-eqb _ _ (simp (
+        c .before .before
+            .value3 .ensures,
+        c5 .found3 .ensures,
+      ) at (c .before .if1 .left)),
+    )
 
 returns-6 : tie.Need-returns-6
 returns-6 c = simp (c .before .enum-told .given .1) (c .done6 .ensures)

@@ -19,10 +19,20 @@ loop-holds : tie.Need-loop-holds Inv-loop μ-loop
 loop-holds c = (search needs, λ u b. absurd (omega arith))
 
 returns : tie.Need-returns Inv-loop μ-loop
-returns c = λ code σ held. sym (not-ended-held code (c .before .before .before .before .before .before .args .lengths .now) (c .before .before .before .before .before .before .args .t2) σ held (c .before .before .before .before .before .loop .t) (c .before .before .before .before .loop-test .taken) (c .if1 .taken))
+returns c =
+    let c4 = c .before .before .before .before in
+    let c5 = c4 .before in
+    let c6 = c5 .before in
+    λ code σ held. sym (not-ended-held code (c6 .args .lengths .now) (c6 .args .t2) σ held (c5 .loop .t) (c4 .loop-test .taken) (c .if1 .taken))
 
 loop-again : tie.Need-loop-again Inv-loop μ-loop
-loop-again c = (search needs, λ u b. one-more (λ (u : ℕ). getD (c .before .before .before .before .before .before .args .lengths .now) u 0 ≤ threadAt (c .before .before .before .before .before .before .args .t2) u .at) (c .before .before .before .before .before .loop .t) (c .before .before .before .before .before .loop .inv .1) (c .if1 .left) u b)
+loop-again c =
+    let c5 = c .before .before .before .before .before in
+    let c6 = c5 .before in (
+      search needs,
+      λ u b. one-more (λ (u : ℕ). getD (c6 .args .lengths .now) u 0 ≤ threadAt (c6 .args .t2) u .at) (c5 .loop .t) (c5 .loop .inv .1) (c
+          .if1 .left) u b,
+    )
 
 returns-2 : tie.Need-returns-2 Inv-loop μ-loop
 returns-2 c = λ code σ held. sym (ended-held code (c .before .before .args .lengths .now) (c .before .before .args .t2) σ held (λ u b. c .before .loop .inv .1 u (omega arith)))

@@ -19,10 +19,16 @@ loop-holds : tie.Need-loop-holds Inv-loop μ-loop
 loop-holds c = (search needs, λ u b. absurd (omega arith))
 
 returns : tie.Need-returns Inv-loop μ-loop
-returns c = λ code lengths σ held. sym (fails-held code lengths (c .before .before .before .before .args .t1) σ held (c .before .before .before .loop .t) (c .before .before .loop-test .taken) (c .if1 .taken))
+returns c =
+    let c3 = c .before .before .before in
+    let c4 = c3 .before in
+    λ code lengths σ held. sym (fails-held code lengths (c4 .args .t1) σ held (c3 .loop .t) (c .before .before .loop-test .taken) (c .if1 .taken))
 
 loop-again : tie.Need-loop-again Inv-loop μ-loop
-loop-again c = (search needs, λ u b. one-more (λ (u : ℕ). threadAt (c .before .before .before .before .args .t1) u .failed ≡ false) (c .before .before .before .loop .t) (c .before .before .before .loop .inv .1) (c .if1 .left) u b)
+loop-again c =
+    let c3 = c .before .before .before in
+    let c4 = c3 .before in
+    (search needs, λ u b. one-more (λ (u : ℕ). threadAt (c4 .args .t1) u .failed ≡ false) (c3 .loop .t) (c3 .loop .inv .1) (c .if1 .left) u b)
 
 returns-2 : tie.Need-returns-2 Inv-loop μ-loop
 returns-2 c = λ code lengths σ held. sym (fails-not-held code lengths (c .before .before .args .t1) σ held (λ u b. c .before .loop .inv .1 u (omega arith)))

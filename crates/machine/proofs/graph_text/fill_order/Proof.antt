@@ -19,7 +19,18 @@ loop-holds : tie.Need-loop-holds Inv-loop μ-loop
 loop-holds c = (search needs, search needs, search needs, filled-none (c .args .trail .now) (c .args .l) (c .args .frame .now) (c .pre .0))
 
 loop-again : tie.Need-loop-again Inv-loop μ-loop
-loop-again c = let h = headed-length (c .before .before .before .before .args .l) (c .before .before .before .before .args .frame .now) ∙ c .before .before .before .before .pre .0 in let f = ⊎-elim (λ w. filled-more (c .before .before .before .before .args .trail .now) (c .before .before .before .before .args .l) (c .before .before .before .loop .k) _ (c .before .before .before .loop .frame) (c .if1 .frame) (c .before .before .before .loop .n) (c .if1 .n) _ h (omega arith) (c .before .writes-to .ensures) (c .before .before .before .loop .inv .3) (w .0 .taken) (w .3) (w .4)) (λ w. filled-same (c .before .before .before .before .args .trail .now) (c .before .before .before .before .args .l) (c .before .before .before .loop .k) _ (c .before .before .before .loop .frame) (c .if1 .frame) (c .before .before .before .loop .n) (c .if1 .n) _ (c .before .writes-to .ensures) (c .before .before .before .loop .inv .3) (w .0 .left) (w .1) (w .2)) (c .if1 .came) in (search needs, f .few, filled-length _ _ _ _ _ _ h (omega arith) f, f)
+loop-again c =
+    let c3 = c .before .before .before in
+    let c4 = c3 .before in
+    let h = headed-length (c4 .args .l) (c4 .args .frame .now) ∙ c4 .pre .0 in let f = ⊎-elim (λ w. filled-more (c4 .args .trail .now) (c4 .args .l)
+    (c3 .loop .k) _ (c3 .loop .frame) (c .if1 .frame) (c3 .loop .n) (c .if1 .n) _ h (omega arith) (c .before .writes-to .ensures) (c3 .loop .inv .3)
+    (w .0 .taken) (w .3) (w .4)) (λ w. filled-same (c4 .args .trail .now) (c4 .args .l) (c3 .loop .k) _ (c3 .loop .frame) (c .if1 .frame) (c3 .loop
+    .n) (c .if1 .n) _ (c .before .writes-to .ensures) (c3 .loop .inv .3) (w .0 .left) (w .1) (w .2)) (c .if1 .came) in (
+      search needs,
+      f .few,
+      filled-length _ _ _ _ _ _ h (omega arith) f,
+      f,
+    )
 
 returns : tie.Need-returns Inv-loop μ-loop
 returns c = filled-all (c .before .before .args .trail .now) (c .before .before .args .l) (c .before .loop .k) (c .before .before .args .steps) (c .before .before .args .frame .now) _ _ (omega arith) (c .before .before .pre .1) (c .before .loop .inv .3)

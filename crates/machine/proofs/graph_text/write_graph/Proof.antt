@@ -15,10 +15,17 @@ part-write-orders-start : tie.Need-part-write-orders-start
 part-write-orders-start c = let h = wrote-within _ _ _ _ (c .before .before .write-reads .ensures) in omega arith
 
 add-result : tie.Need-add-result
-add-result c = let h = wrote-within _ _ _ _ (c .before .before .before .before .before .before .write-reads .ensures) in let m = mid-len (c .before .before .before .before .before .before .write-reads .result) (length (c .before .before .before .before .before .before .write-reads .last .0)) (c .before .before .before .before .before .before .write-reads .last .0) (omega arith) in let k = wrote-within _ _ _ _ (c .before .before .write-orders .ensures) in omega arith
+add-result c =
+    let c6 = c .before .before .before .before .before .before in
+    let h = wrote-within _ _ _ _ (c6 .write-reads .ensures) in let m = mid-len (c6 .write-reads .result) (length (c6 .write-reads .last .0)) (c6
+    .write-reads .last .0) (omega arith) in let k = wrote-within _ _ _ _ (c .before .before .write-orders .ensures) in omega arith
 
 returns : tie.Need-returns
-returns c = notes-written (c .before .before .before .before .before .before .before .before .before .args .trail .now) (c .before .before .before .before .before .before .before .before .before .args .out .now) _ _ (c .before .before .before .before .before .before .before .before .before .args .steps) _ _ (c .before .before .before .before .before .before .before .before .before .pre .0) (c .before .before .before .before .before .before .write-reads .ensures) (c .before .before .write-orders .ensures)
+returns c =
+    let c6 = c .before .before .before .before .before .before in
+    let c9 = c6 .before .before .before in
+    notes-written (c9 .args .trail .now) (c9 .args .out .now) _ _ (c9 .args .steps) _ _ (c9 .pre .0) (c6 .write-reads .ensures) (c .before .before
+    .write-orders .ensures)
 
 pub write-graph-spec : {M : Type 1} → statement M
 write-graph-spec = tie.close (tie.spec (λ c κs. search needs) sub-write-orders part-write-orders-start (λ c. search needs) (λ c κs. search needs) add-result (λ c. search needs) returns)

@@ -25,10 +25,22 @@ unfolding orderFramesIn flatMap upTo
 loop-holds c = (search needs, search needs, search needs, unwritten _ (c .before .args .out .now) refl)
 
 add-at : tie.Need-add-at Inv-loop μ-loop
-add-at c = let h = wrote-within _ _ _ _ (c .before .before .write-order .ensures) .0 in let m = mid-len (c .before .before .before .before .before .loop .at) (length (c .before .before .before .before .before .loop .out)) (c .before .before .before .before .before .loop .out) (omega arith) in omega arith
+add-at c =
+    let c5 = c .before .before .before .before .before in
+    let h = wrote-within _ _ _ _ (c .before .before .write-order .ensures) .0 in let m = mid-len (c5 .loop .at) (length (c5 .loop .out)) (c5 .loop
+    .out) (omega arith) in omega arith
 
 loop-again : tie.Need-loop-again Inv-loop μ-loop
-loop-again c = let w = wrote-more _ _ _ _ (c .before .before .before .before .before .loop .out) _ (c .before .before .before .before .before .loop .at) (c .before .before .write-order .result) (orders-next (notesAt (c .before .before .before .before .before .before .before .args .trail .now) (c .before .before .before .before .before .before .before .args .steps)) (c .before .before .before .before .before .loop .l)) (c .before .before .before .before .before .loop .inv .3) (c .before .before .write-order .ensures) in let h = wrote-within _ _ _ _ w in (search needs, omega arith, h .1, w)
+loop-again c =
+    let c5 = c .before .before .before .before .before in
+    let c7 = c5 .before .before in
+    let w = wrote-more _ _ _ _ (c5 .loop .out) _ (c5 .loop .at) (c .before .before .write-order .result) (orders-next (notesAt (c7 .args .trail .now)
+    (c7 .args .steps)) (c5 .loop .l)) (c5 .loop .inv .3) (c .before .before .write-order .ensures) in let h = wrote-within _ _ _ _ w in (
+      search needs,
+      omega arith,
+      h .1,
+      w,
+    )
 
 returns : tie.Need-returns Inv-loop μ-loop
 returns c = let e : c .before .loop .l ≡ 8 = omega arith in rw (← e) (c .before .loop .inv .3)

@@ -23,22 +23,68 @@ loop-holds : tie.Need-loop-holds Inv-loop μ-loop
 loop-holds c = λ p loaded. progress-start (c .before .before .args .code .now) (c .before .before .args .lengths .now) p (c .before .before .args .schedule .now) (c .started .result) _ (c .started .ensures p loaded) refl
 
 returns : tie.Need-returns Inv-loop μ-loop
-returns c = λ p loaded. replay-stops (c .before .before .before .before .before .before .before .args .code .now) (c .before .before .before .before .before .before .before .args .lengths .now) (c .before .before .before .before .before .before .before .args .threads) p loaded (c .before .before .before .before .before .before .before .args .schedule .now) (c .before .before .before .before .loop .m) (c .before .before .before .before .loop .trail) (c .before .before .before .before .loop .k) (c .before .before .before .before .loop .inv p loaded) (c .before .before .before .loop-test .taken) (sym (c .before .may .ensures (c .before .before .before .before .before .before .before .args .code .now) _ (c .before .before .before .before .loop .inv p loaded .holds)) ∙ not-true _ (c .if1 .taken))
+returns c =
+    let c3 = c .before .before .before in
+    let c4 = c3 .before in
+    let c7 = c4 .before .before .before in
+    λ p loaded. replay-stops (c7 .args .code .now) (c7 .args .lengths .now) (c7 .args .threads) p loaded (c7 .args .schedule .now) (c4 .loop .m) (c4
+    .loop .trail) (c4 .loop .k) (c4 .loop .inv p loaded) (c3 .loop-test .taken) (sym (c .before .may .ensures (c7 .args .code .now) _ (c4 .loop .inv p
+    loaded .holds)) ∙ not-true _ (c .if1 .taken))
 
 step-requires : tie.Need-step-requires Inv-loop μ-loop
-step-requires c κs = replay-ready (c .before .before .before .before .before .before .before .args .code .now) (c .before .before .before .before .before .before .before .args .lengths .now) (c .before .before .before .before .before .before .before .args .threads) (c .before .before .before .before .before .before .before .pre .0) (c .before .before .before .before .before .before .before .pre .1) (c .before .before .before .before .before .before .before .args .schedule .now) (c .before .before .before .before .loop .m) (c .before .before .before .before .loop .trail) (c .before .before .before .before .loop .k) (c .before .before .before .before .loop .inv (c .before .before .before .before .before .before .before .pre .0) (c .before .before .before .before .before .before .before .pre .1)) (c .before .before .before .loop-test .taken) (sym (c .before .may .ensures (c .before .before .before .before .before .before .before .args .code .now) _ (c .before .before .before .before .loop .inv (c .before .before .before .before .before .before .before .pre .0) (c .before .before .before .before .before .before .before .pre .1) .holds)) ∙ not-false _ (c .if1 .left))
+step-requires c κs =
+    let c3 = c .before .before .before in
+    let c4 = c3 .before in
+    let c7 = c4 .before .before .before in
+    replay-ready (c7 .args .code .now) (c7 .args .lengths .now) (c7 .args .threads) (c7 .pre .0) (c7 .pre .1) (c7 .args .schedule .now) (c4 .loop .m)
+    (c4 .loop .trail) (c4 .loop .k) (c4 .loop .inv (c7 .pre .0) (c7 .pre .1)) (c3 .loop-test .taken) (sym (c .before .may .ensures (c7 .args .code
+    .now) _ (c4 .loop .inv (c7 .pre .0) (c7 .pre .1) .holds)) ∙ not-false _ (c .if1 .left))
 
 put-note-requires : tie.Need-put-note-requires Inv-loop μ-loop
-put-note-requires c κs = (replay-room (c .before .before .before .before .before .before .before .before .before .before .args .code .now) (c .before .before .before .before .before .before .before .before .before .before .args .lengths .now) (c .before .before .before .before .before .before .before .before .before .before .args .threads) (c .before .before .before .before .before .before .before .before .before .before .pre .0) (c .before .before .before .before .before .before .before .before .before .before .pre .1) (c .before .before .before .before .before .before .before .before .before .before .args .schedule .now) (c .before .before .before .before .before .before .before .loop .m) (c .before .before .before .before .before .before .before .loop .trail) (c .before .before .before .before .before .before .before .loop .k) (c .before .before .before .before .before .before .before .loop .inv (c .before .before .before .before .before .before .before .before .before .before .pre .0) (c .before .before .before .before .before .before .before .before .before .before .pre .1)) (c .before .before .before .before .before .before .loop-test .taken) (sym (c .before .before .before .before .may .ensures (c .before .before .before .before .before .before .before .before .before .before .args .code .now) _ (c .before .before .before .before .before .before .before .loop .inv (c .before .before .before .before .before .before .before .before .before .before .pre .0) (c .before .before .before .before .before .before .before .before .before .before .pre .1) .holds)) ∙ not-false _ (c .before .before .before .if1 .left)), c .before .before .before .before .before .before .before .loop .inv (c .before .before .before .before .before .before .before .before .before .before .pre .0) (c .before .before .before .before .before .before .before .before .before .before .pre .1) .noted .size)
+put-note-requires c κs =
+    let c3 = c .before .before .before in
+    let c4 = c3 .before in
+    let c6 = c4 .before .before in
+    let c7 = c6 .before in
+    let c10 = c7 .before .before .before in (
+      replay-room (c10 .args .code .now) (c10 .args .lengths .now) (c10 .args .threads) (c10 .pre .0) (c10 .pre .1) (c10 .args .schedule .now) (c7
+          .loop .m) (c7 .loop .trail) (c7 .loop .k) (c7 .loop .inv (c10 .pre .0) (c10 .pre .1)) (c6 .loop-test .taken) (sym (c4 .may .ensures (c10 .args
+          .code .now) _ (c7 .loop .inv (c10 .pre .0) (c10 .pre .1) .holds)) ∙ not-false _ (c3 .if1 .left)),
+      c7 .loop .inv (c10 .pre .0) (c10 .pre .1) .noted
+          .size,
+    )
 
 loop-again : tie.Need-loop-again Inv-loop μ-loop
-loop-again c = λ p loaded. replay-more (c .before .before .before .before .before .before .before .before .before .before .before .before .args .code .now) (c .before .before .before .before .before .before .before .before .before .before .before .before .args .lengths .now) (c .before .before .before .before .before .before .before .before .before .before .before .before .args .threads) p loaded (c .before .before .before .before .before .before .before .before .before .before .before .before .args .schedule .now) (c .before .before .before .before .before .before .before .before .before .loop .m) (c .before .before .before .before .before .before .before .before .before .loop .trail) (c .before .before .before .before .before .before .before .before .before .loop .k) (c .before .before .before .before .before .before .before .before .before .loop .inv p loaded) (c .before .before .before .before .before .before .before .before .loop-test .taken) (sym (c .before .before .before .before .before .before .may .ensures (c .before .before .before .before .before .before .before .before .before .before .before .before .args .code .now) _ (c .before .before .before .before .before .before .before .before .before .loop .inv p loaded .holds)) ∙ not-false _ (c .before .before .before .before .before .if1 .left)) (c .before .before .before .before .step .result) _ (c .before .before .before .before .step .ensures _ (c .before .before .before .before .before .before .before .before .before .loop .inv p loaded .holds) (sym (c .before .before .before .before .before .before .may .ensures (c .before .before .before .before .before .before .before .before .before .before .before .before .args .code .now) _ (c .before .before .before .before .before .before .before .before .before .loop .inv p loaded .holds)) ∙ not-false _ (c .before .before .before .before .before .if1 .left)) (replay-near (c .before .before .before .before .before .before .before .before .before .before .before .before .args .code .now) (c .before .before .before .before .before .before .before .before .before .before .before .before .args .lengths .now) (c .before .before .before .before .before .before .before .before .before .before .before .before .args .threads) p loaded (c .before .before .before .before .before .before .before .before .before .before .before .before .args .schedule .now) (c .before .before .before .before .before .before .before .before .before .loop .m) (c .before .before .before .before .before .before .before .before .before .loop .trail) (c .before .before .before .before .before .before .before .before .before .loop .k) (c .before .before .before .before .before .before .before .before .before .loop .inv p loaded) (c .before .before .before .before .before .before .before .before .loop-test .taken) (sym (c .before .before .before .before .before .before .may .ensures (c .before .before .before .before .before .before .before .before .before .before .before .before .args .code .now) _ (c .before .before .before .before .before .before .before .before .before .loop .inv p loaded .holds)) ∙ not-false _ (c .before .before .before .before .before .if1 .left)))) (c .before .put-note .ensures)
+loop-again c =
+    let c4 = c .before .before .before .before in
+    let c5 = c4 .before in
+    let c6 = c5 .before in
+    let c8 = c6 .before .before in
+    let c9 = c8 .before in
+    let c12 = c9 .before .before .before in
+    λ p loaded. replay-more (c12 .args .code .now) (c12 .args .lengths .now) (c12 .args .threads) p loaded (c12 .args .schedule .now) (c9 .loop .m)
+    (c9 .loop .trail) (c9 .loop .k) (c9 .loop .inv p loaded) (c8 .loop-test .taken) (sym (c6 .may .ensures (c12 .args .code .now) _ (c9 .loop .inv p
+    loaded .holds)) ∙ not-false _ (c5 .if1 .left)) (c4 .step .result) _ (c4 .step .ensures _ (c9 .loop .inv p loaded .holds) (sym (c6 .may .ensures
+    (c12 .args .code .now) _ (c9 .loop .inv p loaded .holds)) ∙ not-false _ (c5 .if1 .left)) (replay-near (c12 .args .code .now) (c12 .args .lengths
+    .now) (c12 .args .threads) p loaded (c12 .args .schedule .now) (c9 .loop .m) (c9 .loop .trail) (c9 .loop .k) (c9 .loop .inv p loaded) (c8
+    .loop-test .taken) (sym (c6 .may .ensures (c12 .args .code .now) _ (c9 .loop .inv p loaded .holds)) ∙ not-false _ (c5 .if1 .left)))) (c .before
+    .put-note .ensures)
 
 returns-2 : tie.Need-returns-2 Inv-loop μ-loop
-returns-2 c = λ p loaded. replay-whole (c .before .before .before .before .before .before .args .code .now) (c .before .before .before .before .before .before .args .lengths .now) (c .before .before .before .before .before .before .args .threads) p loaded (c .before .before .before .before .before .before .args .schedule .now) (c .before .before .before .loop .m) (c .before .before .before .loop .trail) (c .before .before .before .loop .k) (c .before .before .before .loop .inv p loaded) (c .before .before .loop-test .left) (sym (c .before .ended-all .ensures (c .before .before .before .before .before .before .args .code .now) _ (c .before .before .before .loop .inv p loaded .holds)) ∙ c .if2 .taken)
+returns-2 c =
+    let c3 = c .before .before .before in
+    let c6 = c3 .before .before .before in
+    λ p loaded. replay-whole (c6 .args .code .now) (c6 .args .lengths .now) (c6 .args .threads) p loaded (c6 .args .schedule .now) (c3 .loop .m) (c3
+    .loop .trail) (c3 .loop .k) (c3 .loop .inv p loaded) (c .before .before .loop-test .left) (sym (c .before .ended-all .ensures (c6 .args .code
+    .now) _ (c3 .loop .inv p loaded .holds)) ∙ c .if2 .taken)
 
 returns-3 : tie.Need-returns-3 Inv-loop μ-loop
-returns-3 c = λ p loaded. replay-short (c .before .before .before .before .before .before .args .code .now) (c .before .before .before .before .before .before .args .lengths .now) (c .before .before .before .before .before .before .args .threads) p loaded (c .before .before .before .before .before .before .args .schedule .now) (c .before .before .before .loop .m) (c .before .before .before .loop .trail) (c .before .before .before .loop .k) (c .before .before .before .loop .inv p loaded) (c .before .before .loop-test .left) (sym (c .before .ended-all .ensures (c .before .before .before .before .before .before .args .code .now) _ (c .before .before .before .loop .inv p loaded .holds)) ∙ c .if2 .left)
+returns-3 c =
+    let c3 = c .before .before .before in
+    let c6 = c3 .before .before .before in
+    λ p loaded. replay-short (c6 .args .code .now) (c6 .args .lengths .now) (c6 .args .threads) p loaded (c6 .args .schedule .now) (c3 .loop .m) (c3
+    .loop .trail) (c3 .loop .k) (c3 .loop .inv p loaded) (c .before .before .loop-test .left) (sym (c .before .ended-all .ensures (c6 .args .code
+    .now) _ (c3 .loop .inv p loaded .holds)) ∙ c .if2 .left)
 
 pub replayed-spec : {M : Type 1} → statement M
 replayed-spec = tie.close (tie.spec Inv-loop μ-loop started-requires loop-holds (λ c. search needs) (λ c κs. search needs) returns step-requires put-note-requires (λ c. search needs) (λ c. search needs) loop-again (λ c κs. search needs) returns-2 returns-3)

@@ -9,7 +9,10 @@ settle-requires : tie.Need-settle-requires
 settle-requires c κs = (search needs, c .before .before .pre .1 (c .if1 .taken), omega arith)
 
 returns : tie.Need-returns
-returns c = λ p loaded. opened-held (c .before .before .before .args .code .now) (c .before .before .before .args .lengths .now) (c .before .before .before .args .threads) p loaded (c .before .before .before .args .t) (c .settle .result) (c .before .if1 .taken) (c .settle .ensures .0) (c .settle .ensures .1 .2)
+returns c =
+    let c3 = c .before .before .before in
+    λ p loaded. opened-held (c3 .args .code .now) (c3 .args .lengths .now) (c3 .args .threads) p loaded (c3 .args .t) (c .settle .result) (c .before
+    .if1 .taken) (c .settle .ensures .0) (c .settle .ensures .1 .2)
 
 returns-2 : tie.Need-returns-2
 returns-2 c = λ p loaded. missing-held (c .before .before .args .code .now) (c .before .before .args .lengths .now) (c .before .before .args .threads) p loaded (c .before .before .args .t) _ (c .if1 .left)

@@ -25,7 +25,15 @@ opened-requires : tie.Need-opened-requires Inv-loop μ-loop
 opened-requires c κs = (search needs, λ h. short-held (c .before .before .args .code .now) (c .before .before .args .lengths .now) (c .before .before .args .threads) (c .before .before .pre .0) (c .before .before .pre .1) (c .before .loop .t) h)
 
 loop-again : tie.Need-loop-again Inv-loop μ-loop
-loop-again c = (search needs, length-set (c .before .before .loop .all) (c .before .before .loop .t) (c .opened .result) ∙ c .before .before .loop .inv .1, λ p loaded. one-more (c .before .before .before .args .code .now) (c .before .before .before .args .lengths .now) (c .before .before .before .args .threads) p loaded (c .before .before .loop .all) (c .before .before .loop .t) (c .opened .result) (c .before .before .loop .inv .1) (c .before .loop-test .taken) (c .before .before .loop .inv .2 p loaded) (c .opened .ensures p loaded))
+loop-again c =
+    let c3 = c .before .before .before in (
+      search needs,
+      length-set (c .before .before .loop .all) (c .before .before .loop .t) (c .opened .result) ∙ c .before .before .loop .inv .1,
+      λ p
+          loaded. one-more (c3 .args .code .now) (c3 .args .lengths .now) (c3 .args .threads) p loaded (c .before .before .loop .all) (c .before .before
+          .loop .t) (c .opened .result) (c .before .before .loop .inv .1) (c .before .loop-test .taken) (c .before .before .loop .inv .2 p loaded) (c
+          .opened .ensures p loaded),
+    )
 
 returns : tie.Need-returns Inv-loop μ-loop
 returns c = λ p loaded. start-held (c .before .before .args .code .now) (c .before .before .args .lengths .now) (c .before .before .args .threads) p loaded (c .before .loop .all) (c .before .loop .t) (c .before .loop .inv .1) (c .loop-test .left) (c .before .loop .inv .2 p loaded)

@@ -10,22 +10,91 @@ use Rattle.machine.proofs.stepping.step.Statement.{statement}
 use Rattle.machine.proofs.stepping.step.Tie as tie
 
 add-instruction-at : tie.Need-add-instruction-at
-add-instruction-at c = omega (arith, (subst (λ (v : ℕ). threadAt (c .before .before .before .before .args .m) v .at < getD (c .before .before .before .before .args .lengths .now) v 0) (sym (c .before .before .before .wide .ensures)) (c .before .before .before .before .pre .left)), (subst (λ (v : ℕ). v < 6) (sym (c .before .before .before .wide .ensures)) (c .before .before .before .before .pre .six)), (subst (λ (v : ℕ). getD (c .before .before .before .before .args .lengths .now) v 0 ≤ 16) (sym (c .before .before .before .wide .ensures)) (c .before .before .before .before .pre .sixteen)), (subst (λ (v : ℕ). threadAt (c .before .before .before .before .args .m) v .done ≤ threadAt (c .before .before .before .before .args .m) v .at) (sym (c .before .before .before .wide .ensures)) (c .before .before .before .before .pre .bounded)))
+add-instruction-at c =
+    let c3 = c .before .before .before in
+    let c4 = c3 .before in
+    omega (
+      arith,
+      (subst (λ (v : ℕ). threadAt (c4 .args .m) v .at < getD (c4 .args .lengths .now) v 0) (sym (c3 .wide .ensures)) (c4 .pre .left)),
+      (subst (λ (v : ℕ). v < 6) (sym (c3 .wide .ensures)) (c4 .pre .six)),
+      (subst (λ (v : ℕ). getD (c4 .args .lengths .now) v 0 ≤ 16) (sym (c3 .wide
+          .ensures)) (c4 .pre .sixteen)),
+      (subst (λ (v : ℕ). threadAt (c4 .args .m) v .done ≤ threadAt (c4 .args .m) v .at) (sym (c3 .wide .ensures)) (c4
+          .pre .bounded)),
+    )
 
 add-settle : tie.Need-add-settle
-add-settle c = omega (arith, (subst (λ (v : ℕ). threadAt (c .before .before .before .before .before .before .before .before .args .m) v .at < getD (c .before .before .before .before .before .before .before .before .args .lengths .now) v 0) (sym (c .before .before .before .before .before .before .before .wide .ensures)) (c .before .before .before .before .before .before .before .before .pre .left)), (subst (λ (v : ℕ). v < 6) (sym (c .before .before .before .before .before .before .before .wide .ensures)) (c .before .before .before .before .before .before .before .before .pre .six)), (subst (λ (v : ℕ). getD (c .before .before .before .before .before .before .before .before .args .lengths .now) v 0 ≤ 16) (sym (c .before .before .before .before .before .before .before .wide .ensures)) (c .before .before .before .before .before .before .before .before .pre .sixteen)), (subst (λ (v : ℕ). threadAt (c .before .before .before .before .before .before .before .before .args .m) v .done ≤ threadAt (c .before .before .before .before .before .before .before .before .args .m) v .at) (sym (c .before .before .before .before .before .before .before .wide .ensures)) (c .before .before .before .before .before .before .before .before .pre .bounded)))
+add-settle c =
+    let c7 = c .before .before .before .before .before .before .before in
+    let c8 = c7 .before in
+    omega (
+      arith,
+      (subst (λ (v : ℕ). threadAt (c8 .args .m) v .at < getD (c8 .args .lengths .now) v 0) (sym (c7 .wide .ensures)) (c8 .pre .left)),
+      (subst (λ (v : ℕ). v < 6) (sym (c7 .wide .ensures)) (c8 .pre .six)),
+      (subst (λ (v : ℕ). getD (c8 .args .lengths .now) v 0 ≤ 16) (sym (c7 .wide
+          .ensures)) (c8 .pre .sixteen)),
+      (subst (λ (v : ℕ). threadAt (c8 .args .m) v .done ≤ threadAt (c8 .args .m) v .at) (sym (c7 .wide .ensures)) (c8
+          .pre .bounded)),
+    )
 
 add-settle-2 : tie.Need-add-settle-2
-add-settle-2 c = omega (arith, (subst (λ (v : ℕ). threadAt (c .before .before .before .before .before .before .before .before .args .m) v .at < getD (c .before .before .before .before .before .before .before .before .args .lengths .now) v 0) (sym (c .before .before .before .before .before .before .before .wide .ensures)) (c .before .before .before .before .before .before .before .before .pre .left)), (subst (λ (v : ℕ). v < 6) (sym (c .before .before .before .before .before .before .before .wide .ensures)) (c .before .before .before .before .before .before .before .before .pre .six)), (subst (λ (v : ℕ). getD (c .before .before .before .before .before .before .before .before .args .lengths .now) v 0 ≤ 16) (sym (c .before .before .before .before .before .before .before .wide .ensures)) (c .before .before .before .before .before .before .before .before .pre .sixteen)), (subst (λ (v : ℕ). threadAt (c .before .before .before .before .before .before .before .before .args .m) v .done ≤ threadAt (c .before .before .before .before .before .before .before .before .args .m) v .at) (sym (c .before .before .before .before .before .before .before .wide .ensures)) (c .before .before .before .before .before .before .before .before .pre .bounded)))
+add-settle-2 c =
+    let c7 = c .before .before .before .before .before .before .before in
+    let c8 = c7 .before in
+    omega (
+      arith,
+      (subst (λ (v : ℕ). threadAt (c8 .args .m) v .at < getD (c8 .args .lengths .now) v 0) (sym (c7 .wide .ensures)) (c8 .pre .left)),
+      (subst (λ (v : ℕ). v < 6) (sym (c7 .wide .ensures)) (c8 .pre .six)),
+      (subst (λ (v : ℕ). getD (c8 .args .lengths .now) v 0 ≤ 16) (sym (c7 .wide
+          .ensures)) (c8 .pre .sixteen)),
+      (subst (λ (v : ℕ). threadAt (c8 .args .m) v .done ≤ threadAt (c8 .args .m) v .at) (sym (c7 .wide .ensures)) (c8
+          .pre .bounded)),
+    )
 
 settle-requires : tie.Need-settle-requires
-settle-requires c κs = ((subst (λ (v : ℕ). v < 6) (sym (c .before .before .before .before .before .before .before .wide .ensures)) (c .before .before .before .before .before .before .before .before .pre .six)), (subst (λ (v : ℕ). getD (c .before .before .before .before .before .before .before .before .args .lengths .now) v 0 ≤ 16) (sym (c .before .before .before .before .before .before .before .wide .ensures)) (c .before .before .before .before .before .before .before .before .pre .sixteen)), omega (arith, (subst (λ (v : ℕ). threadAt (c .before .before .before .before .before .before .before .before .args .m) v .at < getD (c .before .before .before .before .before .before .before .before .args .lengths .now) v 0) (sym (c .before .before .before .before .before .before .before .wide .ensures)) (c .before .before .before .before .before .before .before .before .pre .left)), (subst (λ (v : ℕ). v < 6) (sym (c .before .before .before .before .before .before .before .wide .ensures)) (c .before .before .before .before .before .before .before .before .pre .six)), (subst (λ (v : ℕ). getD (c .before .before .before .before .before .before .before .before .args .lengths .now) v 0 ≤ 16) (sym (c .before .before .before .before .before .before .before .wide .ensures)) (c .before .before .before .before .before .before .before .before .pre .sixteen)), (subst (λ (v : ℕ). threadAt (c .before .before .before .before .before .before .before .before .args .m) v .done ≤ threadAt (c .before .before .before .before .before .before .before .before .args .m) v .at) (sym (c .before .before .before .before .before .before .before .wide .ensures)) (c .before .before .before .before .before .before .before .before .pre .bounded))))
+settle-requires c κs =
+    let c7 = c .before .before .before .before .before .before .before in
+    let c8 = c7 .before in (
+      (subst (λ (v : ℕ). v < 6) (sym (c7 .wide .ensures)) (c8 .pre .six)),
+      (subst (λ (v : ℕ). getD (c8 .args .lengths .now) v 0 ≤ 16) (sym (c7 .wide
+          .ensures)) (c8 .pre .sixteen)),
+      omega (
+        arith,
+        (subst (λ (v : ℕ). threadAt (c8 .args .m) v .at < getD (c8 .args .lengths .now) v 0) (sym (c7 .wide
+            .ensures)) (c8 .pre .left)),
+        (subst (λ (v : ℕ). v < 6) (sym (c7 .wide .ensures)) (c8 .pre .six)),
+        (subst (λ (v : ℕ). getD (c8 .args .lengths .now)
+            v 0 ≤ 16) (sym (c7 .wide .ensures)) (c8 .pre .sixteen)),
+        (subst (λ (v : ℕ). threadAt (c8 .args .m) v .done ≤ threadAt (c8 .args .m) v .at) (sym
+            (c7 .wide .ensures)) (c8 .pre .bounded)),
+      ),
+    )
 
 returns : tie.Need-returns
-returns c = λ σ held ok near. step-written (c .before .before .before .before .before .before .before .before .before .before .before .before .before .args .code .now) (c .before .before .before .before .before .before .before .before .before .before .before .before .before .args .lengths .now) (c .before .before .before .before .before .before .before .before .before .before .before .before .before .args .m) σ (c .before .before .before .before .before .before .before .before .before .before .before .before .before .args .t) (c .before .before .before .before .before .before .before .before .before .before .before .before .wide .result) (c .before .before .before .before .before .before .before .before .before .before .before .before .wide .ensures) held ok near (c .before .before .before .before .before .before .before .before .instruction-at .result) (c .before .before .before .before .before .before .before .accessed .result) (c .before .before .before .before .settle .result) (c .before .before .before .wide2 .result) (subst (λ (v : ℕ). threadAt (c .before .before .before .before .before .before .before .before .before .before .before .before .before .args .m) v .at < getD (c .before .before .before .before .before .before .before .before .before .before .before .before .before .args .lengths .now) v 0) (sym (c .before .before .before .before .before .before .before .before .before .before .before .before .wide .ensures)) (c .before .before .before .before .before .before .before .before .before .before .before .before .before .pre .left)) (c .before .before .before .before .before .before .before .before .instruction-at .ensures) (c .before .before .before .before .before .before .before .accessed .ensures) (c .before .before .before .before .settle .ensures .0) (c .before .before .before .before .settle .ensures .1 .0) (c .before .before .before .before .settle .ensures .1 .2) (c .before .before .before .wide2 .ensures) (c .if1 .taken)
+returns c =
+    let c3 = c .before .before .before in
+    let c4 = c3 .before in
+    let c7 = c4 .before .before .before in
+    let c8 = c7 .before in
+    let c12 = c8 .before .before .before .before in
+    let c13 = c12 .before in
+    λ σ held ok near. step-written (c13 .args .code .now) (c13 .args .lengths .now) (c13 .args .m) σ (c13 .args .t) (c12 .wide .result) (c12 .wide
+    .ensures) held ok near (c8 .instruction-at .result) (c7 .accessed .result) (c4 .settle .result) (c3 .wide2 .result) (subst (λ (v : ℕ). threadAt
+    (c13 .args .m) v .at < getD (c13 .args .lengths .now) v 0) (sym (c12 .wide .ensures)) (c13 .pre .left)) (c8 .instruction-at .ensures) (c7
+    .accessed .ensures) (c4 .settle .ensures .0) (c4 .settle .ensures .1 .0) (c4 .settle .ensures .1 .2) (c3 .wide2 .ensures) (c .if1 .taken)
 
 returns-2 : tie.Need-returns-2
-returns-2 c = λ σ held ok near. step-still (c .before .before .before .before .before .before .before .before .before .before .before .before .before .args .code .now) (c .before .before .before .before .before .before .before .before .before .before .before .before .before .args .lengths .now) (c .before .before .before .before .before .before .before .before .before .before .before .before .before .args .m) σ (c .before .before .before .before .before .before .before .before .before .before .before .before .before .args .t) (c .before .before .before .before .before .before .before .before .before .before .before .before .wide .result) (c .before .before .before .before .before .before .before .before .before .before .before .before .wide .ensures) held ok near (c .before .before .before .before .before .before .before .before .instruction-at .result) (c .before .before .before .before .before .before .before .accessed .result) (c .before .before .before .before .settle .result) (c .before .before .before .wide2 .result) (subst (λ (v : ℕ). threadAt (c .before .before .before .before .before .before .before .before .before .before .before .before .before .args .m) v .at < getD (c .before .before .before .before .before .before .before .before .before .before .before .before .before .args .lengths .now) v 0) (sym (c .before .before .before .before .before .before .before .before .before .before .before .before .wide .ensures)) (c .before .before .before .before .before .before .before .before .before .before .before .before .before .pre .left)) (c .before .before .before .before .before .before .before .before .instruction-at .ensures) (c .before .before .before .before .before .before .before .accessed .ensures) (c .before .before .before .before .settle .ensures .0) (c .before .before .before .before .settle .ensures .1 .0) (c .before .before .before .before .settle .ensures .1 .2) (c .before .before .before .wide2 .ensures) (c .if1 .left)
+returns-2 c =
+    let c3 = c .before .before .before in
+    let c4 = c3 .before in
+    let c7 = c4 .before .before .before in
+    let c8 = c7 .before in
+    let c12 = c8 .before .before .before .before in
+    let c13 = c12 .before in
+    λ σ held ok near. step-still (c13 .args .code .now) (c13 .args .lengths .now) (c13 .args .m) σ (c13 .args .t) (c12 .wide .result) (c12 .wide
+    .ensures) held ok near (c8 .instruction-at .result) (c7 .accessed .result) (c4 .settle .result) (c3 .wide2 .result) (subst (λ (v : ℕ). threadAt
+    (c13 .args .m) v .at < getD (c13 .args .lengths .now) v 0) (sym (c12 .wide .ensures)) (c13 .pre .left)) (c8 .instruction-at .ensures) (c7
+    .accessed .ensures) (c4 .settle .ensures .0) (c4 .settle .ensures .1 .0) (c4 .settle .ensures .1 .2) (c3 .wide2 .ensures) (c .if1 .left)
 
 pub step-spec : {M : Type 1} → statement M
 step-spec = tie.close (tie.spec (λ c κs. search needs) (λ c. search needs) (λ c. search needs) (λ c. search needs) add-instruction-at (λ c κs. search needs) (λ c κs. search needs) (λ c. search needs) (λ c. search needs) add-settle add-settle-2 settle-requires (λ c. search needs) (λ c. search needs) (λ c κs. search needs) (λ c. search needs) (λ c. search needs) (λ c. search needs) (λ c. search needs) (λ c. search needs) (λ c. search needs) returns returns-2)

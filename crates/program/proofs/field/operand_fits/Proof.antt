@@ -15,7 +15,17 @@ returns-2 c = rw (ne-eqb _ _ (c .before .before .if1 .left), ← c .before .fiel
 
 returns-3 : tie.Need-returns-3
 unfolding operandFits
-returns-3 c = rw (ne-eqb _ _ (c .before .before .before .before .if1 .left), ← c .before .before .before .field .ensures, ne-eqb _ _ (c .before .before .if2 .left), eq-eqb _ _ (c .before .if3 .taken), ← c .word-at .ensures)
+returns-3 c =
+    let c3 = c .before .before .before in
+    let c4 = c3 .before in
+    rw (
+      ne-eqb _ _ (c4 .if1 .left),
+      ← c3 .field .ensures,
+      ne-eqb _ _ (c .before .before .if2 .left),
+      eq-eqb _ _ (c .before .if3 .taken),
+      ← c .word-at
+          .ensures,
+    )
 
 returns-4 : tie.Need-returns-4
 unfolding operandFits

@@ -6,7 +6,10 @@ use Rattle.program.proofs.field.word_at.Tie as tie
 
 returns : tie.Need-returns
 unfolding word
-returns c = rw (c .join .ensures, c .before .byte-at4 .ensures, c .before .before .byte-at3 .ensures, c .before .before .before .byte-at2 .ensures, c .before .before .before .before .byte-at .ensures)
+returns c =
+    let c3 = c .before .before .before in
+    let c4 = c3 .before in
+    rw (c .join .ensures, c .before .byte-at4 .ensures, c .before .before .byte-at3 .ensures, c3 .byte-at2 .ensures, c4 .byte-at .ensures)
 
 pub word-at-spec : {M : Type 1} → statement M
 word-at-spec = tie.close (tie.spec (λ c κs. search needs) (λ c. search needs) (λ c κs. search needs) (λ c. search needs) (λ c κs. search needs) (λ c. search needs) (λ c κs. search needs) (λ c κs. search needs) returns)

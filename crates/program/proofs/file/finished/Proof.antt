@@ -13,17 +13,31 @@ use Rattle.program.proofs.file.finished.Statement.{statement}
 use Rattle.program.proofs.file.finished.Tie as tie
 
 returns : tie.Need-returns
-returns c = λ r held lined grouped. c .refused .ensures ∙ sym (finish-none (c .before .before .before .args .t1) (c .before .before .before .args .t2) (c .before .before .before .args .s) r (c .before .before .before .pre) held lined (c .before .if1 .taken))
+returns c =
+    let c3 = c .before .before .before in
+    λ r held lined grouped. c .refused .ensures ∙ sym (finish-none (c3 .args .t1) (c3 .args .t2) (c3 .args .s) r (c3 .pre) held lined (c .before .if1
+    .taken))
 
 far-skip-requires : tie.Need-far-skip-requires
 far-skip-requires c κs = (c .before .before .before .before .before .pre .six, c .before .before .before .before .before .pre .sixteen)
 
 returns-2 : tie.Need-returns-2
-returns-2 c = λ r held lined grouped. c .refused2 .ensures ∙ sym (finish-far (c .before .before .before .before .before .before .before .before .args .t1) (c .before .before .before .before .before .before .before .before .args .t2) (c .before .before .before .before .before .before .before .before .args .s) r (c .before .before .before .before .before .before .before .before .pre) held lined (c .before .before .far-skip .result) (c .before .before .before .before .before .before .if1 .left) (c .before .before .far-skip .ensures _ (held-threads (c .before .before .before .before .before .before .before .before .args .t1) (c .before .before .before .before .before .before .before .before .args .t2) (c .before .before .before .before .before .before .before .before .args .s) r (c .before .before .before .before .before .before .before .before .pre) held lined)) (c .before .if2 .taken))
+returns-2 c =
+    let c6 = c .before .before .before .before .before .before in
+    let c8 = c6 .before .before in
+    λ r held lined grouped. c .refused2 .ensures ∙ sym (finish-far (c8 .args .t1) (c8 .args .t2) (c8 .args .s) r (c8 .pre) held lined (c .before
+    .before .far-skip .result) (c6 .if1 .left) (c .before .before .far-skip .ensures _ (held-threads (c8 .args .t1) (c8 .args .t2) (c8 .args .s) r (c8
+    .pre) held lined)) (c .before .if2 .taken))
 
 returns-3 : tie.Need-returns-3
 unfolding answerOf verdictOf
-returns-3 c = λ r held lined grouped. ap accepted (program-held (c .before .before .before .before .before .before .before .before .args .t1) (c .before .before .before .before .before .before .before .before .args .s) r held (omega (arith, held .threads, c .before .before .before .before .before .before .before .before .pre .six)) (held-short (c .before .before .before .before .before .before .before .before .args .t1) (c .before .before .before .before .before .before .before .before .args .s) r (c .before .before .before .before .before .before .before .before .pre) held) grouped) ∙ sym (finish-program (c .before .before .before .before .before .before .before .before .args .t1) (c .before .before .before .before .before .before .before .before .args .t2) (c .before .before .before .before .before .before .before .before .args .s) r (c .before .before .before .before .before .before .before .before .pre) held lined (c .before .before .far-skip .result) (c .before .before .before .before .before .before .if1 .left) (c .before .before .far-skip .ensures _ (held-threads (c .before .before .before .before .before .before .before .before .args .t1) (c .before .before .before .before .before .before .before .before .args .t2) (c .before .before .before .before .before .before .before .before .args .s) r (c .before .before .before .before .before .before .before .before .pre) held lined)) (c .before .if2 .left))
+returns-3 c =
+    let c6 = c .before .before .before .before .before .before in
+    let c8 = c6 .before .before in
+    λ r held lined grouped. ap accepted (program-held (c8 .args .t1) (c8 .args .s) r held (omega (arith, held .threads, c8 .pre .six)) (held-short (c8
+    .args .t1) (c8 .args .s) r (c8 .pre) held) grouped) ∙ sym (finish-program (c8 .args .t1) (c8 .args .t2) (c8 .args .s) r (c8 .pre) held lined (c
+    .before .before .far-skip .result) (c6 .if1 .left) (c .before .before .far-skip .ensures _ (held-threads (c8 .args .t1) (c8 .args .t2) (c8 .args
+    .s) r (c8 .pre) held lined)) (c .before .if2 .left))
 
 pub finished-spec : {M : Type 1} → statement M
 finished-spec = tie.close (tie.spec (λ c κs. search needs) returns far-skip-requires (λ c κs. search needs) returns-2 returns-3)

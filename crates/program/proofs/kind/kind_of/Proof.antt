@@ -47,7 +47,28 @@ returns-10 c = rw (c .before .if10 .taken) (c .plain7 .ensures)
 
 returns-11 : tie.Need-returns-11
 unfolding kindOf find kinds
-returns-11 c = rw (ne-eqb _ _ (c .before .before .before .before .before .before .before .before .before .before .if1 .left), ne-eqb _ _ (c .before .before .before .before .before .before .before .before .before .if2 .left), ne-eqb _ _ (c .before .before .before .before .before .before .before .before .if3 .left), ne-eqb _ _ (c .before .before .before .before .before .before .before .if4 .left), ne-eqb _ _ (c .before .before .before .before .before .before .if5 .left), ne-eqb _ _ (c .before .before .before .before .before .if6 .left), ne-eqb _ _ (c .before .before .before .before .if7 .left), ne-eqb _ _ (c .before .before .before .if8 .left), ne-eqb _ _ (c .before .before .if9 .left), ne-eqb _ _ (c .before .if10 .left)) (c .bare3 .ensures)
+returns-11 c =
+    let c3 = c .before .before .before in
+    let c4 = c3 .before in
+    let c5 = c4 .before in
+    let c6 = c5 .before in
+    let c7 = c6 .before in
+    let c8 = c7 .before in
+    let c9 = c8 .before in
+    let c10 = c9 .before in
+    rw (
+      ne-eqb _ _ (c10 .if1 .left),
+      ne-eqb _ _ (c9 .if2 .left),
+      ne-eqb _ _ (c8 .if3 .left),
+      ne-eqb _ _ (c7 .if4 .left),
+      ne-eqb _ _ (c6 .if5 .left),
+      ne-eqb _ _ (c5 .if6 .left),
+      ne-eqb _ _ (c4 .if7 .left),
+      ne-eqb _ _ (c3 .if8 .left),
+      ne-eqb _ _ (c .before .before .if9 .left),
+      ne-eqb _ _ (c
+          .before .if10 .left),
+    ) (c .bare3 .ensures)
 
 pub kind-of-spec : {M : Type 1} → statement M
 kind-of-spec = tie.close (tie.spec (λ c κs. search needs) returns (λ c κs. search needs) returns-2 (λ c κs. search needs) returns-3 (λ c κs. search needs) returns-4 (λ c κs. search needs) returns-5 (λ c κs. search needs) returns-6 (λ c κs. search needs) returns-7 (λ c κs. search needs) returns-8 returns-9 (λ c κs. search needs) returns-10 (λ c κs. search needs) returns-11)

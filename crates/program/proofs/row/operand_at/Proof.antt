@@ -9,11 +9,27 @@ use Rattle.program.proofs.row.operand_at.Tie as tie
 
 returns : tie.Need-returns
 unfolding operand
-returns c = rw (row-byte (c .before .before .before .before .before .before .before .args .code .now) (c .before .before .before .before .before .before .before .args .row) (c .before .before .before .before .before .before .before .args .j) (omega arith), eq-eqb _ _ (c .if1 .taken), row-word (c .before .before .before .before .before .before .before .args .code .now) (c .before .before .before .before .before .before .before .args .row) (c .before .before .before .before .before .before .before .args .j) (search needs), ← c .before .before .join .ensures)
+returns c =
+    let c7 = c .before .before .before .before .before .before .before in
+    rw (
+      row-byte (c7 .args .code .now) (c7 .args .row) (c7 .args .j) (omega arith),
+      eq-eqb _ _ (c .if1 .taken),
+      row-word (c7 .args .code .now) (c7
+          .args .row) (c7 .args .j) (search needs),
+      ← c .before .before .join .ensures,
+    )
 
 returns-2 : tie.Need-returns-2
 unfolding operand
-returns-2 c = rw (row-byte (c .before .before .before .before .before .before .before .args .code .now) (c .before .before .before .before .before .before .before .args .row) (c .before .before .before .before .before .before .before .args .j) (omega arith), ne-eqb _ _ (c .if1 .left), row-word (c .before .before .before .before .before .before .before .args .code .now) (c .before .before .before .before .before .before .before .args .row) (c .before .before .before .before .before .before .before .args .j) (search needs), ← c .before .before .join .ensures)
+returns-2 c =
+    let c7 = c .before .before .before .before .before .before .before in
+    rw (
+      row-byte (c7 .args .code .now) (c7 .args .row) (c7 .args .j) (omega arith),
+      ne-eqb _ _ (c .if1 .left),
+      row-word (c7 .args .code .now) (c7
+          .args .row) (c7 .args .j) (search needs),
+      ← c .before .before .join .ensures,
+    )
 
 pub operand-at-spec : {M : Type 1} → statement M
 operand-at-spec = tie.close (tie.spec (λ c. search needs) (λ c. search needs) (λ c. search needs) (λ c. search needs) (λ c. search needs) (λ c. search needs) (λ c. search needs) (λ c. search needs) (λ c. search needs) (λ c. search needs) (λ c κs. search needs) (λ c. search needs) returns returns-2)

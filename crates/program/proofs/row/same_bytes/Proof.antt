@@ -18,10 +18,22 @@ loop-holds : tie.Need-loop-holds Inv-loop μ-loop
 loop-holds c = (search needs, agree-start _ _ _ _)
 
 returns : tie.Need-returns Inv-loop μ-loop
-returns c = sym (c .before .before .before .before .loop .inv .1 ∙ agree-differ (c .before .before .before .before .before .args .code .now) (c .before .before .before .before .before .args .a) (c .before .before .before .before .before .args .b) (c .before .before .before .before .before .args .n) (c .before .before .before .before .loop .k) (c .before .before .before .loop-test .taken) (c .if1 .taken))
+returns c =
+    let c3 = c .before .before .before in
+    let c4 = c3 .before in
+    let c5 = c4 .before in
+    sym (c4 .loop .inv .1 ∙ agree-differ (c5 .args .code .now) (c5 .args .a) (c5 .args .b) (c5 .args .n) (c4 .loop .k) (c3 .loop-test .taken) (c .if1
+    .taken))
 
 loop-again : tie.Need-loop-again Inv-loop μ-loop
-loop-again c = (search needs, c .before .before .before .before .loop .inv .1 ∙ agree-more (c .before .before .before .before .before .args .code .now) (c .before .before .before .before .before .args .a) (c .before .before .before .before .before .args .b) (c .before .before .before .before .before .args .n) (c .before .before .before .before .loop .k) (c .before .before .before .loop-test .taken) (c .if1 .left))
+loop-again c =
+    let c3 = c .before .before .before in
+    let c4 = c3 .before in
+    let c5 = c4 .before in (
+      search needs,
+      c4 .loop .inv .1 ∙ agree-more (c5 .args .code .now) (c5 .args .a) (c5 .args .b) (c5 .args .n) (c4 .loop .k) (c3 .loop-test .taken)
+          (c .if1 .left),
+    )
 
 returns-2 : tie.Need-returns-2 Inv-loop μ-loop
 returns-2 c = sym (c .before .loop .inv .1 ∙ agree-none _ _ _ _ (omega arith))

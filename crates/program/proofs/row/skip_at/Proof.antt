@@ -8,7 +8,10 @@ use Rattle.program.proofs.row.skip_at.Statement.{statement}
 use Rattle.program.proofs.row.skip_at.Tie as tie
 
 returns : tie.Need-returns
-returns c = c .wide .ensures ∙ sym (one-skip _ (row-first (c .before .before .before .before .args .code .now) (c .before .before .before .before .args .row) ∙ c .before .before .if1 .taken) ∙ row-byte (c .before .before .before .before .args .code .now) (c .before .before .before .before .args .row) 7 (lit< tt))
+returns c =
+    let c4 = c .before .before .before .before in
+    c .wide .ensures ∙ sym (one-skip _ (row-first (c4 .args .code .now) (c4 .args .row) ∙ c .before .before .if1 .taken) ∙ row-byte (c4 .args .code
+    .now) (c4 .args .row) 7 (lit< tt))
 
 returns-2 : tie.Need-returns-2
 returns-2 c = sym (no-skip _ (λ e. c .if1 .left (sym (row-first (c .before .before .args .code .now) (c .before .before .args .row)) ∙ e)))

@@ -25,10 +25,18 @@ in-thread-requires : tie.Need-in-thread-requires Inv-loop μ-loop
 in-thread-requires c κs = (omega arith, c .before .before .pre .1 (c .before .loop .t))
 
 returns : tie.Need-returns Inv-loop μ-loop
-returns c = λ cs held. first-found cs (c .before .before .before .loop .t) (c .before .in-thread .result) (omega (arith, held .threads)) (c .before .in-thread .ensures _ (held .each (c .before .before .before .loop .t)) (held .lengths (c .before .before .before .loop .t))) (c .if1 .taken) ∙ sym (c .before .before .before .loop .inv .1 cs held)
+returns c =
+    let c3 = c .before .before .before in
+    λ cs held. first-found cs (c3 .loop .t) (c .before .in-thread .result) (omega (arith, held .threads)) (c .before .in-thread .ensures _ (held .each
+    (c3 .loop .t)) (held .lengths (c3 .loop .t))) (c .if1 .taken) ∙ sym (c3 .loop .inv .1 cs held)
 
 loop-again : tie.Need-loop-again Inv-loop μ-loop
-loop-again c = (search needs, λ cs held. c .before .before .before .loop .inv .1 cs held ∙ first-next cs (c .before .before .before .loop .t) (c .before .in-thread .result) (omega (arith, held .threads)) (c .before .in-thread .ensures _ (held .each (c .before .before .before .loop .t)) (held .lengths (c .before .before .before .loop .t))) (c .if1 .left))
+loop-again c =
+    let c3 = c .before .before .before in (
+      search needs,
+      λ cs held. c3 .loop .inv .1 cs held ∙ first-next cs (c3 .loop .t) (c .before .in-thread .result) (omega (arith, held .threads)) (c
+          .before .in-thread .ensures _ (held .each (c3 .loop .t)) (held .lengths (c3 .loop .t))) (c .if1 .left),
+    )
 
 returns-2 : tie.Need-returns-2 Inv-loop μ-loop
 returns-2 c = λ cs held. sym (c .before .loop .inv .1 cs held ∙ first-none cs (c .before .loop .t) (omega (arith, held .threads)))

@@ -24,10 +24,20 @@ loop-holds : tie.Need-loop-holds Inv-loop μ-loop
 loop-holds c = (search needs, λ xs held e. refl)
 
 returns : tie.Need-returns Inv-loop μ-loop
-returns c = λ xs held e. sym (c .before .before .before .before .loop .inv .1 xs held e ∙ far-found (c .before .before .before .before .before .args .code .now) (c .before .before .before .before .before .args .rows .now) (c .before .before .before .before .before .args .t) xs held (c .before .before .before .before .loop .i) (omega arith) (omega (arith, c .before .before .skip-at .ensures)))
+returns c =
+    let c4 = c .before .before .before .before in
+    let c5 = c4 .before in
+    λ xs held e. sym (c4 .loop .inv .1 xs held e ∙ far-found (c5 .args .code .now) (c5 .args .rows .now) (c5 .args .t) xs held (c4 .loop .i) (omega
+    arith) (omega (arith, c .before .before .skip-at .ensures)))
 
 loop-again : tie.Need-loop-again Inv-loop μ-loop
-loop-again c = (search needs, λ xs held e. c .before .before .before .loop .inv .1 xs held e ∙ far-next (c .before .before .before .before .args .code .now) (c .before .before .before .before .args .rows .now) (c .before .before .before .before .args .t) xs held (c .before .before .before .loop .i) (omega arith) (omega (arith, c .before .skip-at .ensures)))
+loop-again c =
+    let c3 = c .before .before .before in
+    let c4 = c3 .before in (
+      search needs,
+      λ xs held e. c3 .loop .inv .1 xs held e ∙ far-next (c4 .args .code .now) (c4 .args .rows .now) (c4 .args .t) xs held (c3 .loop .i)
+          (omega arith) (omega (arith, c .before .skip-at .ensures)),
+    )
 
 returns-2 : tie.Need-returns-2 Inv-loop μ-loop
 returns-2 c = λ xs held e. sym (c .before .loop .inv .1 xs held e ∙ far-none (c .before .before .args .code .now) (c .before .before .args .rows .now) (c .before .before .args .t) xs held (c .before .loop .i) (omega arith))

@@ -23,10 +23,17 @@ loop-holds : tie.Need-loop-holds Inv-loop μ-loop
 loop-holds c = (search needs, refl)
 
 loop-again : tie.Need-loop-again Inv-loop μ-loop
-loop-again c = marking (c .before .before .before .before .before .args .g) (pairs (c .before .before .before .before .before .args .line .now)) (c .before .before .before .loop .c) (c .if1 .c) (c .before .before .before .loop .j) (c .before .field .result) _ (c .before .before .before .loop .inv .0) (c .before .before .before .loop .inv .1) (omega arith) (c .before .field .ensures) (⊎-elim (λ w. w .1) (λ w. w .1 ∙ sym (set-out (c .before .before .before .loop .c) (c .before .field .result) (c .before .before .before .before .before .args .g) (omega arith))) (c .if1 .came))
+loop-again c =
+    let c3 = c .before .before .before in
+    let c5 = c3 .before .before in
+    marking (c5 .args .g) (pairs (c5 .args .line .now)) (c3 .loop .c) (c .if1 .c) (c3 .loop .j) (c .before .field .result) _ (c3 .loop .inv .0) (c3
+    .loop .inv .1) (omega arith) (c .before .field .ensures) (⊎-elim (λ w. w .1) (λ w. w .1 ∙ sym (set-out (c3 .loop .c) (c .before .field .result)
+    (c5 .args .g) (omega arith))) (c .if1 .came))
 
 returns : tie.Need-returns Inv-loop μ-loop
-returns c = sym (c .before .loop .inv .1 ∙ marked-none (c .before .before .before .args .g) (pairs (c .before .before .before .args .line .now)) (c .before .loop .c) (c .before .loop .j) (omega arith))
+returns c =
+    let c3 = c .before .before .before in
+    sym (c .before .loop .inv .1 ∙ marked-none (c3 .args .g) (pairs (c3 .args .line .now)) (c .before .loop .c) (c .before .loop .j) (omega arith))
 
 pub mark-spec : {M : Type 1} → statement M
 mark-spec = tie.close (tie.spec Inv-loop μ-loop loop-holds (λ c κs. search needs) (λ c. search needs) (λ c. search needs) (λ c. search needs) (λ c. search needs) loop-again returns)

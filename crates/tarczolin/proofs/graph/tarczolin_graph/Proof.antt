@@ -7,10 +7,20 @@ use Rattle.tarczolin.proofs.graph.tarczolin_graph.Statement.{statement}
 use Rattle.tarczolin.proofs.graph.tarczolin_graph.Tie as tie
 
 returns : tie.Need-returns
-returns c = (c .answered .ensures ∙ ap wordOf (sym (graphed-written _ _ (sym (c .before .before .before .before .before .before .graph .ensures .0) ∙ c .before .before .a .given .1))), c .before .before .before .before .before .before .graph .ensures .1)
+returns c =
+    let c6 = c .before .before .before .before .before .before in (
+      c .answered .ensures ∙ ap wordOf (sym (graphed-written _ _ (sym (c6 .graph .ensures .0) ∙ c .before .before .a .given .1))),
+      c6 .graph .ensures
+          .1,
+    )
 
 returns-2 : tie.Need-returns-2
-returns-2 c = (c .refused .ensures ∙ ap wordOf (sym (graphed-refused _ _ _ (sym (c .before .before .before .before .before .before .graph .ensures .0) ∙ c .before .before .a2 .given .1))), c .before .before .before .before .before .before .graph .ensures .1)
+returns-2 c =
+    let c6 = c .before .before .before .before .before .before in (
+      c .refused .ensures ∙ ap wordOf (sym (graphed-refused _ _ _ (sym (c6 .graph .ensures .0) ∙ c .before .before .a2 .given .1))),
+      c6 .graph .ensures
+          .1,
+    )
 
 pub tarczolin-graph-spec : {M : Type 1} → statement M
 tarczolin-graph-spec = tie.close (tie.spec (λ c κs. search needs) (λ c. search needs) (λ c κs. search needs) (λ c. search needs) (λ c κs. search needs) (λ c. search needs) returns (λ c. search needs) returns-2)
