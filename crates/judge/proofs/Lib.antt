@@ -60,5 +60,6 @@ pub mod TabledGraph
 -- the walk's code: reads that wait, and whether a step fits, by the tables
 pub mod EntriesWait
 pub mod AllowedSteps
+pub mod WalkChoice
 -- document 01's two graphs
 pub mod Cases

@@ -18,6 +18,8 @@ mod valuing;
 mod waiting;
 // Whether the graph allows a step.
 mod allowing;
+// The next step of the walk.
+mod choosing;
 
 pub use table::Table;
 pub use text::Reply;
