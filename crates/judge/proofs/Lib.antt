@@ -61,5 +61,7 @@ pub mod TabledGraph
 pub mod EntriesWait
 pub mod AllowedSteps
 pub mod WalkChoice
+pub mod MadeTables
+pub mod WalkTurns
 -- document 01's two graphs
 pub mod Cases

@@ -6,7 +6,7 @@ use mathlib.Core.Bool.{Bool, true, cond, not, _&&_}
 use mathlib.Core.Option.{Option, none, some}
 use mathlib.Core.List.{List, reverse, List·Memᴰ}
 use lib.Dec.{eqb, ltb}
-use lib.ListN.{length, getD}
+use lib.ListN.{length, getD, set}
 use Rattle.program.specs.Program.{Program}
 use Rattle.schedules.specs.Lists.{first, upTo}
 use Rattle.schedules.specs.Order.{Schedule}
@@ -19,7 +19,7 @@ use Rattle.machine.specs.Held.{threadAt, Holds, Loaded}
 use Rattle.judge.specs.Consistent.{rowOf, orderOf, Values, Descends, locationOf}
 use Rattle.judge.specs.Judge.{values, fits}
 use Rattle.judge.specs.Reading.{parsed, readGraph}
-use Rattle.judge.specs.Held.{noLine, lineIn, Entry, Tabled}
+use Rattle.judge.specs.Held.{noLine, lineIn, Entry, put, Tabled}
 
 -- the read in entry k, other than (t, d), takes from (u, j) at location l and is not yet done
 abbrev pub waitsAt : List ℕ → List ℕ → Machine → ℕ → ℕ → ℕ → ℕ → ℕ → ℕ → Bool
@@ -83,3 +83,13 @@ threadOr t = cond (ltb t 6) (some t) none
 -- the least thread whose next access the graph allows
 abbrev pub nextOf : Program → Graph → Schedule → Option ℕ
 nextOf p g s = first (fits g (locationOf p (values p g 24)) (run SC (start p) s)) (upTo 0 6)
+
+-- the table of the graph made so far, with the read of a step and with its write, by its note
+abbrev pub sourceAdded : List ℕ → List ℕ → List ℕ
+sourceAdded pairs b = cond (eqb (getD b 3 0) 0) pairs (put pairs (getD b 0 0 * 16 + getD b 1 0) (getD b 4 0) (getD b 5 0))
+
+abbrev pub eventAdded : List ℕ → List ℕ → List ℕ → List ℕ
+eventAdded pairs counts b = cond (eqb (getD b 6 0) 0) pairs (put pairs (96 + (getD b 2 0 * 24 + getD counts (getD b 2 0) 0)) (getD b 0 0) (getD b 1 0))
+
+abbrev pub countAdded : List ℕ → List ℕ → List ℕ
+countAdded counts b = cond (eqb (getD b 6 0) 0) counts (set counts (getD b 2 0) (getD counts (getD b 2 0) 0 + 1))

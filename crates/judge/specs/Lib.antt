@@ -13,6 +13,8 @@ pub mod Held
 pub mod HeldRounds
 -- what the walk goes by
 pub mod HeldWalk
+-- what the walk leaves
+pub mod HeldYes
 -- graphs judged by computing
 pub mod Examples
 -- what the definition of consistent says of small graphs

@@ -20,6 +20,10 @@ mod waiting;
 mod allowing;
 // The next step of the walk.
 mod choosing;
+// The graph made so far.
+mod making;
+// The walk.
+mod walking;
 
 pub use table::Table;
 pub use text::Reply;
