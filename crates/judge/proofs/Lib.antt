@@ -63,5 +63,8 @@ pub mod AllowedSteps
 pub mod WalkChoice
 pub mod MadeTables
 pub mod WalkTurns
+-- the call: the tables compared, the answer way by way
+pub mod JudgeTables
+pub mod CallAnswer
 -- document 01's two graphs
 pub mod Cases

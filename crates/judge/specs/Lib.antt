@@ -7,6 +7,8 @@ pub mod Judge
 pub mod Reading
 -- the answer to a graph text
 pub mod Answer
+-- the answer as the call hands it over
+pub mod Call
 -- how arrays hold a graph and what has been read of its text; for the judge's own functions
 pub mod Held
 -- how they hold a thread that runs by itself, and a round

@@ -24,7 +24,15 @@ mod choosing;
 mod making;
 // The walk.
 mod walking;
+// Tables compared.
+mod comparing;
+// The judge.
+mod judging;
+// The call.
+mod answering;
 
+pub use answering::Outcome;
+pub use answering::judge;
 pub use table::Table;
 pub use text::Reply;
 pub use text::Verdict;
