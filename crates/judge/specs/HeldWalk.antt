@@ -3,16 +3,23 @@ use Prim.Native.Nat.{ℕ, _+_, _*_, _/_, _%_, _<_, _≤_}
 use mathlib.Core.Path.{_≡_}
 use mathlib.Core.Logic.{_≢_}
 use mathlib.Core.Bool.{Bool, true, cond, not, _&&_}
+use mathlib.Core.Option.{Option, none, some}
 use mathlib.Core.List.{List, reverse, List·Memᴰ}
 use lib.Dec.{eqb, ltb}
-use lib.ListN.{length, getD}
+use lib.ListN.{length, getD, set}
+use Rattle.program.specs.Program.{Program}
+use Rattle.schedules.specs.Lists.{first, upTo}
+use Rattle.schedules.specs.Order.{Schedule}
+use Rattle.schedules.specs.System.{run, Allowed}
 use Rattle.machine.specs.declared.state.Machine.{Machine}
-use Rattle.machine.specs.State.{Event, State, threadOf, cellOf}
+use Rattle.machine.specs.State.{Event, State, threadOf, cellOf, SC, start}
 use Rattle.machine.specs.Graph.{Graph}
 use Rattle.machine.specs.Notes.{note, noteBytes}
-use Rattle.machine.specs.Held.{threadAt}
-use Rattle.judge.specs.Consistent.{rowOf, orderOf, Values, Descends}
-use Rattle.judge.specs.Held.{noLine, lineIn, Entry}
+use Rattle.machine.specs.Held.{threadAt, Holds, Loaded}
+use Rattle.judge.specs.Consistent.{rowOf, orderOf, Values, Descends, locationOf}
+use Rattle.judge.specs.Judge.{values, fits}
+use Rattle.judge.specs.Reading.{parsed, readGraph}
+use Rattle.judge.specs.Held.{noLine, lineIn, Entry, put, Tabled}
 
 -- the read in entry k, other than (t, d), takes from (u, j) at location l and is not yet done
 abbrev pub waitsAt : List ℕ → List ℕ → Machine → ℕ → ℕ → ℕ → ℕ → ℕ → ℕ → Bool
@@ -56,3 +63,33 @@ turnAllowed pairs made b =
 pub record Ordering (pairs counts : List ℕ) (g : Graph) (σ : State) : Type 0 where
   pub orders : (l k : ℕ) → l < 8 → k < 24 → Entry pairs (96 + (l * 24 + k)) (getD (reverse (orderOf g l)) k noLine)
   pub made : (l : ℕ) → l < 8 → getD counts l 0 ≡ length (cellOf σ l .writes)
+
+-- the walk so far: the program and the graph that was read stand in their tables, and the machine stands behind the schedule s
+pub record Walking (code lengths : List ℕ) (n : ℕ) (pairs table : List ℕ) (p : Program) (g : Graph) (m : Machine) (counts : List ℕ) (s : Schedule) : Type 0 where
+  pub loaded : Loaded code lengths n p
+  pub text : List ℕ
+  pub read : readGraph n text ≡ parsed g
+  pub sizes : List ℕ
+  pub tabled : Tabled pairs sizes g
+  pub places : (t i : ℕ) → t < n → i < 16 → getD table (t * 16 + i) 0 ≡ locationOf p (values p g 24) (t, i)
+  pub allowed : Allowed SC (start p) s
+  pub holds : Holds code lengths m (run SC (start p) s)
+  pub made : (l : ℕ) → l < 8 → getD counts l 0 ≡ length (cellOf (run SC (start p) s) l .writes)
+
+-- a thread, or none for 6
+abbrev pub threadOr : ℕ → Option ℕ
+threadOr t = cond (ltb t 6) (some t) none
+
+-- the least thread whose next access the graph allows
+abbrev pub nextOf : Program → Graph → Schedule → Option ℕ
+nextOf p g s = first (fits g (locationOf p (values p g 24)) (run SC (start p) s)) (upTo 0 6)
+
+-- the table of the graph made so far, with the read of a step and with its write, by its note
+abbrev pub sourceAdded : List ℕ → List ℕ → List ℕ
+sourceAdded pairs b = cond (eqb (getD b 3 0) 0) pairs (put pairs (getD b 0 0 * 16 + getD b 1 0) (getD b 4 0) (getD b 5 0))
+
+abbrev pub eventAdded : List ℕ → List ℕ → List ℕ → List ℕ
+eventAdded pairs counts b = cond (eqb (getD b 6 0) 0) pairs (put pairs (96 + (getD b 2 0 * 24 + getD counts (getD b 2 0) 0)) (getD b 0 0) (getD b 1 0))
+
+abbrev pub countAdded : List ℕ → List ℕ → List ℕ
+countAdded counts b = cond (eqb (getD b 6 0) 0) counts (set counts (getD b 2 0) (getD counts (getD b 2 0) 0 + 1))

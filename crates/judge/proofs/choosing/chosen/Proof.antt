@@ -1,0 +1,43 @@
+-- `chosen` asks one thread after the other. The invariant: none so far fits.
+use borrow.Author.Needs.{needs}
+use Prim.Native.Nat.{ℕ, _≤_, _<_, _-_, _+_}
+use mathlib.Core.Path.{_≡_, _∙_, sym}
+use mathlib.Core.Bool.{false}
+use native.Mathlib.Omega.{arith}
+use Rattle.program.specs.Program.{Program}
+use Rattle.schedules.specs.Order.{Schedule}
+use Rattle.schedules.specs.System.{run}
+use Rattle.machine.specs.State.{SC, start}
+use Rattle.machine.specs.Graph.{Graph}
+use Rattle.judge.specs.Consistent.{locationOf}
+use Rattle.judge.specs.Judge.{values, fits}
+use Rattle.judge.specs.HeldWalk.{Walking}
+use Rattle.judge.proofs.WalkChoice.{chosen-one, chosen-none, passed-over}
+use Rattle.judge.proofs.choosing.chosen.Statement.{statement}
+use Rattle.judge.proofs.choosing.chosen.Tie as tie
+
+abbrev Inv-loop : tie.InvT-loop
+Inv-loop code lengths threads pairs places m counts t₀ t =
+    (t ≤ 6) × ((p : Program) (g : Graph) (s : Schedule) → Walking code lengths threads pairs places p g m counts s →
+    (u : ℕ) → u < t → fits g (locationOf p (values p g 24)) (run SC (start p) s) u ≡ false)
+
+abbrev μ-loop : tie.MeasureT-loop
+μ-loop code lengths threads pairs places m counts t₀ t = 6 - t
+
+loop-holds : tie.Need-loop-holds Inv-loop μ-loop
+loop-holds c = (search needs, λ p g s W u h. absurd (omega arith))
+
+may-go-requires : tie.Need-may-go-requires Inv-loop μ-loop
+may-go-requires c κs = c .before .before .pre
+
+returns : tie.Need-returns Inv-loop μ-loop
+returns c = (search needs, λ p g s W. chosen-one (c .before .before .before .before .args .code .now) (c .before .before .before .before .args .lengths .now) (c .before .before .before .before .args .threads) (c .before .before .before .before .args .pairs) (c .before .before .before .before .args .places) p g (c .before .before .before .before .args .m) (c .before .before .before .before .args .counts) s W (c .before .before .before .loop .t) (c .before .before .loop-test .taken) (c .before .before .before .loop .inv .1 p g s W) (sym (c .before .may-go .ensures p g s W) ∙ c .if1 .taken))
+
+loop-again : tie.Need-loop-again Inv-loop μ-loop
+loop-again c = (search needs, λ p g s W. passed-over (c .before .before .before .before .args .code .now) (c .before .before .before .before .args .lengths .now) (c .before .before .before .before .args .threads) (c .before .before .before .before .args .pairs) (c .before .before .before .before .args .places) p g (c .before .before .before .before .args .m) (c .before .before .before .before .args .counts) s W (c .before .before .before .loop .t) (c .before .before .before .loop .inv .1 p g s W) (sym (c .before .may-go .ensures p g s W) ∙ c .if1 .left))
+
+returns-2 : tie.Need-returns-2 Inv-loop μ-loop
+returns-2 c = (search needs, λ p g s W. chosen-none (c .before .before .args .code .now) (c .before .before .args .lengths .now) (c .before .before .args .threads) (c .before .before .args .pairs) (c .before .before .args .places) p g (c .before .before .args .m) (c .before .before .args .counts) s W (c .before .loop .t) (c .loop-test .left) (c .before .loop .inv .1 p g s W))
+
+pub chosen-spec : {M : Type 1} → statement M
+chosen-spec = tie.close (tie.spec Inv-loop μ-loop loop-holds may-go-requires returns (λ c. search needs) (λ c. search needs) loop-again returns-2)

@@ -1,0 +1,34 @@
+-- What the walk leaves, and the judge's answer as the code hands it over. For the judge's own functions.
+use Prim.Native.Nat.{ℕ, _+_, _*_, _<_, _≤_}
+use mathlib.Core.Path.{_≡_}
+use mathlib.Core.List.{List}
+use lib.ListN.{length, getD}
+use Rattle.program.specs.Program.{Program}
+use Rattle.schedules.specs.System.{Allowed}
+use Rattle.machine.specs.State.{SC, start}
+use Rattle.machine.specs.Graph.{Graph, graphOf, endOf}
+use Rattle.machine.specs.Held.{Holds, Loaded}
+use Rattle.judge.specs.declared.walking.Walk.{Walk}
+use Rattle.judge.specs.Consistent.{locationOf}
+use Rattle.judge.specs.Judge.{values, walk}
+use Rattle.judge.specs.Reading.{parsed, readGraph}
+use Rattle.judge.specs.Held.{Tabled}
+
+-- the program, and the graph that was read, stand in their tables
+pub record Given (code lengths : List ℕ) (n : ℕ) (pairs table : List ℕ) (p : Program) (g : Graph) : Type 0 where
+  pub loaded : Loaded code lengths n p
+  pub text : List ℕ
+  pub read : readGraph n text ≡ parsed g
+  pub sizes : List ℕ
+  pub tabled : Tabled pairs sizes g
+  pub places : (t i : ℕ) → t < n → i < 16 → getD table (t * 16 + i) 0 ≡ locationOf p (values p g 24) (t, i)
+
+-- the walk, and the state and the graph behind it
+pub record Walked (code lengths : List ℕ) (p : Program) (g : Graph) (r : Walk) : Type 0 where
+  pub steps : r .steps ≡ length (walk p g)
+  pub most : r .steps ≤ 24
+  pub schedule : (k : ℕ) → k < r .steps → getD (r .schedule) k 0 ≡ getD (walk p g) k 0
+  pub allowed : Allowed SC (start p) (walk p g)
+  pub holds : Holds code lengths (r .machine) (endOf p (walk p g))
+  pub made : Tabled (r .pairs) (r .counts) (graphOf (endOf p (walk p g)))
+  pub few : (l : ℕ) → getD (r .counts) l 0 ≤ 24

@@ -1,0 +1,68 @@
+// The call `judge`: a program file, a graph text and an output.
+use crate::judging::judged;
+use crate::text::Verdict;
+use crate::text::read_graph;
+ghost use mathlib.Core.Path.{_≡_};
+ghost use Prim.Native.Nat.{_≤_};
+ghost use lib.ListN.{length, take};
+ghost use Rattle.lines.specs.Over.{over};
+ghost use Rattle.judge.specs.Answer.{judgeFile, outputAfter};
+ghost use Rattle.judge.specs.Call.{outcomeOf};
+
+pub enum Outcome {
+    // Yes, with a schedule of so many bytes in front of the output.
+    Yes(usize),
+    No,
+    // The refusal's number and place.
+    Refused(u8, usize),
+}
+
+// The first bytes of the schedule, so many, into the front of the output.
+fn put(out: &mut [u8], schedule: [u8; 24], steps: usize)
+    requires { ⌜ (steps ≤ 24) × (24 ≤ length (now out)) ⌝ }
+    ensures { λ r. ⌜ now (out .exit) ≡ over (take steps schedule) (now (out .entry)) ⌝ }
+{
+    let mut k = 0;
+    while k < steps {
+        out[k] = schedule[k];
+        k += 1;
+    }
+}
+
+// Judges a graph text: yes with the least schedule that makes the graph, or no, or a refusal. Only a yes changes the output.
+pub fn judge(file: &[u8], text: &[u8], out: &mut [u8]) -> Outcome
+    ensures answer { λ r. ⌜ r ≡ outcomeOf (judgeFile (now (file .entry)) (now (text .entry)) (length (now (out .entry)))) ⌝ }
+    ensures output { λ r. ⌜ now (out .exit) ≡ outputAfter (judgeFile (now (file .entry)) (now (text .entry)) (length (now (out .entry)))) (now (out .entry)) ⌝ }
+{
+    let a = program::decode(file);
+    let v = a.verdict;
+    match v {
+        program::Verdict::Refused(number, place) => Outcome::Refused(number, place),
+        program::Verdict::Accepted => {
+            if out.len() < 24 {
+                return Outcome::Refused(22, 0);
+            }
+            let c = a.program;
+            let code = c.code;
+            let lengths = c.lengths;
+            let t = read_graph(text, c.threads);
+            let u = t.verdict;
+            match u {
+                Verdict::Refused(number, line) => Outcome::Refused(number, line),
+                Verdict::Passed => {
+                    let table = t.table;
+                    let pairs = table.pairs;
+                    let counts = table.counts;
+                    let j = judged(&code, &lengths, c.threads, pairs, counts);
+                    if !j.yes {
+                        return Outcome::No;
+                    }
+                    let schedule = j.schedule;
+                    let steps = j.steps;
+                    put(out, schedule, steps);
+                    Outcome::Yes(steps)
+                }
+            }
+        }
+    }
+}

@@ -1,0 +1,68 @@
+// The judge: the walk, and the comparison of the graph that it made with the one that was given.
+use crate::comparing::same_counts;
+use crate::comparing::same_pairs;
+use crate::valuing::places;
+use crate::walking::walked;
+use machine::ended_all;
+ghost use mathlib.Core.Path.{_≡_};
+ghost use mathlib.Core.Bool.{false};
+ghost use mathlib.Core.List.{List};
+ghost use Prim.Native.Nat.{ℕ};
+ghost use Rattle.program.specs.Program.{Program};
+ghost use Rattle.machine.specs.Graph.{Graph};
+ghost use Rattle.machine.specs.Held.{Loaded};
+ghost use Rattle.judge.specs.Judge.{judge};
+ghost use Rattle.judge.specs.Reading.{parsed, readGraph};
+ghost use Rattle.judge.specs.Held.{Tabled};
+ghost use Rattle.judge.specs.Call.{JudgedAs};
+
+// Whether the answer is yes, and then the schedule in the first bytes, so many.
+pub struct Finding {
+    pub yes: bool,
+    pub schedule: [u8; 24],
+    pub steps: usize,
+}
+
+// No.
+fn denied() -> Finding
+    ensures { λ r. ⌜ r .yes ≡ false ⌝ }
+{
+    Finding {
+        yes: false,
+        schedule: [0u8; 24],
+        steps: 0,
+    }
+}
+
+// Judges the graph in this table for the program in these rows.
+pub fn judged(
+    code: &[u8; 1536],
+    lengths: &[usize; 6],
+    threads: usize,
+    pairs: [u8; 576],
+    counts: [usize; 8],
+) -> Finding
+    requires { ⌜ ((p : Program) × (text : List ℕ) × (g : Graph) × Loaded (now code) (now lengths) threads p × (readGraph threads text ≡ parsed g) × Tabled pairs counts g) ⌝ }
+    ensures { λ r. ⌜ ((p : Program) (text : List ℕ) (g : Graph) → Loaded (now (code .entry)) (now (lengths .entry)) threads p → readGraph threads text ≡ parsed g → Tabled pairs counts g → JudgedAs (r .yes) (r .schedule) (r .steps) (judge p g)) ⌝ }
+{
+    let table = places(code, lengths, threads, pairs);
+    let w = walked(code, lengths, threads, pairs, table);
+    let m = w.machine;
+    if !ended_all(lengths, m) {
+        return denied();
+    }
+    let made = w.pairs;
+    if !same_pairs(made, pairs) {
+        return denied();
+    }
+    let sizes = w.counts;
+    if !same_counts(sizes, counts) {
+        return denied();
+    }
+    let schedule = w.schedule;
+    Finding {
+        yes: true,
+        schedule: schedule,
+        steps: w.steps,
+    }
+}

@@ -1,0 +1,66 @@
+// The walk: always the least thread whose next access the graph allows, at most 24 steps.
+use crate::choosing::chosen;
+use crate::making::with_event;
+use crate::making::with_source;
+use machine::Machine;
+use machine::started;
+use machine::step;
+ghost use mathlib.Core.Path.{_≡_};
+ghost use Rattle.program.specs.Program.{Program};
+ghost use Rattle.machine.specs.Graph.{Graph};
+ghost use Rattle.judge.specs.HeldYes.{Given, Walked};
+
+// The steps, how many they are, the machine behind them, and the table of the graph that they made.
+pub struct Walk {
+    pub schedule: [u8; 24],
+    pub steps: usize,
+    pub machine: Machine,
+    pub pairs: [u8; 576],
+    pub counts: [usize; 8],
+}
+
+// Walks by the table of a graph and the places of its accesses.
+pub fn walked(
+    code: &[u8; 1536],
+    lengths: &[usize; 6],
+    threads: usize,
+    pairs: [u8; 576],
+    places: [u8; 96],
+) -> Walk
+    requires { ⌜ ((p : Program) × (g : Graph) × Given (now code) (now lengths) threads pairs places p g) ⌝ }
+    ensures { λ r. ⌜ ((p : Program) (g : Graph) → Given (now (code .entry)) (now (lengths .entry)) threads pairs places p g → Walked (now (code .entry)) (now (lengths .entry)) p g r) ⌝ }
+{
+    let mut schedule = [0u8; 24];
+    let mut made = [254u8; 576];
+    let mut counts = [0usize; 8];
+    let mut m = started(code, lengths, threads);
+    let mut k = 0;
+    while k < 24 {
+        let t = chosen(code, lengths, threads, pairs, places, m, counts);
+        if t == 6 {
+            return Walk {
+                schedule: schedule,
+                steps: k,
+                machine: m,
+                pairs: made,
+                counts: counts,
+            };
+        }
+        let s = step(code, lengths, m, t);
+        let note = s.note;
+        let sources = with_source(made, note);
+        let r = with_event(sources, counts, note);
+        made = r.pairs;
+        counts = r.counts;
+        schedule[k] = t;
+        m = s.machine;
+        k += 1;
+    }
+    Walk {
+        schedule: schedule,
+        steps: k,
+        machine: m,
+        pairs: made,
+        counts: counts,
+    }
+}
