@@ -29,6 +29,12 @@ uint64_t tarczolin_check(const uint8_t *file, size_t file_len);
  * it is not full. A refusal changes no byte. */
 uint64_t tarczolin_graph(const uint8_t *file, size_t file_len, const uint8_t *schedule, size_t schedule_len, uint8_t *out, size_t out_len);
 
+/* Is this graph consistent? Yes: kind 1, the least schedule that makes it stands in front of the output, the answer
+ * carries its length, and the bytes behind it keep their value. No: kind 2. Refused, in this order: the program's (1 to 9);
+ * 22 at place 0, an output of under 24 bytes; 30 to 33 at the first line of the text that is refused (from 1). The text may
+ * have any length. No and a refusal change no byte. */
+uint64_t tarczolin_judge(const uint8_t *file, size_t file_len, const uint8_t *graph, size_t graph_len, uint8_t *out, size_t out_len);
+
 #ifdef __cplusplus
 }
 #endif

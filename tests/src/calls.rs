@@ -1,8 +1,10 @@
 //! The calls of the static library, made safe.
 
 mod graph;
+mod judge;
 
 pub use graph::graph;
+pub use judge::judge;
 
 extern "C" {
     fn tarczolin_check(file: *const u8, file_len: usize) -> u64;

@@ -2,3 +2,5 @@
 pub mod Checked
 -- What the machine's answer to a graph call says.
 pub mod Graphs
+-- What the judge's answer says.
+pub mod Judgements

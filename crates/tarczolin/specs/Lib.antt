@@ -5,3 +5,5 @@ pub mod Word
 pub mod Check
 -- what the graph call says
 pub mod Graphed
+-- what the judge says
+pub mod Judged

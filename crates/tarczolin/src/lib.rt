@@ -6,6 +6,9 @@ mod word;
 mod check;
 // Graphs of schedules: tarczolin_graph.
 mod graph;
+// Graphs judged: tarczolin_judge.
+mod judgement;
 
 pub use check::tarczolin_check;
 pub use graph::tarczolin_graph;
+pub use judgement::tarczolin_judge;

@@ -13,6 +13,13 @@ pub fn answered(length: usize) -> u64
     KIND + (length as u64) % NUMBER
 }
 
+// No more, none, or no.
+pub fn nothing() -> u64
+    ensures { λ r. ⌜ r ≡ wordOf Said.nothing ⌝ }
+{
+    2 * KIND
+}
+
 // Refused by a number, at a place.
 pub fn refused(number: u8, place: usize) -> u64
     ensures { λ r. ⌜ r ≡ wordOf (Said.refused number place) ⌝ }

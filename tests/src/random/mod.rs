@@ -1,5 +1,6 @@
-//! Random inputs from a fixed seed: numbers, programs, schedules, and damaged program files.
+//! Random inputs from a fixed seed: numbers, programs, schedules, graph texts, and damaged program files.
 pub mod damage;
+pub mod graph;
 pub mod program;
 pub mod schedule;
 

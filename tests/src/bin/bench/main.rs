@@ -1,9 +1,11 @@
 //! Times of the library beside plain Rust, both measured in one run. Nothing is asserted.
 mod check;
 mod graph;
+mod judge;
 mod timing;
 
 fn main() {
     check::report();
     graph::report();
+    judge::report();
 }

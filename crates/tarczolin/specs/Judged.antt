@@ -1,0 +1,9 @@
+-- What the judge says: answered, with the schedule's length; nothing for no; or the refusal.
+use lib.ListN.{length}
+use Rattle.judge.specs.Answer.{Answer, consistent, inconsistent, refusing}
+use Rattle.tarczolin.specs.Word as word
+
+unfoldable pub judged : Answer → word.Said
+judged (consistent s) = word.answered (length s)
+judged inconsistent = word.nothing
+judged (refusing n k) = word.refused n k
