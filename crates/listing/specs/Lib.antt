@@ -23,3 +23,5 @@ pub mod ClassGroups
 pub mod LeftSteps
 -- the test at a full schedule, read off the notes; for the code
 pub mod UnbeatenBy
+-- a prefix of a run as the search's arrays hold it; for the code
+pub mod Reached

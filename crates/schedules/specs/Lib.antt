@@ -15,6 +15,8 @@ pub mod Listed
 pub mod Calls
 -- the search for the least listed schedule above a bound
 pub mod Search
+-- all that the search finds, in order
+pub mod Found
 -- the greedy walk, and what it means to reach a goal
 pub mod Greedy
 -- the orders of a run's own steps, and the least of them
