@@ -44,3 +44,7 @@ pub mod FirstLeft
 pub mod NextSteps
 -- the steps of the exchanged run, one written at a time
 pub mod MovedSteps
+-- a search's bound behind one step more
+pub mod BoundSteps
+-- a row's bytes, and rows in a buffer
+pub mod RowBytes

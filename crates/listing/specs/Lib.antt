@@ -25,3 +25,7 @@ pub mod LeftSteps
 pub mod UnbeatenBy
 -- a prefix of a run as the search's arrays hold it; for the code
 pub mod Reached
+-- listed schedules as rows of bytes in a buffer; for the code
+pub mod Rows
+-- a search's bound, step by step; for the code
+pub mod Bounds

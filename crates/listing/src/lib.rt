@@ -10,3 +10,7 @@ mod least_order;
 mod exchanged_steps;
 // The test at a full schedule.
 mod testing;
+// A listed schedule as a row of bytes.
+mod rows;
+// The bound of a search.
+mod bounds;
