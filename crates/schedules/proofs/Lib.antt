@@ -17,6 +17,8 @@ pub mod Calls
 pub mod Offered
 -- the first answer: of a test over a list, of a function over numbers, behind a beginning
 pub mod First
+-- all that the search finds, one turn at a time
+pub mod Found
 -- the search finds the first listed full schedule above the bound
 pub mod Search
 -- the listed schedules: exact, ascending, finite, one for each full schedule; the search walks them
