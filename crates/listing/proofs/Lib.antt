@@ -44,3 +44,5 @@ pub mod FirstLeft
 pub mod NextSteps
 -- the steps of the exchanged run, one written at a time
 pub mod MovedSteps
+-- a prefix as the arrays hold it: its start, a step more, who may step
+pub mod ReachedStep
