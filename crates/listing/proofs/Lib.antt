@@ -48,3 +48,5 @@ pub mod MovedSteps
 pub mod BoundSteps
 -- a row's bytes, and rows in a buffer
 pub mod RowBytes
+-- a prefix as the arrays hold it: its start, a step more, who may step
+pub mod ReachedStep
