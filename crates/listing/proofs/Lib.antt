@@ -46,3 +46,7 @@ pub mod NextSteps
 pub mod MovedSteps
 -- a prefix as the arrays hold it: its start, a step more, who may step
 pub mod ReachedStep
+-- R1 behind such a prefix
+pub mod ReachedLate
+-- the test at a full schedule that is such a prefix
+pub mod ReachedTest
