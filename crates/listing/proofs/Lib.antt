@@ -50,3 +50,7 @@ pub mod BoundSteps
 pub mod RowBytes
 -- a prefix as the arrays hold it: its start, a step more, who may step
 pub mod ReachedStep
+-- R1 behind such a prefix
+pub mod ReachedLate
+-- the test at a full schedule that is such a prefix
+pub mod ReachedTest

@@ -30,16 +30,13 @@ unfolding notes run
 notes-join σ [] s = refl
 notes-join σ (t ∷ u) s = ap (λ (ns : List Note). note σ t ∷ ns) (notes-join (step σ t) u s)
 
-pub notes-next : (σ : State) (u : Schedule) (t : ℕ) → notes σ (u ++ (t ∷ [])) ≡ notes σ u ++ (note (run SC σ u) t ∷ [])
-unfolding notes
-notes-next σ u t = notes-join σ u (t ∷ [])
-
 -- an array that holds notes holds the first of them
 pub noted-front : (trail : List ℕ) (ns ms : List Note) → Noted trail (ns ++ ms) → Noted trail ns
 noted-front = noted-fewer
 
 pub reached-start : (code lengths class : List ℕ) (threads groups : ℕ) (m : Machine) (trail : List ℕ) (p : Program)
-    → Loaded code lengths threads p → p .groups ≡ groupsOf class groups → Holds code lengths m (start p) → length trail ≡ 192 → Reached code lengths class threads groups m trail 0 p []
+    → Loaded code lengths threads p → p .groups ≡ groupsOf class groups → Holds code lengths m (start p) → length trail ≡ 192
+    → Reached code lengths class threads groups m trail 0 p []
 unfolding run notes
 reached-start code lengths class threads groups m trail p loaded lines held n = record {
   loaded = loaded;
@@ -100,13 +97,15 @@ module _ (code lengths class : List ℕ) (threads groups : ℕ) (m : Machine) (t
 
     -- behind its step
     pub reached-next : (r : Stepped) (trail' : List ℕ) → HoldsStep code lengths (run SC (start p) v) t r
-        → Noted trail' (notes (start p) v ++ (note (run SC (start p) v) t ∷ [])) → Reached code lengths class threads groups (r .machine) trail' (steps + 1) p (v ++ (t ∷ []))
+        → Noted trail' (notes (start p) v ++ (note (run SC (start p) v) t ∷ []))
+        → Reached code lengths class threads groups (r .machine) trail' (steps + 1) p (v ++ (t ∷ []))
+    unfolding notes
     reached-next r trail' held noted = record {
       loaded = at .loaded;
       lines = at .lines;
       allowed = more-allowed;
       holds = subst (Holds code lengths (r .machine)) (sym (run-snoc SC (start p) v t)) (held .holds);
-      noted = subst (Noted trail') (sym (notes-next (start p) v t)) noted;
+      noted = subst (Noted trail') (sym (notes-join (start p) v (t ∷ []))) noted;
       counted = omega (arith, length-append v (t ∷ []), at .counted);
     }
 
