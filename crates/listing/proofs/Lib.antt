@@ -54,3 +54,7 @@ pub mod ReachedStep
 pub mod ReachedLate
 -- the test at a full schedule that is such a prefix
 pub mod ReachedTest
+-- rows added to an output, as far as there is room
+pub mod AddedRows
+-- the search at a full schedule, with one next step, and over the next steps in turn
+pub mod WalkTurns

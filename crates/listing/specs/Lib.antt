@@ -29,3 +29,5 @@ pub mod Reached
 pub mod Rows
 -- a search's bound, step by step; for the code
 pub mod Bounds
+-- the search as the code walks it
+pub mod Walked

@@ -14,3 +14,11 @@ mod testing;
 mod rows;
 // The bound of a search.
 mod bounds;
+// Threads that stand alike.
+mod smaller_twin;
+// Threads asleep for good.
+mod sleeping;
+// What the search does at a full schedule.
+mod ending;
+// The search.
+mod walking;
