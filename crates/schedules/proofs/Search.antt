@@ -19,7 +19,7 @@ use Rattle.schedules.proofs.Lists.{both-false, in-upTo, of-upTo, upTo-a
 use Rattle.schedules.proofs.Runs.{run-nil, run-snoc, full-join, allowed-join}
 use Rattle.schedules.proofs.Fulls.{of-fronts, branch-may, branch-not, fulls-ended, fulls-none, fulls-branch, fulls-sound, fulls-enough}
 use Rattle.schedules.proofs.Found.{by-not, by-cut, by-live, found-ended, found-stuck, found-turns}
-use Rattle.schedules.proofs.Kept.{keep-append, keep-none, keep-same, keep-keep, turn-flat, flat-same, flat-two, flat-through}
+use Rattle.schedules.proofs.Kept.{keep-append, keep-none, keep-keep, turn-flat, flat-same, flat-two, flat-through}
 
 -- above the bound
 unfoldable pub above : Option Schedule → Schedule → Bool
