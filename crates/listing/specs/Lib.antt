@@ -5,10 +5,10 @@ pub mod Alike
 pub mod ListOf
 -- what the search gives up, and the test at a full schedule
 pub mod Rules
--- the search by these rules
-pub mod Search
 -- what the four calls answer
 pub mod Answers
+-- the search by these rules
+pub mod Search
 -- the four calls on a program file
 pub mod OnFile
 -- the promise as a whole
