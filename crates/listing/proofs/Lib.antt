@@ -44,3 +44,9 @@ pub mod FirstLeft
 pub mod NextSteps
 -- the steps of the exchanged run, one written at a time
 pub mod MovedSteps
+-- R2 by the notes: what a thread wrote
+pub mod SilentNotes
+-- R2 on the arrays of the search
+pub mod HeldTwins
+-- R2 as loops in code meet it
+pub mod TwinTurns
