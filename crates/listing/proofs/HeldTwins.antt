@@ -1,30 +1,28 @@
 -- R2 on the arrays of the search: where a prefix is reached, u is t's twin exactly when the two stand in one line and the code's tests pass.
-use Prim.Native.Nat.{ℕ, _-_, _<_, _≤_}
-use mathlib.Core.Path.{_≡_, refl, sym, ap, subst, _∙_}
+use Prim.Native.Nat.{ℕ, _-_, _<_}
+use mathlib.Core.Path.{_≡_, refl, sym, ap, subst, fun-ext, _∙_}
 use mathlib.Core.Bool.{Bool, true, false, not, _&&_, true≢false}
 use mathlib.Core.List.{List, [], reverse, reverse-reverse}
 use native.Mathlib.Omega.{arith}
 use native.Mathlib.Decide.{decLt}
 use lib.Dec.{eqb}
-use lib.ListN.{length, getD, drop, length-drop, drop-of-length-le}
+use lib.ListN.{length, getD, length-drop, drop-of-length-le}
 use borrow.Author.Tests.{eqb-true, eq-eqb}
-use Rattle.program.specs.declared.instruction.Instruction.{Instruction}
-use Rattle.program.specs.Program.{Program, codeOf}
-use Rattle.program.specs.WellFormed.{WellFormed, Group}
+use Rattle.program.specs.Program.{Program}
+use Rattle.program.specs.WellFormed.{Group}
 use Rattle.program.specs.Compiled.{threadCode}
 use Rattle.program.proofs.HeldCode.{equal-tests}
+use Rattle.schedules.specs.Lists.{any}
 use Rattle.schedules.specs.Order.{Schedule}
-use Rattle.schedules.specs.System.{Allowed}
-use Rattle.machine.specs.declared.state.ThreadState.{ThreadState}
 use Rattle.machine.specs.declared.state.Machine.{Machine}
 use Rattle.machine.specs.Local.{Local, beginsWithAccess, pending}
-use Rattle.machine.specs.State.{Event, State, threadOf, may, SC, start}
+use Rattle.machine.specs.State.{Event, State, threadOf, may, start}
 use Rattle.machine.specs.Graph.{endOf}
-use Rattle.machine.specs.Held.{threadAt, HoldsThread, Loaded}
+use Rattle.machine.specs.Held.{threadAt}
 use Rattle.machine.specs.Notes.{Note, notes}
 use Rattle.machine.specs.NoteText.{readsIn, notesAt}
 use Rattle.machine.proofs.Everywhere.{everywhere-at}
-use Rattle.machine.proofs.Steps.{may-pending, may-small, run-threads}
+use Rattle.machine.proofs.Steps.{may-pending, run-threads}
 use Rattle.machine.proofs.Start.{start-threads}
 use Rattle.machine.proofs.HeldStart.{threads-held, code-held}
 use Rattle.machine.proofs.HeldTurns.{length-code}
@@ -140,10 +138,20 @@ module _ (code lengths class : List ℕ) (threads groups : ℕ) (m : Machine) (t
         ≡ twinBy (threadAt m u) (threadAt m t) (notesAt trail steps) u t
     unfolding sameLocal sameHistory twinBy standsAs
     tests-held ok =
-        rw (same-rest ok, registers-of u here, registers-of t there, r .holds .threads u (small u here) .failed, r .holds .threads t (small t there) .failed,
-            r .holds .threads u (small u here) .done, r .holds .threads t (small t there) .done, same-reads, silent-held u, silent-held t)
+        rw (
+          same-rest ok,
+          registers-of u here,
+          registers-of t there,
+          r .holds .threads u (small u here) .failed,
+          r .holds .threads t (small t there) .failed,
+          r .holds .threads u (small u here) .done,
+          r .holds .threads t (small t there) .done,
+          same-reads,
+          silent-held u,
+          silent-held t,
+        )
         (reordered (eqb (threadAt m u .at) (threadAt m t .at)) (sameList eqb (threadAt m u .registers) (threadAt m t .registers)) (sameFlag (threadAt m u .failed) (threadAt m t .failed))
-            (eqb (threadAt m u .done) (threadAt m t .done)) (sameReads (notesAt trail steps) u t) (not (wroteIn u (notesAt trail steps))) (not (wroteIn t (notesAt trail steps))))
+        (eqb (threadAt m u .done) (threadAt m t .done)) (sameReads (notesAt trail steps) u t) (not (wroteIn u (notesAt trail steps))) (not (wroteIn t (notesAt trail steps))))
 
   -- R2, ON THE ARRAYS
   pub twin-held : (u t : ℕ) → may σ t ≡ true → twin p σ t u ≡ together (groupsOf class groups) u t && twinBy (threadAt m u) (threadAt m t) (notesAt trail steps) u t
@@ -156,3 +164,8 @@ module _ (code lengths class : List ℕ) (threads groups : ℕ) (m : Machine) (t
       go : (b : Bool) → together (groupsOf class groups) u t ≡ b → b && rest ≡ b && twinBy (threadAt m u) (threadAt m t) (notesAt trail steps) u t
       go false e = refl
       go true e = tests-held u t (together-true p u t (ap (λ (g : List (List ℕ)). together g u t) (r .lines) ∙ e)) ok
+
+  -- some of these threads is t's twin
+  pub any-twin-held : (t : ℕ) (us : List ℕ) → may σ t ≡ true →
+      any (twin p σ t) us ≡ any (λ u. together (groupsOf class groups) u t && twinBy (threadAt m u) (threadAt m t) (notesAt trail steps) u t) us
+  any-twin-held t us ok = ap (λ (f : ℕ → Bool). any f us) (fun-ext (λ u. twin-held u t ok))

@@ -1,9 +1,9 @@
 -- A thread has written nothing exactly when no note of the run states a write by it.
-use Prim.Native.Nat.{ℕ, zero, suc}
+use Prim.Native.Nat.{ℕ, suc}
 use mathlib.Core.Path.{_≡_, refl, sym, ap, subst, _∙_}
 use mathlib.Core.Logic.{⊎-elim}
-use mathlib.Core.Bool.{Bool, true, false, not, cond, _&&_, true≢false}
-use mathlib.Core.List.{List, [], _∷_, _++_, reverse, reverse-reverse, flatMap, List·Memᴰ, List·Memᴰ·head, List·Memᴰ·tail, List·Memᴰ·cases-cons, List·Memᴰ·not-nil, List·Memᴰ·append-cases, Memᴰ·append-left, Memᴰ·append-right}
+use mathlib.Core.Bool.{Bool, true, false, not, cond, true≢false}
+use mathlib.Core.List.{List, [], _∷_, reverse, reverse-reverse, flatMap, List·Memᴰ, List·Memᴰ·head, List·Memᴰ·tail, List·Memᴰ·cases-cons, List·Memᴰ·not-nil, List·Memᴰ·append-cases, Memᴰ·append-left, Memᴰ·append-right}
 use lib.Dec.{eqb}
 use lib.ListN.{getD}
 use borrow.Author.Tests.{eqb-true, eq-eqb, not-true}
@@ -11,10 +11,10 @@ use Rattle.program.specs.Program.{Program}
 use Rattle.program.specs.WellFormed.{WellFormed}
 use Rattle.program.proofs.Tests.{both}
 use Rattle.program.proofs.HeldCode.{equal-tests}
-use Rattle.schedules.specs.Lists.{any, all}
+use Rattle.schedules.specs.Lists.{all}
 use Rattle.schedules.specs.Order.{Schedule}
 use Rattle.schedules.specs.System.{Allowed}
-use Rattle.schedules.proofs.Lists.{any-yes, any-of, any-no, all-of}
+use Rattle.schedules.proofs.Lists.{any-yes, any-no, all-of}
 use Rattle.machine.specs.State.{Event, Cell, State, freshCell, cellOf, SC, start}
 use Rattle.machine.specs.Graph.{endOf}
 use Rattle.machine.specs.Notes.{Note, notes}

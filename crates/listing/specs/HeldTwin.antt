@@ -8,7 +8,7 @@ use Rattle.schedules.specs.Lists.{upTo, any}
 use Rattle.machine.specs.declared.state.ThreadState.{ThreadState}
 use Rattle.machine.specs.State.{Event}
 use Rattle.machine.specs.Notes.{Note}
-use Rattle.machine.specs.NoteText.{readIn, readsIn, noteAt, notesAt}
+use Rattle.machine.specs.NoteText.{readIn, readsIn, noteAt}
 use Rattle.judge.specs.Judge.{sameRead, sameList}
 use Rattle.listing.specs.Rules.{sameFlag}
 

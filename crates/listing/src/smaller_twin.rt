@@ -185,7 +185,16 @@ fn are_twins(a: ThreadState, b: ThreadState, trail: &[u8; 192], steps: usize, u:
 }
 
 // Whether threads u and t, whose entries these are, stand in one line and are twins.
-fn is_twin(class: &[usize; 6], groups: usize, a: ThreadState, b: ThreadState, trail: &[u8; 192], steps: usize, u: u8, t: u8) -> bool
+fn is_twin(
+    class: &[usize; 6],
+    groups: usize,
+    a: ThreadState,
+    b: ThreadState,
+    trail: &[u8; 192],
+    steps: usize,
+    u: u8,
+    t: u8,
+) -> bool
     requires { ⌜ (u < 6) × (t < 6) × (steps ≤ 24) ⌝ }
     ensures { λ r. ⌜ r ≡ together (groupsOf (now (class .entry)) groups) u t && twinBy a b (notesAt (now (trail .entry)) steps) u t ⌝ }
 {
@@ -196,7 +205,14 @@ fn is_twin(class: &[usize; 6], groups: usize, a: ThreadState, b: ThreadState, tr
 }
 
 // Whether a smaller thread is t's twin.
-pub fn has_smaller_twin(class: &[usize; 6], groups: usize, m: Machine, trail: &[u8; 192], steps: usize, t: u8) -> bool
+pub fn has_smaller_twin(
+    class: &[usize; 6],
+    groups: usize,
+    m: Machine,
+    trail: &[u8; 192],
+    steps: usize,
+    t: u8,
+) -> bool
     requires { ⌜ (t < 6) × (steps ≤ 24) ⌝ }
     ensures { λ r. ⌜ ((code lengths : List ℕ) (threads : ℕ) (p : Program) (v : Schedule) → Reached code lengths (now (class .entry)) threads groups m (now (trail .entry)) steps p v → may (run SC (start p) v) t ≡ true → r ≡ any (twin p (run SC (start p) v) t) (upTo 0 t)) ⌝ }
 {

@@ -1,8 +1,7 @@
 -- `has_written` goes through the notes. The invariant: those that are left decide.
 use borrow.Author.Needs.{needs}
-use Prim.Native.Nat.{ℕ, _-_, _≤_}
+use Prim.Native.Nat.{_-_, _≤_}
 use mathlib.Core.Path.{_≡_, sym, ap, _∙_}
-use native.Mathlib.Omega.{arith}
 use Rattle.machine.specs.NoteText.{notesAt}
 use Rattle.listing.specs.HeldTwin.{wroteIn, notesFrom}
 use Rattle.listing.proofs.TwinTurns.{notes-whole, wrote-here, wrote-further, wrote-over}

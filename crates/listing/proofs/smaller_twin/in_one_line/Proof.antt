@@ -1,7 +1,6 @@
 -- `in_one_line` compares the classes of the two threads.
 use borrow.Author.Needs.{needs}
-use Prim.Native.Nat.{_<_}
-use mathlib.Core.Path.{_≡_, sym}
+use mathlib.Core.Path.{sym}
 use native.Mathlib.Omega.{arith}
 use Rattle.listing.proofs.ClassGroups.{together-class, not-together, together-test}
 use Rattle.listing.proofs.smaller_twin.in_one_line.Statement.{statement}

@@ -1,8 +1,7 @@
 -- `next_read` goes through the notes. The invariant: no read of u was passed.
 use borrow.Author.Needs.{needs}
-use Prim.Native.Nat.{ℕ, _-_, _≤_}
+use Prim.Native.Nat.{_-_, _≤_}
 use mathlib.Core.Path.{_≡_, refl, sym, _∙_}
-use native.Mathlib.Omega.{arith}
 use Rattle.machine.specs.NoteText.{readsIn}
 use Rattle.listing.specs.HeldTwin.{notesFrom}
 use Rattle.listing.proofs.TwinTurns.{reads-further, next-here, next-none}

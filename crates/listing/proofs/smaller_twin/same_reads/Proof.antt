@@ -1,7 +1,7 @@
 -- `same_reads` goes through the reads of both threads side by side. The invariant: those that are left decide.
 use borrow.Author.Needs.{needs}
-use Prim.Native.Nat.{ℕ, _-_, _+_, _<_, _≤_}
-use mathlib.Core.Path.{_≡_, sym, _∙_}
+use Prim.Native.Nat.{_-_, _≤_}
+use mathlib.Core.Path.{sym, _∙_}
 use native.Mathlib.Omega.{arith}
 use borrow.Author.Tests.{not-true, not-false}
 use Rattle.listing.proofs.TwinTurns.{Beside, beside-first, beside-short, beside-differ, beside-next, beside-over}

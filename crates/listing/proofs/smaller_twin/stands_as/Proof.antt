@@ -1,9 +1,7 @@
 -- `stands_as` makes one test after the other.
 use borrow.Author.Needs.{needs}
 use borrow.Author.Tests.{eq-eqb, ne-eqb, not-true, not-false}
-use mathlib.Core.Path.{_≡_, sym, _∙_}
-use mathlib.Core.Bool.{true, false}
-use Rattle.listing.specs.Rules.{sameFlag}
+use mathlib.Core.Path.{sym, _∙_}
 use Rattle.listing.specs.HeldTwin.{standsAs}
 use Rattle.listing.proofs.smaller_twin.stands_as.Statement.{statement}
 use Rattle.listing.proofs.smaller_twin.stands_as.Tie as tie
