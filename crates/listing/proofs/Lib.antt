@@ -58,3 +58,9 @@ pub mod ReachedTest
 pub mod AddedRows
 -- the search at a full schedule, with one next step, and over the next steps in turn
 pub mod WalkTurns
+-- R2 by the notes: what a thread wrote
+pub mod SilentNotes
+-- R2 on the arrays of the search
+pub mod HeldTwins
+-- R2 as loops in code meet it
+pub mod TwinTurns

@@ -31,3 +31,5 @@ pub mod Rows
 pub mod Bounds
 -- the search as the code walks it
 pub mod Walked
+-- R2 as the code tests it
+pub mod HeldTwin

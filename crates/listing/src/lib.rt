@@ -2,6 +2,8 @@
 
 // Steps that come late.
 mod lateness;
+// Smaller threads that stand where a thread stands.
+mod smaller_twin;
 // The permitted permutations, by their numbers.
 mod permitted_numbers;
 // The least order of a run's steps.

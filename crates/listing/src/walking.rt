@@ -50,7 +50,7 @@ fn turn(
     if lengths[u] <= thread.at {
         return rows;
     }
-    if has_smaller_twin(lengths, class, groups, m, trail, steps, t) {
+    if has_smaller_twin(class, groups, m, trail, steps, t) {
         return rows;
     }
     let s = step(code, lengths, m, t);
