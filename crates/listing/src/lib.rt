@@ -16,10 +16,6 @@ mod testing;
 mod rows;
 // The bound of a search.
 mod bounds;
-// Threads that stand alike.
-mod smaller_twin;
-// Threads asleep for good.
-mod sleeping;
 // What the search does at a full schedule.
 mod ending;
 // The search.
