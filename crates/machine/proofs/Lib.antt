@@ -68,6 +68,8 @@ pub mod HeldStep
 pub mod HeldStart
 -- who may step, whether all have ended, whether an assertion failed
 pub mod HeldAsking
+-- a thread's next access, and what it could still do
+pub mod HeldNext
 -- notes in the trail
 pub mod HeldNotes
 -- a schedule carried out
