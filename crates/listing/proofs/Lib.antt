@@ -44,3 +44,9 @@ pub mod FirstLeft
 pub mod NextSteps
 -- the steps of the exchanged run, one written at a time
 pub mod MovedSteps
+-- a prefix as the arrays hold it: its start, a step more, who may step
+pub mod ReachedStep
+-- R1 behind such a prefix
+pub mod ReachedLate
+-- the test at a full schedule that is such a prefix
+pub mod ReachedTest
