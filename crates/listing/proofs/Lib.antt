@@ -50,3 +50,5 @@ pub mod ReachedStep
 pub mod ReachedLate
 -- the test at a full schedule that is such a prefix
 pub mod ReachedTest
+-- R3 read off the machine
+pub mod HeldAsleep

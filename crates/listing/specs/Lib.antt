@@ -25,3 +25,5 @@ pub mod LeftSteps
 pub mod UnbeatenBy
 -- a prefix of a run as the search's arrays hold it; for the code
 pub mod Reached
+-- whether a thread is asleep, read off the machine; for the code
+pub mod HeldSleep

@@ -10,3 +10,5 @@ mod least_order;
 mod exchanged_steps;
 // The test at a full schedule.
 mod testing;
+// Threads that are asleep for good.
+mod sleeping;
