@@ -61,13 +61,17 @@ module _ (code lengths class : List ℕ) (threads groups : ℕ) (m : Machine) (a
 
     -- it stands at an access, at l
     module _ (i : ℕ) (ei : i ≡ threadAt m u .at) (left : i < getD lengths u 0) (l : ℕ) (wrote writer : Bool)
-        (found : (l ≡ place (run SC (start p) v) u) × (wrote ≡ writes (run SC (start p) v) u) × (writer ≡ mayPut (threadOf (run SC (start p) v) u .local)))
+        (ask : may (run SC (start p) v) u ≡ true
+            → (l ≡ place (run SC (start p) v) u) × (wrote ≡ writes (run SC (start p) v) u) × (writer ≡ mayPut (threadOf (run SC (start p) v) u .local)))
         (b : Bool) (eb : (ns : List Note) → Noted array ns → length ns ≡ steps → b ≡ late (reverse (map did ns)) (doing u l wrote)) where
       abbrev σ : State
       σ = run SC (start p) v
 
       can : may σ u ≡ true
       can = reached-may-yes code lengths class threads groups m array steps p v reached u h (omega (arith, ei, left))
+
+      found : (l ≡ place σ u) × (wrote ≡ writes σ u) × (writer ≡ mayPut (threadOf σ u .local))
+      found = ask can
 
       told : b ≡ late (taken p v) (action σ u)
       unfolding action
