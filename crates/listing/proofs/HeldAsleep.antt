@@ -62,7 +62,7 @@ module _ (code lengths class : List ℕ) (threads groups : ℕ) (m : Machine) (a
     -- it stands at an access, at l
     module _ (i : ℕ) (ei : i ≡ threadAt m u .at) (left : i < getD lengths u 0) (l : ℕ) (wrote writer : Bool)
         (ask : may (run SC (start p) v) u ≡ true
-            → (l ≡ place (run SC (start p) v) u) × (wrote ≡ writes (run SC (start p) v) u) × (writer ≡ mayPut (threadOf (run SC (start p) v) u .local)))
+        → (l ≡ place (run SC (start p) v) u) × (wrote ≡ writes (run SC (start p) v) u) × (writer ≡ mayPut (threadOf (run SC (start p) v) u .local)))
         (b : Bool) (eb : (ns : List Note) → Noted array ns → length ns ≡ steps → b ≡ late (reverse (map did ns)) (doing u l wrote)) where
       abbrev σ : State
       σ = run SC (start p) v
@@ -101,7 +101,10 @@ none-of-six f none = go (any f (upTo 0 6)) refl
     go false e = e
 
 -- the six counters, one after the other
-pub six-counters : (m : Machine) → Counters m (threadAt m 0 .at ∷ threadAt m 1 .at ∷ threadAt m 2 .at ∷ threadAt m 3 .at ∷ threadAt m 4 .at ∷ threadAt m 5 .at ∷ [])
+abbrev pub countersOf : Machine → List ℕ
+countersOf m = threadAt m 0 .at ∷ threadAt m 1 .at ∷ threadAt m 2 .at ∷ threadAt m 3 .at ∷ threadAt m 4 .at ∷ threadAt m 5 .at ∷ []
+
+pub six-counters : (m : Machine) → Counters m (countersOf m)
 six-counters m zero h = refl
 six-counters m (suc zero) h = refl
 six-counters m (suc (suc zero)) h = refl

@@ -18,7 +18,15 @@ ghost use Rattle.listing.specs.Reached.{Reached};
 ghost use Rattle.listing.specs.HeldSleep.{Counters, Short, unmetBy, unmet};
 
 // Whether thread k is another than u, and something left to it could conflict with an access at l, which could write (w) or only reads.
-fn meets(code: &[u8; 1536], lengths: &[usize; 6], at: &[usize; 6], k: usize, u: usize, l: u8, w: bool) -> bool
+fn meets(
+    code: &[u8; 1536],
+    lengths: &[usize; 6],
+    at: &[usize; 6],
+    k: usize,
+    u: usize,
+    l: u8,
+    w: bool,
+) -> bool
     requires { ⌜ (k < 6) × Short (now lengths) (now at) ⌝ }
     ensures { λ r. ⌜ ((m : Machine) (σ : State) → Holds (now (code .entry)) (now (lengths .entry)) m σ → Counters m (now (at .entry)) → not r ≡ unmetBy σ u l w k) ⌝ }
 {
@@ -29,7 +37,14 @@ fn meets(code: &[u8; 1536], lengths: &[usize; 6], at: &[usize; 6], k: usize, u: 
 }
 
 // Whether no thread but u has anything left that could conflict with an access at l, which could write (w) or only reads.
-fn is_unmet(code: &[u8; 1536], lengths: &[usize; 6], at: &[usize; 6], u: usize, l: u8, w: bool) -> bool
+fn is_unmet(
+    code: &[u8; 1536],
+    lengths: &[usize; 6],
+    at: &[usize; 6],
+    u: usize,
+    l: u8,
+    w: bool,
+) -> bool
     requires { ⌜ Short (now lengths) (now at) ⌝ }
     ensures { λ r. ⌜ ((m : Machine) (σ : State) → Holds (now (code .entry)) (now (lengths .entry)) m σ → Counters m (now (at .entry)) → r ≡ unmet σ u l w) ⌝ }
 {
@@ -71,7 +86,13 @@ fn is_asleep(
 }
 
 // Whether some thread is asleep for good.
-pub fn some_asleep(code: &[u8; 1536], lengths: &[usize; 6], m: Machine, trail: &[u8; 192], steps: usize) -> bool
+pub fn some_asleep(
+    code: &[u8; 1536],
+    lengths: &[usize; 6],
+    m: Machine,
+    trail: &[u8; 192],
+    steps: usize,
+) -> bool
     requires { ⌜ ((class : List ℕ) × (threads : ℕ) × (groups : ℕ) × (p : Program) × (v : Schedule) × Reached (now code) (now lengths) class threads groups m (now trail) steps p v) ⌝ }
     ensures { λ r. ⌜ ((class : List ℕ) (threads groups : ℕ) (p : Program) (v : Schedule)
         → Reached (now (code .entry)) (now (lengths .entry)) class threads groups m (now (trail .entry)) steps p v
