@@ -64,3 +64,5 @@ pub mod SilentNotes
 pub mod HeldTwins
 -- R2 as loops in code meet it
 pub mod TwinTurns
+-- R3 read off the machine
+pub mod HeldAsleep

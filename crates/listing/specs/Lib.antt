@@ -33,3 +33,5 @@ pub mod Bounds
 pub mod Walked
 -- R2 as the code tests it
 pub mod HeldTwin
+-- whether a thread is asleep, read off the machine; for the code
+pub mod HeldSleep

@@ -20,3 +20,5 @@ mod bounds;
 mod ending;
 // The search.
 mod walking;
+// Threads that are asleep for good.
+mod sleeping;
