@@ -2,10 +2,9 @@
 use Prim.Native.Nat.{ℕ, zero, suc, _<_, _≤_}
 use mathlib.Core.Path.{_≡_, refl, sym, ap, ap₂, _∙_}
 use mathlib.Core.Logic.{_≢_}
-use mathlib.Core.Bool.{Bool, true, false, not, _&&_, _||_, true≢false}
+use mathlib.Core.Bool.{Bool, true, false, not, true≢false}
 use mathlib.Core.List.{List, [], _∷_, map, reverse}
 use native.Mathlib.Omega.{arith}
-use lib.Dec.{eqb}
 use lib.ListN.{length, getD, drop}
 use borrow.Author.Tests.{eq-eqb, ne-eqb}
 use Rattle.program.specs.Program.{Program}
@@ -15,7 +14,7 @@ use Rattle.schedules.specs.Order.{Schedule}
 use Rattle.schedules.specs.System.{run}
 use Rattle.schedules.proofs.Lists.{any-yes, of-upTo}
 use Rattle.machine.specs.State.{State, threadOf, place, may, SC, start}
-use Rattle.machine.specs.Trail.{Action, action, writes}
+use Rattle.machine.specs.Trail.{action, writes}
 use Rattle.machine.specs.Ahead.{mayPut, couldConflict, couldMeet}
 use Rattle.machine.specs.Notes.{Note, Noted}
 use Rattle.machine.specs.Held.{threadAt, Holds}

@@ -5,7 +5,6 @@ use mathlib.Core.Path.{_≡_, refl, sym, ap, _∙_}
 use native.Mathlib.Omega.{arith}
 use lib.ListN.{drop}
 use Rattle.program.specs.Compiled.{threadCode}
-use Rattle.program.specs.declared.instruction.Instruction.{Instruction}
 use Rattle.schedules.specs.Lists.{any}
 use Rattle.machine.specs.Ahead.{couldConflict}
 use Rattle.machine.proofs.HeldNext.{meets-none, meets-here, meets-later}
