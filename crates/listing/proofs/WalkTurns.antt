@@ -2,9 +2,10 @@
 use Prim.Native.Nat.{ℕ, _+_, _-_, _*_, _<_, _≤_}
 use mathlib.Core.Path.{_≡_, refl, sym, ap, subst, _∙_}
 use mathlib.Core.Bool.{Bool, true, false, not, _||_, true≢false}
-use mathlib.Core.List.{List, [], _∷_, _++_}
+use mathlib.Core.List.{List, [], _∷_, _++_, map, reverse}
 use mathlib.Core.Option.{Option, none, some}
 use native.Mathlib.Omega.{arith}
+use lib.Dec.{eqb}
 use lib.ListN.{length, getD, drop}
 use Rattle.program.specs.Program.{Program}
 use Rattle.schedules.specs.Lists.{upTo, any, both}
@@ -15,19 +16,22 @@ use Rattle.schedules.specs.Found.{inTurn, foundAt, foundFrom}
 use Rattle.schedules.proofs.Lists.{both-false}
 use Rattle.schedules.proofs.Runs.{run-snoc}
 use Rattle.schedules.proofs.Found.{in-turn-more, in-turn-over, by-not, by-cut, by-live, found-ended, found-stuck, found-turns}
-use Rattle.machine.specs.State.{State, SC, start, may, step}
+use Rattle.machine.specs.State.{State, SC, start, may, place, step}
 use Rattle.machine.specs.Trail.{action}
-use Rattle.machine.specs.Notes.{notes, Noted}
-use Rattle.machine.specs.Held.{threadAt}
+use Rattle.machine.specs.Notes.{Note, note, noteBytes, notes, Noted}
+use Rattle.machine.specs.Held.{threadAt, Holds, HoldsStep}
 use Rattle.machine.specs.declared.state.Machine.{Machine}
+use Rattle.machine.specs.declared.stepping.Stepped.{Stepped}
 use Rattle.listing.specs.Rules.{late, taken, twin, asleep, cut, unbeaten}
 use Rattle.listing.specs.Answers.{failing}
 use Rattle.listing.specs.Search.{wanted}
+use Rattle.listing.specs.NotedSteps.{did, doing}
 use Rattle.listing.specs.Bounds.{boundAt}
 use Rattle.listing.specs.Reached.{Reached}
 use Rattle.listing.specs.Walked.{Numbered, Adds, foundBehind, foundWith}
 use Rattle.listing.proofs.Tests.{or-left, or-right}
-use Rattle.listing.proofs.ReachedStep.{reached-trail, reached-may-not}
+use Rattle.listing.proofs.ReachedStep.{reached-trail, reached-may-yes, reached-may-not, reached-place, reached-next}
+use Rattle.listing.proofs.ReachedLate.{notes-counted, late-answered, action-noted}
 use Rattle.listing.proofs.AddedRows.{adds-none, adds-full, adds-more, adds-same}
 
 -- ---- at a full schedule v
@@ -93,6 +97,31 @@ module _ (code lengths class : List ℕ) (threads groups : ℕ) (m : Machine) (t
   pub with-asleep : may (run SC (start p) v) t ≡ true → any (asleep p (v ++ (t ∷ [])) (run SC (start p) (v ++ (t ∷ [])))) (upTo 0 6) ≡ true → foundWith only p steps o v t ≡ []
   unfolding cut
   with-asleep ok e = with-cut ok (or-right (late (taken p v) (action σ t)) _ (or-right (any (twin p σ t) (upTo 0 t)) _ (sym asleep-next ∙ e)))
+
+  -- the thread's counter, read where the code reads it
+  pub turn-ended : (u : ℕ) → u ≡ t → t < 6 → getD lengths u 0 ≤ threadAt m u .at → foundWith only p steps o v t ≡ []
+  turn-ended u e h l = with-ended h (subst (λ (k : ℕ). getD lengths k 0 ≤ threadAt m k .at) e l)
+
+  pub turn-may : (u : ℕ) → u ≡ t → t < 6 → threadAt m u .at < getD lengths u 0 → may (run SC (start p) v) t ≡ true
+  turn-may u e h l = reached-may-yes code lengths class threads groups m trail steps p v at t h (subst (λ (k : ℕ). threadAt m k .at < getD lengths k 0) e l)
+
+  module _ (ok : may (run SC (start p) v) t ≡ true) (r : Stepped)
+      (stepped : (τ : State) → Holds code lengths m τ → may τ t ≡ true → place τ t < 8 → HoldsStep code lengths τ t r) where
+    behind : HoldsStep code lengths (run SC (start p) v) t r
+    behind = stepped σ (at .holds) ok (reached-place code lengths class threads groups m trail steps p v at t)
+
+    -- R1 by the note of the step
+    pub turn-late : (answer : Bool) → ((ns : List Note) → Noted trail ns → length ns ≡ steps → answer ≡ late (reverse (map did ns)) (doing t (getD (r .note) 2 0) (eqb (getD (r .note) 6 0) 1)))
+        → answer ≡ late (taken p v) (action (run SC (start p) v) t)
+    turn-late answer h =
+        late-answered code lengths class threads groups m trail steps p v at answer _ h ∙ ap (late (taken p v)) (action-noted σ t (r .note) (behind .noted))
+
+    -- the prefix with this step
+    pub turn-next : (trail' : List ℕ) → ((ns : List Note) (n : Note) → Noted trail ns → steps ≡ length ns → r .note ≡ noteBytes n → Noted trail' (ns ++ (n ∷ [])))
+        → Reached code lengths class threads groups (r .machine) trail' (steps + 1) p (v ++ (t ∷ []))
+    turn-next trail' h =
+        reached-next code lengths class threads groups m trail steps p v at t ok r trail' behind
+        (h (notes (start p) v) (note σ t) (at .noted) (sym (notes-counted code lengths class threads groups m trail steps p v at)) (behind .noted))
 
   -- no rule gives it up
   pub with-live : may (run SC (start p) v) t ≡ true → any (twin p (run SC (start p) v) t) (upTo 0 t) ≡ false → late (taken p v) (action (run SC (start p) v) t) ≡ false
