@@ -65,10 +65,10 @@ module _ (p : Program) (room : ℕ) where
       → Adds p room (found ++ rest) out n out'' n''
   adds-more found rest out out' out'' n n' n'' a b = record {
     shown = λ ss held r h s.
-      let k : length (take room (ss ++ found)) ≤ room = rw (length-take room (ss ++ found)) (omega arith) in
-      shown-same (take room (take room (ss ++ found) ++ rest)) (take room (ss ++ (found ++ rest))) held out'' n''
-      (take-again room (ss ++ found) rest ∙ ap (take room) (append-assoc ss found rest))
-      (b .shown (take room (ss ++ found)) held r k (a .shown ss held r h s));
+        let k : length (take room (ss ++ found)) ≤ room = rw (length-take room (ss ++ found)) (omega arith) in
+        shown-same (take room (take room (ss ++ found) ++ rest)) (take room (ss ++ (found ++ rest))) held out'' n''
+        (take-again room (ss ++ found) rest ∙ ap (take room) (append-assoc ss found rest))
+        (b .shown (take room (ss ++ found)) held r k (a .shown ss held r h s));
   }
 
   pub adds-same : (found rest : List Schedule) (out out' : List ℕ) (n n' : ℕ) → found ≡ rest → Adds p room rest out n out' n' → Adds p room found out n out' n'
@@ -83,14 +83,14 @@ module _ (p : Program) (room : ℕ) where
       → ys ≡ over (rowOf p v) (midOf (n * 26) (length out - n * 26) out) → Adds p room found out n (putMid (n * 26) (length out - n * 26) out ys) (n + 1)
   adds-one found v out ys n e h w = record {
     shown = λ ss held r l s.
-      let c = s .counted in
-      let k = rows-length p ss in
-      let one : length (ss ++ (v ∷ [])) ≤ room = rw (length-append ss (v ∷ [])) (omega (arith, c, h)) in
-      shown-same (ss ++ (v ∷ [])) (take room (ss ++ found)) held (putMid (n * 26) (length out - n * 26) out ys) (n + 1)
-      (sym (ap (λ (f : List Schedule). take room (ss ++ f)) e ∙ take-all room (ss ++ (v ∷ [])) one))
-      (record {
-        counted = rw (length-append ss (v ∷ [])) (omega (arith, c));
-        text = over-part (rowsOf p ss) (rowOf p v) held out ys (n * 26) (s .text) (omega (arith, k, c)) (omega (arith, k, c, r, h)) w
-            ∙ ap (λ (t : List ℕ). over t held) (one-row ss v);
-      });
+        let c = s .counted in
+        let k = rows-length p ss in
+        let one : length (ss ++ (v ∷ [])) ≤ room = rw (length-append ss (v ∷ [])) (omega (arith, c, h)) in
+        shown-same (ss ++ (v ∷ [])) (take room (ss ++ found)) held (putMid (n * 26) (length out - n * 26) out ys) (n + 1)
+        (sym (ap (λ (f : List Schedule). take room (ss ++ f)) e ∙ take-all room (ss ++ (v ∷ [])) one))
+        (record {
+          counted = rw (length-append ss (v ∷ [])) (omega (arith, c));
+          text = over-part (rowsOf p ss) (rowOf p v) held out ys (n * 26) (s .text) (omega (arith, k, c)) (omega (arith, k, c, r, h)) w
+              ∙ ap (λ (t : List ℕ). over t held) (one-row ss v);
+        });
   }

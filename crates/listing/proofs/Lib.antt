@@ -66,3 +66,5 @@ pub mod HeldTwins
 pub mod TwinTurns
 -- R3 read off the machine
 pub mod HeldAsleep
+-- the walk from the start finds what is listed
+pub mod ListedRows

@@ -163,8 +163,8 @@ abbrev pub Left : (code lengths class : List ℕ) (groups : ℕ) (numbers : List
 Left code lengths class groups numbers count only m trail₀ steps o out₀ room rows trail out n t =
     (threads : ℕ) (p : Program) (v : Schedule) → Reached code lengths class threads groups m trail₀ steps p v
     → Noted trail (notes (start p) v)
-      × (Numbered class groups numbers count → (out' : List ℕ) (n' : ℕ) → Adds p room (inTurn (λ d. foundWith only p steps o v d) (6 - t) t) out n out' n'
-        → Adds p room (foundBehind only p steps o v) out₀ rows out' n')
+    × (Numbered class groups numbers count → (out' : List ℕ) (n' : ℕ) → Adds p room (inTurn (λ d. foundWith only p steps o v d) (6 - t) t) out n out' n'
+    → Adds p room (foundBehind only p steps o v) out₀ rows out' n')
 
 module _ (code lengths class : List ℕ) (groups : ℕ) (numbers : List ℕ) (count : ℕ) (only : Bool) (m : Machine) (trail₀ : List ℕ) (steps : ℕ)
     (o : Option Schedule) (out₀ : List ℕ) (room rows : ℕ) where
@@ -182,15 +182,15 @@ module _ (code lengths class : List ℕ) (groups : ℕ) (numbers : List ℕ) (co
   pub left-next : (trail out trail' out' : List ℕ) (n n' t : ℕ) → t < 6 → Rest trail out n t
       → ((threads : ℕ) (p : Program) (v : Schedule) → Reached code lengths class threads groups m trail steps p v → Noted trail' (notes (start p) v))
       → ((threads : ℕ) (p : Program) (v : Schedule) → Reached code lengths class threads groups m trail steps p v → Numbered class groups numbers count
-        → Adds p room (foundWith only p steps o v t) out n out' n')
+      → Adds p room (foundWith only p steps o v t) out n out' n')
       → Rest trail' out' n' (t + 1)
   left-next trail out trail' out' n n' t h rest notes adds threads p v at =
       let r = rest threads p v at in
       let here = reached-trail code lengths class threads groups m trail₀ steps p v at trail (r .0) in (
         notes threads p v here,
         λ num out'' n'' a. r .1 num out'' n'' (
-          adds-same p room _ _ out out'' n n'' (in-turn-more (λ d. foundWith only p steps o v d) 6 t h)
-          (adds-more p room (foundWith only p steps o v t) _ out out' out'' n n' n'' (adds threads p v here num) a)),
+            adds-same p room _ _ out out'' n n'' (in-turn-more (λ d. foundWith only p steps o v d) 6 t h)
+            (adds-more p room (foundWith only p steps o v t) _ out out' out'' n n' n'' (adds threads p v here num) a)),
       )
 
   -- no step is left

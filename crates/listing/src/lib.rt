@@ -22,3 +22,5 @@ mod ending;
 mod walking;
 // Threads that are asleep for good.
 mod sleeping;
+// The listed schedules behind a bound, as rows.
+mod listed;

@@ -64,7 +64,23 @@ fn turn(
         return rows;
     }
     let still = stays_along(bound, along, steps, t);
-    walk(code, lengths, class, groups, numbers, count, only, next, trail, steps + 1, bound, still, out, room, rows)
+    walk(
+        code,
+        lengths,
+        class,
+        groups,
+        numbers,
+        count,
+        only,
+        next,
+        trail,
+        steps + 1,
+        bound,
+        still,
+        out,
+        room,
+        rows,
+    )
 }
 
 // Adds all that is found behind the steps taken.
@@ -105,7 +121,24 @@ pub fn walk(
         if room <= n {
             return n;
         }
-        n = turn(code, lengths, class, groups, numbers, count, only, m, trail, steps, bound, along, out, room, n, t);
+        n = turn(
+            code,
+            lengths,
+            class,
+            groups,
+            numbers,
+            count,
+            only,
+            m,
+            trail,
+            steps,
+            bound,
+            along,
+            out,
+            room,
+            n,
+            t,
+        );
         t += 1;
     }
     n

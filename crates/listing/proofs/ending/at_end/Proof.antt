@@ -25,8 +25,8 @@ returns-2 c =
     let a = c .before .before .before .before .before .args in (
       search needs,
       λ code lengths class threads groups p v at num.
-        adds-none p (a .room) _ (a .out .now) (a .rows)
-        (at-unmeant (a .only) p v (c .before .before .fails .result) (sym (c .before .is-meant .ensures) ∙ not-true _ (c .if2 .taken)) (sym (c .before .before .fails .ensures code lengths _ (at .holds)))),
+          adds-none p (a .room) _ (a .out .now) (a .rows)
+          (at-unmeant (a .only) p v (c .before .before .fails .result) (sym (c .before .is-meant .ensures) ∙ not-true _ (c .if2 .taken)) (sym (c .before .before .fails .ensures code lengths _ (at .holds)))),
     )
 
 returns-3 : tie.Need-returns-3
@@ -34,9 +34,9 @@ returns-3 c =
     let a = c .before .before .before .before .before .before .before .args in (
       search needs,
       λ code lengths class threads groups p v at num.
-        adds-none p (a .room) _ (a .out .now) (a .rows)
-        (at-beaten (a .only) p v (sym (unbeaten-reached code lengths class threads groups (a .m) (a .trail .now) (a .steps) p v (a .numbers .now) (a .count) at (num .within) (num .size) (num .permitted))
-        ∙ sym (c .before .is-unbeaten .ensures) ∙ not-true _ (c .if3 .taken))),
+          adds-none p (a .room) _ (a .out .now) (a .rows)
+          (at-beaten (a .only) p v (sym (unbeaten-reached code lengths class threads groups (a .m) (a .trail .now) (a .steps) p v (a .numbers .now) (a .count) at (num .within) (num .size) (num .permitted))
+          ∙ sym (c .before .is-unbeaten .ensures) ∙ not-true _ (c .if3 .taken))),
     )
 
 returns-4 : tie.Need-returns-4
@@ -45,14 +45,14 @@ returns-4 c =
     let a = c .before .before .before .before .before .before .before .before .before .before .before .args in (
       search needs,
       λ code lengths class threads groups p v at num.
-        let f : failing p v ≡ c .before .before .before .before .before .before .before .before .fails .result = sym (c .before .before .before .before .before .before .before .before .fails .ensures code lengths _ (at .holds)) in
-        let w = threads-reached code lengths class threads groups (a .m) (a .trail .now) (a .steps) p v at in
-        adds-one p (a .room) _ v (a .out .now) (c .before .before .put-row .last .0) (a .rows)
-        (at-wanted (a .only) p v (c .before .before .before .before .before .before .before .before .fails .result) (sym (c .before .before .before .before .before .before .before .is-meant .ensures) ∙ not-false _ (c .before .before .before .before .before .before .if2 .left)) f
-        (sym (unbeaten-reached code lengths class threads groups (a .m) (a .trail .now) (a .steps) p v (a .numbers .now) (a .count) at (num .within) (num .size) (num .permitted))
-        ∙ sym (c .before .before .before .before .before .is-unbeaten .ensures) ∙ not-false _ (c .before .before .before .before .if3 .left)))
-        (c .before .before .before .before .before .before .before .before .before .if1 .left)
-        (c .before .before .put-row .ensures ∙ rw (w, f)),
+          let f : failing p v ≡ c .before .before .before .before .before .before .before .before .fails .result = sym (c .before .before .before .before .before .before .before .before .fails .ensures code lengths _ (at .holds)) in
+          let w = threads-reached code lengths class threads groups (a .m) (a .trail .now) (a .steps) p v at in
+          adds-one p (a .room) _ v (a .out .now) (c .before .before .put-row .last .0) (a .rows)
+          (at-wanted (a .only) p v (c .before .before .before .before .before .before .before .before .fails .result) (sym (c .before .before .before .before .before .before .before .is-meant .ensures) ∙ not-false _ (c .before .before .before .before .before .before .if2 .left)) f
+          (sym (unbeaten-reached code lengths class threads groups (a .m) (a .trail .now) (a .steps) p v (a .numbers .now) (a .count) at (num .within) (num .size) (num .permitted))
+          ∙ sym (c .before .before .before .before .before .is-unbeaten .ensures) ∙ not-false _ (c .before .before .before .before .if3 .left)))
+          (c .before .before .before .before .before .before .before .before .before .if1 .left)
+          (c .before .before .put-row .ensures ∙ rw (w, f)),
     )
 
 pub at-end-spec : {M : Type 1} → statement M
