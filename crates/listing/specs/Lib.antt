@@ -35,3 +35,5 @@ pub mod Walked
 pub mod HeldTwin
 -- whether a thread is asleep, read off the machine; for the code
 pub mod HeldSleep
+-- the answers as the code gives them
+pub mod Said

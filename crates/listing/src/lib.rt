@@ -24,3 +24,10 @@ mod walking;
 mod sleeping;
 // The listed schedules behind a bound, as rows.
 mod listed;
+// The calls that give a schedule.
+mod calling;
+
+pub use calling::ListAnswer;
+pub use calling::continue_from;
+pub use calling::start;
+pub use calling::violation;
