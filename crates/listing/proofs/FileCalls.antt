@@ -18,6 +18,7 @@ use Rattle.schedules.specs.Order.{Schedule}
 use Rattle.schedules.specs.System.{run}
 use Rattle.schedules.specs.Calls.{Answer, found, nomore, refused, turn, short, content, offer}
 use Rattle.schedules.specs.Found.{after}
+use Rattle.schedules.proofs.First.{head-keep}
 use Rattle.schedules.proofs.After.{offer-after}
 use Rattle.machine.specs.State.{SC, start}
 use Rattle.machine.specs.Replay.{Replayed, whole, replay}
@@ -102,3 +103,80 @@ module _ (file out : List ℕ) where
     pub start-output : decode file ≡ accepted p → content (turn (short 24 out) (headOf (after (boundAt false b 0) (sought false p)))) out ≡ startFile file out .1
     unfolding startOn startOf
     start-output e = ap (λ (a : Answer). content a out) start-turn ∙ ap (λ (d : Decoded). startOn d out .1) (sym e)
+
+-- ---- continue, on a program
+module _ (p : Program) (s : Schedule) (out : List ℕ) where
+  pub continue-short : length out < 24 → continueOf p s out ≡ (refused 22 0, out)
+  unfolding continueOf content
+  continue-short h = rw (lt-ltb (length out) 24 h)
+
+  module _ (code lengths : List ℕ) (r : Run) (held : HoldsRun code lengths p s r) (wide : 24 ≤ length out) where
+    -- refused by 20 or 21
+    pub continue-refused : (n k : ℕ) → r .verdict ≡ Refused n k → continueOf p s out ≡ (refused n k, out)
+    unfolding continueOf continued content verdictOf
+    continue-refused n k e =
+        let v : replay p s ≡ Replay.refused n k = sym (held .answer) ∙ ap (λ (v : Verdict). verdictOf v (run SC (start p) (take (r .steps) s))) e in
+        rw (le-ltb (length out) 24 wide, v)
+
+    abbrev next : Answer
+    next = turn (short 24 out) (headOf (after (boundAt true s 0) (sought false p)))
+
+    pub continue-whole : r .verdict ≡ Whole → (turn (short 24 out) (headOf (after (boundAt true s 0) (sought false p)))) ≡ continueOf p s out .0
+    unfolding continueOf continued verdictOf boundAt sought turn
+    continue-whole e =
+        let σ = run SC (start p) (take (r .steps) s) in
+        let v : replay p s ≡ whole σ = sym (held .answer) ∙ ap (λ (v : Verdict). verdictOf v σ) e in
+        rw (le-ltb (length out) 24 wide, v) (ap (turn false) (offer-after (some s) (listOf p)))
+
+    pub continue-output : r .verdict ≡ Whole → content (turn (short 24 out) (headOf (after (boundAt true s 0) (sought false p)))) out ≡ continueOf p s out .1
+    unfolding continueOf
+    continue-output e = ap (λ (a : Answer). content a out) (continue-whole e)
+
+-- on a file
+module _ (file s out : List ℕ) where
+  pub continue-file : (p : Program) → decode file ≡ accepted p → continueOf p s out ≡ continueFile file s out
+  unfolding continueOn
+  continue-file p e = ap (λ (d : Decoded). continueOn d s out) (sym e)
+
+  pub continue-file-refused : (n k : ℕ) → decode file ≡ File.refused n k → continueFile file s out ≡ (refused n k, out)
+  unfolding continueOn content
+  continue-file-refused n k e = ap (λ (d : Decoded). continueOn d s out) e
+
+-- ---- violation
+same-said : (b : Bool) (o : Option Schedule) → said (turn b o) ≡ violationSaid (violationBy b o)
+unfolding said violationSaid turn violationBy
+same-said true o = refl
+same-said false none = refl
+same-said false (some s) = refl
+
+same-content : (b : Bool) (o : Option Schedule) (out : List ℕ) → content (turn b o) out ≡ violationContent (violationBy b o) out
+unfolding content violationContent turn violationBy
+same-content true o out = refl
+same-content false none out = refl
+same-content false (some s) out = refl
+
+module _ (file out b : List ℕ) where
+  pub violation-refused : (n k : ℕ) → decode file ≡ File.refused n k → violationFile file out ≡ (refused-by n k, out)
+  unfolding violationOn violationContent
+  violation-refused n k e = ap (λ (d : Decoded). violationOn d out) e
+
+  module _ (p : Program) (e : decode file ≡ accepted p) where
+    sought-first : headOf (after (boundAt false b 0) (sought true p)) ≡ first (failing p) (listOf p)
+    unfolding boundAt sought after
+    sought-first = head-keep (failing p) (listOf p)
+
+    violation-on : violationOf p out ≡ violationFile file out
+    unfolding violationOn
+    violation-on = ap (λ (d : Decoded). violationOn d out) (sym e)
+
+    pub violation-said : said (turn (short 24 out) (headOf (after (boundAt false b 0) (sought true p)))) ≡ violationSaid (violationFile file out .0)
+    unfolding violationOf
+    violation-said =
+        same-said (short 24 out) (headOf (after (boundAt false b 0) (sought true p)))
+        ∙ ap (λ (o : Option Schedule). violationSaid (violationBy (short 24 out) o)) sought-first ∙ ap (λ (r : Violation × List ℕ). violationSaid (r .0)) violation-on
+
+    pub violation-output : content (turn (short 24 out) (headOf (after (boundAt false b 0) (sought true p)))) out ≡ violationFile file out .1
+    unfolding violationOf
+    violation-output =
+        same-content (short 24 out) (headOf (after (boundAt false b 0) (sought true p))) out
+        ∙ ap (λ (o : Option Schedule). violationContent (violationBy (short 24 out) o) out) sought-first ∙ ap (λ (r : Violation × List ℕ). r .1) violation-on
