@@ -35,6 +35,20 @@ uint64_t tarczolin_graph(const uint8_t *file, size_t file_len, const uint8_t *sc
  * have any length. No and a refusal change no byte. */
 uint64_t tarczolin_judge(const uint8_t *file, size_t file_len, const uint8_t *graph, size_t graph_len, uint8_t *out, size_t out_len);
 
+/* The least listed schedule. Answered: it stands in front of the output, the answer carries its length, and the bytes
+ * behind it keep their value. Refused, in this order: the program's (1 to 9); 22 at place 0, an output of under 24 bytes.
+ * A refusal changes no byte. */
+uint64_t tarczolin_start(const uint8_t *file, size_t file_len, uint8_t *out, size_t out_len);
+
+/* The least listed schedule after a full one, listed or not. Answered as by tarczolin_start; no more: kind 2. Refused, in
+ * this order: the program's; 22; 20 and 21 of the schedule given, as by tarczolin_graph. No more and a refusal change no
+ * byte. */
+uint64_t tarczolin_continue(const uint8_t *file, size_t file_len, const uint8_t *schedule, size_t schedule_len, uint8_t *out, size_t out_len);
+
+/* The first listed schedule that fails. Answered as by tarczolin_start; none fails: kind 2, and then no schedule at all
+ * fails. Refused: the program's; 22. None and a refusal change no byte. */
+uint64_t tarczolin_violation(const uint8_t *file, size_t file_len, uint8_t *out, size_t out_len);
+
 #ifdef __cplusplus
 }
 #endif

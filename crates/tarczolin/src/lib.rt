@@ -8,7 +8,12 @@ mod check;
 mod graph;
 // Graphs judged: tarczolin_judge.
 mod judgement;
+// Listed schedules: tarczolin_start, tarczolin_continue, tarczolin_violation.
+mod listed;
 
 pub use check::tarczolin_check;
 pub use graph::tarczolin_graph;
 pub use judgement::tarczolin_judge;
+pub use listed::tarczolin_continue;
+pub use listed::tarczolin_start;
+pub use listed::tarczolin_violation;
