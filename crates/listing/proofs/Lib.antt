@@ -68,3 +68,5 @@ pub mod TwinTurns
 pub mod HeldAsleep
 -- the walk from the start finds what is listed
 pub mod ListedRows
+-- the list counted by pieces
+pub mod CountedRows

@@ -24,3 +24,5 @@ mod walking;
 mod sleeping;
 // The listed schedules behind a bound, as rows.
 mod listed;
+// How many are listed, and how many of these fail.
+mod counting;
