@@ -70,3 +70,5 @@ pub mod HeldAsleep
 pub mod ListedRows
 -- the list counted by pieces
 pub mod CountedRows
+-- what count says of a program file
+pub mod CountCalled

@@ -35,3 +35,5 @@ pub mod Walked
 pub mod HeldTwin
 -- whether a thread is asleep, read off the machine; for the code
 pub mod HeldSleep
+-- count's answer as the code gives it
+pub mod CountWord

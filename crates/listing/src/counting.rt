@@ -14,10 +14,19 @@ ghost use Rattle.schedules.specs.Lists.{keep};
 ghost use Rattle.schedules.specs.Order.{Schedule};
 ghost use Rattle.listing.specs.Answers.{failing, countOf};
 ghost use Rattle.listing.specs.Rows.{Shown};
+ghost use Rattle.listing.specs.OnFile.{countFile};
+ghost use Rattle.listing.specs.CountWord.{countSaid};
 
 pub struct Tally {
     pub listed: usize,
     pub failing: usize,
+}
+
+pub enum CountAnswer {
+    // How many are listed, and how many of these fail.
+    Counted(usize, usize),
+    // The refusal's number and place.
+    Refused(u8, usize),
 }
 
 // How many of these rows are of schedules that fail.
@@ -67,5 +76,21 @@ pub fn counts(program: Compiled) -> Tally
     Tally {
         listed: listed,
         failing: failing,
+    }
+}
+
+// Of a program file, which may be refused.
+pub fn count(file: &[u8]) -> CountAnswer
+    ensures { λ r. ⌜ r ≡ countSaid (countFile (now (file .entry))) ⌝ }
+{
+    let a = program::decode(file);
+    let v = a.verdict;
+    match v {
+        program::Verdict::Refused(n, k) => CountAnswer::Refused(n, k),
+        program::Verdict::Accepted => {
+            let p = a.program;
+            let c = counts(p);
+            CountAnswer::Counted(c.listed, c.failing)
+        }
     }
 }

@@ -26,3 +26,6 @@ mod sleeping;
 mod listed;
 // How many are listed, and how many of these fail.
 mod counting;
+
+pub use counting::CountAnswer;
+pub use counting::count;
