@@ -4,3 +4,5 @@ pub mod Checked
 pub mod Graphs
 -- What the judge's answer says.
 pub mod Judgements
+-- What the listing's answer to count says.
+pub mod Tallies

@@ -7,3 +7,5 @@ pub mod Check
 pub mod Graphed
 -- what the judge says
 pub mod Judged
+-- what count says
+pub mod Tallied

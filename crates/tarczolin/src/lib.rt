@@ -8,7 +8,10 @@ mod check;
 mod graph;
 // Graphs judged: tarczolin_judge.
 mod judgement;
+// Listed schedules counted: tarczolin_count.
+mod tally;
 
 pub use check::tarczolin_check;
 pub use graph::tarczolin_graph;
 pub use judgement::tarczolin_judge;
+pub use tally::tarczolin_count;
