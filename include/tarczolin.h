@@ -49,6 +49,10 @@ uint64_t tarczolin_continue(const uint8_t *file, size_t file_len, const uint8_t 
  * fails. Refused: the program's; 22. None and a refusal change no byte. */
 uint64_t tarczolin_violation(const uint8_t *file, size_t file_len, uint8_t *out, size_t out_len);
 
+/* How many schedules are listed, and how many of these fail. Answered: kind 1 and the rest 0. Both words keep their
+ * value on refusal (1 to 9). */
+uint64_t tarczolin_count(const uint8_t *file, size_t file_len, uint64_t *listed, uint64_t *failing);
+
 #ifdef __cplusplus
 }
 #endif

@@ -74,3 +74,7 @@ pub mod FirstRow
 pub mod Decoded
 -- the calls that give a schedule, way by way
 pub mod FileCalls
+-- the list counted by pieces
+pub mod CountedRows
+-- what count says of a program file
+pub mod CountCalled

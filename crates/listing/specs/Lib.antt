@@ -37,3 +37,5 @@ pub mod HeldTwin
 pub mod HeldSleep
 -- the answers as the code gives them
 pub mod Said
+-- count's answer as the code gives it
+pub mod CountWord

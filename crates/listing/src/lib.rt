@@ -31,3 +31,8 @@ pub use calling::ListAnswer;
 pub use calling::continue_from;
 pub use calling::start;
 pub use calling::violation;
+// How many are listed, and how many of these fail.
+mod counting;
+
+pub use counting::CountAnswer;
+pub use counting::count;

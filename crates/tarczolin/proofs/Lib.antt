@@ -6,3 +6,5 @@ pub mod Graphs
 pub mod Judgements
 -- What the listing's answers say.
 pub mod Told
+-- What the listing's answer to count says.
+pub mod Tallies

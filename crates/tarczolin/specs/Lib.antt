@@ -9,3 +9,5 @@ pub mod Graphed
 pub mod Judged
 -- what start, continue and violation say
 pub mod Listed
+-- what count says
+pub mod Tallied

@@ -10,6 +10,8 @@ mod graph;
 mod judgement;
 // Listed schedules: tarczolin_start, tarczolin_continue, tarczolin_violation.
 mod listed;
+// Listed schedules counted: tarczolin_count.
+mod tally;
 
 pub use check::tarczolin_check;
 pub use graph::tarczolin_graph;
@@ -17,3 +19,4 @@ pub use judgement::tarczolin_judge;
 pub use listed::tarczolin_continue;
 pub use listed::tarczolin_start;
 pub use listed::tarczolin_violation;
+pub use tally::tarczolin_count;
