@@ -53,6 +53,14 @@ uint64_t tarczolin_violation(const uint8_t *file, size_t file_len, uint8_t *out,
  * value on refusal (1 to 9). */
 uint64_t tarczolin_count(const uint8_t *file, size_t file_len, uint64_t *listed, uint64_t *failing);
 
+/* Many listed schedules at a time, as rows of 26 bytes: the number of steps, 1 where the schedule fails and 0 where it
+ * does not, and the steps, with zeros behind them up to 24. Answered: as many rows as the output has room for stand in
+ * front of it, from the first listed schedule on or after the given one (which need not be listed nor full), the answer
+ * carries their number, not their bytes, and the bytes behind them keep their value; 0 where there is no more or no room.
+ * Refused: the program's (1 to 9), and no byte changes. */
+uint64_t tarczolin_rows(const uint8_t *file, size_t file_len, uint8_t *out, size_t out_len);
+uint64_t tarczolin_rows_after(const uint8_t *file, size_t file_len, const uint8_t *schedule, size_t schedule_len, uint8_t *out, size_t out_len);
+
 #ifdef __cplusplus
 }
 #endif

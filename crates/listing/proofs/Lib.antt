@@ -78,3 +78,5 @@ pub mod FileCalls
 pub mod CountedRows
 -- what count says of a program file
 pub mod CountCalled
+-- the calls by rows, way by way
+pub mod RowsSaid

@@ -39,3 +39,5 @@ pub mod HeldSleep
 pub mod Said
 -- count's answer as the code gives it
 pub mod CountWord
+-- listed schedules by rows, on a program file
+pub mod RowsCall

@@ -36,3 +36,9 @@ mod counting;
 
 pub use counting::CountAnswer;
 pub use counting::count;
+// Listed schedules by rows.
+mod row_calls;
+
+pub use row_calls::RowsAnswer;
+pub use row_calls::first_rows;
+pub use row_calls::next_rows;

@@ -11,3 +11,5 @@ pub mod Judged
 pub mod Listed
 -- what count says
 pub mod Tallied
+-- what the calls by rows say
+pub mod Rowed

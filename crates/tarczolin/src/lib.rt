@@ -12,7 +12,11 @@ mod judgement;
 mod listed;
 // Listed schedules counted: tarczolin_count.
 mod tally;
+// Many listed schedules at a time: tarczolin_rows, tarczolin_rows_after.
+mod by_rows;
 
+pub use by_rows::tarczolin_rows;
+pub use by_rows::tarczolin_rows_after;
 pub use check::tarczolin_check;
 pub use graph::tarczolin_graph;
 pub use judgement::tarczolin_judge;
