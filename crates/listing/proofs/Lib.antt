@@ -54,6 +54,8 @@ pub mod ReachedStep
 pub mod ReachedLate
 -- the test at a full schedule that is such a prefix
 pub mod ReachedTest
+-- a run without late steps is in its least order
+pub mod NormalForm
 -- rows added to an output, as far as there is room
 pub mod AddedRows
 -- the search at a full schedule, with one next step, and over the next steps in turn

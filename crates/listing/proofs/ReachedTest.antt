@@ -27,7 +27,7 @@ use Rattle.listing.proofs.Loops.{permittedNumbers, unbeaten-numbered}
 use Rattle.listing.proofs.ReachedLate.{notes-counted}
 
 -- the threads of a run's steps are its schedule
-trail-threads : (σ : State) (s : Schedule) → map who (trail σ s) ≡ s
+pub trail-threads : (σ : State) (s : Schedule) → map who (trail σ s) ≡ s
 unfolding trace action who
 trail-threads σ [] = refl
 trail-threads σ (t ∷ s) = ap (λ (k : List ℕ). t ∷ k) (trail-threads (step σ t) s)
