@@ -4,6 +4,7 @@ use Prim.Native.Nat.{_-_}
 use mathlib.Core.Path.{refl}
 use native.Mathlib.Omega.{arith}
 use lib.ListN.{length}
+use Rattle.program.specs.WellFormed.{WellFormed}
 use Rattle.program.specs.Compiled.{programOf}
 use Rattle.machine.proofs.Lawful.{fits-64-bits}
 use Rattle.listing.specs.ListOf.{listOf}
@@ -19,20 +20,27 @@ Inv-loop program groups permitted rows₀ n₀ listed₀ failing₀ rows n liste
 abbrev μ-loop : tie.MeasureT-loop
 μ-loop program groups permitted rows₀ n₀ listed₀ failing₀ rows n listed failed = length (listOf (programOf program)) - listed
 
+well : (c : tie.At-loop Inv-loop μ-loop) → WellFormed (programOf (c .before .before .before .before .before .before .before .args .program))
+well c = c .before .before .before .before .before .before .before .pre
+
 listed-rows-requires : tie.Need-listed-rows-requires Inv-loop μ-loop
-listed-rows-requires c κs = let e = c .before .before .permitted-numbers .ensures in (c .before .before .before .before .pre, record { size = search needs; within = e .0; permitted = e .1 })
+listed-rows-requires c κs =
+    let e = c .before .before .permitted-numbers .ensures in
+    (c .before .before .before .before .pre, record { size = search needs; within = e .0; permitted = e .1 })
 
 loop-holds : tie.Need-loop-holds Inv-loop μ-loop
 loop-holds c = counting-start (programOf (c .before .before .before .before .before .before .args .program)) _ _ _ _ (search needs) (c .before .listed-rows .ensures)
 
 add-listed : tie.Need-add-listed Inv-loop μ-loop
-add-listed c = omega (arith, counting-within _ _ _ _ _ (c .before .loop .inv), list-length _ (c .before .before .before .before .before .before .before .before .pre), fits-64-bits)
+add-listed c = omega (arith, counting-within _ _ _ _ _ (c .before .loop .inv), list-length _ (well (c .before)), fits-64-bits)
 
 failing-in-requires : tie.Need-failing-in-requires Inv-loop μ-loop
 failing-in-requires c κs = counting-64 _ _ _ _ _ (c .before .before .loop .inv)
 
 add-failing : tie.Need-add-failing Inv-loop μ-loop
-add-failing c = omega (arith, counting-fails _ _ _ _ _ (c .before .before .before .loop .inv) _ (c .failing-in .ensures), list-length _ (c .before .before .before .before .before .before .before .before .before .before .pre), fits-64-bits)
+add-failing c =
+    omega
+    (arith, counting-fails _ _ _ _ _ (c .before .before .before .loop .inv) _ (c .failing-in .ensures), list-length _ (well (c .before .before .before)), fits-64-bits)
 
 mul-at : tie.Need-mul-at Inv-loop μ-loop
 mul-at c = omega (arith, counting-64 _ _ _ _ _ (c .before .before .before .loop .inv))
@@ -48,30 +56,39 @@ add-listed-rows-2 c = let h = counting-64 _ _ _ _ _ (c .before .before .before .
 
 add-listed-rows-3 : tie.Need-add-listed-rows-3 Inv-loop μ-loop
 add-listed-rows-3 c =
-    let h = counting-64 _ _ _ _ _ (c .before .before .before .before .loop .inv) in
-    let k = counting-part _ _ _ _ _ (c .before .before .before .before .loop .inv) (c .before .before .before .loop-test .taken) (c .before .before .before .before .before .before .before .before .before .before .before .pre) _ (c .wide .ensures) in
+    let c4 = c .before .before .before .before in
+    let h = counting-64 _ _ _ _ _ (c4 .loop .inv) in
+    let k = counting-part _ _ _ _ _ (c4 .loop .inv) (omega (arith, c .before .before .before .loop-test .taken)) (well c4) _ (c .wide .ensures) in
     search needs
 
 part-listed-rows-end : tie.Need-part-listed-rows-end Inv-loop μ-loop
 part-listed-rows-end c =
-    let h = counting-64 _ _ _ _ _ (c .before .before .before .before .before .loop .inv) in
-    let k = counting-part _ _ _ _ _ (c .before .before .before .before .before .loop .inv) (c .before .before .before .before .loop-test .taken) (c .before .before .before .before .before .before .before .before .before .before .before .before .pre) _ (c .before .wide .ensures) in
-    let s = counting-size _ _ _ _ _ (c .before .before .before .before .before .loop .inv) in
+    let c4 = c .before .before .before .before in
+    let c5 = c4 .before in
+    let h = counting-64 _ _ _ _ _ (c5 .loop .inv) in
+    let k = counting-part _ _ _ _ _ (c5 .loop .inv) (omega (arith, c4 .loop-test .taken)) (well c5) _ (c .before .wide .ensures) in
+    let s = counting-size _ _ _ _ _ (c5 .loop .inv) in
     search needs
 
 slice-aggregate-listed-rows-3 : tie.Need-slice-aggregate-listed-rows-3 Inv-loop μ-loop
 slice-aggregate-listed-rows-3 c = let s = counting-size _ _ _ _ _ (c .before .before .before .before .before .before .before .loop .inv) in search needs
 
 listed-rows-requires-2 : tie.Need-listed-rows-requires-2 Inv-loop μ-loop
-listed-rows-requires-2 c κs = let e = c .before .before .before .before .before .before .before .before .before .before .before .before .permitted-numbers .ensures in (c .before .before .before .before .before .before .before .before .before .before .before .before .before .before .pre, record { size = search needs; within = e .0; permitted = e .1 })
+listed-rows-requires-2 c κs =
+    let c7 = c .before .before .before .before .before .before .before in
+    let e = c7 .before .before .before .before .before .permitted-numbers .ensures in
+    (well c7, record { size = search needs; within = e .0; permitted = e .1 })
 
 loop-less : tie.Need-loop-less Inv-loop μ-loop
-loop-less c = omega (arith, counting-within _ _ _ _ _ (c .before .before .before .before .before .before .before .before .before .loop .inv), c .before .before .before .before .before .before .before .before .loop-test .taken)
+loop-less c = let c8 = c .before .before .before .before .before .before .before .before in omega (arith, counting-within _ _ _ _ _ (c8 .before .loop .inv), c8 .loop-test .taken)
 
 loop-again : tie.Need-loop-again Inv-loop μ-loop
 loop-again c =
-    counting-next _ _ _ _ _ (c .before .before .before .before .before .before .before .before .before .loop .inv) (c .before .before .before .before .before .before .before .before .loop-test .taken) (c .before .before .before .before .before .before .before .before .before .before .before .before .before .before .before .before .pre) _ _ _ _ _
-    (c .before .before .before .before .before .before .failing-in .ensures) (c .before .before .before .before .before .wide .ensures) refl (c .before .listed-rows2 .ensures)
+    let c5 = c .before .before .before .before .before in
+    let c8 = c5 .before .before .before in
+    let c9 = c8 .before in
+    counting-next _ _ _ _ _ (c9 .loop .inv) (omega (arith, c8 .loop-test .taken)) (well c9) _ _ _ _ _ (c5 .before .failing-in .ensures) (c5 .wide .ensures) refl
+    (c .before .listed-rows2 .ensures)
 
 returns : tie.Need-returns Inv-loop μ-loop
 returns c = counting-over _ _ _ _ _ (c .before .loop .inv) (c .loop-test .left)

@@ -44,7 +44,10 @@ loop-again c =
     (λ w. same (a .rows .now) (a .n) (l .failing) _ (l .k) (l .inv) (c .before .before .loop-test .taken) (w .0 .left) (w .1)) (c .if1 .came)
 
 returns : tie.Need-returns Inv-loop μ-loop
-returns c = λ p ss held s. fails-all p ss held (c .before .before .args .rows .now) (c .before .before .args .n) s (c .before .loop .k) (c .before .loop .failing) (c .loop-test .left) (c .before .loop .inv .2 p ss held s)
+returns c =
+    let a = c .before .before .args in
+    let l = c .before .loop in
+    λ p ss held s. fails-all p ss held (a .rows .now) (a .n) s (l .k) (l .failing) (c .loop-test .left) (l .inv .2 p ss held s)
 
 pub failing-in-spec : {M : Type 1} → statement M
 failing-in-spec =
