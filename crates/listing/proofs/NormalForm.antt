@@ -1,24 +1,24 @@
 -- A run none of whose steps comes late is in its least order (the lexicographic normal form of Anisimov and Knuth), so the test at a full
 -- schedule passes at the identity.
-use Prim.Native.Nat.{ℕ, _<_}
+use Prim.Native.Nat.{ℕ, zero, suc, _-_, _<_}
 use mathlib.Core.Path.{_≡_, refl, sym, ap, ap₂, subst, _∙_}
 use mathlib.Core.Logic.{_≢_, ⊎-elim}
-use mathlib.Core.Bool.{Bool, true, false, not, true≢false, false≢true}
+use mathlib.Core.Bool.{Bool, true, false, not, _||_, true≢false, false≢true}
 use mathlib.Core.Option.{Option, none, some}
 use mathlib.Core.List.{List, [], _∷_, _++_, map, append-assoc, reverse, reverse-cons, List·Memᴰ, List·Memᴰ·head, List·Memᴰ·tail, List·Memᴰ·cases-cons, List·Memᴰ·not-nil}
 use native.Mathlib.Omega.{arith}
 use native.Mathlib.Decide.{ℕ-discrete}
 use lib.Dec.{eqb, ltb}
-use lib.ListN.{length}
-use borrow.Author.Tests.{ne-eqb, lt-ltb}
+use lib.ListN.{length, getD, take}
+use borrow.Author.Tests.{eq-eqb, ne-eqb, lt-ltb}
 use Rattle.program.specs.Program.{Program}
-use Rattle.schedules.specs.Lists.{upTo, first}
+use Rattle.schedules.specs.Lists.{upTo, first, all, keep}
 use Rattle.schedules.specs.Order.{Schedule, less}
 use Rattle.schedules.specs.System.{Allowed}
 use Rattle.schedules.specs.Greedy.{greedy}
 use Rattle.schedules.specs.Orders.{trace, nextOf, clear, ready, Remaining, leastOrder}
 use Rattle.schedules.specs.Permutations.{factorial, arranged, dropAt, permutationOf, moved}
-use Rattle.schedules.proofs.Lists.{in-upTo, of-upTo, upTo-ascends}
+use Rattle.schedules.proofs.Lists.{in-upTo, of-upTo, upTo-ascends, all-of}
 use Rattle.schedules.proofs.Order.{Compared, below, same, above, compared, less-irreflexive}
 use Rattle.schedules.proofs.Greedy.{FirstIs, found-at, nowhere, first-is}
 use Rattle.schedules.proofs.Group.{identity-moved}
@@ -27,12 +27,16 @@ use Rattle.machine.specs.State.{State, step, SC, start}
 use Rattle.machine.specs.Trail.{Action, action, trail, who, conflict, leastOf}
 use Rattle.machine.specs.ExchangedTrail.{movedAction}
 use Rattle.machine.proofs.Lawful.{lawful}
-use Rattle.listing.specs.Rules.{late, leastBy}
-use Rattle.listing.proofs.ReachedTest.{trail-threads}
-
--- each step is on time: not late behind those before it
-abbrev pub Timely : List Action → Type 0
-Timely acts = (u : List Action) (b : Action) (z : List Action) → acts ≡ u ++ (b ∷ z) → late (reverse u) b ≡ false
+use Rattle.machine.specs.declared.state.Machine.{Machine}
+use Rattle.listing.specs.ListOf.{together, permits}
+use Rattle.listing.specs.Rules.{late, Timely, leastBy, unbeaten}
+use Rattle.listing.specs.ClassGroups.{groupsOf}
+use Rattle.listing.specs.UnbeatenBy.{unbeatenBy}
+use Rattle.listing.specs.Reached.{Reached}
+use Rattle.listing.specs.Walked.{Numbered}
+use Rattle.listing.proofs.Numbers.{all-further}
+use Rattle.listing.proofs.Tests.{or-left}
+use Rattle.listing.proofs.ReachedTest.{trail-threads, actions-reached, threads-reached, unbeaten-reached}
 
 -- ---- steps that come late
 -- what comes late behind some steps comes late behind more before them
@@ -183,3 +187,53 @@ timely-unbeaten p w on f =
     let e : leastOf (map (movedAction (moved (permutationOf 0))) (trail (start p) w)) ≡ w =
     ap leastOf (all-stay (trail (start p) w)) ∙ timely-least (trail (start p) w) on (trail-below w (start p) f) ∙ trail-threads (start p) w in
     ap (λ (s : Schedule). not (less s w)) e ∙ ap not (less-irreflexive w)
+
+-- ---- the test of a prefix as the arrays hold it, by the numbers behind the first, which is the identity's
+first-kept : (f : ℕ → Bool) (n : ℕ) → 0 < n → f 0 ≡ true → (l : List ℕ) × (keep f (upTo 0 n) ≡ 0 ∷ l)
+unfolding upTo keep
+first-kept f zero h e = absurd (omega arith)
+first-kept f (suc n) h e = (keep f (upTo 1 n), rw (e, keep) refl)
+
+identity-permits : (groups : List (List ℕ)) → permits groups (permutationOf 0) ≡ true
+unfolding permits
+identity-permits groups =
+    ap (λ (π : List ℕ). permits groups π) number-none
+    ∙ all-of (λ t. eqb (moved (upTo 0 6) t) t || together groups t (moved (upTo 0 6) t)) (upTo 0 6)
+    (λ t m. or-left (eqb (moved (upTo 0 6) t) t) (together groups t (moved (upTo 0 6) t)) (eq-eqb (moved (upTo 0 6) t) t (identity-moved t)))
+
+-- the first of some numbers that are kept
+module _ (class : List ℕ) (groups : ℕ) (numbers : List ℕ) (count : ℕ) (num : Numbered class groups numbers count) where
+  front : (l : List ℕ) × (take count numbers ≡ 0 ∷ l)
+  front =
+      let k = first-kept (λ k. permits (groupsOf class groups) (permutationOf k)) 720 (omega arith) (identity-permits (groupsOf class groups)) in
+      (k .0, num .permitted ∙ k .1)
+
+  some-number : 0 < count
+  some-number = positive count refl
+    where
+      positive : (n : ℕ) → count ≡ n → 0 < count
+      positive zero e = let q = sym (ap (λ (j : ℕ). take j numbers) e) ∙ front .1 in let n = ap length q in absurd (omega (arith, n))
+      positive (suc n) e = omega (arith, e)
+
+  zero-first : getD numbers 0 0 ≡ 0
+  zero-first = sym (taken-first numbers count some-number) ∙ ap (λ (l : List ℕ). getD l 0 0) (front .1)
+    where
+      taken-first : (l : List ℕ) (n : ℕ) → 0 < n → getD (take n l) 0 0 ≡ getD l 0 0
+      taken-first l zero h = absurd (omega arith)
+      taken-first [] (suc n) h = refl
+      taken-first (x ∷ l) (suc n) h = refl
+
+pub unbeaten-on : (code lengths class : List ℕ) (threads groups : ℕ) (m : Machine) (array : List ℕ) (steps : ℕ) (p : Program) (v : Schedule)
+    (numbers : List ℕ) (count : ℕ) → Reached code lengths class threads groups m array steps p v → Numbered class groups numbers count
+    → all (λ i. unbeatenBy array steps (getD numbers i 0)) (upTo 1 (count - 1)) ≡ unbeaten p v
+unfolding unbeatenBy
+unbeaten-on code lengths class threads groups m array steps p v numbers count at num =
+    let acts = actions-reached code lengths class threads groups m array steps p v at in
+    let own = threads-reached code lengths class threads groups m array steps p v at in
+    let z = zero-first class groups numbers count num in
+    let first : unbeatenBy array steps (getD numbers 0 0) ≡ true =
+    ap (unbeatenBy array steps) z
+    ∙ ap₂ (λ (k : List Action) (w : Schedule). not (less (leastBy (permutationOf 0) k) w)) acts own
+    ∙ timely-unbeaten p v (at .timely) (at .allowed) in
+    sym (all-further (λ i. unbeatenBy array steps (getD numbers i 0)) 0 count (some-number class groups numbers count num) first)
+    ∙ unbeaten-reached code lengths class threads groups m array steps p v numbers count at (num .within) (num .size) (num .permitted)

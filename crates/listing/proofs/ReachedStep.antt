@@ -1,15 +1,19 @@
 -- A prefix as the search's arrays hold it: how it starts, how a step leads on, and who may step behind it.
 use Prim.Native.Nat.{ℕ, _+_, _<_, _≤_}
-use mathlib.Core.Path.{_≡_, refl, sym, ap, subst, _∙_}
+use mathlib.Core.Path.{_≡_, refl, sym, ap, ap₂, subst, _∙_}
+use mathlib.Core.Logic.{_⊎_, inl, inr}
 use mathlib.Core.Bool.{true, false}
-use mathlib.Core.List.{List, [], _∷_, _++_}
+use mathlib.Core.List.{List, [], _∷_, _++_, reverse}
 use native.Mathlib.Omega.{arith}
 use lib.ListN.{length, getD, length-append}
 use Rattle.program.specs.Program.{Program}
 use Rattle.schedules.specs.Order.{Schedule}
 use Rattle.schedules.specs.System.{run, Allowed}
+use Rattle.schedules.specs.Orders.{trace}
 use Rattle.schedules.proofs.Runs.{run-snoc, allowed-join, allowed-length}
 use Rattle.machine.specs.State.{State, place, step, may, SC, start}
+use Rattle.machine.specs.Trail.{Action, action}
+use Rattle.machine.specs.Trail as Trail
 use Rattle.machine.specs.Notes.{Note, note, notes, Noted}
 use Rattle.machine.specs.Held.{threadAt, Holds, Loaded, Ready, HoldsStep}
 use Rattle.machine.specs.declared.state.Machine.{Machine}
@@ -18,9 +22,11 @@ use Rattle.machine.proofs.Steps.{may-range, run-threads}
 use Rattle.machine.proofs.Start.{start-threads}
 use Rattle.machine.proofs.Lawful.{lawful, start-24}
 use Rattle.machine.proofs.Regular.{place-in, regular-run, regular-start}
+use Rattle.machine.proofs.FreeSteps.{trail-more}
 use Rattle.machine.proofs.HeldStart.{threads-held, short-held}
 use Rattle.machine.proofs.HeldAsking.{held-may, held-ended, ready-held}
 use Rattle.machine.proofs.HeldNotes.{noted-fewer, noted-none}
+use Rattle.listing.specs.Rules.{late, Timely, taken}
 use Rattle.listing.specs.ClassGroups.{groupsOf}
 use Rattle.listing.specs.Reached.{Reached}
 
@@ -30,6 +36,32 @@ unfolding notes run
 notes-join σ [] s = refl
 notes-join σ (t ∷ u) s = ap (λ (ns : List Note). note σ t ∷ ns) (notes-join (step σ t) u s)
 
+-- no step is late among none, nor with one more that is on time
+timely-none : Timely []
+timely-none [] b z e = let n = ap length e in absurd (omega (arith, n))
+timely-none (a ∷ u) b z e = let n = ap length e in absurd (omega (arith, n))
+
+last-or-before : {A : Type 0} (acts : List A) (a : A) (u : List A) (b : A) (z : List A) → acts ++ (a ∷ []) ≡ u ++ (b ∷ z)
+    → ((u ≡ acts) × (b ≡ a)) ⊎ ((y : List A) × (acts ≡ u ++ (b ∷ y)))
+last-or-before [] a [] b z e = inl (refl, cc)
+last-or-before [] a (x ∷ u) b z e = let n = ap length e in let m = length-append u (b ∷ z) in absurd (omega (arith, n, m))
+last-or-before {A} (c ∷ acts) a [] b z e = let q : c ≡ b = cc in inr (acts, ap (λ (x : A). x ∷ acts) q)
+last-or-before {A} (c ∷ acts) a (x ∷ u) b z e =
+    let q : c ≡ x = cc in
+    let r : acts ++ (a ∷ []) ≡ u ++ (b ∷ z) = cc in
+    longer q (last-or-before acts a u b z r)
+  where
+    longer : c ≡ x → ((u ≡ acts) × (b ≡ a)) ⊎ ((y : List A) × (acts ≡ u ++ (b ∷ y))) → ((x ∷ u ≡ c ∷ acts) × (b ≡ a)) ⊎ ((y : List A) × (c ∷ acts ≡ x ∷ (u ++ (b ∷ y))))
+    longer q (inl h) = inl (ap₂ (λ (i : A) (l : List A). i ∷ l) (sym q) (h .0), h .1)
+    longer q (inr h) = inr (h .0, ap₂ (λ (i : A) (l : List A). i ∷ l) q (h .1))
+
+timely-more : (acts : List Action) (a : Action) → Timely acts → late (reverse acts) a ≡ false → Timely (acts ++ (a ∷ []))
+timely-more acts a h ontime u b z e = go (last-or-before acts a u b z e)
+  where
+    go : ((u ≡ acts) × (b ≡ a)) ⊎ ((y : List Action) × (acts ≡ u ++ (b ∷ y))) → late (reverse u) b ≡ false
+    go (inl q) = ap₂ (λ (l : List Action) (x : Action). late (reverse l) x) (q .0) (q .1) ∙ ontime
+    go (inr q) = h u b (q .0) (q .1)
+
 -- an array that holds notes holds the first of them
 pub noted-front : (trail : List ℕ) (ns ms : List Note) → Noted trail (ns ++ ms) → Noted trail ns
 noted-front = noted-fewer
@@ -37,7 +69,7 @@ noted-front = noted-fewer
 pub reached-start : (code lengths class : List ℕ) (threads groups : ℕ) (m : Machine) (trail : List ℕ) (p : Program)
     → Loaded code lengths threads p → p .groups ≡ groupsOf class groups → Holds code lengths m (start p) → length trail ≡ 192
     → Reached code lengths class threads groups m trail 0 p []
-unfolding run notes
+unfolding run notes trace
 reached-start code lengths class threads groups m trail p loaded lines held n = record {
   loaded = loaded;
   lines = lines;
@@ -45,6 +77,7 @@ reached-start code lengths class threads groups m trail p loaded lines held n = 
   holds = held;
   noted = noted-none trail n;
   counted = refl;
+  timely = timely-none;
 }
 
 module _ (code lengths class : List ℕ) (threads groups : ℕ) (m : Machine) (trail : List ℕ) (steps : ℕ) (p : Program) (v : Schedule)
@@ -55,7 +88,7 @@ module _ (code lengths class : List ℕ) (threads groups : ℕ) (m : Machine) (t
 
   -- an array of notes with the same first notes serves as well
   pub reached-trail : (trail' : List ℕ) → Noted trail' (notes (start p) v) → Reached code lengths class threads groups m trail' steps p v
-  reached-trail trail' noted = record { loaded = at .loaded; lines = at .lines; allowed = at .allowed; holds = at .holds; noted = noted; counted = at .counted }
+  reached-trail trail' noted = record { loaded = at .loaded; lines = at .lines; allowed = at .allowed; holds = at .holds; noted = noted; counted = at .counted; timely = at .timely }
 
   -- also one that holds the notes of a run that goes on
   pub reached-back : (trail' : List ℕ) (s : Schedule) → Noted trail' (notes (start p) (v ++ s)) → Reached code lengths class threads groups m trail' steps p v
@@ -97,16 +130,17 @@ module _ (code lengths class : List ℕ) (threads groups : ℕ) (m : Machine) (t
 
     -- behind its step
     pub reached-next : (r : Stepped) (trail' : List ℕ) → HoldsStep code lengths (run SC (start p) v) t r
-        → Noted trail' (notes (start p) v ++ (note (run SC (start p) v) t ∷ []))
+        → Noted trail' (notes (start p) v ++ (note (run SC (start p) v) t ∷ [])) → late (taken p v) (action (run SC (start p) v) t) ≡ false
         → Reached code lengths class threads groups (r .machine) trail' (steps + 1) p (v ++ (t ∷ []))
-    unfolding notes
-    reached-next r trail' held noted = record {
+    unfolding notes taken
+    reached-next r trail' held noted ontime = record {
       loaded = at .loaded;
       lines = at .lines;
       allowed = more-allowed;
       holds = subst (Holds code lengths (r .machine)) (sym (run-snoc SC (start p) v t)) (held .holds);
       noted = subst (Noted trail') (sym (notes-join (start p) v (t ∷ []))) noted;
       counted = omega (arith, length-append v (t ∷ []), at .counted);
+      timely = subst Timely (sym (trail-more v t (start p))) (timely-more (Trail.trail (start p) v) (action (run SC (start p) v) t) (at .timely) ontime);
     }
 
   -- a thread with an instruction left is ready to step

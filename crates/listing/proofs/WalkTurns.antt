@@ -117,11 +117,11 @@ module _ (code lengths class : List ℕ) (threads groups : ℕ) (m : Machine) (t
         late-answered code lengths class threads groups m trail steps p v at answer _ h ∙ ap (late (taken p v)) (action-noted σ t (r .note) (behind .noted))
 
     -- the prefix with this step
-    pub turn-next : (trail' : List ℕ) → ((ns : List Note) (n : Note) → Noted trail ns → steps ≡ length ns → r .note ≡ noteBytes n → Noted trail' (ns ++ (n ∷ [])))
+    pub turn-next : (trail' : List ℕ) → late (taken p v) (action (run SC (start p) v) t) ≡ false → ((ns : List Note) (n : Note) → Noted trail ns → steps ≡ length ns → r .note ≡ noteBytes n → Noted trail' (ns ++ (n ∷ [])))
         → Reached code lengths class threads groups (r .machine) trail' (steps + 1) p (v ++ (t ∷ []))
-    turn-next trail' h =
+    turn-next trail' ontime h =
         reached-next code lengths class threads groups m trail steps p v at t ok r trail' behind
-        (h (notes (start p) v) (note σ t) (at .noted) (sym (notes-counted code lengths class threads groups m trail steps p v at)) (behind .noted))
+        (h (notes (start p) v) (note σ t) (at .noted) (sym (notes-counted code lengths class threads groups m trail steps p v at)) (behind .noted)) ontime
 
   -- no rule gives it up
   pub with-live : may (run SC (start p) v) t ≡ true → any (twin p (run SC (start p) v) t) (upTo 0 t) ≡ false → late (taken p v) (action (run SC (start p) v) t) ≡ false

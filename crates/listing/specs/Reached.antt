@@ -7,12 +7,14 @@ use Rattle.program.specs.Program.{Program}
 use Rattle.schedules.specs.Order.{Schedule}
 use Rattle.schedules.specs.System.{run, Allowed}
 use Rattle.machine.specs.State.{SC, start}
+use Rattle.machine.specs.Trail as Trail
 use Rattle.machine.specs.Notes.{notes, Noted}
 use Rattle.machine.specs.Held.{Holds, Loaded}
 use Rattle.machine.specs.declared.state.Machine.{Machine}
+use Rattle.listing.specs.Rules.{Timely}
 use Rattle.listing.specs.ClassGroups.{groupsOf}
 
--- the steps of v, so many, lead the program p to this machine, with these notes
+-- the steps of v, so many, none of them late, lead the program p to this machine, with these notes
 pub record Reached (code lengths class : List ℕ) (threads groups : ℕ) (m : Machine) (trail : List ℕ) (steps : ℕ) (p : Program) (v : Schedule) : Type 0 where
   pub loaded : Loaded code lengths threads p
   pub lines : p .groups ≡ groupsOf class groups
@@ -20,3 +22,4 @@ pub record Reached (code lengths class : List ℕ) (threads groups : ℕ) (m : M
   pub holds : Holds code lengths m (run SC (start p) v)
   pub noted : Noted trail (notes (start p) v)
   pub counted : length v ≡ steps
+  pub timely : Timely (Trail.trail (start p) v)

@@ -1,6 +1,7 @@
 -- When the search gives a step up. `v` is the prefix taken so far, `σ` the state behind it and t the thread to step next. Three rules, and the
 -- test at a full schedule; each gives up only what has a smaller alike schedule.
 use Prim.Native.Nat.{ℕ}
+use mathlib.Core.Path.{_≡_}
 use mathlib.Core.Bool.{Bool, true, false, not, _&&_, _||_}
 use mathlib.Core.List.{List, [], _∷_, _++_, map, reverse}
 use lib.Dec.{eqb, ltb}
@@ -25,6 +26,10 @@ late (a ∷ before) b = elim (eqb (a .thread) (b .thread)) [
   | true ↦ false
   | false ↦ elim (conflict a b) [ true ↦ false | false ↦ elim (ltb (b .thread) (a .thread)) [ true ↦ true | false ↦ late before b ] ]
 ]
+
+-- each of these steps is on time: none comes late behind those before it
+abbrev pub Timely : List Action → Type 0
+Timely acts = (u : List Action) (b : Action) (z : List Action) → acts ≡ u ++ (b ∷ z) → late (reverse u) b ≡ false
 
 -- the steps of a prefix, latest first
 unfoldable pub taken : Program → Schedule → List Action

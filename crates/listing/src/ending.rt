@@ -51,7 +51,7 @@ pub fn at_end(
     if !is_meant(only, f) {
         return rows;
     }
-    if !is_unbeaten(trail, steps, numbers, count) {
+    if !is_unbeaten(trail, steps, numbers, 1, count) {
         return rows;
     }
     put_row(&mut out[rows * 26..], trail, steps, f);

@@ -3,7 +3,7 @@ use crate::exchanged_steps::exchanged;
 use crate::least_order::is_smaller;
 use schedules::permutation;
 ghost use mathlib.Core.Path.{_≡_};
-ghost use Prim.Native.Nat.{_≤_};
+ghost use Prim.Native.Nat.{_-_, _≤_};
 ghost use lib.ListN.{getD};
 ghost use Rattle.schedules.specs.Lists.{upTo, all};
 ghost use Rattle.listing.specs.UnbeatenBy.{unbeatenBy};
@@ -15,12 +15,18 @@ fn wide_number(x: u16) -> usize
     x as usize
 }
 
-// Whether the run that is noted passes the test, by the numbers of the permitted permutations.
-pub fn is_unbeaten(trail: &[u8; 192], steps: usize, numbers: &[u16; 720], count: usize) -> bool
+// Whether the run that is noted passes the test, by the numbers of the permitted permutations from place `from` on.
+pub fn is_unbeaten(
+    trail: &[u8; 192],
+    steps: usize,
+    numbers: &[u16; 720],
+    from: usize,
+    count: usize,
+) -> bool
     requires { ⌜ (steps ≤ 24) × (count ≤ 720) ⌝ }
-    ensures { λ r. ⌜ r ≡ all (λ i. unbeatenBy (now (trail .entry)) steps (getD (now (numbers .entry)) i 0)) (upTo 0 count) ⌝ }
+    ensures { λ r. ⌜ r ≡ all (λ i. unbeatenBy (now (trail .entry)) steps (getD (now (numbers .entry)) i 0)) (upTo from (count - from)) ⌝ }
 {
-    let mut i = 0;
+    let mut i = from;
     while i < count {
         let m = exchanged(trail, steps, permutation(wide_number(numbers[i])));
         if is_smaller(&m, trail, steps) {

@@ -8,7 +8,8 @@ use Rattle.lines.specs.Over.{over}
 use Rattle.schedules.specs.Order.{Schedule}
 use Rattle.listing.specs.Answers.{failing}
 use Rattle.listing.specs.Rows.{rowBytes, rowOf}
-use Rattle.listing.proofs.ReachedTest.{unbeaten-reached, threads-reached}
+use Rattle.listing.proofs.ReachedTest.{threads-reached}
+use Rattle.listing.proofs.NormalForm.{unbeaten-on}
 use Rattle.listing.proofs.AddedRows.{adds-none, adds-full, adds-one}
 use Rattle.listing.proofs.WalkTurns.{at-unmeant, at-beaten, at-wanted}
 use Rattle.listing.proofs.ending.at_end.Statement.{statement}
@@ -35,7 +36,7 @@ returns-3 c =
       search needs,
       λ code lengths class threads groups p v at num.
           adds-none p (a .room) _ (a .out .now) (a .rows)
-          (at-beaten (a .only) p v (sym (unbeaten-reached code lengths class threads groups (a .m) (a .trail .now) (a .steps) p v (a .numbers .now) (a .count) at (num .within) (num .size) (num .permitted))
+          (at-beaten (a .only) p v (sym (unbeaten-on code lengths class threads groups (a .m) (a .trail .now) (a .steps) p v (a .numbers .now) (a .count) at num)
           ∙ sym (c .before .is-unbeaten .ensures) ∙ not-true _ (c .if3 .taken))),
     )
 
@@ -49,7 +50,7 @@ returns-4 c =
           let w = threads-reached code lengths class threads groups (a .m) (a .trail .now) (a .steps) p v at in
           adds-one p (a .room) _ v (a .out .now) (c .before .before .put-row .last .0) (a .rows)
           (at-wanted (a .only) p v (c .before .before .before .before .before .before .before .before .fails .result) (sym (c .before .before .before .before .before .before .before .is-meant .ensures) ∙ not-false _ (c .before .before .before .before .before .before .if2 .left)) f
-          (sym (unbeaten-reached code lengths class threads groups (a .m) (a .trail .now) (a .steps) p v (a .numbers .now) (a .count) at (num .within) (num .size) (num .permitted))
+          (sym (unbeaten-on code lengths class threads groups (a .m) (a .trail .now) (a .steps) p v (a .numbers .now) (a .count) at num)
           ∙ sym (c .before .before .before .before .before .is-unbeaten .ensures) ∙ not-false _ (c .before .before .before .before .if3 .left)))
           (c .before .before .before .before .before .before .before .before .before .if1 .left)
           (c .before .before .put-row .ensures ∙ rw (w, f)),

@@ -1,7 +1,7 @@
 -- `is_unbeaten` goes through the numbers. The invariant: those that are left decide.
 use borrow.Author.Needs.{needs}
 use Prim.Native.Nat.{ℕ, _<_, _≤_, _-_, _+_}
-use mathlib.Core.Path.{_≡_, sym, ap, _∙_}
+use mathlib.Core.Path.{_≡_, refl, sym, ap, _∙_}
 use native.Mathlib.Omega.{arith}
 use mathlib.Core.Bool.{Bool, true, false, not}
 use mathlib.Core.List.{List, map}
@@ -34,13 +34,13 @@ tested trail m π steps k j r v e q x y z =
     ∙ ap not (sym y ∙ z)
 
 abbrev Inv-loop : tie.InvT-loop
-Inv-loop trail steps numbers count i₀ i = (i ≤ count) × (all (passed trail steps numbers) (upTo 0 count) ≡ all (passed trail steps numbers) (upTo i (count - i)))
+Inv-loop trail steps numbers from count i₀ i = all (passed trail steps numbers) (upTo from (count - from)) ≡ all (passed trail steps numbers) (upTo i (count - i))
 
 abbrev μ-loop : tie.MeasureT-loop
-μ-loop trail steps numbers count i₀ i = count - i
+μ-loop trail steps numbers from count i₀ i = count - i
 
 loop-holds : tie.Need-loop-holds Inv-loop μ-loop
-loop-holds c = let n : (c .args .count) ≡ (c .args .count) - 0 = omega arith in (search needs, ap (λ (n : ℕ). all (passed (c .args .trail .now) (c .args .steps) (c .args .numbers .now)) (upTo 0 n)) n)
+loop-holds c = refl
 
 returns : tie.Need-returns Inv-loop μ-loop
 returns c =
@@ -50,7 +50,7 @@ returns c =
     let c7 = c5 .before .before in
     let c8 = c7 .before in
     let c9 = c8 .before in
-    sym (c8 .loop .inv .1 ∙ all-fails (passed (c9 .args .trail .now) (c9 .args .steps) (c9 .args .numbers .now)) (c8 .loop .i) ((c9 .args .count) -
+    sym (c8 .loop .inv ∙ all-fails (passed (c9 .args .trail .now) (c9 .args .steps) (c9 .args .numbers .now)) (c8 .loop .i) ((c9 .args .count) -
     (c8 .loop .i)) (omega (arith, c7 .loop-test .taken)) (tested (c9 .args .trail .now) (c3 .exchanged .result) (c4 .permutation .result) (c9 .args
     .steps) _ (c5 .wide-number .result) (c .before .is-smaller .result) true (c5 .wide-number .ensures) (c4 .permutation .ensures) (c3 .exchanged
     .ensures) (c .before .is-smaller .ensures) (c .if1 .taken)))
@@ -63,18 +63,16 @@ loop-again c =
     let c7 = c5 .before .before in
     let c8 = c7 .before in
     let c9 = c8 .before in
-    let n : (c9 .args .count) - (c8 .loop .i) - 1 ≡ (c9 .args .count) - ((c8 .loop .i) + 1) = omega arith in (
-      search needs,
-      c8 .loop .inv .1 ∙
-          all-further (passed (c9 .args .trail .now) (c9 .args .steps) (c9 .args .numbers .now)) (c8 .loop .i) ((c9 .args .count) - (c8 .loop .i)) (omega
-          (arith, c7 .loop-test .taken)) (tested (c9 .args .trail .now) (c3 .exchanged .result) (c4 .permutation .result) (c9 .args .steps) _ (c5
-          .wide-number .result) (c .before .is-smaller .result) false (c5 .wide-number .ensures) (c4 .permutation .ensures) (c3 .exchanged .ensures) (c
-          .before .is-smaller .ensures) (c .if1 .left)) ∙ ap (λ (m : ℕ). all (passed (c9 .args .trail .now) (c9 .args .steps) (c9 .args .numbers .now))
-          (upTo ((c8 .loop .i) + 1) m)) n,
-    )
+    let n : (c9 .args .count) - (c8 .loop .i) - 1 ≡ (c9 .args .count) - ((c8 .loop .i) + 1) = omega arith in
+    c8 .loop .inv
+    ∙ all-further (passed (c9 .args .trail .now) (c9 .args .steps) (c9 .args .numbers .now)) (c8 .loop .i) ((c9 .args .count) - (c8 .loop .i)) (omega
+    (arith, c7 .loop-test .taken)) (tested (c9 .args .trail .now) (c3 .exchanged .result) (c4 .permutation .result) (c9 .args .steps) _ (c5
+    .wide-number .result) (c .before .is-smaller .result) false (c5 .wide-number .ensures) (c4 .permutation .ensures) (c3 .exchanged .ensures) (c
+    .before .is-smaller .ensures) (c .if1 .left)) ∙ ap (λ (m : ℕ). all (passed (c9 .args .trail .now) (c9 .args .steps) (c9 .args .numbers .now))
+    (upTo ((c8 .loop .i) + 1) m)) n
 
 returns-2 : tie.Need-returns-2 Inv-loop μ-loop
-returns-2 c = sym (c .before .loop .inv .1 ∙ all-over (passed (c .before .before .args .trail .now) (c .before .before .args .steps) (c .before .before .args .numbers .now)) (c .before .loop .i) ((c .before .before .args .count) - (c .before .loop .i)) (omega (arith, c .loop-test .left)))
+returns-2 c = sym (c .before .loop .inv ∙ all-over (passed (c .before .before .args .trail .now) (c .before .before .args .steps) (c .before .before .args .numbers .now)) (c .before .loop .i) ((c .before .before .args .count) - (c .before .loop .i)) (omega (arith, c .loop-test .left)))
 
 pub is-unbeaten-spec : {M : Type 1} → statement M
 is-unbeaten-spec = tie.close (tie.spec Inv-loop μ-loop loop-holds (λ c. search needs) (λ c. search needs) (λ c κs. search needs) (λ c κs. search needs) (λ c κs. search needs) (λ c κs. search needs) returns (λ c. search needs) (λ c. search needs) loop-again returns-2)

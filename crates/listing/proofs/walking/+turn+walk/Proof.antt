@@ -140,7 +140,7 @@ turn-some-asleep-requires t c κs =
       a .groups,
       e .1,
       e .2 ++ (a .t ∷ []),
-      turn-next (a .code .now) (a .lengths .now) (a .class .now) (e .0) (a .groups) (a .t8) (a .trail .now) (a .steps) (e .1) (e .2) (e .3) (a .only) o (a .t) ok (c .before .before .before .before .before .before .before .before .step .result) (c .before .before .before .before .before .before .before .before .step .ensures) (c .before .before .put-note .last .0) (c .before .before .put-note .ensures),
+      turn-next (a .code .now) (a .lengths .now) (a .class .now) (e .0) (a .groups) (a .t8) (a .trail .now) (a .steps) (e .1) (e .2) (e .3) (a .only) o (a .t) ok (c .before .before .before .before .before .before .before .before .step .result) (c .before .before .before .before .before .before .before .before .step .ensures) (c .before .before .put-note .last .0) (sym (turn-late (a .code .now) (a .lengths .now) (a .class .now) (e .0) (a .groups) (a .t8) (a .trail .now) (a .steps) (e .1) (e .2) (e .3) (a .only) o (a .t) ok (c .before .before .before .before .before .before .before .before .step .result) (c .before .before .before .before .before .before .before .before .step .ensures) (c .before .before .before .before .before .late .result) (c .before .before .before .before .before .late .ensures)) ∙ c .before .before .before .before .if3 .left) (c .before .before .put-note .ensures),
     )
 
 turn-add-some-asleep : (t : ℕ) → turn-lts.Need-add-some-asleep (turn-callees t) (turn-at t) turn.Post
@@ -154,12 +154,12 @@ turn-returns-4 t c =
         (λ threads p v at.
             let o = boundAt (a .along) (a .bound .now) (a .steps) in
             let ok = turn-may (a .code .now) (a .lengths .now) (a .class .now) threads (a .groups) (a .t8) (a .trail .now) (a .steps) p v at (a .only) o (a .t) (c .before .before .before .before .before .before .before .before .before .before .before .before .before .before .before .before .before .before .wide .result) (c .before .before .before .before .before .before .before .before .before .before .before .before .before .before .before .before .before .before .wide .ensures) (c .before .before .before .before .before .before .before .before .before .before .before .before .before .before .before .before .before .before .before .before .before .pre .1 .4) (c .before .before .before .before .before .before .before .before .before .before .before .before .before .before .if1 .left) in
-            let next = turn-next (a .code .now) (a .lengths .now) (a .class .now) threads (a .groups) (a .t8) (a .trail .now) (a .steps) p v at (a .only) o (a .t) ok (c .before .before .before .before .before .before .before .before .before .before .step .result) (c .before .before .before .before .before .before .before .before .before .before .step .ensures) (c .before .before .before .before .put-note .last .0) (c .before .before .before .before .put-note .ensures) in
+            let next = turn-next (a .code .now) (a .lengths .now) (a .class .now) threads (a .groups) (a .t8) (a .trail .now) (a .steps) p v at (a .only) o (a .t) ok (c .before .before .before .before .before .before .before .before .before .before .step .result) (c .before .before .before .before .before .before .before .before .before .before .step .ensures) (c .before .before .before .before .put-note .last .0) (sym (turn-late (a .code .now) (a .lengths .now) (a .class .now) threads (a .groups) (a .t8) (a .trail .now) (a .steps) p v at (a .only) o (a .t) ok (c .before .before .before .before .before .before .before .before .before .before .step .result) (c .before .before .before .before .before .before .before .before .before .before .step .ensures) (c .before .before .before .before .before .before .before .late .result) (c .before .before .before .before .before .before .before .late .ensures)) ∙ c .before .before .before .before .before .before .if3 .left) (c .before .before .before .before .put-note .ensures) in
             reached-back (a .code .now) (a .lengths .now) (a .class .now) threads (a .groups) (a .t8) (a .trail .now) (a .steps) p v at (c .before .before .before .before .put-note .last .0) (a .t ∷ []) (next .noted) .noted),
         λ threads p v at num.
             let o = boundAt (a .along) (a .bound .now) (a .steps) in
             let ok = turn-may (a .code .now) (a .lengths .now) (a .class .now) threads (a .groups) (a .t8) (a .trail .now) (a .steps) p v at (a .only) o (a .t) (c .before .before .before .before .before .before .before .before .before .before .before .before .before .before .before .before .before .before .wide .result) (c .before .before .before .before .before .before .before .before .before .before .before .before .before .before .before .before .before .before .wide .ensures) (c .before .before .before .before .before .before .before .before .before .before .before .before .before .before .before .before .before .before .before .before .before .pre .1 .4) (c .before .before .before .before .before .before .before .before .before .before .before .before .before .before .if1 .left) in
-            let next = turn-next (a .code .now) (a .lengths .now) (a .class .now) threads (a .groups) (a .t8) (a .trail .now) (a .steps) p v at (a .only) o (a .t) ok (c .before .before .before .before .before .before .before .before .before .before .step .result) (c .before .before .before .before .before .before .before .before .before .before .step .ensures) (c .before .before .before .before .put-note .last .0) (c .before .before .before .before .put-note .ensures) in
+            let next = turn-next (a .code .now) (a .lengths .now) (a .class .now) threads (a .groups) (a .t8) (a .trail .now) (a .steps) p v at (a .only) o (a .t) ok (c .before .before .before .before .before .before .before .before .before .before .step .result) (c .before .before .before .before .before .before .before .before .before .before .step .ensures) (c .before .before .before .before .put-note .last .0) (sym (turn-late (a .code .now) (a .lengths .now) (a .class .now) threads (a .groups) (a .t8) (a .trail .now) (a .steps) p v at (a .only) o (a .t) ok (c .before .before .before .before .before .before .before .before .before .before .step .result) (c .before .before .before .before .before .before .before .before .before .before .step .ensures) (c .before .before .before .before .before .before .before .late .result) (c .before .before .before .before .before .before .before .late .ensures)) ∙ c .before .before .before .before .before .before .if3 .left) (c .before .before .before .before .put-note .ensures) in
             adds-none p (a .room) _ (a .out .now) (a .rows)
             (with-asleep (a .code .now) (a .lengths .now) (a .class .now) threads (a .groups) (a .t8) (a .trail .now) (a .steps) p v at (a .only) o (a .t) ok
             (sym (c .before .some-asleep .ensures (a .class .now) threads (a .groups) p (v ++ (a .t ∷ [])) next) ∙ c .if4 .taken)),
@@ -181,7 +181,7 @@ turn-walk-requires t c κs =
           e .0,
           e .1,
           e .2 ++ (a .t ∷ []),
-          turn-next (a .code .now) (a .lengths .now) (a .class .now) (e .0) (a .groups) (a .t8) (a .trail .now) (a .steps) (e .1) (e .2) (e .3) (a .only) o (a .t) ok (c .before .before .before .before .before .before .before .before .before .before .before .before .before .step .result) (c .before .before .before .before .before .before .before .before .before .before .before .before .before .step .ensures) (c .before .before .before .before .before .before .before .put-note .last .0) (c .before .before .before .before .before .before .before .put-note .ensures),
+          turn-next (a .code .now) (a .lengths .now) (a .class .now) (e .0) (a .groups) (a .t8) (a .trail .now) (a .steps) (e .1) (e .2) (e .3) (a .only) o (a .t) ok (c .before .before .before .before .before .before .before .before .before .before .before .before .before .step .result) (c .before .before .before .before .before .before .before .before .before .before .before .before .before .step .ensures) (c .before .before .before .before .before .before .before .put-note .last .0) (sym (turn-late (a .code .now) (a .lengths .now) (a .class .now) (e .0) (a .groups) (a .t8) (a .trail .now) (a .steps) (e .1) (e .2) (e .3) (a .only) o (a .t) ok (c .before .before .before .before .before .before .before .before .before .before .before .before .before .step .result) (c .before .before .before .before .before .before .before .before .before .before .before .before .before .step .ensures) (c .before .before .before .before .before .before .before .before .before .before .late .result) (c .before .before .before .before .before .before .before .before .before .before .late .ensures)) ∙ c .before .before .before .before .before .before .before .before .before .if3 .left) (c .before .before .before .before .before .before .before .put-note .ensures),
         ),
         c .before .before .before .before .before .before .before .before .before .before .before .before .before .before .before .before .before .before .before .before .before .before .before .before .pre .1 .1,
         c .before .before .before .before .before .before .before .before .before .before .before .before .before .before .before .before .before .before .before .before .before .before .before .before .pre .1 .2,
@@ -197,12 +197,12 @@ turn-returns-5 t c =
         (λ threads p v at.
             let o = boundAt (a .along) (a .bound .now) (a .steps) in
             let ok = turn-may (a .code .now) (a .lengths .now) (a .class .now) threads (a .groups) (a .t8) (a .trail .now) (a .steps) p v at (a .only) o (a .t) (c .before .before .before .before .before .before .before .before .before .before .before .before .before .before .before .before .before .before .before .before .before .before .before .before .wide .result) (c .before .before .before .before .before .before .before .before .before .before .before .before .before .before .before .before .before .before .before .before .before .before .before .before .wide .ensures) (c .before .before .before .before .before .before .before .before .before .before .before .before .before .before .before .before .before .before .before .before .before .before .before .before .before .before .before .pre .1 .4) (c .before .before .before .before .before .before .before .before .before .before .before .before .before .before .before .before .before .before .before .before .if1 .left) in
-            let next = turn-next (a .code .now) (a .lengths .now) (a .class .now) threads (a .groups) (a .t8) (a .trail .now) (a .steps) p v at (a .only) o (a .t) ok (c .before .before .before .before .before .before .before .before .before .before .before .before .before .before .before .before .step .result) (c .before .before .before .before .before .before .before .before .before .before .before .before .before .before .before .before .step .ensures) (c .before .before .before .before .before .before .before .before .before .before .put-note .last .0) (c .before .before .before .before .before .before .before .before .before .before .put-note .ensures) in
+            let next = turn-next (a .code .now) (a .lengths .now) (a .class .now) threads (a .groups) (a .t8) (a .trail .now) (a .steps) p v at (a .only) o (a .t) ok (c .before .before .before .before .before .before .before .before .before .before .before .before .before .before .before .before .step .result) (c .before .before .before .before .before .before .before .before .before .before .before .before .before .before .before .before .step .ensures) (c .before .before .before .before .before .before .before .before .before .before .put-note .last .0) (sym (turn-late (a .code .now) (a .lengths .now) (a .class .now) threads (a .groups) (a .t8) (a .trail .now) (a .steps) p v at (a .only) o (a .t) ok (c .before .before .before .before .before .before .before .before .before .before .before .before .before .before .before .before .step .result) (c .before .before .before .before .before .before .before .before .before .before .before .before .before .before .before .before .step .ensures) (c .before .before .before .before .before .before .before .before .before .before .before .before .before .late .result) (c .before .before .before .before .before .before .before .before .before .before .before .before .before .late .ensures)) ∙ c .before .before .before .before .before .before .before .before .before .before .before .before .if3 .left) (c .before .before .before .before .before .before .before .before .before .before .put-note .ensures) in
             reached-back (a .code .now) (a .lengths .now) (a .class .now) threads (a .groups) (a .t8) (a .trail .now) (a .steps) p v at _ (a .t ∷ []) (c .before .before .walk .ensures .1 .0 threads p (v ++ (a .t ∷ [])) next) .noted),
         λ threads p v at num.
             let o = boundAt (a .along) (a .bound .now) (a .steps) in
             let ok = turn-may (a .code .now) (a .lengths .now) (a .class .now) threads (a .groups) (a .t8) (a .trail .now) (a .steps) p v at (a .only) o (a .t) (c .before .before .before .before .before .before .before .before .before .before .before .before .before .before .before .before .before .before .before .before .before .before .before .before .wide .result) (c .before .before .before .before .before .before .before .before .before .before .before .before .before .before .before .before .before .before .before .before .before .before .before .before .wide .ensures) (c .before .before .before .before .before .before .before .before .before .before .before .before .before .before .before .before .before .before .before .before .before .before .before .before .before .before .before .pre .1 .4) (c .before .before .before .before .before .before .before .before .before .before .before .before .before .before .before .before .before .before .before .before .if1 .left) in
-            let next = turn-next (a .code .now) (a .lengths .now) (a .class .now) threads (a .groups) (a .t8) (a .trail .now) (a .steps) p v at (a .only) o (a .t) ok (c .before .before .before .before .before .before .before .before .before .before .before .before .before .before .before .before .step .result) (c .before .before .before .before .before .before .before .before .before .before .before .before .before .before .before .before .step .ensures) (c .before .before .before .before .before .before .before .before .before .before .put-note .last .0) (c .before .before .before .before .before .before .before .before .before .before .put-note .ensures) in
+            let next = turn-next (a .code .now) (a .lengths .now) (a .class .now) threads (a .groups) (a .t8) (a .trail .now) (a .steps) p v at (a .only) o (a .t) ok (c .before .before .before .before .before .before .before .before .before .before .before .before .before .before .before .before .step .result) (c .before .before .before .before .before .before .before .before .before .before .before .before .before .before .before .before .step .ensures) (c .before .before .before .before .before .before .before .before .before .before .put-note .last .0) (sym (turn-late (a .code .now) (a .lengths .now) (a .class .now) threads (a .groups) (a .t8) (a .trail .now) (a .steps) p v at (a .only) o (a .t) ok (c .before .before .before .before .before .before .before .before .before .before .before .before .before .before .before .before .step .result) (c .before .before .before .before .before .before .before .before .before .before .before .before .before .before .before .before .step .ensures) (c .before .before .before .before .before .before .before .before .before .before .before .before .before .late .result) (c .before .before .before .before .before .before .before .before .before .before .before .before .before .late .ensures)) ∙ c .before .before .before .before .before .before .before .before .before .before .before .before .if3 .left) (c .before .before .before .before .before .before .before .before .before .before .put-note .ensures) in
             adds-same p (a .room) _ _ (a .out .now) _ (a .rows) _
             (with-live (a .code .now) (a .lengths .now) (a .class .now) threads (a .groups) (a .t8) (a .trail .now) (a .steps) p v at (a .only) o (a .t) ok
             (sym (c .before .before .before .before .before .before .before .before .before .before .before .before .before .before .before .before .before .before .has-smaller-twin .ensures (a .code .now) (a .lengths .now) threads p v at ok) ∙ c .before .before .before .before .before .before .before .before .before .before .before .before .before .before .before .before .before .if2 .left)
