@@ -2,13 +2,16 @@
 use Prim.Native.Nat.{ℕ, _+_, _*_, _<_}
 use native.Mathlib.Nat.{add-zero}
 use native.Mathlib.Omega.{arith}
-use mathlib.Core.Path.{_≡_, _∙_, refl, sym, ap}
+use native.Mathlib.Decide.{ℕ-discrete}
+use mathlib.Core.Path.{_≡_, _∙_, refl, sym, ap, subst}
 use mathlib.Core.Bool.{Bool, true, false}
 use mathlib.Core.List.{List}
 use borrow.Author.Tests.{ne-eqb, lt-ltb}
 use lib.Dec.{eqb, lit<}
 use lib.ListN.{getD, take, drop}
 use lib.Seq.{getD-take, getD-drop}
+use Rattle.program.specs.declared.instruction.Operand.{Operand}
+use Rattle.program.specs.declared.instruction.Instruction.{Instruction}
 use Rattle.program.specs.declared.instruction.Instruction.the-variants.{Store, Load, FetchAdd, CompareSwap, Assign, AddAssign, SkipUnless, Assert}
 use Rattle.program.specs.Kinds.{kindOf, find, kinds}
 use Rattle.program.specs.Frames.{Frame, byte, word, kind, operand, build, instruction}
@@ -82,3 +85,18 @@ module _ (code : List ℕ) (k : ℕ) (h : k < 96) where
   row-other h10 h11 h12 h13 h20 h21 h22 h23 =
       let first : (b : ℕ) → (getD code (k * 16) 0 ≡ b → ⊥) → byte (rowAt code k) 0 ≡ b → ⊥ = λ b n e. n (sym (row-first code k) ∙ e) in
       rw (lt-ltb _ _ h) (other-kind (rowAt code k) (first 0x10 h10) (first 0x11 h11) (first 0x12 h12) (first 0x13 h13) (first 0x20 h20) (first 0x21 h21) (first 0x22 h22) (first 0x23 h23) ∙ rw (row-first code k))
+
+  -- a row that is no access
+  pub row-no-access : (P : Instruction → Type 0) → (getD code (k * 16) 0 ≡ 0x10 → ⊥) → (getD code (k * 16) 0 ≡ 0x11 → ⊥) → (getD code (k * 16) 0 ≡ 0x12 → ⊥) → (getD code (k * 16) 0 ≡ 0x13 → ⊥)
+      → ((r : ℕ) (p : Operand) → P (Assign r p)) → ((r : ℕ) (p : Operand) → P (AddAssign r p)) → ((r : ℕ) (p : Operand) (n : ℕ) → P (SkipUnless r p n)) → ((r : ℕ) (p : Operand) → P (Assert r p)) → P (instructionAt code k)
+  row-no-access P h10 h11 h12 h13 assign add skip assert = go (ℕ-discrete b 0x20) (ℕ-discrete b 0x21) (ℕ-discrete b 0x22) (ℕ-discrete b 0x23)
+    where
+      b : ℕ
+      b = getD code (k * 16) 0
+
+      go : Dec (b ≡ 0x20) → Dec (b ≡ 0x21) → Dec (b ≡ 0x22) → Dec (b ≡ 0x23) → P (instructionAt code k)
+      go (yes e) _ _ _ = subst P (sym (row-assign e)) (assign _ _)
+      go (no h20) (yes e) _ _ = subst P (sym (row-add-assign e)) (add _ _)
+      go (no h20) (no h21) (yes e) _ = subst P (sym (row-skip e)) (skip _ _ _)
+      go (no h20) (no h21) (no h22) (yes e) = subst P (sym (row-assert e)) (assert _ _)
+      go (no h20) (no h21) (no h22) (no h23) = subst P (sym (row-other h10 h11 h12 h13 h20 h21 h22 h23)) (assert _ _)
