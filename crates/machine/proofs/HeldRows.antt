@@ -52,6 +52,10 @@ write-four rs k v e = by-four (λ rs. writtenBy rs k v ≡ set rs k v) (λ a b c
     beyond : (a b c d k : ℕ) → 4 ≤ k → writtenBy (a ∷ b ∷ c ∷ d ∷ []) k v ≡ set (a ∷ b ∷ c ∷ d ∷ []) k v
     beyond a b c d k h = rw (ne-eqb k 0 (λ e. omega (arith, e)), ne-eqb k 1 (λ e. omega (arith, e)), ne-eqb k 2 (λ e. omega (arith, e)), ne-eqb k 3 (λ e. omega (arith, e))) (sym (set-out (a ∷ b ∷ c ∷ d ∷ []) k v h))
 
+-- one by one they are the same
+pub same-four : (rs : List ℕ) → length rs ≡ 4 → (getD rs 0 0 ∷ getD rs 1 0 ∷ getD rs 2 0 ∷ getD rs 3 0 ∷ []) ≡ rs
+same-four rs e = by-four (λ rs. (getD rs 0 0 ∷ getD rs 1 0 ∷ getD rs 2 0 ∷ getD rs 3 0 ∷ []) ≡ rs) (λ a b c d. refl) rs e
+
 -- ---- accesses and other instructions
 -- a thread by itself stands before an access
 pub access-turn : (i : Instruction) (rs : List ℕ) → beginsWithAccess (i ∷ []) ≡ true → standing rs ≡ turnOf i rs

@@ -38,5 +38,7 @@ pub use starting::started;
 pub use state::LastWrite;
 pub use state::Machine;
 pub use state::ThreadState;
+pub use stepping::Effect;
 pub use stepping::Stepped;
+pub use stepping::acted;
 pub use stepping::step;

@@ -54,7 +54,7 @@ pub fn settle(
     }
 }
 
-// The same, quick where an access or the end comes at once.
+// The same, quick where an access or the end comes at once. The registers are taken one by one, so that none of the ways keeps them in memory.
 pub fn settled(
     code: &[u8; 1536],
     t: usize,
@@ -76,7 +76,14 @@ pub fn settled(
                 failed: false,
             };
         }
-        return settle(code, t, n, from, registers, done);
+        let k = settle(code, t, n, from, registers, done);
+        let rs = k.registers;
+        return ThreadState {
+            registers: [rs[0], rs[1], rs[2], rs[3]],
+            at: k.at,
+            done: k.done,
+            failed: k.failed,
+        };
     }
     ThreadState {
         registers: registers,
