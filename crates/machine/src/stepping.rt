@@ -12,17 +12,18 @@ ghost use lib.Dec.{eqb};
 ghost use Rattle.machine.specs.State.{State, place, may};
 ghost use Rattle.machine.specs.Held.{threadAt, Holds, ReadyThread, Ready, HoldsStep, behind};
 
-// What a step changes: its thread, and at its place the value and the last write, as they are behind it; and the step's note.
+// What a step changes: its thread, and at its place the value and the last write, as they are behind it; and the step's note. Single bytes that
+// are stored together behind the step stand apart here, so that no processor reads two stores as one load.
 pub struct Effect {
     pub registers: [u32; 4],
     pub at: usize,
-    pub done: u8,
-    pub failed: bool,
     pub place: usize,
-    pub value: u32,
-    pub thread: u8,
-    pub number: u8,
     pub note: [u8; 8],
+    pub value: u32,
+    pub done: u8,
+    pub thread: u8,
+    pub failed: bool,
+    pub number: u8,
 }
 
 // The machine behind a step, and the step's note.
