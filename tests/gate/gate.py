@@ -15,8 +15,7 @@ import must_fail  # noqa: E402
 
 ROOT = Path(__file__).resolve().parents[2]
 TARGET = ROOT / 'target'
-CARGO_TEST = ['cargo', 'test', '--release', '--offline', '--locked', '--no-fail-fast',
-              '--manifest-path', 'tests/Cargo.toml', '--target-dir', 'target/cargo']
+CARGO_TEST = ['cargo', 'test', '--release', '--offline', '--locked', '--no-fail-fast', '--workspace']
 
 
 class Tally:
