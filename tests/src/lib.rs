@@ -4,3 +4,4 @@ pub mod files;
 pub mod lent;
 pub mod oracle;
 pub mod random;
+pub mod share;
