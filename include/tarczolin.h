@@ -35,6 +35,24 @@ uint64_t tarczolin_graph(const uint8_t *file, size_t file_len, const uint8_t *sc
  * have any length. No and a refusal change no byte. */
 uint64_t tarczolin_judge(const uint8_t *file, size_t file_len, const uint8_t *graph, size_t graph_len, uint8_t *out, size_t out_len);
 
+/* The list. Each call keeps nothing for the next. An answered schedule stands in front of the output, the answer carries
+ * its length, and the bytes behind it keep their value. Refused, in this order: the program's (1 to 9); 22 at place 0, an
+ * output of under 24 bytes; for a schedule given, 20 at its first step that names no thread or an ended one (from 0), and
+ * 21 at its length where it is not full. No more, none and a refusal change no byte. */
+
+/* The least listed schedule. */
+uint64_t tarczolin_start(const uint8_t *file, size_t file_len, uint8_t *out, size_t out_len);
+
+/* The least listed schedule after this full one, listed or not; kind 2: no more. */
+uint64_t tarczolin_continue(const uint8_t *file, size_t file_len, const uint8_t *schedule, size_t schedule_len, uint8_t *out, size_t out_len);
+
+/* The first listed schedule that fails; kind 2: none. */
+uint64_t tarczolin_violation(const uint8_t *file, size_t file_len, uint8_t *out, size_t out_len);
+
+/* How many schedules are listed, and how many of these fail. Answered: kind 1 and the rest 0. Both words keep their
+ * value on refusal (1 to 9). */
+uint64_t tarczolin_count(const uint8_t *file, size_t file_len, uint64_t *listed, uint64_t *failing);
+
 #ifdef __cplusplus
 }
 #endif

@@ -3,5 +3,7 @@ pub use tarczolin_sys as calls;
 pub mod files;
 pub mod lent;
 pub mod oracle;
+pub mod papers;
 pub mod random;
+pub mod search;
 pub mod share;

@@ -44,8 +44,8 @@ fn list_prints_what_the_oracle_prints() {
         for entry in std::fs::read_dir(path(folder)).unwrap() {
             let at = entry.unwrap().path();
             let name = at.file_name().unwrap().to_string_lossy().into_owned();
-            let far = ["accesses-24.hex", "004-sb-10w.hex", "004-sb-6w.hex", "000-fais-array-4.hex", "000-fais-array-4-alike.hex"];
-            if !name.ends_with(".hex") || far.contains(&name.as_str()) {
+            // brute force would walk millions of schedules of the one with 24 loads
+            if !name.ends_with(".hex") || name == "accesses-24.hex" {
                 continue;
             }
             let ran = run(&["list", &at.display().to_string()]);
@@ -53,7 +53,7 @@ fn list_prints_what_the_oracle_prints() {
             compared += 1;
         }
     }
-    assert!(compared >= 70, "{compared} lists compared");
+    assert!(compared >= 80, "{compared} lists compared");
 }
 
 #[test]

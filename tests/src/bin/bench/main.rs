@@ -2,10 +2,12 @@
 mod check;
 mod graph;
 mod judge;
+mod listing;
 mod timing;
 
 fn main() {
     check::report();
     graph::report();
     judge::report();
+    listing::report();
 }
