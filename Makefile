@@ -9,7 +9,8 @@ SECONDS ?= 600
 CARGO = cargo
 QUIET = --quiet --release --offline --locked
 LIBRARY = target/staticlib/libtarczolin.a
-VALGRIND = valgrind --quiet --error-exitcode=9 --leak-check=full --errors-for-leak-kinds=definite --trace-children=yes
+VALGRIND = valgrind --quiet --error-exitcode=9 --leak-check=full --show-leak-kinds=definite --errors-for-leak-kinds=definite \
+  --trace-children=yes --log-file=$(CURDIR)/target/valgrind/%p.log
 
 .PHONY: test check tool bench fuzz valgrind
 
@@ -29,9 +30,11 @@ bench: $(LIBRARY)
 fuzz: $(LIBRARY)
 	@FUZZ_SECONDS=$(SECONDS) FUZZ_SEED=$$(date +%s) $(CARGO) test $(QUIET) --package tarczolin-tests --test fuzz -- --nocapture
 
-# cargo hands each test program to valgrind; a hundredth of the cases, since valgrind is slow
+# cargo hands each test program to valgrind; a hundredth of the cases, since valgrind is slow; a report is an error
 valgrind: $(LIBRARY)
+	@rm -rf target/valgrind && mkdir -p target/valgrind
 	@TEST_SHARE=100 FUZZ_SECONDS=20 CARGO_TARGET_X86_64_UNKNOWN_LINUX_GNU_RUNNER='$(VALGRIND)' $(CARGO) test $(QUIET) --workspace
+	@cat target/valgrind/*.log; test -z "$$(cat target/valgrind/*.log)" && echo 'valgrind reports nothing'
 
 $(LIBRARY): crates.txt $(shell find crates -name '*.rt' -o -name '*.antt')
 	@rt staticlib tarczolin

@@ -1,6 +1,6 @@
 //! Progress on standard error, when that is a terminal: listed so far, failing so far, and how many a second.
 use crate::ask::Counts;
-use std::io::{stderr, IsTerminal, Write};
+use std::io::{stderr, stdout, IsTerminal, Write};
 use std::time::{Duration, Instant};
 
 const EVERY: Duration = Duration::from_millis(200);
@@ -9,13 +9,15 @@ pub struct Progress {
     began: Instant,
     drawn: Instant,
     terminal: bool,
+    /// Standard output goes to a terminal too: its lines need the place.
+    lines: bool,
     shown: bool,
 }
 
 impl Default for Progress {
     fn default() -> Progress {
         let now = Instant::now();
-        Progress { began: now, drawn: now, terminal: stderr().is_terminal(), shown: false }
+        Progress { began: now, drawn: now, terminal: stderr().is_terminal(), lines: stdout().is_terminal(), shown: false }
     }
 }
 
@@ -36,7 +38,14 @@ impl Progress {
         }
     }
 
-    /// Takes the line of progress away, before other output.
+    /// Makes place for lines of standard output.
+    pub fn give_way(&mut self) {
+        if self.lines {
+            self.hide();
+        }
+    }
+
+    /// Takes the line of progress away.
     pub fn hide(&mut self) {
         if self.shown {
             self.shown = false;

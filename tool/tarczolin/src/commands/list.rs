@@ -24,21 +24,35 @@ pub fn run(arguments: Arguments) -> Result<End, Trouble> {
             return Err(refusal::of_program(name, &file, r));
         }
     };
+    // the counts that are printed are the library's, worked out meanwhile; those of the lines must be the same
+    let counting = std::thread::spawn({
+        let file = file.clone();
+        move || ask::count(&file)
+    });
+    let sum = lines(&list, jobs, &mut out)?;
+    let counted = counting.join().map_err(|_| Trouble::said("the count was not finished"))?;
+    let counts = counted.map_err(|r| refusal::of_program(name, &file, r))?;
+    if counts != sum {
+        return Err(Trouble::said(format!("an error of this command: it lists {sum:?}, and the library counts {counts:?}")));
+    }
+    let frame = [&[0x51], &counts.listed.to_be_bytes()[..], &counts.failing.to_be_bytes()].concat();
+    out.write_all(hex::line(&frame).as_bytes())?;
+    out.flush()?;
+    Ok(End::of_failing(counts.failing))
+}
+
+/// Prints a line for each listed schedule, and counts them.
+fn lines(list: &List, jobs: usize, out: &mut dyn Write) -> Result<Counts, Trouble> {
     let mut sum = Counts::default();
     let mut progress = Progress::default();
     list.parts(jobs, |part| {
         sum.listed += part.counts.listed;
         sum.failing += part.counts.failing;
-        progress.hide();
+        progress.give_way();
         out.write_all(&part.lines)?;
         progress.tell(sum);
         Ok(())
     })?;
     progress.hide();
-    // the counts are the library's; those of the lines must be the same
-    let counts = ask::count(&file).map_err(|r| refusal::of_program(name, &file, r))?;
-    assert_eq!(counts, sum, "the lines and the library's counts fit");
-    out.write_all(hex::line(&[&[0x51], &counts.listed.to_be_bytes()[..], &counts.failing.to_be_bytes()].concat()).as_bytes())?;
-    out.flush()?;
-    Ok(End::of_failing(counts.failing))
+    Ok(sum)
 }
