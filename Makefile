@@ -10,7 +10,7 @@ CARGO = cargo
 QUIET = --quiet --release --offline --locked
 LIBRARY = target/staticlib/libtarczolin.a
 VALGRIND = valgrind --quiet --error-exitcode=9 --leak-check=full --show-leak-kinds=definite --errors-for-leak-kinds=definite \
-  --trace-children=yes --log-file=$(CURDIR)/target/valgrind/%p.log
+  --suppressions=$(CURDIR)/tests/valgrind.supp --trace-children=yes --log-file=$(CURDIR)/target/valgrind/%p.log
 
 .PHONY: test check tool bench fuzz valgrind
 

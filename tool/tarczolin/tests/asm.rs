@@ -106,6 +106,10 @@ fn errors_by_line_and_column() {
         assert_eq!((error.line, error.column), (line, column), "{form}: {}", error.message);
         assert!(error.message.contains(words), "{form}: {}", error.message);
     }
+}
+
+#[test]
+fn errors_of_long_texts_and_of_no_texts() {
     let long = format!("thread\n{}", "r0 = cas x 0 1\n".repeat(1_000));
     assert_eq!(assemble(long.as_bytes()).map_err(|e| e.line), Err(18), "far beyond the limit of a file");
     let bytes = assemble(b"thread\n \xff").expect_err("no text");
@@ -115,7 +119,11 @@ fn errors_by_line_and_column() {
 #[test]
 fn errors_are_shown_with_the_line() {
     let ran = run_with(&["asm", "-"], b"thread\n  store x y\n");
-    let shown = "tarczolin: standard input:2:11: a number or a register is expected here, not y\n     2 |   store x y\n       |           ^\n";
+    let shown = "\
+tarczolin: standard input:2:11: a number or a register is expected here, not y
+     2 |   store x y
+       |           ^
+";
     assert_eq!((ran.status, ran.out.as_str(), ran.err.as_str()), (2, "", shown));
 }
 
@@ -123,9 +131,13 @@ fn errors_are_shown_with_the_line() {
 #[test]
 fn any_text() {
     let mut random = Random::new(82);
-    let words = ["thread", "alike", "store", "load", "r0", "r9", "x", "x8", "=", "==", "+=", "!=", "if", "skip", "assert", "cas", "1", "-", "0x", "\n", "\n", "#", "\u{e9}", "99999999999"];
+    let words = [
+        "thread", "alike", "store", "load", "r0", "r9", "x", "x8", "=", "==", "+=", "!=", "if", "skip", "assert", "cas", "1", "-", "0x",
+        "\n", "\n", "#", "\u{e9}", "99999999999",
+    ];
     for _ in 0..share::of(50_000) {
-        let form: String = (0..random.below(30)).map(|_| random.pick(&words).to_string() + random.pick(&[" ", "", "  "])).collect();
+        let word = |random: &mut Random| [random.pick(&words), random.pick(&[" ", "", "  "])].concat();
+        let form: String = (0..random.below(30)).map(|_| word(&mut random)).collect();
         if let Err(Error { line, column, .. }) = assemble(form.as_bytes()) {
             let at = form.split('\n').nth(line - 1).expect("a line of the text");
             assert!((1..=at.chars().count() + 1).contains(&column), "{form}: {line}:{column}");

@@ -92,7 +92,7 @@ fn refusals_have_number_place_line_and_a_sentence() {
     turned_away(run(&["graph", pair, "0007"]), &["refusal 20 at step 1", "00 [07]", "no thread 7"]);
     turned_away(run(&["graph", pair, "0000"]), &["refusal 21 at step 2", "00 00 []", "too early", "threads 1"]);
     let judge = |text: &str| run_with(&["judge", pair, "-"], text.as_bytes());
-    turned_away(judge("400101ffff\n400001ffff\n"), &["refusal 33 at line 2", "400001ffff", "before the one above"]);
+    turned_away(judge("400101ffff\n400001ffff\n"), &["refusal 33 at line 2", "400001ffff", "not come after the one above"]);
     turned_away(judge("400200ffff\n"), &["refusal 32 at line 1", "no thread 02"]);
     turned_away(judge("40000\n"), &["refusal 30 at line 1", "odd"]);
     turned_away(judge("4100\n"), &["refusal 31 at line 1", "41 takes"]);

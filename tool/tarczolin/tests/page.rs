@@ -56,7 +56,8 @@ fn columns_and_graph() {
     // five reads; two writes of tail; from the first fetch and add to the second, and from the load of slot 1 to its store
     assert_eq!((count(second, "<path class=\"rf\""), count(second, "<path class=\"co\"")), (5, 1));
     assert_eq!(count(second, "<path class=\"fr\""), 2);
-    assert!(second.contains("<title>initial is read by T2 #2</title>") && second.contains("<title>T2 #2 reads before T1 #1</title>"));
+    assert!(second.contains("<title>initial is read by T2 #2</title>"));
+    assert!(second.contains("<title>T2 #2 reads before T1 #1</title>"));
 }
 
 /// Nothing is fetched from anywhere: no address, no script, no picture, no style of another file.
@@ -72,7 +73,8 @@ fn self_contained() {
 #[test]
 fn chosen_executions() {
     let (_, text) = page("failing", "examples/queue-broken.hex", &["--only", "failing", "--from", "4"]);
-    assert!(text.contains("id=\"e4\"") && text.contains("id=\"e5\"") && !text.contains("id=\"e2\"") && !text.contains("id=\"e6\""));
+    let positions = [2, 3, 4, 5, 6].map(|k| text.contains(&format!("id=\"e{k}\"")));
+    assert_eq!(positions, [false, false, true, true, false]);
     let (_, text) = page("many", "tests/programs/000-ttaslock-4.hex", &[]);
     assert!(count(&text, "<section ") == 500 && text.contains("There are more"));
     let ran = run(&["show", "examples/whole.hex", "--html", "no/such/folder/page.html"]);
@@ -102,7 +104,7 @@ document.title = 'LOOKED ' + (wrong.join('; ') || 'well');
 fn chromium(words: &[String]) -> String {
     let profile = format!("--user-data-dir={}", folder().join("profile").display());
     let output = Command::new("chromium")
-        .args(["--headless", "--no-sandbox", "--disable-gpu", "--hide-scrollbars", "--window-size=1600,1200", &profile])
+        .args(["--headless", "--no-sandbox", "--disable-gpu", "--disable-dev-shm-usage", "--window-size=1600,1200", &profile])
         .args(words)
         .output()
         .expect("chromium starts");

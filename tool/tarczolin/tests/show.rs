@@ -64,7 +64,11 @@ execution 1: schedule 00 00 00 00 00, does not fail
 #[test]
 fn assertions_before_the_first_step() {
     let ran = run_with(&["show", "-"], &lines("01 23000000000001 01 23010100000000 110000"));
-    let shown = "execution 1: schedule 01, fails\n!!   T0  assert r0 == 1 FAILS: r0 = 0, before the first step\n#0   T1  load x0 -> r0 = 0                    initial\n";
+    let shown = "\
+execution 1: schedule 01, fails
+!!   T0  assert r0 == 1 FAILS: r0 = 0, before the first step
+#0   T1  load x0 -> r0 = 0                    initial
+";
     assert_eq!(ran.out, shown);
     let empty = run_with(&["show", "-"], &lines("01"));
     assert_eq!((empty.status, empty.out.as_str()), (0, "execution 1: schedule (no step), does not fail\n"));

@@ -12,7 +12,10 @@ pub fn run(arguments: Arguments) -> Result<End, Trouble> {
     let jobs = arguments.number("--jobs", JOBS)? as usize;
     let file = input::read(name)?;
     let refused = |r| refusal::of_program(name, &file, r);
-    let counts = if jobs == 1 { ask::count(&file).map_err(refused)? } else { in_pieces(&List::of(&file, false).map_err(refused)?, jobs)? };
+    let counts = match jobs {
+        1 => ask::count(&file).map_err(refused)?,
+        _ => in_pieces(&List::of(&file, false).map_err(refused)?, jobs)?,
+    };
     writeln!(std::io::stdout(), "{} listed, {} failing", counts.listed, counts.failing)?;
     Ok(End::of_failing(counts.failing))
 }

@@ -55,9 +55,9 @@ fn head(threads: usize, layout: &Layout) -> String {
         writeln!(text, "<text class=\"name t{t}\" x=\"{:.1}\" y=\"22\">T{t}</text>", layout.x(t)).expect("text grows");
     }
     let (left, right) = (16.0, layout.width - 16.0);
-    writeln!(text, "<line class=\"initial\" x1=\"{left}\" x2=\"{right:.1}\" y1=\"{INITIAL}\" y2=\"{INITIAL}\"/>").expect("text grows");
-    writeln!(text, "<text class=\"initial\" x=\"{left}\" y=\"{}\">initial: every location is 0</text>", INITIAL - 6.0).expect("text grows");
-    text
+    let line = format!("<line class=\"initial\" x1=\"{left}\" x2=\"{right:.1}\" y1=\"{INITIAL}\" y2=\"{INITIAL}\"/>\n");
+    let above = INITIAL - 6.0;
+    text + &line + &format!("<text class=\"initial\" x=\"{left}\" y=\"{above}\">initial: every location is 0</text>\n")
 }
 
 /// From each step of a thread to its next one, straight down.
@@ -81,7 +81,8 @@ fn arrow(order: Order, from: Option<Event>, to: Event, layout: &Layout) -> Strin
     let (path, source) = match from {
         None => {
             let x = layout.x(to.t) - layout.half(to.t);
-            (format!("M{:.1} {INITIAL}C{:.1} {y:.1} {:.1} {y:.1} {x:.1} {y:.1}", x - 30.0, x - 30.0, x - 26.0), "initial".to_string())
+            let out = x - 30.0;
+            (format!("M{out:.1} {INITIAL}C{out:.1} {y:.1} {out:.1} {y:.1} {x:.1} {y:.1}"), "initial".to_string())
         }
         Some(event) => (curve(event, to, off, swing, layout), format!("T{} #{}", event.t, event.i)),
     };

@@ -40,7 +40,7 @@ fn summary(executions: &[Execution], more: bool) -> String {
     let failing = executions.iter().filter(|e| e.fails).count();
     let mut text = format!("<p class=\"summary\">{} executions, <b>{failing} failing</b>.", executions.len());
     if more {
-        write!(text, " There are more: this page holds the first {MOST}; <code>--from</code> chooses others.").expect("text grows");
+        text += &format!(" There are more: this page holds the first {MOST}; <code>--from</code> chooses others.");
     }
     text += "</p>\n<nav>";
     for Execution { position, fails, .. } in executions {

@@ -37,7 +37,9 @@ fn range(frame: &[u8], threads: usize) -> String {
         match (t, i) {
             (0xff, 0xff) if k == source_at => continue,
             (0xff, 0xff) => return "the initial write (ff, ff) may stand only as the source of a read".to_string(),
-            _ if t as usize >= threads => return format!("there is no thread {t:02x}; the program has {threads}, numbered from 00"),
+            _ if t as usize >= threads => {
+                return format!("there is no thread {t:02x}; the program has {threads}, numbered from 00");
+            }
             _ if i > 15 => return format!("there is no access {i:02x}; they are 00 to 0f"),
             _ => {}
         }
@@ -50,7 +52,8 @@ fn order(frame: &[u8], text: &[u8], place: u64) -> String {
     let key = |frame: &[u8]| frame.get(..if frame.first() == Some(&0x40) { 3 } else { 2 }).map(<[u8]>::to_vec);
     let last = hex::bytes(line_at(text, place - 1)).unwrap_or_default();
     if place > 1 && key(frame) <= key(&last) {
-        return "the line must come before the one above it, or repeats it: first 40 by thread and access, then 41 by location".to_string();
+        let right = "first 40 by thread and access, then 41 by location, each once";
+        return format!("the line does not come after the one above it: {right}");
     }
     "an event of this line stands among the 41 lines already; a write has one place in coherence".to_string()
 }
