@@ -34,7 +34,7 @@ fuzz: $(LIBRARY)
 valgrind: $(LIBRARY)
 	@rm -rf target/valgrind && mkdir -p target/valgrind
 	@TEST_SHARE=100 FUZZ_SECONDS=20 CARGO_TARGET_X86_64_UNKNOWN_LINUX_GNU_RUNNER='$(VALGRIND)' $(CARGO) test $(QUIET) --workspace
-	@cat target/valgrind/*.log; test -z "$$(cat target/valgrind/*.log)" && echo 'valgrind reports nothing'
+	@cat target/valgrind/*.log; test -z "$$(cat target/valgrind/*.log)" && echo 'valgrind reports nothing beside what tests/valgrind.supp leaves out'
 
 $(LIBRARY): crates.txt $(shell find crates -name '*.rt' -o -name '*.antt')
 	@rt staticlib tarczolin
