@@ -2,7 +2,7 @@
 //! texts, parts of one buffer that overlap, outputs of any length. Whatever is asked, the call answers, its answer is one
 //! that it may give, and no byte changes that it may not change. What the answer must be, the other tests say.
 use std::time::{Duration, Instant};
-use tarczolin_tests::calls::{self, Answer, GRAPH, SCHEDULE};
+use tarczolin_tests::calls::{self, Answer, GRAPH, ROW, SCHEDULE};
 use tarczolin_tests::files::text;
 use tarczolin_tests::lent;
 use tarczolin_tests::oracle::calls::Found;
@@ -119,6 +119,28 @@ fn ask_all(random: &mut Random, file: &[u8], beside: &[u8]) {
         held(random, [file, beside], out, [SCHEDULE, 24], true, |[f, s], out| calls::continue_from(f, s, out));
         held(random, [file], out, [SCHEDULE, 24], true, |[f], out| calls::violation(f, out));
         counts(random, file);
+        rows(random, file, beside);
+    }
+}
+
+/// Rows are asked for twice on outputs of different content: both answer the same, write the same, and leave the rest alone.
+fn rows(random: &mut Random, file: &[u8], beside: &[u8]) {
+    for behind in [None, Some(beside)] {
+        let output = {
+            let rows = random.between(1, 9);
+            output(random, rows * ROW)
+        };
+        let mut out = vec![0; output];
+        let answer = match behind {
+            None => calls::rows(file, &mut out),
+            Some(last) => calls::rows_after(file, last, &mut out),
+        };
+        let found = match answer {
+            Answer::Answered(rows) if rows as usize <= output / ROW => Ok(out[..rows as usize * ROW].to_vec()),
+            Answer::Refused(number @ 1..=9, place) => Err(Refusal { number, place }),
+            other => panic!("{other:?} is no answer of rows with an output of {output} bytes: {file:?}, {behind:?}"),
+        };
+        lent::held_rows(random, file, behind, output, &found);
     }
 }
 

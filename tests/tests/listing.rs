@@ -1,8 +1,8 @@
-//! The four calls of the list and a brute-force lister agree on random programs.
+//! The calls of the list and a brute-force lister agree on random programs.
 use std::collections::BTreeMap;
-use tarczolin_tests::calls::{self, Answer};
+use tarczolin_tests::calls::{self, Answer, ROW};
 use tarczolin_tests::files::text;
-use tarczolin_tests::lent::{held, shown};
+use tarczolin_tests::lent::{held, held_rows, shown};
 use tarczolin_tests::oracle::calls::{Found, SCHEDULE};
 use tarczolin_tests::oracle::decode::{decode, Program};
 use tarczolin_tests::oracle::listing::{self, Listed};
@@ -41,6 +41,7 @@ struct Seen {
     found: usize,
     no_more: usize,
     from_unlisted: usize,
+    rows: usize,
     violations: [usize; 2],
     refused: BTreeMap<u8, usize>,
     /// Refusals among the lists of calls, before and after the first answer.
@@ -165,6 +166,17 @@ impl Seen {
         assert!(!ended || answered.len() == case.list.len(), "no more exactly behind the last");
     }
 
+    /// Rows from the beginning in an output that is too short, just long enough or longer, and behind any full schedule.
+    fn rows(&mut self, random: &mut Random, case: &Case) {
+        let full = schedule::full(random, &case.program);
+        for behind in [None, Some(full.as_slice())] {
+            let output = random.below((case.list.len().min(WALKED) + 2) * ROW);
+            let rows = listing::rows(&case.list, behind, output);
+            self.rows += rows.len() / ROW;
+            held_rows(random, &case.file, behind, output, &Ok(rows));
+        }
+    }
+
     fn violation(&mut self, random: &mut Random, case: &Case) {
         let output = random.between(SCHEDULE - 4, SCHEDULE + 6);
         let found = if output < SCHEDULE { refused(22, 0) } else { Ok(listing::violation(&case.list)) };
@@ -206,6 +218,7 @@ fn library_and_brute_force_agree() {
         seen.walk(&mut random, &case);
         seen.continues(&mut random, &case);
         seen.list_of_calls(&mut random, &case);
+        seen.rows(&mut random, &case);
         seen.violation(&mut random, &case);
         let counts = listing::count(&case.list);
         count(&mut random, &case.file, Ok(counts));
@@ -253,7 +266,7 @@ fn show(seen: &Seen) {
     println!("{} calls: {} schedules, {} no more or none, refused by number {:?}", seen.calls, seen.found, seen.no_more, seen.refused);
     println!("{} continues from a full schedule that is not listed", seen.from_unlisted);
     println!("22 in lists of calls before and after the first answer {:?}; calls after a no more {}", seen.in_lists, seen.after_no_more);
-    println!("violations: none and some {:?}", seen.violations);
+    println!("{} rows; violations: none and some {:?}", seen.rows, seen.violations);
 }
 
 fn reached(seen: &Seen) {
@@ -262,7 +275,7 @@ fn reached(seen: &Seen) {
     }
     assert!(seen.programs >= 20_000 && seen.with_exchange >= 5_000 && seen.shortened >= 500 && seen.longest >= 200);
     assert!(seen.found >= 100_000 && seen.no_more >= 40_000 && seen.from_unlisted >= 10_000);
-    assert!(seen.violations.iter().all(|n| *n >= 2_000) && seen.failing >= 10_000);
+    assert!(seen.violations.iter().all(|n| *n >= 2_000) && seen.failing >= 10_000 && seen.rows >= 100_000);
     assert!(seen.in_lists.iter().all(|n| *n >= 5_000) && seen.after_no_more >= 10_000);
     for (number, least) in [(20, 2_000), (21, 1_000), (22, 20_000)] {
         assert!(seen.refused[&number] >= least, "refusal {number}");

@@ -2,7 +2,7 @@
 
 #[derive(Clone, Copy, Debug, PartialEq, Eq, PartialOrd, Ord, Hash)]
 pub enum Answer {
-    /// Answered; the length of the answer in bytes, 0 where there is none.
+    /// Answered; the length of the answer in bytes, 0 where there is none; of rows their number.
     Answered(u64),
     /// No more, none, or no.
     None,

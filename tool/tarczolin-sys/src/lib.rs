@@ -9,6 +9,8 @@ pub use answer::Answer;
 
 /// A schedule needs an output of so many bytes.
 pub const SCHEDULE: usize = 24;
+/// A listed schedule as a row: the number of steps, 1 where it fails and else 0, the steps, zeros behind them.
+pub const ROW: usize = 2 + SCHEDULE;
 /// A graph text needs an output of so many bytes.
 pub const GRAPH: usize = 512;
 
@@ -63,4 +65,18 @@ pub fn violation(file: &[u8], out: &mut [u8]) -> Answer {
 pub fn count(file: &[u8], listed: &mut u64, failing: &mut u64) -> Answer {
     // safe: the call reads only the bytes of the slice and writes only the two words
     Answer::of_word(unsafe { raw::tarczolin_count(file.as_ptr(), file.len(), listed, failing) })
+}
+
+/// The first listed schedules as rows, as many as the output has room for; the answer carries the number of rows.
+pub fn rows(file: &[u8], out: &mut [u8]) -> Answer {
+    // safe: the call reads only the bytes of the first slice and writes only bytes of the second
+    Answer::of_word(unsafe { raw::tarczolin_rows(file.as_ptr(), file.len(), out.as_mut_ptr(), out.len()) })
+}
+
+/// The same for the listed schedules after this one, which need not be listed nor full.
+pub fn rows_after(file: &[u8], schedule: &[u8], out: &mut [u8]) -> Answer {
+    // safe: the call reads only the bytes of the first two slices and writes only bytes of the third
+    Answer::of_word(unsafe {
+        raw::tarczolin_rows_after(file.as_ptr(), file.len(), schedule.as_ptr(), schedule.len(), out.as_mut_ptr(), out.len())
+    })
 }

@@ -29,4 +29,13 @@ extern "C" {
     ) -> u64;
     pub fn tarczolin_violation(file: *const u8, file_len: usize, out: *mut u8, out_len: usize) -> u64;
     pub fn tarczolin_count(file: *const u8, file_len: usize, listed: *mut u64, failing: *mut u64) -> u64;
+    pub fn tarczolin_rows(file: *const u8, file_len: usize, out: *mut u8, out_len: usize) -> u64;
+    pub fn tarczolin_rows_after(
+        file: *const u8,
+        file_len: usize,
+        schedule: *const u8,
+        schedule_len: usize,
+        out: *mut u8,
+        out_len: usize,
+    ) -> u64;
 }

@@ -1,6 +1,6 @@
 //! The library's calls with answers to keep: each lends an output that is long enough and takes the answer out of it.
 use crate::schedule::Schedule;
-use tarczolin_sys::{self as library, Answer, GRAPH, SCHEDULE};
+use tarczolin_sys::{self as library, Answer, GRAPH, ROW, SCHEDULE};
 
 /// A refusal: its number and its place.
 #[derive(Clone, Copy, Debug, PartialEq, Eq)]
@@ -14,6 +14,19 @@ pub struct Refusal {
 pub struct Counts {
     pub listed: u64,
     pub failing: u64,
+}
+
+/// A listed schedule, and whether it fails.
+#[derive(Clone, Copy, Debug, PartialEq, Eq)]
+pub struct Listed {
+    pub schedule: Schedule,
+    pub fails: bool,
+}
+
+/// Room for listed schedules, as the library writes them.
+pub struct Rows {
+    bytes: Vec<u8>,
+    written: usize,
 }
 
 /// The length that an answer carries, or none for no more, none and no.
@@ -37,14 +50,39 @@ pub fn check(file: &[u8]) -> Result<(), Refusal> {
     length(library::check(file)).map(|_| ())
 }
 
-/// The least listed schedule. Every accepted program has one.
-pub fn start(file: &[u8]) -> Result<Option<Schedule>, Refusal> {
-    schedule(|out| library::start(file, out))
+impl Listed {
+    fn of_row(row: &[u8; ROW]) -> Listed {
+        let [length, fails, steps @ ..] = *row;
+        Listed { schedule: Schedule::of_output(steps, length as usize), fails: fails == 1 }
+    }
 }
 
-/// The least listed schedule after this full one, or no more.
-pub fn after(file: &[u8], last: &[u8]) -> Result<Option<Schedule>, Refusal> {
-    schedule(|out| library::continue_from(file, last, out))
+impl Rows {
+    /// Room for so many.
+    pub fn new(room: usize) -> Rows {
+        Rows { bytes: vec![0; room * ROW], written: 0 }
+    }
+
+    pub fn room(&self) -> usize {
+        self.bytes.len() / ROW
+    }
+
+    /// Asks for the listed schedules from the first one on, or behind a schedule: as many as there is room for. Says whether
+    /// there may be more.
+    pub fn fill(&mut self, file: &[u8], behind: Option<&[u8]>) -> Result<bool, Refusal> {
+        let answer = match behind {
+            None => library::rows(file, &mut self.bytes),
+            Some(last) => library::rows_after(file, last, &mut self.bytes),
+        };
+        self.written = length(answer)?.unwrap_or(0);
+        Ok(self.written == self.room())
+    }
+
+    /// What the last call wrote, in order.
+    pub fn listed(&self) -> impl DoubleEndedIterator<Item = Listed> + '_ {
+        let rows = self.bytes.chunks_exact(ROW).take(self.written);
+        rows.map(|row| Listed::of_row(row.try_into().expect("a row's length")))
+    }
 }
 
 /// The first listed schedule that fails, or none.

@@ -1,5 +1,5 @@
 //! One listed execution, ready to be shown: each step with its values and with the write that its read saw.
-use crate::ask::{self, Refusal};
+use crate::ask::{self, Listed, Refusal};
 use crate::graph::{Event, Graph};
 use crate::machine::{Done, Failure, Machine};
 use crate::program::{number, Instruction, Program};
@@ -31,8 +31,10 @@ pub struct Execution {
 }
 
 impl Execution {
-    /// The values are replayed, the sources are those of the library's graph; the two must fit.
-    pub fn of(file: &[u8], program: &Program, position: u64, schedule: Schedule) -> Result<Execution, Refusal> {
+    /// The values are replayed; the sources are those of the library's graph, and whether it fails is the library's word: the
+    /// replay must fit both.
+    pub fn of(file: &[u8], program: &Program, position: u64, listed: &Listed) -> Result<Execution, Refusal> {
+        let Listed { schedule, fails } = *listed;
         let graph = Graph::of_text(&ask::graph(file, &schedule)?);
         let mut machine = Machine::new(program);
         let at_once = (0..program.threads.len() as u8).filter_map(|t| Some((t, machine.failure(t)?))).collect();
@@ -49,7 +51,8 @@ impl Execution {
             left.insert(done.event, done);
             steps.push(Step { done, source });
         }
-        Ok(Execution { position, schedule, at_once, steps, graph, fails: machine.fails() })
+        assert_eq!(machine.fails(), fails, "the replay fails exactly where the library says so");
+        Ok(Execution { position, schedule, at_once, steps, graph, fails })
     }
 }
 

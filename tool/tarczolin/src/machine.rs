@@ -1,5 +1,5 @@
-//! A run replayed step by step: for the values that are shown, and for whether a schedule fails. Nothing here is proved;
-//! the schedules themselves, their order and their counts are the library's.
+//! A run replayed step by step, for the values that are shown. Nothing here is proved; the schedules themselves, their order,
+//! their counts and whether they fail are the library's.
 use crate::graph::Event;
 use crate::program::{Instruction, Operand, Program};
 use Instruction::*;
@@ -139,13 +139,4 @@ impl<'a> Machine<'a> {
     pub fn fails(&self) -> bool {
         self.threads.iter().any(|thread| thread.failure.is_some())
     }
-}
-
-/// Does some assertion fail in this schedule's run?
-pub fn fails(program: &Program, schedule: &[u8]) -> bool {
-    let mut machine = Machine::new(program);
-    for &t in schedule {
-        machine.step(t);
-    }
-    machine.fails()
 }

@@ -2,10 +2,10 @@
 mod common;
 
 use common::{run, run_with};
+use tarczolin::ask::Listed;
 use tarczolin::asm::assemble;
 use tarczolin::execution::{Execution, Source};
 use tarczolin::graph::Event;
-use tarczolin::machine;
 use tarczolin::program::Program;
 use tarczolin::schedule::Schedule;
 use tarczolin_tests::files::{lines, text};
@@ -91,8 +91,8 @@ fn values_and_sources_are_the_oracles() {
         let steps = schedule::full(&mut random, &oracle);
         let run = run_full(&oracle, &steps).unwrap();
         let graph = Graph::of(&run);
-        let execution = Execution::of(&file, &program, 1, held(&steps)).unwrap();
-        assert_eq!((execution.fails, machine::fails(&program, &steps)), (run.fails(), run.fails()));
+        let listed = Listed { schedule: held(&steps), fails: run.fails() };
+        let execution = Execution::of(&file, &program, 1, &listed).unwrap();
         for (step, (event, effect)) in execution.steps.iter().zip(&run.done) {
             assert_eq!((step.done.found, step.done.left, step.done.location), (effect.read, effect.written, effect.location));
             let source = graph.reads.get(event).map(|s| (*s != INITIAL).then_some(Event { t: s.t, i: s.i }));

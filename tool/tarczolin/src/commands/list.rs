@@ -1,6 +1,6 @@
 //! list: the lines of the listing program.
 use super::{Arguments, End, Trouble};
-use crate::ask::{self, Counts};
+use crate::ask::Counts;
 use crate::jobs::List;
 use crate::output;
 use crate::progress::Progress;
@@ -24,17 +24,7 @@ pub fn run(arguments: Arguments) -> Result<End, Trouble> {
             return Err(refusal::of_program(name, &file, r));
         }
     };
-    // the counts that are printed are the library's, worked out meanwhile; those of the lines must be the same
-    let counting = std::thread::spawn({
-        let file = file.clone();
-        move || ask::count(&file)
-    });
-    let sum = lines(&list, jobs, &mut out)?;
-    let counted = counting.join().map_err(|_| Trouble::said("the count was not finished"))?;
-    let counts = counted.map_err(|r| refusal::of_program(name, &file, r))?;
-    if counts != sum {
-        return Err(Trouble::said(format!("an error of this command: it lists {sum:?}, and the library counts {counts:?}")));
-    }
+    let counts = lines(&list, jobs, &mut out)?;
     let frame = [&[0x51], &counts.listed.to_be_bytes()[..], &counts.failing.to_be_bytes()].concat();
     out.write_all(hex::line(&frame).as_bytes())?;
     out.flush()?;

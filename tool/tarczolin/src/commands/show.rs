@@ -2,7 +2,7 @@
 use super::{Arguments, End, Trouble};
 use crate::execution::Execution;
 use crate::jobs::List;
-use crate::{html, input, machine, output, refusal, show};
+use crate::{html, input, output, refusal, show};
 use std::io::Write;
 
 /// Which executions are shown.
@@ -32,16 +32,16 @@ pub fn run(arguments: Arguments) -> Result<End, Trouble> {
 fn chosen(list: &List, choice: &Choice, mut each: impl FnMut(Execution) -> Result<bool, Trouble>) -> Result<(), Trouble> {
     let mut position = 0;
     let mut ended = Ok(false);
-    let walked = list.walk(None, |schedule| {
+    let walked = list.walk(None, |listed| {
         position += 1;
-        if position < choice.from || (choice.failing_only && !machine::fails(&list.program, schedule)) {
+        if position < choice.from || (choice.failing_only && !listed.fails) {
             return false;
         }
-        let execution = Execution::of(list.file, &list.program, position, *schedule);
+        let execution = Execution::of(list.file, &list.program, position, listed);
         ended = each(execution.expect("a listed schedule of an accepted file is full"));
         !matches!(ended, Ok(false))
     });
-    walked.expect("the file is accepted and each schedule is full");
+    walked.expect("the file is accepted");
     ended.map(|_| ())
 }
 

@@ -7,8 +7,7 @@ use std::sync::Mutex;
 
 /// So many pieces for each job: the pieces are of very different length.
 const PIECES: usize = 32;
-/// A part is handed on when it has so many schedules; so many parts of a piece may wait to be taken.
-const SCHEDULES: u64 = 1024;
+/// So many parts of a piece may wait to be taken.
 const WAITING: usize = 64;
 
 /// The pieces that no thread has taken yet: from `next` on. Each has a sender for its parts.
@@ -40,13 +39,13 @@ impl Pieces {
 fn walk(list: &List, bounds: &[Schedule], piece: usize, sender: &SyncSender<Part>) -> Result<Option<Schedule>, ()> {
     let mut part = Part::default();
     let mut open = true;
-    let behind = piece.checked_sub(1).map(|before| &bounds[before][..]);
-    let first = list.walk(behind, |schedule| {
-        if *schedule > bounds[piece] {
+    let behind = piece.checked_sub(1).map(|before| bounds[before]);
+    let first = list.walk(behind, |listed| {
+        if listed.schedule > bounds[piece] {
             return true;
         }
-        part.add(list, schedule);
-        if part.counts.listed >= SCHEDULES {
+        part.add(list, listed);
+        if part.is_large() {
             open = sender.send(std::mem::take(&mut part)).is_ok();
         }
         !open
@@ -54,7 +53,7 @@ fn walk(list: &List, bounds: &[Schedule], piece: usize, sender: &SyncSender<Part
     if !open || sender.send(part).is_err() {
         return Err(());
     }
-    Ok(first.expect("the file is accepted and each schedule is full"))
+    Ok(first.expect("the file is accepted"))
 }
 
 /// Takes pieces until none is left.
