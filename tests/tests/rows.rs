@@ -48,7 +48,7 @@ fn every_output_length() {
         }
     }
     println!("{rows} rows; {none} times no more");
-    assert!(!share::whole() || (rows >= 100_000 && none >= 20_000));
+    assert!(!share::whole() || (rows >= 80_000 && none >= 20_000));
 }
 
 /// A refused file: the program's refusal, for every output length and any schedule, and no byte changes.

@@ -1,7 +1,7 @@
 //! Listing.
 use std::hint::black_box;
 use std::time::Instant;
-use tarczolin_tests::calls::{self, Answer};
+use tarczolin_tests::calls::{self, Answer, ROW};
 use tarczolin_tests::files::lines;
 use tarczolin_tests::oracle::decode::decode;
 use tarczolin_tests::search::walk::walk;
@@ -47,7 +47,23 @@ fn by_calls(file: &[u8], most: u64) -> u64 {
     listed
 }
 
-/// The same in plain Rust: the search anew for each schedule, the file decoded each time.
+/// The library's whole list by rows, so many at a time; how many there were.
+fn by_rows(file: &[u8], room: usize) -> u64 {
+    let mut out = vec![0; room * ROW];
+    let mut answer = calls::rows(file, &mut out);
+    let mut listed = 0;
+    while let Answer::Answered(rows) = answer {
+        listed += rows;
+        if rows < room as u64 {
+            return listed;
+        }
+        let last: [u8; ROW] = out[(room - 1) * ROW..].try_into().expect("a row's length");
+        answer = calls::rows_after(file, &last[2..2 + last[0] as usize], &mut out);
+    }
+    panic!("{answer:?}")
+}
+
+/// Start and continue in plain Rust: the search anew for each schedule, the file decoded each time.
 fn by_searches(file: &[u8], most: u64) -> u64 {
     let mut last = None;
     for listed in 0..most {
@@ -85,6 +101,10 @@ fn two() {
     println!("twelve stores beside twelve loads of one location: {listed} listed");
     print!("  count, for each listed: library {:.0} ns, plain Rust's search {:.0} ns, ", counted / listed, searched / listed);
     println!("ratio {:.2} (asked: at most 3)", counted / searched);
+    let (rowed, of_rows) = once(&mut || by_rows(&file, 1024));
+    assert_eq!(of_rows, of_count.0, "both agree");
+    print!("  the list by 1,024 rows a call, for each listed: library {:.0} ns, ", rowed / listed);
+    println!("beside the count of plain Rust's search ratio {:.2}", rowed / searched);
     let many = 2_000;
     let ((called, _), (next, _)) = turns(3, || by_calls(&file, many), || by_searches(&file, many));
     let each = many as f64;
