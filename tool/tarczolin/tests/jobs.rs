@@ -4,7 +4,8 @@ mod common;
 use common::{run, run_with};
 use tarczolin::jobs::bounds;
 use tarczolin::program::Program;
-use tarczolin_tests::files::text;
+use tarczolin_tests::files::{lines, text};
+use tarczolin_tests::oracle::calls::report;
 use tarczolin_tests::oracle::decode::decode;
 use tarczolin_tests::oracle::machine::run_full;
 use tarczolin_tests::random::program::{frames, Size, ANY, SMALL};
@@ -38,6 +39,18 @@ fn output_is_that_of_one_job_on_longer_lists() {
         let [one, many] = ["1", "8"].map(|jobs| run(&["count", &name, "--jobs", jobs]));
         assert_eq!(one, many, "{name}");
     }
+}
+
+/// A list of many calls and parts: what brute force prints, whatever the number of jobs.
+#[test]
+fn output_of_many_parts() {
+    let file = lines(&format!("01 {} 01 {} 23000000000001", "10000000000001 ".repeat(7), "110000 ".repeat(7)));
+    let printed = String::from_utf8(report(&file)).unwrap();
+    assert_eq!(printed.lines().count(), 3_432 + 1);
+    for jobs in ["1", "2", "3", "16"] {
+        assert!(run_with(&["list", "-", "--jobs", jobs], &file).out == printed, "--jobs {jobs}");
+    }
+    same(&file, &["2", "7"]);
 }
 
 /// A refusal is the same too, with more jobs than there are schedules, and where there is no step at all.
