@@ -1,22 +1,40 @@
-# make test           every check: formatting, proofs, edits that must be refused, Rust tests over the static library
-# make check FILE=F   is F a program file? prints accepted, or the refusal's number, place and reason
-# make bench          times of the library beside plain Rust
+# make test              every check: formatting, proofs, edits that must be refused, Rust tests over the static library
+# make check FILE=F      is F a program file? prints accepted, or the refusal's number, place, line and reason
+# make tool              builds the command: target/cargo/release/tarczolin
+# make bench             times of the library beside plain Rust
+# make fuzz SECONDS=N    random bytes to every call, for so long
+# make valgrind          the Rust tests, few cases each, under valgrind
 FILE ?= examples/whole.hex
+SECONDS ?= 600
 CARGO = cargo
-IN_TESTS = --quiet --release --offline --locked --manifest-path tests/Cargo.toml --target-dir target/cargo
+QUIET = --quiet --release --offline --locked
 LIBRARY = target/staticlib/libtarczolin.a
+VALGRIND = valgrind --quiet --error-exitcode=9 --leak-check=full --show-leak-kinds=definite --errors-for-leak-kinds=definite \
+  --suppressions=$(CURDIR)/tests/valgrind.supp --trace-children=yes --log-file=$(CURDIR)/target/valgrind/%p.log
 
-.PHONY: test check bench
+.PHONY: test check tool bench fuzz valgrind
 
 test:
 	@rm -f target/tally
 	@python3 tests/gate/gate.py
 
 check: $(LIBRARY)
-	@$(CARGO) run $(IN_TESTS) --bin check -- $(FILE)
+	@$(CARGO) run $(QUIET) --bin tarczolin -- check $(FILE)
+
+tool: $(LIBRARY)
+	@$(CARGO) build $(QUIET) --bin tarczolin
 
 bench: $(LIBRARY)
-	@$(CARGO) run $(IN_TESTS) --bin bench
+	@$(CARGO) run $(QUIET) --bin bench
+
+fuzz: $(LIBRARY)
+	@FUZZ_SECONDS=$(SECONDS) FUZZ_SEED=$$(date +%s) $(CARGO) test $(QUIET) --package tarczolin-tests --test fuzz -- --nocapture
+
+# cargo hands each test program to valgrind; a hundredth of the cases, since valgrind is slow; a report is an error
+valgrind: $(LIBRARY)
+	@rm -rf target/valgrind && mkdir -p target/valgrind
+	@TEST_SHARE=100 FUZZ_SECONDS=20 CARGO_TARGET_X86_64_UNKNOWN_LINUX_GNU_RUNNER='$(VALGRIND)' $(CARGO) test $(QUIET) --workspace
+	@cat target/valgrind/*.log; test -z "$$(cat target/valgrind/*.log)" && echo 'valgrind reports nothing beside what tests/valgrind.supp leaves out'
 
 $(LIBRARY): crates.txt $(shell find crates -name '*.rt' -o -name '*.antt')
 	@rt staticlib tarczolin

@@ -4,7 +4,7 @@
  *
  *   bits 56 to 63   the kind: 1 answered; 2 no more, none, or no; 3 refused
  *   bits 48 to 55   a refusal's number, else 0
- *   bits  0 to 47   the length of an answer in bytes, 0 where there is none;
+ *   bits  0 to 47   the length of an answer in bytes, 0 where there is none; of rows their number;
  *                   or a refusal's place, modulo 2^48
  *
  * A call reads only the bytes that it is lent and keeps nothing for the next.
@@ -55,9 +55,9 @@ uint64_t tarczolin_count(const uint8_t *file, size_t file_len, uint64_t *listed,
 
 /* Many listed schedules at a time, as rows of 26 bytes: the number of steps, 1 where the schedule fails and 0 where it
  * does not, and the steps, with zeros behind them up to 24. Answered: as many rows as the output has room for stand in
- * front of it, from the first listed schedule on or after the given one (which need not be listed nor full), the answer
- * carries their number, not their bytes, and the bytes behind them keep their value; 0 where there is no more or no room.
- * Refused: the program's (1 to 9), and no byte changes. */
+ * front of it: the first listed schedules, or the first of those greater than the given one (which need not be listed nor
+ * full). The answer carries their number, not their bytes, and the bytes behind them keep their value; 0 where there is no
+ * more or no room. Refused: the program's (1 to 9), and no byte changes. */
 uint64_t tarczolin_rows(const uint8_t *file, size_t file_len, uint8_t *out, size_t out_len);
 uint64_t tarczolin_rows_after(const uint8_t *file, size_t file_len, const uint8_t *schedule, size_t schedule_len, uint8_t *out, size_t out_len);
 

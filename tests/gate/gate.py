@@ -6,6 +6,7 @@ the must-fail edits that were refused for the right reason, and the Rust tests.
 """
 import os
 import re
+import shutil
 import subprocess
 import sys
 from pathlib import Path
@@ -15,8 +16,7 @@ import must_fail  # noqa: E402
 
 ROOT = Path(__file__).resolve().parents[2]
 TARGET = ROOT / 'target'
-CARGO_TEST = ['cargo', 'test', '--release', '--offline', '--locked', '--no-fail-fast',
-              '--manifest-path', 'tests/Cargo.toml', '--target-dir', 'target/cargo']
+CARGO_TEST = ['cargo', 'test', '--release', '--offline', '--locked', '--no-fail-fast', '--workspace']
 
 
 class Tally:
@@ -103,7 +103,12 @@ def rust_tests(tally):
     if status != 0 or not library.is_file():
         tally.fail('rt staticlib tarczolin made no library, so the Rust tests were not run')
         return
-    status, lines = run(CARGO_TEST)
+    cargo_tests(tally, CARGO_TEST)
+
+
+def cargo_tests(tally, words):
+    """Runs Rust tests and counts them."""
+    status, lines = run(words)
     passed = failed = 0
     for line in lines:
         count = re.match(r'test result: \w+\. (\d+) passed; (\d+) failed; (\d+) ignored', line)
@@ -115,10 +120,20 @@ def rust_tests(tally):
         tally.fail(f'cargo test ended with status {status} after {passed} tests')
 
 
+def browser(tally):
+    """The tool's page laid out by a browser, where there is one. What stands in the page is tested without."""
+    if shutil.which('chromium') is None:
+        print('gate: not run: the page in a browser, since there is no chromium here', flush=True)
+        return
+    cargo_tests(tally, CARGO_TEST[:-1] + ['--package', 'tarczolin', '--test', 'page', '--', '--ignored'])
+
+
 def main():
     os.environ.setdefault('RT_JOBS', '2')
+    os.environ.setdefault('FUZZ_SECONDS', '110')
+    os.environ.pop('TEST_SHARE', None)  # the gate runs every case
     tally = Tally()
-    for check in (every_crate_is_listed, formatting, proofs, reasons, rust_tests):
+    for check in (every_crate_is_listed, formatting, proofs, reasons, rust_tests, browser):
         try:
             check(tally)
         except Exception as error:  # a check that cannot be carried out has failed

@@ -1,6 +1,7 @@
 //! Calls held to the oracle: the answer, and every byte of every lent buffer.
-use crate::calls::Answer;
+use crate::calls::{self, Answer, ROW};
 use crate::oracle::calls::Found;
+use crate::oracle::Refusal;
 use crate::random::Random;
 
 /// So many bytes on each side of a lent output belong to somebody else.
@@ -15,6 +16,14 @@ pub fn shown(found: &Found) -> (Answer, &[u8]) {
     }
 }
 
+/// The same for a call that gives rows: its answer carries their number.
+pub fn shown_rows(found: &Result<Vec<u8>, Refusal>) -> (Answer, &[u8]) {
+    match found {
+        Ok(bytes) => (Answer::Answered((bytes.len() / ROW) as u64), bytes),
+        Err(refusal) => (Answer::Refused(refusal.number, refusal.place), &[]),
+    }
+}
+
 /// Makes a call on copies of these inputs and an output of that length and of random content. It must answer as the
 /// oracle does, put the oracle's bytes in front of the output, and leave every other byte as it was: of the output, of
 /// its surroundings and of the inputs.
@@ -25,12 +34,31 @@ pub fn held<const N: usize>(
     found: &Found,
     call: impl FnOnce([&[u8]; N], &mut [u8]) -> Answer,
 ) {
+    held_to(random, inputs, output, shown(found), call);
+}
+
+/// The rows behind a schedule, or from the first one on, held to the oracle's in the same way.
+pub fn held_rows(random: &mut Random, file: &[u8], behind: Option<&[u8]>, output: usize, found: &Result<Vec<u8>, Refusal>) {
+    match behind {
+        None => held_to(random, [file], output, shown_rows(found), |[file], out| calls::rows(file, out)),
+        Some(last) => held_to(random, [file, last], output, shown_rows(found), |[file, last], out| {
+            calls::rows_after(file, last, out)
+        }),
+    }
+}
+
+fn held_to<const N: usize>(
+    random: &mut Random,
+    inputs: [&[u8]; N],
+    output: usize,
+    (expected, front): (Answer, &[u8]),
+    call: impl FnOnce([&[u8]; N], &mut [u8]) -> Answer,
+) {
     let lent = inputs.map(<[u8]>::to_vec);
     let mut around = vec![0; output + 2 * AROUND];
     around.chunks_mut(8).for_each(|c| c.copy_from_slice(&random.next().to_le_bytes()[..c.len()]));
     let mut later = around.clone();
     let answer = call(lent.each_ref().map(Vec::as_slice), &mut later[AROUND..AROUND + output]);
-    let (expected, front) = shown(found);
     around[AROUND..AROUND + front.len()].copy_from_slice(front);
     let told = || inputs.map(|i| i.escape_ascii().to_string()).join(" | ");
     assert_eq!(answer, expected, "the answer, with an output of {output} bytes: {}", told());

@@ -1,6 +1,9 @@
-//! Tests of the static library: safe wrappers of its calls, an oracle written from document 01 alone, and random inputs.
-pub mod calls;
+//! Tests of the static library: an oracle written from document 01 alone, and random inputs.
+pub use tarczolin_sys as calls;
 pub mod files;
 pub mod lent;
 pub mod oracle;
+pub mod papers;
 pub mod random;
+pub mod search;
+pub mod share;

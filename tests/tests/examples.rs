@@ -31,13 +31,16 @@ fn examples_of_document_01() {
         "six-stores",
         "add-wraps",
         "accesses-24",
+        "queue-broken",
+        "queue-repaired",
     ];
     for name in names {
         expect(name, &read(&format!("examples/{name}.hex")), ACCEPTED);
     }
     expect("the 25th access", &read("examples/accesses-25-refused.hex"), Answer::Refused(6, 27));
-    let files = std::fs::read_dir(path("examples")).unwrap().count();
-    assert_eq!(files, names.len() + 1, "every file of examples/ is in this table");
+    let entries = std::fs::read_dir(path("examples")).unwrap().map(|entry| entry.unwrap().path());
+    let files = entries.filter(|at| at.extension().is_some_and(|e| e == "hex")).count();
+    assert_eq!(files, names.len() + 1, "every program file of examples/ is in this table");
 }
 
 #[test]

@@ -11,6 +11,7 @@ use tarczolin_tests::oracle::machine::{every_full, Machine};
 use tarczolin_tests::random::graph::{self, Change};
 use tarczolin_tests::random::program::{frames, straight, Size, ANY, SMALL};
 use tarczolin_tests::random::{damage, Random};
+use tarczolin_tests::share;
 
 const PROGRAMS: usize = 14_000;
 const TEXTS: usize = 8;
@@ -110,7 +111,7 @@ fn program_file(random: &mut Random, k: usize) -> Vec<u8> {
 fn library_and_oracle_agree() {
     let mut random = Random::new(21);
     let mut seen = Seen::default();
-    for k in 0..PROGRAMS {
+    for k in 0..share::of(PROGRAMS) {
         let file = program_file(&mut random, k);
         let program = decode(&file).unwrap();
         for n in 0..TEXTS {
@@ -156,6 +157,9 @@ fn refused_file(random: &mut Random, seen: &mut Seen, program: &Program) {
 }
 
 fn reached(seen: &Seen) {
+    if !share::whole() {
+        return;
+    }
     assert!(seen.texts >= 100_000 && seen.yes >= 20_000 && seen.no >= 20_000);
     assert!(seen.cycles >= 2_000 && seen.not_least >= 5_000 && seen.changed_yes >= 2_000 && seen.of_24 >= 300);
     for number in 1..=9 {
@@ -196,7 +200,7 @@ fn changes_do_what_they_say(seen: &Seen) {
 fn least_by_enumeration() {
     let mut random = Random::new(22);
     let (mut programs, mut yes, mut no) = (0, 0, 0);
-    while programs < WALKED {
+    while programs < share::of(WALKED) {
         let file = text(&frames(&mut random, SMALL));
         let program = decode(&file).unwrap();
         let mut least: HashMap<Graph, Vec<u8>> = HashMap::new();
@@ -220,5 +224,5 @@ fn least_by_enumeration() {
         }
     }
     println!("{programs} programs walked: {yes} yes, {no} no");
-    assert!(yes >= 5_000 && no >= 1_000);
+    assert!(!share::whole() || (yes >= 5_000 && no >= 1_000));
 }

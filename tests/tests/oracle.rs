@@ -8,6 +8,7 @@ use tarczolin_tests::oracle::machine::{every_full, Event, Machine, INITIAL};
 use tarczolin_tests::oracle::{listing, Refusal};
 use tarczolin_tests::random::program::{frames, SMALL};
 use tarczolin_tests::random::Random;
+use tarczolin_tests::share;
 
 const PAIR: &str = "01 10000000000001 110001 01 10010000000001 110000";
 
@@ -162,7 +163,7 @@ fn changed(random: &mut Random, program: &Program, graph: &Graph) -> Graph {
 fn definition_and_walk_agree() {
     let mut random = Random::new(3);
     let (mut yes, mut no) = (0, 0);
-    for _ in 0..600 {
+    for _ in 0..share::of(600) {
         let file = tarczolin_tests::files::text(&frames(&mut random, SMALL));
         let program = decode(&file).unwrap();
         let mut graphs = Vec::new();
@@ -186,7 +187,7 @@ fn definition_and_walk_agree() {
         }
     }
     println!("{yes} consistent, {no} not");
-    assert!(yes > 200 && no > 200);
+    assert!(!share::whole() || (yes > 200 && no > 200));
 }
 
 /// On small programs: continue from the schedule answered last gives the list, and every full schedule is alike to
@@ -194,7 +195,7 @@ fn definition_and_walk_agree() {
 #[test]
 fn listing_holds_one_of_each_class() {
     let mut random = Random::new(4);
-    for _ in 0..150 {
+    for _ in 0..share::of(150) {
         let file = tarczolin_tests::files::text(&frames(&mut random, SMALL));
         let program = decode(&file).unwrap();
         let list = listing::list(&program);

@@ -32,6 +32,11 @@ pub fn continue_from(file: &[u8], schedule: &[u8], output: usize) -> Found {
     Ok(listing::after(&listing::list(&program), schedule))
 }
 
+/// The rows of the listed schedules after this one, or of the first ones; an output of any length is enough.
+pub fn rows(file: &[u8], behind: Option<&[u8]>, output: usize) -> Result<Vec<u8>, Refusal> {
+    Ok(listing::rows(&listing::list(&decode(file)?), behind, output))
+}
+
 pub fn count(file: &[u8]) -> Result<(u64, u64), Refusal> {
     Ok(listing::count(&listing::list(&decode(file)?)))
 }

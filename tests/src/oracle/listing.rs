@@ -52,6 +52,23 @@ pub fn after(list: &[Listed], schedule: &[u8]) -> Option<Vec<u8>> {
     list.iter().map(|l| &l.schedule).find(|s| s.as_slice() > schedule).cloned()
 }
 
+/// A row has so many bytes.
+pub const ROW: usize = 26;
+
+/// A listed schedule as a row: how many steps, whether it fails, the steps, zeros behind them.
+pub fn row(listed: &Listed) -> Vec<u8> {
+    let mut row = vec![listed.schedule.len() as u8, listed.fails as u8];
+    row.extend(&listed.schedule);
+    row.resize(ROW, 0);
+    row
+}
+
+/// The rows of the listed after this schedule, or of all, as many as have room in so many bytes.
+pub fn rows(list: &[Listed], behind: Option<&[u8]>, output: usize) -> Vec<u8> {
+    let after = |listed: &&Listed| behind.is_none_or(|schedule| listed.schedule.as_slice() > schedule);
+    list.iter().filter(after).take(output / ROW).flat_map(row).collect()
+}
+
 /// How many are listed, and how many of these fail.
 pub fn count(list: &[Listed]) -> (u64, u64) {
     (list.len() as u64, list.iter().filter(|l| l.fails).count() as u64)

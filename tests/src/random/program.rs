@@ -50,6 +50,23 @@ pub fn frames(random: &mut Random, size: Size) -> Vec<Vec<u8>> {
     all
 }
 
+/// The frames of a random accepted program whose `02` lines sometimes leave a thread of that code out, or part in two.
+pub fn frames_parted(random: &mut Random, size: Size) -> Vec<Vec<u8>> {
+    let mut all = Vec::new();
+    for frame in frames(random, size) {
+        if frame[0] == 0x02 && frame.len() >= 5 && random.one_in(3) {
+            let at = random.between(3, frame.len() - 2);
+            all.extend([frame[..at].to_vec(), [&[0x02], &frame[at..]].concat()]);
+        } else if frame[0] == 0x02 && frame.len() >= 4 && random.one_in(4) {
+            let lost = random.between(1, frame.len() - 1);
+            all.push([&frame[..lost], &frame[lost + 1..]].concat());
+        } else {
+            all.push(frame);
+        }
+    }
+    all
+}
+
 /// The frames of a program of 24 accesses and nothing else: every full schedule has 24 steps.
 pub fn straight(random: &mut Random, locations: usize) -> Vec<Vec<u8>> {
     let size = Size { locations, registers: 2, constants: 3, ..ANY };

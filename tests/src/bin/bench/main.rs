@@ -2,6 +2,7 @@
 mod check;
 mod graph;
 mod judge;
+mod listing;
 mod step;
 mod timing;
 
@@ -10,4 +11,5 @@ fn main() {
     graph::report();
     step::report();
     judge::report();
+    listing::report();
 }

@@ -1,19 +1,8 @@
-//! The calls of the static library, made safe.
+//! The word that every call answers, taken apart.
 
-mod graph;
-mod judge;
-
-pub use graph::graph;
-pub use judge::judge;
-
-extern "C" {
-    fn tarczolin_check(file: *const u8, file_len: usize) -> u64;
-}
-
-/// The word that every call answers, taken apart.
 #[derive(Clone, Copy, Debug, PartialEq, Eq, PartialOrd, Ord, Hash)]
 pub enum Answer {
-    /// Answered; the length of the answer in bytes, 0 where there is none.
+    /// Answered; the length of the answer in bytes, 0 where there is none; of rows their number.
     Answered(u64),
     /// No more, none, or no.
     None,
@@ -33,15 +22,4 @@ impl Answer {
             _ => panic!("{word:#018x} is no answer word"),
         }
     }
-}
-
-/// Is this an accepted program file?
-pub fn check(file: &[u8]) -> Answer {
-    Answer::of_word(check_word(file))
-}
-
-/// The answer word of `check`, as it comes.
-pub fn check_word(file: &[u8]) -> u64 {
-    // safe: the call only reads, and only the bytes of the slice
-    unsafe { tarczolin_check(file.as_ptr(), file.len()) }
 }

@@ -1,0 +1,113 @@
+//! The machine's state as the search copies it, and what lies before each thread.
+use crate::oracle::decode::{Instruction, Operand, Program};
+use crate::oracle::machine::{opened, Event, Thread, INITIAL};
+
+/// The source of an access that does not read.
+pub const NONE: Event = Event { t: 0xfe, i: 0xfe };
+
+/// The access that a thread does next: where, whether it reads, and whether it writes if it is done now.
+#[derive(Clone, Copy)]
+pub struct Pending {
+    pub location: u8,
+    pub reads: bool,
+    pub writes: bool,
+}
+
+#[derive(Clone, Copy)]
+pub struct State {
+    pub threads: [Thread; 6],
+    pub memory: [u32; 8],
+    /// The last write of each location.
+    pub last: [Event; 8],
+    /// The threads that have written, as bits.
+    pub wrote: u8,
+}
+
+impl State {
+    pub fn new(program: &Program) -> State {
+        let mut threads = [Thread::default(); 6];
+        for (thread, code) in threads.iter_mut().zip(&program.threads) {
+            *thread = opened(code);
+        }
+        State { threads, memory: [0; 8], last: [INITIAL; 8], wrote: 0 }
+    }
+
+    pub fn fails(&self) -> bool {
+        self.threads.iter().any(|thread| thread.failed)
+    }
+
+    pub fn pending(&self, program: &Program, t: usize) -> Option<Pending> {
+        let (thread, code) = (&self.threads[t], program.threads.get(t)?);
+        if thread.ended(code) {
+            return None;
+        }
+        Some(match code[thread.next] {
+            Instruction::Store { l, .. } => Pending { location: l, reads: false, writes: true },
+            Instruction::Load { l, .. } => Pending { location: l, reads: true, writes: false },
+            Instruction::CompareSwap { l, e, .. } => {
+                let expected = match e {
+                    Operand::Constant(value) => value,
+                    Operand::Register(r) => thread.registers[r as usize],
+                };
+                Pending { location: l, reads: true, writes: self.memory[l as usize] == expected }
+            }
+            Instruction::FetchAdd { l, .. } => Pending { location: l, reads: true, writes: true },
+            _ => unreachable!("no access"),
+        })
+    }
+
+    pub fn source(&self, access: Pending) -> Event {
+        if access.reads {
+            self.last[access.location as usize]
+        } else {
+            NONE
+        }
+    }
+
+    /// The state after the step of a thread that has not ended.
+    pub fn step(&self, program: &Program, t: usize, access: Pending) -> State {
+        let mut next = *self;
+        let l = access.location as usize;
+        let event = Event { t: t as u8, i: self.threads[t].accesses };
+        let effect = next.threads[t].access(&program.threads[t], self.memory[l]);
+        if let Some(value) = effect.written {
+            next.memory[l] = value;
+            next.last[l] = event;
+            next.wrote |= 1 << t;
+        }
+        next
+    }
+}
+
+/// For each instruction of each thread: the locations that it and those behind it access, and those they may write, as bits.
+pub struct Ahead {
+    all: [[(u8, u8); 17]; 6],
+    threads: usize,
+}
+
+impl Ahead {
+    pub fn of(program: &Program) -> Ahead {
+        let mut all = [[(0, 0); 17]; 6];
+        for (t, code) in program.threads.iter().enumerate() {
+            for (k, instruction) in code.iter().enumerate().rev() {
+                let (accessed, written) = match *instruction {
+                    Instruction::Load { l, .. } => (1 << l, 0),
+                    Instruction::Store { l, .. } => (1 << l, 1 << l),
+                    Instruction::FetchAdd { l, .. } => (1 << l, 1 << l),
+                    Instruction::CompareSwap { l, .. } => (1 << l, 1 << l),
+                    _ => (0, 0),
+                };
+                all[t][k] = (all[t][k + 1].0 | accessed, all[t][k + 1].1 | written);
+            }
+        }
+        Ahead { all, threads: program.threads.len() }
+    }
+
+    /// May an instruction that another thread has before it conflict with this access of t?
+    pub fn conflicts(&self, state: &State, t: usize, access: Pending) -> bool {
+        (0..self.threads).filter(|&u| u != t && !state.threads[u].failed).any(|u| {
+            let (accessed, written) = self.all[u][state.threads[u].next.min(16)];
+            (if access.writes { accessed } else { written }) >> access.location & 1 == 1
+        })
+    }
+}

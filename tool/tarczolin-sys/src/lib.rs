@@ -1,0 +1,82 @@
+//! The calls of the static library, made safe.
+//!
+//! What each call answers, for all inputs, is said in `include/tarczolin.h` and proved; here each only gets slices in place
+//! of pointers and lengths. No call keeps anything for the next, so all may be made from many threads at once.
+mod answer;
+mod raw;
+
+pub use answer::Answer;
+
+/// A schedule needs an output of so many bytes.
+pub const SCHEDULE: usize = 24;
+/// A listed schedule as a row: the number of steps, 1 where it fails and else 0, the steps, zeros behind them.
+pub const ROW: usize = 2 + SCHEDULE;
+/// A graph text needs an output of so many bytes.
+pub const GRAPH: usize = 512;
+
+/// Is this an accepted program file?
+pub fn check(file: &[u8]) -> Answer {
+    Answer::of_word(check_word(file))
+}
+
+/// The answer word of `check`, as it comes.
+pub fn check_word(file: &[u8]) -> u64 {
+    // safe: the call only reads, and only the bytes of the slice
+    unsafe { raw::tarczolin_check(file.as_ptr(), file.len()) }
+}
+
+/// The text of the graph of a full schedule, in front of the output.
+pub fn graph(file: &[u8], schedule: &[u8], out: &mut [u8]) -> Answer {
+    // safe: the call reads only the bytes of the first two slices and writes only bytes of the third
+    Answer::of_word(unsafe {
+        raw::tarczolin_graph(file.as_ptr(), file.len(), schedule.as_ptr(), schedule.len(), out.as_mut_ptr(), out.len())
+    })
+}
+
+/// Is this graph consistent? Then the least schedule that makes it, in front of the output.
+pub fn judge(file: &[u8], graph: &[u8], out: &mut [u8]) -> Answer {
+    // safe: the call reads only the bytes of the first two slices and writes only bytes of the third
+    Answer::of_word(unsafe {
+        raw::tarczolin_judge(file.as_ptr(), file.len(), graph.as_ptr(), graph.len(), out.as_mut_ptr(), out.len())
+    })
+}
+
+/// The least listed schedule, in front of the output.
+pub fn start(file: &[u8], out: &mut [u8]) -> Answer {
+    // safe: the call reads only the bytes of the first slice and writes only bytes of the second
+    Answer::of_word(unsafe { raw::tarczolin_start(file.as_ptr(), file.len(), out.as_mut_ptr(), out.len()) })
+}
+
+/// The least listed schedule after this full one, listed or not, in front of the output.
+pub fn continue_from(file: &[u8], schedule: &[u8], out: &mut [u8]) -> Answer {
+    // safe: the call reads only the bytes of the first two slices and writes only bytes of the third
+    Answer::of_word(unsafe {
+        raw::tarczolin_continue(file.as_ptr(), file.len(), schedule.as_ptr(), schedule.len(), out.as_mut_ptr(), out.len())
+    })
+}
+
+/// The first listed schedule that fails, in front of the output.
+pub fn violation(file: &[u8], out: &mut [u8]) -> Answer {
+    // safe: the call reads only the bytes of the first slice and writes only bytes of the second
+    Answer::of_word(unsafe { raw::tarczolin_violation(file.as_ptr(), file.len(), out.as_mut_ptr(), out.len()) })
+}
+
+/// How many schedules are listed, and how many of these fail.
+pub fn count(file: &[u8], listed: &mut u64, failing: &mut u64) -> Answer {
+    // safe: the call reads only the bytes of the slice and writes only the two words
+    Answer::of_word(unsafe { raw::tarczolin_count(file.as_ptr(), file.len(), listed, failing) })
+}
+
+/// The first listed schedules as rows, as many as the output has room for; the answer carries the number of rows.
+pub fn rows(file: &[u8], out: &mut [u8]) -> Answer {
+    // safe: the call reads only the bytes of the first slice and writes only bytes of the second
+    Answer::of_word(unsafe { raw::tarczolin_rows(file.as_ptr(), file.len(), out.as_mut_ptr(), out.len()) })
+}
+
+/// The same for the listed schedules after this one, which need not be listed nor full.
+pub fn rows_after(file: &[u8], schedule: &[u8], out: &mut [u8]) -> Answer {
+    // safe: the call reads only the bytes of the first two slices and writes only bytes of the third
+    Answer::of_word(unsafe {
+        raw::tarczolin_rows_after(file.as_ptr(), file.len(), schedule.as_ptr(), schedule.len(), out.as_mut_ptr(), out.len())
+    })
+}

@@ -1,0 +1,41 @@
+//! The calls as `include/tarczolin.h` declares them.
+
+extern "C" {
+    pub fn tarczolin_check(file: *const u8, file_len: usize) -> u64;
+    pub fn tarczolin_graph(
+        file: *const u8,
+        file_len: usize,
+        schedule: *const u8,
+        schedule_len: usize,
+        out: *mut u8,
+        out_len: usize,
+    ) -> u64;
+    pub fn tarczolin_judge(
+        file: *const u8,
+        file_len: usize,
+        graph: *const u8,
+        graph_len: usize,
+        out: *mut u8,
+        out_len: usize,
+    ) -> u64;
+    pub fn tarczolin_start(file: *const u8, file_len: usize, out: *mut u8, out_len: usize) -> u64;
+    pub fn tarczolin_continue(
+        file: *const u8,
+        file_len: usize,
+        schedule: *const u8,
+        schedule_len: usize,
+        out: *mut u8,
+        out_len: usize,
+    ) -> u64;
+    pub fn tarczolin_violation(file: *const u8, file_len: usize, out: *mut u8, out_len: usize) -> u64;
+    pub fn tarczolin_count(file: *const u8, file_len: usize, listed: *mut u64, failing: *mut u64) -> u64;
+    pub fn tarczolin_rows(file: *const u8, file_len: usize, out: *mut u8, out_len: usize) -> u64;
+    pub fn tarczolin_rows_after(
+        file: *const u8,
+        file_len: usize,
+        schedule: *const u8,
+        schedule_len: usize,
+        out: *mut u8,
+        out_len: usize,
+    ) -> u64;
+}

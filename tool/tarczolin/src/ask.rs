@@ -1,0 +1,111 @@
+//! The library's calls with answers to keep: each lends an output that is long enough and takes the answer out of it.
+use crate::schedule::Schedule;
+use tarczolin_sys::{self as library, Answer, GRAPH, ROW, SCHEDULE};
+
+/// A refusal: its number and its place.
+#[derive(Clone, Copy, Debug, PartialEq, Eq)]
+pub struct Refusal {
+    pub number: u8,
+    pub place: u64,
+}
+
+/// How many schedules are listed, and how many of these fail.
+#[derive(Clone, Copy, Debug, Default, PartialEq, Eq)]
+pub struct Counts {
+    pub listed: u64,
+    pub failing: u64,
+}
+
+/// A listed schedule, and whether it fails.
+#[derive(Clone, Copy, Debug, PartialEq, Eq)]
+pub struct Listed {
+    pub schedule: Schedule,
+    pub fails: bool,
+}
+
+/// Room for listed schedules, as the library writes them.
+pub struct Rows {
+    bytes: Vec<u8>,
+    written: usize,
+}
+
+/// The length that an answer carries, or none for no more, none and no.
+fn length(answer: Answer) -> Result<Option<usize>, Refusal> {
+    match answer {
+        Answer::Answered(length) => Ok(Some(length as usize)),
+        Answer::None => Ok(None),
+        Answer::Refused(number, place) => Err(Refusal { number, place }),
+    }
+}
+
+/// The schedule that a call answers, or none.
+fn schedule(call: impl FnOnce(&mut [u8]) -> Answer) -> Result<Option<Schedule>, Refusal> {
+    let mut out = [0; SCHEDULE];
+    let length = length(call(&mut out))?;
+    Ok(length.map(|length| Schedule::of_output(out, length)))
+}
+
+/// Is this an accepted program file?
+pub fn check(file: &[u8]) -> Result<(), Refusal> {
+    length(library::check(file)).map(|_| ())
+}
+
+impl Listed {
+    fn of_row(row: &[u8; ROW]) -> Listed {
+        let [length, fails, steps @ ..] = *row;
+        Listed { schedule: Schedule::of_output(steps, length as usize), fails: fails == 1 }
+    }
+}
+
+impl Rows {
+    /// Room for so many.
+    pub fn new(room: usize) -> Rows {
+        Rows { bytes: vec![0; room * ROW], written: 0 }
+    }
+
+    pub fn room(&self) -> usize {
+        self.bytes.len() / ROW
+    }
+
+    /// Asks for the listed schedules from the first one on, or behind a schedule: as many as there is room for. Says whether
+    /// there may be more.
+    pub fn fill(&mut self, file: &[u8], behind: Option<&[u8]>) -> Result<bool, Refusal> {
+        let answer = match behind {
+            None => library::rows(file, &mut self.bytes),
+            Some(last) => library::rows_after(file, last, &mut self.bytes),
+        };
+        self.written = length(answer)?.unwrap_or(0);
+        Ok(self.written == self.room())
+    }
+
+    /// What the last call wrote, in order.
+    pub fn listed(&self) -> impl DoubleEndedIterator<Item = Listed> + '_ {
+        let rows = self.bytes.chunks_exact(ROW).take(self.written);
+        rows.map(|row| Listed::of_row(row.try_into().expect("a row's length")))
+    }
+}
+
+/// The first listed schedule that fails, or none.
+pub fn violation(file: &[u8]) -> Result<Option<Schedule>, Refusal> {
+    schedule(|out| library::violation(file, out))
+}
+
+/// How many schedules are listed, and how many of these fail.
+pub fn count(file: &[u8]) -> Result<Counts, Refusal> {
+    let mut counts = Counts::default();
+    length(library::count(file, &mut counts.listed, &mut counts.failing))?;
+    Ok(counts)
+}
+
+/// The text of the graph of a full schedule.
+pub fn graph(file: &[u8], schedule: &[u8]) -> Result<Vec<u8>, Refusal> {
+    let mut out = vec![0; GRAPH];
+    let length = length(library::graph(file, schedule, &mut out))?;
+    out.truncate(length.unwrap_or(0));
+    Ok(out)
+}
+
+/// The least schedule that makes this graph, or no.
+pub fn judge(file: &[u8], graph: &[u8]) -> Result<Option<Schedule>, Refusal> {
+    schedule(|out| library::judge(file, graph, out))
+}

@@ -1,0 +1,72 @@
+//! The text form of a program: a statement a line, each for one line of the program file.
+mod names;
+mod parse;
+mod tokens;
+
+use crate::ask;
+use crate::program::{self, Frame, FILE_LIMIT};
+use crate::refusal;
+use parse::Statement;
+
+/// What is wrong with a text, and where: line and column from 1.
+#[derive(Clone, Debug, PartialEq, Eq)]
+pub struct Error {
+    pub line: usize,
+    pub column: usize,
+    pub message: String,
+}
+
+impl Error {
+    /// The message with the file's name, the offending line and a mark below it.
+    pub fn told(&self, name: &str, text: &[u8]) -> String {
+        let line = text.split(|&c| c == b'\n').nth(self.line - 1).unwrap_or(&[]);
+        let shown: String = String::from_utf8_lossy(line).chars().map(|c| if c.is_control() { ' ' } else { c }).collect();
+        let Error { line, column, message } = self;
+        let space = " ".repeat(column - 1);
+        format!("{name}:{line}:{column}: {message}\n{line:>6} | {}\n       | {space}^", shown.trim_end())
+    }
+}
+
+/// The program file of a text. The library itself says whether the program is accepted.
+pub fn assemble(text: &[u8]) -> Result<Vec<u8>, Error> {
+    let mut statements = parse::statements(text)?;
+    names::number(&mut statements)?;
+    let frames: Vec<Frame> = statements.iter().map(Statement::frame).collect();
+    let file = program::file(&frames);
+    match ask::check(within_limit(&file)) {
+        Ok(()) => Ok(file),
+        Err(refused) => {
+            let at = statements.get((refused.place as usize).wrapping_sub(1));
+            let (line, column) = at.map_or((1, 1), |statement| (statement.line, statement.column));
+            Err(Error { line, column, message: refusal::sentence(&file, refused) })
+        }
+    }
+}
+
+/// The lines of a file that lie within the limit of its length: where there are more, one of these passes another limit,
+/// and that one has a line to point to.
+fn within_limit(file: &[u8]) -> &[u8] {
+    let end = file.len().min(FILE_LIMIT);
+    let lines = file[..end].iter().rposition(|&c| c == b'\n').map_or(0, |k| k + 1);
+    &file[..lines]
+}
+
+/// The text form of these frames.
+pub fn text(frames: &[Frame]) -> String {
+    let mut threads = 0;
+    let mut text = String::new();
+    for frame in frames {
+        text += &match frame {
+            Frame::Thread => {
+                threads += 1;
+                format!("thread  # {}\n", threads - 1)
+            }
+            Frame::Instruction(instruction) => format!("  {instruction}\n"),
+            Frame::Alike(members) => {
+                let members: Vec<String> = members.iter().map(u8::to_string).collect();
+                format!("alike {}\n", members.join(" "))
+            }
+        };
+    }
+    text
+}

@@ -1,0 +1,35 @@
+//! count: how many schedules are listed, and how many of these fail.
+use super::list::JOBS;
+use super::{Arguments, End, Trouble};
+use crate::ask::{self, Counts};
+use crate::jobs::List;
+use crate::progress::Progress;
+use crate::{input, refusal};
+use std::io::Write;
+
+pub fn run(arguments: Arguments) -> Result<End, Trouble> {
+    let [name] = arguments.files()?;
+    let jobs = arguments.number("--jobs", JOBS)? as usize;
+    let file = input::read(name)?;
+    let refused = |r| refusal::of_program(name, &file, r);
+    let counts = match jobs {
+        1 => ask::count(&file).map_err(refused)?,
+        _ => in_pieces(&List::of(&file, false).map_err(refused)?, jobs)?,
+    };
+    writeln!(std::io::stdout(), "{} listed, {} failing", counts.listed, counts.failing)?;
+    Ok(End::of_failing(counts.failing))
+}
+
+/// The counts of the pieces, added up.
+fn in_pieces(list: &List, jobs: usize) -> Result<Counts, Trouble> {
+    let mut sum = Counts::default();
+    let mut progress = Progress::default();
+    list.parts(jobs, |part| {
+        sum.listed += part.counts.listed;
+        sum.failing += part.counts.failing;
+        progress.tell(sum);
+        Ok(())
+    })?;
+    progress.hide();
+    Ok(sum)
+}

@@ -1,0 +1,29 @@
+//! graph: the graph text of a full schedule.
+use super::{Arguments, End, Trouble};
+use crate::{ask, hex, input, refusal};
+use std::io::Write;
+
+pub fn run(arguments: Arguments) -> Result<End, Trouble> {
+    let (name, words) = arguments.file_and_rest()?;
+    let schedule = schedule(name, words)?;
+    let file = input::read(name)?;
+    let text = ask::graph(&file, &schedule).map_err(|r| refusal::of_schedule(name, &file, &schedule, r))?;
+    std::io::stdout().write_all(&text)?;
+    Ok(End::Answered)
+}
+
+/// The schedule of one or more words of digits, or of standard input.
+fn schedule(name: &str, words: &[String]) -> Result<Vec<u8>, Trouble> {
+    let mut digits = words.concat().into_bytes();
+    if digits == b"-" {
+        if name == "-" {
+            return Err(Trouble::said("standard input can be read only once"));
+        }
+        digits = input::read("-")?;
+    }
+    digits.retain(|c| !c.is_ascii_whitespace());
+    hex::bytes(&digits).ok_or_else(|| {
+        let text = String::from_utf8_lossy(&digits);
+        Trouble::said(format!("{text} is no schedule: it takes two digits (0-9, a-f) a step, as in 00000101"))
+    })
+}

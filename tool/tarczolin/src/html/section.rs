@@ -1,0 +1,44 @@
+//! One execution: a header, the two columns, and the drawing beside them.
+use super::layout::{rows, Row, HEAD, ROW};
+use super::{drawing, escaped};
+use crate::execution::{access, failure, source, Execution};
+use crate::program::Program;
+use std::fmt::Write;
+
+pub fn section(program: &Program, execution: &Execution) -> String {
+    let (class, verdict) = if execution.fails { ("fails", "fails") } else { ("holds", "does not fail") };
+    let position = execution.position;
+    let steps: Vec<String> = execution.schedule.iter().map(|t| format!("<span class=\"t{t}\">{t:02x}</span>")).collect();
+    let schedule = if steps.is_empty() { "no step".to_string() } else { steps.join(" ") };
+    let rows = rows(execution);
+    format!(
+        "<section id=\"e{position}\" class=\"{class}\">\n<h2>Execution {position} <span class=\"verdict\">{verdict}</span> \
+         <span class=\"schedule\">schedule {schedule}</span></h2>\n<div class=\"both\">\n{}{}</div>\n</section>\n",
+        table(&rows),
+        drawing::svg(program, execution, &rows)
+    )
+}
+
+/// The two columns. Rows are as high as those of the drawing.
+fn table(rows: &[Row]) -> String {
+    let mut text = format!(
+        "<table>\n<tr style=\"height:{HEAD}px\"><th class=\"number\"></th><th></th><th>step</th><th>its read saw</th></tr>\n"
+    );
+    for row in rows {
+        write!(text, "<tr style=\"height:{ROW}px\"").expect("text grows");
+        match row {
+            Row::Failure(t, failed) => {
+                let words = escaped(&failure(failed));
+                writeln!(text, " class=\"failure\"><td></td><td class=\"t{t}\">T{t}</td><td colspan=\"2\">{words}</td></tr>")
+            }
+            Row::Step(step) => {
+                let (event, words) = (step.done.event, escaped(&access(&step.done)));
+                let seen = step.source.map_or(String::new(), |seen| source(&seen));
+                let (t, i) = (event.t, event.i);
+                writeln!(text, "><td class=\"number\">#{i}</td><td class=\"t{t}\">T{t}</td><td>{words}</td><td>{seen}</td></tr>")
+            }
+        }
+        .expect("text grows");
+    }
+    text + "</table>\n"
+}

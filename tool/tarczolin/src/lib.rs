@@ -1,0 +1,20 @@
+//! The command `tarczolin`: lists, shows and judges the executions of a program by calls of the proved static library.
+//!
+//! What is listed, counted, judged or refused is the library's answer. What this crate works out by itself, and nobody has
+//! proved, is what it shows beside an answer: values, words, columns, drawings.
+pub mod asm;
+pub mod ask;
+pub mod commands;
+pub mod execution;
+pub mod graph;
+pub mod hex;
+pub mod html;
+pub mod input;
+pub mod jobs;
+pub mod machine;
+pub mod output;
+pub mod program;
+pub mod progress;
+pub mod refusal;
+pub mod schedule;
+pub mod show;

@@ -1,0 +1,142 @@
+//! A run replayed step by step, for the values that are shown. Nothing here is proved; the schedules themselves, their order,
+//! their counts and whether they fail are the library's.
+use crate::graph::Event;
+use crate::program::{Instruction, Operand, Program};
+use Instruction::*;
+
+/// An assertion that failed, the value of its register, and the value that it asked for.
+#[derive(Clone, Copy, Debug, PartialEq, Eq)]
+pub struct Failure {
+    pub r: u8,
+    pub asserted: Operand,
+    pub value: u32,
+    pub wanted: u32,
+}
+
+/// A step that was done: the access, with the values of its operands.
+#[derive(Clone, Copy, Debug, PartialEq, Eq)]
+pub struct Done {
+    pub event: Event,
+    pub instruction: Instruction,
+    pub location: u8,
+    /// The value that it found, if it reads, and the value that it left, if it writes.
+    pub found: Option<u32>,
+    pub left: Option<u32>,
+    /// The operands' values: what is stored, added, or expected and put.
+    pub operands: [u32; 2],
+    /// The assertion behind it that failed.
+    pub failure: Option<Failure>,
+}
+
+#[derive(Clone, Copy, Default)]
+struct Thread {
+    registers: [u32; 4],
+    next: usize,
+    accesses: u8,
+    failure: Option<Failure>,
+}
+
+impl Thread {
+    fn value(&self, p: Operand) -> u32 {
+        match p {
+            Operand::Constant(value) => value,
+            Operand::Register(r) => self.registers[r as usize],
+        }
+    }
+
+    fn ended(&self, code: &[Instruction]) -> bool {
+        self.failure.is_some() || self.next >= code.len()
+    }
+
+    /// Carries out the instructions up to the next access.
+    fn settle(&mut self, code: &[Instruction]) {
+        while !self.ended(code) {
+            match code[self.next] {
+                Set { r, p } => self.registers[r as usize] = self.value(p),
+                Add { r, p } => self.registers[r as usize] = self.registers[r as usize].wrapping_add(self.value(p)),
+                SkipUnless { r, p, n } if self.registers[r as usize] != self.value(p) => self.next += n as usize,
+                SkipUnless { .. } => {}
+                Assert { r, p } => {
+                    let (value, wanted) = (self.registers[r as usize], self.value(p));
+                    self.failure = (value != wanted).then_some(Failure { r, asserted: p, value, wanted });
+                }
+                _ => return,
+            }
+            self.next += 1;
+        }
+    }
+
+    /// Does the next access on this memory, and the instructions behind it.
+    fn access(&mut self, t: u8, code: &[Instruction], memory: &mut [u32; 8]) -> Done {
+        let instruction = code[self.next];
+        let event = Event { t, i: self.accesses };
+        // operands are read before a register changes
+        let (l, r, operands) = match instruction {
+            Store { l, p } => (l, None, [self.value(p), 0]),
+            Load { r, l } => (l, Some(r), [0, 0]),
+            FetchAdd { r, l, p } => (l, Some(r), [self.value(p), 0]),
+            CompareSwap { r, l, e, v } => (l, Some(r), [self.value(e), self.value(v)]),
+            _ => unreachable!("a settled thread stands at an access"),
+        };
+        let old = memory[l as usize];
+        let left = match instruction {
+            Store { .. } => Some(operands[0]),
+            FetchAdd { .. } => Some(old.wrapping_add(operands[0])),
+            CompareSwap { .. } => (old == operands[0]).then_some(operands[1]),
+            _ => None,
+        };
+        memory[l as usize] = left.unwrap_or(old);
+        if let Some(r) = r {
+            self.registers[r as usize] = old;
+        }
+        self.accesses += 1;
+        self.next += 1;
+        self.settle(code);
+        Done { event, instruction, location: l, found: r.map(|_| old), left, operands, failure: self.failure }
+    }
+}
+
+/// Threads and memory.
+#[derive(Clone)]
+pub struct Machine<'a> {
+    program: &'a Program,
+    threads: [Thread; 6],
+    memory: [u32; 8],
+}
+
+impl<'a> Machine<'a> {
+    /// Before the first step, each thread settled.
+    pub fn new(program: &'a Program) -> Machine<'a> {
+        let mut threads = [Thread::default(); 6];
+        for (thread, code) in threads.iter_mut().zip(&program.threads) {
+            thread.settle(code);
+        }
+        Machine { program, threads, memory: [0; 8] }
+    }
+
+    /// The threads that have not ended, ascending.
+    pub fn going(&self) -> impl DoubleEndedIterator<Item = u8> + '_ {
+        let threads = self.program.threads.iter().zip(&self.threads).enumerate();
+        threads.filter(|(_, (code, thread))| !thread.ended(code)).map(|(t, _)| t as u8)
+    }
+
+    /// May this byte be the next step: does it name a thread that has not ended?
+    pub fn may(&self, t: u8) -> bool {
+        self.program.threads.get(t as usize).is_some_and(|code| !self.threads[t as usize].ended(code))
+    }
+
+    /// The step of a thread that has not ended.
+    pub fn step(&mut self, t: u8) -> Done {
+        self.threads[t as usize].access(t, &self.program.threads[t as usize], &mut self.memory)
+    }
+
+    /// The assertion of a thread that has failed so far.
+    pub fn failure(&self, t: u8) -> Option<Failure> {
+        self.threads[t as usize].failure
+    }
+
+    /// Has some assertion failed?
+    pub fn fails(&self) -> bool {
+        self.threads.iter().any(|thread| thread.failure.is_some())
+    }
+}

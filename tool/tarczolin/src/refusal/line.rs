@@ -1,0 +1,31 @@
+//! What is wrong with a line that is no frame at all.
+use crate::hex;
+
+/// A character for the eye.
+fn character(c: u8) -> String {
+    match c {
+        b'\r' => "a carriage return (0d): lines end by 0a alone".to_string(),
+        b' ' => "a space".to_string(),
+        b'\t' => "a tab".to_string(),
+        b'A'..=b'F' => format!("the capital {}: digits are lower-case", c as char),
+        0x21..=0x7e => format!("the character {}", c as char),
+        _ => format!("the byte {c:02x}"),
+    }
+}
+
+/// The sentence about a line that is empty, odd, without its 0a, or has another character.
+pub fn sentence(text: &[u8], place: u64) -> String {
+    let lines: Vec<&[u8]> = text.split(|&c| c == b'\n').collect();
+    let at = (place as usize).saturating_sub(1);
+    let line = lines.get(at).copied().unwrap_or(&[]);
+    if let Some(k) = line.iter().position(|&c| hex::value(c).is_none()) {
+        return format!("column {} has {}; only 0-9 and a-f may stand in a line", k + 1, character(line[k]));
+    }
+    if line.is_empty() {
+        return "the line is empty; every line holds one frame".to_string();
+    }
+    if line.len() % 2 != 0 {
+        return format!("the line has {} digits, an odd number; each byte takes two", line.len());
+    }
+    "the last line is not ended by a newline (0a)".to_string()
+}

@@ -1,0 +1,65 @@
+//! A schedule: a list of thread numbers, one a step, as the library answers it.
+use crate::hex;
+use std::fmt;
+use std::ops::Deref;
+use tarczolin_sys::SCHEDULE;
+
+/// At most 24 steps. Two are compared as lists, first difference first.
+#[derive(Clone, Copy, Default)]
+pub struct Schedule {
+    steps: [u8; SCHEDULE],
+    length: usize,
+}
+
+impl Schedule {
+    /// The first so many bytes of an output.
+    pub fn of_output(steps: [u8; SCHEDULE], length: usize) -> Schedule {
+        Schedule { steps, length }
+    }
+
+    /// One more step behind the others.
+    pub fn push(&mut self, t: u8) {
+        self.steps[self.length] = t;
+        self.length += 1;
+    }
+}
+
+impl Deref for Schedule {
+    type Target = [u8];
+
+    fn deref(&self) -> &[u8] {
+        &self.steps[..self.length]
+    }
+}
+
+impl PartialEq for Schedule {
+    fn eq(&self, other: &Schedule) -> bool {
+        **self == **other
+    }
+}
+
+impl Eq for Schedule {}
+
+impl PartialOrd for Schedule {
+    fn partial_cmp(&self, other: &Schedule) -> Option<std::cmp::Ordering> {
+        Some(self.cmp(other))
+    }
+}
+
+impl Ord for Schedule {
+    fn cmp(&self, other: &Schedule) -> std::cmp::Ordering {
+        (**self).cmp(&**other)
+    }
+}
+
+impl fmt::Display for Schedule {
+    fn fmt(&self, f: &mut fmt::Formatter) -> fmt::Result {
+        f.write_str(&hex::digits(self))
+    }
+}
+
+impl fmt::Debug for Schedule {
+    fn fmt(&self, f: &mut fmt::Formatter) -> fmt::Result {
+        write!(f, "{self}")
+    }
+}

@@ -1,0 +1,129 @@
+//! The page of show --html: what stands in it, and how a browser lays it out.
+mod common;
+
+use common::run;
+use std::path::PathBuf;
+use std::process::Command;
+
+/// A folder for the pages of these tests.
+fn folder() -> PathBuf {
+    let folder = PathBuf::from(env!("CARGO_TARGET_TMPDIR")).join("pages");
+    std::fs::create_dir_all(&folder).unwrap();
+    folder
+}
+
+/// The page of a program, with these further words.
+fn page(name: &str, program: &str, words: &[&str]) -> (PathBuf, String) {
+    let at = folder().join(format!("{name}.html"));
+    let file = at.display().to_string();
+    let ran = run(&[&["show", program, "--html", &file], words].concat());
+    assert!(ran.err.is_empty() && ran.out.contains(" executions, "), "{ran:?}");
+    let text = std::fs::read_to_string(&at).unwrap();
+    (at, text)
+}
+
+fn count(text: &str, part: &str) -> usize {
+    text.matches(part).count()
+}
+
+/// Every tag that is opened is closed, in order.
+fn balanced(page: &str) {
+    let mut open: Vec<&str> = Vec::new();
+    for tag in page.split('<').skip(1).map(|rest| rest.split_once('>').expect("a tag ends").0) {
+        let name = tag.trim_start_matches('/').split(' ').next().unwrap();
+        match tag {
+            _ if tag.starts_with('!') || tag.ends_with('/') || ["meta", "br"].contains(&name) => {}
+            _ if tag.starts_with('/') => assert_eq!(open.pop(), Some(name)),
+            _ => open.push(name),
+        }
+    }
+    assert!(open.is_empty(), "{open:?}");
+}
+
+#[test]
+fn columns_and_graph() {
+    let (_, text) = page("queue", "examples/queue-broken.hex", &[]);
+    balanced(&text);
+    assert_eq!((count(&text, "<section "), count(&text, "class=\"fails\">\n<h2>")), (6, 3));
+    assert_eq!(count(&text, "<svg class=\"graph\""), 6);
+    let second = text.split("<section ").nth(2).unwrap();
+    assert!(second.contains("<td>load x2 -&gt; r1 = 0</td><td>initial</td>"), "{second}");
+    assert!(second.contains("<td>load x1 -&gt; r1 = 7</td><td>T0 store #1</td>"));
+    assert!(second.contains("assert r1 == 7 FAILS: r1 = 0"));
+    // seven steps and one failed assertion; two, two and three steps of the threads follow each other
+    assert_eq!((count(second, "<g class=\"step"), count(second, "<g class=\"failed\"")), (7, 1));
+    assert_eq!(count(second, "<path class=\"po\""), 4);
+    // five reads; two writes of tail; from the first fetch and add to the second, and from the load of slot 1 to its store
+    assert_eq!((count(second, "<path class=\"rf\""), count(second, "<path class=\"co\"")), (5, 1));
+    assert_eq!(count(second, "<path class=\"fr\""), 2);
+    assert!(second.contains("<title>initial is read by T2 #2</title>"));
+    assert!(second.contains("<title>T2 #2 reads before T1 #1</title>"));
+}
+
+/// Nothing is fetched from anywhere: no address, no script, no picture, no style of another file.
+#[test]
+fn self_contained() {
+    let (_, text) = page("whole", "examples/whole.hex", &[]);
+    for word in ["http", "//", "<script", "<link", "<img", "@import", "src=", "url(\""] {
+        assert!(!text.contains(word), "{word}");
+    }
+    assert_eq!(count(&text, "url("), count(&text, "url(#"), "only arrow heads of the page itself");
+}
+
+#[test]
+fn chosen_executions() {
+    let (_, text) = page("failing", "examples/queue-broken.hex", &["--only", "failing", "--from", "4"]);
+    let positions = [2, 3, 4, 5, 6].map(|k| text.contains(&format!("id=\"e{k}\"")));
+    assert_eq!(positions, [false, false, true, true, false]);
+    let (_, text) = page("many", "tests/programs/000-ttaslock-4.hex", &[]);
+    assert!(count(&text, "<section ") == 500 && text.contains("There are more"));
+    let ran = run(&["show", "examples/whole.hex", "--html", "no/such/folder/page.html"]);
+    assert!(ran.status == 2 && ran.err.contains("no/such/folder/page.html"));
+}
+
+/// Looks at the page as laid out: it writes the names of what is wrong into the page's title.
+const LOOK: &str = "<script>
+const wrong = [];
+const box = e => e.getBoundingClientRect();
+for (const section of document.querySelectorAll('section')) {
+  for (const g of section.querySelectorAll('g')) {
+    const [rect, text] = [g.querySelector('rect'), g.querySelector('text')].map(box);
+    if (text.left < rect.left || text.right > rect.right) wrong.push('words wider than their box: ' + g.textContent);
+  }
+  const rows = [...section.querySelectorAll('tr')].slice(1).map(box);
+  const boxes = [...section.querySelectorAll('g rect')].map(box);
+  if (rows.length !== boxes.length) wrong.push('rows and boxes differ in number');
+  rows.forEach((row, k) => {
+    const off = Math.abs((row.top + row.bottom - boxes[k].top - boxes[k].bottom) / 2);
+    if (off > 4) wrong.push('row ' + k + ' is ' + off + ' off its box');
+  });
+}
+document.title = 'LOOKED ' + (wrong.join('; ') || 'well');
+</script>";
+
+fn chromium(words: &[String]) -> String {
+    let profile = format!("--user-data-dir={}", folder().join("profile").display());
+    let output = Command::new("chromium")
+        .args(["--headless", "--no-sandbox", "--disable-gpu", "--disable-dev-shm-usage", "--window-size=1600,1200", &profile])
+        .args(words)
+        .output()
+        .expect("chromium starts");
+    String::from_utf8_lossy(&output.stdout).into_owned()
+}
+
+/// In a browser: words fit their boxes, rows of the columns stand beside those of the drawing, and something is drawn.
+#[test]
+#[ignore = "needs chromium"]
+fn laid_out_in_a_browser() {
+    for (name, program) in [("queue-seen", "examples/queue-broken.hex"), ("lock-seen", "tests/programs/000-ttaslock-3.hex")] {
+        let (at, text) = page(name, program, &[]);
+        let looked = folder().join(format!("{name}-looked.html"));
+        std::fs::write(&looked, text.replace("</body>", &format!("{LOOK}</body>"))).unwrap();
+        let dom = chromium(&["--dump-dom".to_string(), format!("file://{}", looked.display())]);
+        assert!(dom.contains("<title>LOOKED well</title>"), "{:?}", dom.split("<title>").nth(1).map(|t| &t[..t.len().min(300)]));
+        let picture = folder().join(format!("{name}.png"));
+        chromium(&[format!("--screenshot={}", picture.display()), format!("file://{}", at.display())]);
+        let bytes = std::fs::read(&picture).expect("a picture").len();
+        assert!(bytes > 30_000, "a picture of {bytes} bytes shows nothing");
+    }
+}
