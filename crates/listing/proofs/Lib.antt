@@ -44,3 +44,39 @@ pub mod FirstLeft
 pub mod NextSteps
 -- the steps of the exchanged run, one written at a time
 pub mod MovedSteps
+-- a search's bound behind one step more
+pub mod BoundSteps
+-- a row's bytes, and rows in a buffer
+pub mod RowBytes
+-- a prefix as the arrays hold it: its start, a step more, who may step
+pub mod ReachedStep
+-- R1 behind such a prefix
+pub mod ReachedLate
+-- the test at a full schedule that is such a prefix
+pub mod ReachedTest
+-- rows added to an output, as far as there is room
+pub mod AddedRows
+-- the search at a full schedule, with one next step, and over the next steps in turn
+pub mod WalkTurns
+-- R2 by the notes: what a thread wrote
+pub mod SilentNotes
+-- R2 on the arrays of the search
+pub mod HeldTwins
+-- R2 as loops in code meet it
+pub mod TwinTurns
+-- R3 read off the machine
+pub mod HeldAsleep
+-- the walk from the start finds what is listed
+pub mod ListedRows
+-- the first row behind a bound, read back
+pub mod FirstRow
+-- what the decoder's answer says of the file
+pub mod Decoded
+-- the calls that give a schedule, way by way
+pub mod FileCalls
+-- the list counted by pieces
+pub mod CountedRows
+-- what count says of a program file
+pub mod CountCalled
+-- the calls by rows, way by way
+pub mod RowsSaid

@@ -31,10 +31,10 @@ use Rattle.listing.specs.ListOf.{together, permits, permitted, turns, al
 use Rattle.listing.proofs.Exchanges.{Together}
 
 -- one of two tests
-or-left : (a b : Bool) → a ≡ true → (a || b) ≡ true
+pub or-left : (a b : Bool) → a ≡ true → (a || b) ≡ true
 or-left a b e = rw e
 
-or-right : (a b : Bool) → b ≡ true → (a || b) ≡ true
+pub or-right : (a b : Bool) → b ≡ true → (a || b) ≡ true
 or-right true b e = refl
 or-right false b e = e
 

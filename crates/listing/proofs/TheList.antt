@@ -1,20 +1,25 @@
 -- The list is document 01's: exactly the listed schedules, ascending, finite. It is what the test at a full schedule leaves of all full
--- schedules, and the search walks it.
+-- schedules, and the search finds what it has above a bound.
 use Prim.Native.Nat.{_^_, _≤_}
 use mathlib.Core.Path.{_≡_, refl, sym, ap, subst, _∙_}
 use mathlib.Core.Logic.{_↔_}
 use mathlib.Core.Bool.{Bool, true, false, true≢false}
 use mathlib.Core.Option.{Option}
-use mathlib.Core.List.{List, List·Memᴰ}
+use mathlib.Core.List.{_∷_, _++_, List·Memᴰ}
 use native.Mathlib.Omega.{arith}
 use lib.ListN.{length}
 use Rattle.program.specs.Program.{Program}
 use Rattle.program.specs.WellFormed.{WellFormed}
-use Rattle.schedules.specs.Lists.{upTo, Ascends}
+use Rattle.schedules.specs.Lists.{upTo, both, keep, Ascends}
 use Rattle.schedules.specs.Order.{Schedule, less}
-use Rattle.schedules.specs.Calls.{offer}
+use Rattle.schedules.specs.Fulls.{fulls}
 use Rattle.schedules.specs.Listed as Schedules
-use Rattle.schedules.proofs.Listed.{listed-exact, listed-ascend, listed-length, search-listed}
+use Rattle.schedules.specs.Search.{SoundCut}
+use Rattle.schedules.specs.Found.{after}
+use Rattle.schedules.proofs.Lists.{both-false, ascends-keep}
+use Rattle.schedules.proofs.Kept.{keep-same, keep-keep}
+use Rattle.schedules.proofs.Search.{found-above}
+use Rattle.schedules.proofs.Listed.{listed-exact, listed-ascend, listed-length, list-keep, cut-sound}
 use Rattle.schedules.proofs.Group.{member-permutation, identity-member}
 use Rattle.machine.specs.State.{SC, start}
 use Rattle.machine.specs.Graph.{Full}
@@ -23,7 +28,8 @@ use Rattle.machine.proofs.Lawful.{lawful, names-ascend, start-24}
 use Rattle.listing.specs.Alike.{Smaller, Listed}
 use Rattle.listing.specs.ListOf.{alike, listOf}
 use Rattle.listing.specs.Rules.{cut, unbeaten}
-use Rattle.listing.specs.Search.{search24}
+use Rattle.listing.specs.Answers.{failing}
+use Rattle.listing.specs.Search.{wanted, found24, sought}
 use Rattle.listing.proofs.Tests.{alike-exact}
 use Rattle.listing.proofs.Cuts.{cut-smaller}
 use Rattle.listing.proofs.Unbeaten.{unbeaten-least, beaten-smaller}
@@ -65,11 +71,39 @@ module _ (p : Program) (w : WellFormed p) where
       rw (list-is p)
       (listed-length SC lawful names-ascend (start p) (alike p) 6 24 (let e = member-permutation (upTo 0 6) identity-member .six in omega arith) (omega arith) (start-24 p w))
 
-  -- THE SEARCH FINDS what the list offers
-  pub search-offers : (bound : Option Schedule) → search24 p bound ≡ offer (listOf p) bound
-  unfolding search24
-  search-offers bound =
-      search-listed SC lawful names-ascend (start p) (alike p) (unbeaten p)
-      (λ s f e b. unbeaten-least p w s f e (tested p s b)) (λ s f e. test-of p s (beaten-smaller p w s f e))
-      6 may-small (cut p) (λ v t z c f. test-of p _ (cut-smaller p w v t z c f)) 24 bound (start-24 p w)
-      ∙ ap (λ (l : List Schedule). offer l bound) (sym (list-is p))
+  good : (s : Schedule) → Full p s → unbeaten p s ≡ true → Schedules.Smaller SC (start p) (alike p) s → ⊥
+  good s f e b = unbeaten-least p w s f e (tested p s b)
+
+  bad : (s : Schedule) → Full p s → unbeaten p s ≡ false → Schedules.Smaller SC (start p) (alike p) s
+  bad s f e = test-of p s (beaten-smaller p w s f e)
+
+  -- it is what the test at a full schedule leaves of all full schedules
+  list-kept : listOf p ≡ keep (unbeaten p) (fulls SC (start p))
+  list-kept = list-is p ∙ list-keep SC lawful names-ascend (start p) (alike p) (unbeaten p) good bad
+
+  unbeaten-sound : SoundCut SC (start p) (cut p) (unbeaten p)
+  unbeaten-sound = cut-sound SC lawful names-ascend (start p) (alike p) (unbeaten p) good bad (cut p) (λ v t z c f. test-of p _ (cut-smaller p w v t z c f))
+
+  -- the same of those that fail
+  sound : (only : Bool) → SoundCut SC (start p) (cut p) (wanted only p)
+  unfolding wanted
+  sound false v t z c f = unbeaten-sound v t z c f
+  sound true v t z c f = ap (both (failing p (v ++ (t ∷ z)))) (unbeaten-sound v t z c f) ∙ both-false (failing p (v ++ (t ∷ z)))
+
+  sought-kept : (only : Bool) → keep (wanted only p) (fulls SC (start p)) ≡ sought only p
+  unfolding wanted sought
+  sought-kept false = keep-same (wanted false p) (unbeaten p) (fulls SC (start p)) (λ x. refl) ∙ sym list-kept
+  sought-kept true =
+      keep-same (wanted true p) (λ x. both (failing p x) (unbeaten p x)) (fulls SC (start p)) (λ x. refl)
+      ∙ sym (keep-keep (unbeaten p) (failing p) (fulls SC (start p))) ∙ ap (keep (failing p)) (sym list-kept)
+
+  -- THE SEARCH FINDS what the list has above the bound, or those of it that fail
+  pub found-is : (only : Bool) (o : Option Schedule) → found24 only p o ≡ after o (sought only p)
+  unfolding found24
+  found-is only o = found-above SC 6 (cut p) (wanted only p) lawful names-ascend may-small (start p) (sound only) 24 o (start-24 p w) ∙ ap (after o) (sought-kept only)
+
+-- what is walked ascends
+pub sought-ascends : (only : Bool) (p : Program) → Ascends less (sought only p)
+unfolding sought
+sought-ascends false p = list-ascends p
+sought-ascends true p = ascends-keep less (failing p) (listOf p) (list-ascends p)

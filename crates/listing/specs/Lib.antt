@@ -5,10 +5,10 @@ pub mod Alike
 pub mod ListOf
 -- what the search gives up, and the test at a full schedule
 pub mod Rules
--- the search by these rules
-pub mod Search
 -- what the four calls answer
 pub mod Answers
+-- the search by these rules
+pub mod Search
 -- the four calls on a program file
 pub mod OnFile
 -- the promise as a whole
@@ -25,3 +25,19 @@ pub mod LeftSteps
 pub mod UnbeatenBy
 -- a prefix of a run as the search's arrays hold it; for the code
 pub mod Reached
+-- listed schedules as rows of bytes in a buffer; for the code
+pub mod Rows
+-- a search's bound, step by step; for the code
+pub mod Bounds
+-- the search as the code walks it
+pub mod Walked
+-- R2 as the code tests it
+pub mod HeldTwin
+-- whether a thread is asleep, read off the machine; for the code
+pub mod HeldSleep
+-- the answers as the code gives them
+pub mod Said
+-- count's answer as the code gives it
+pub mod CountWord
+-- listed schedules by rows, on a program file
+pub mod RowsCall

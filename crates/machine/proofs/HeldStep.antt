@@ -1,5 +1,5 @@
 -- A step of the machine: the thread behind its access, the location, and so the whole state.
-use Prim.Native.Nat.{ℕ, suc, _+_, _*_, _%_, _<_, _≤_}
+use Prim.Native.Nat.{ℕ, _+_, _*_, _%_, _<_, _≤_}
 use native.Mathlib.Omega.{arith}
 use native.Mathlib.Decide.{ℕ-discrete}
 use native.Mathlib.Nat.{mod-eq-of-lt}
@@ -19,17 +19,17 @@ use Rattle.machine.specs.declared.state.ThreadState.{ThreadState}
 use Rattle.machine.specs.declared.state.LastWrite.{LastWrite}
 use Rattle.machine.specs.declared.state.Machine.{Machine}
 use Rattle.machine.specs.declared.stepping.Effect.{Effect}
-use Rattle.machine.specs.Local.{Local, settle, beginsWithAccess, firstPlace, firstTakes, firstPuts, firstNext, pending, placeOf, takes, puts, next}
+use Rattle.machine.specs.Local.{Local, settle, firstTakes, firstPuts, firstNext, pending, takes, puts, next}
 use Rattle.machine.specs.State.{Thread, Cell, State, threadOf, cellOf, place, latest, advanced, step, may}
-use Rattle.machine.specs.Trail.{given, writes}
+use Rattle.machine.specs.Trail.{writes}
 use Rattle.machine.specs.Notes.{note, noteBytes}
 use Rattle.machine.specs.Turns.{accessOf, localOf}
 use Rattle.machine.specs.Held.{idle, unwritten, threadAt, lastAt, eventOf, HoldsThread, Holds, HoldsStep, threadBehind, behind}
 use Rattle.machine.proofs.Access.{Settled, settle-law}
-use Rattle.machine.proofs.Steps.{may-small, may-pending, may-range, cell-other, step-threads, step-cells}
+use Rattle.machine.proofs.Steps.{may-small, may-range, cell-other, step-threads, step-cells}
 use Rattle.machine.proofs.Change.{thread-cases, noted-done, wrote-own, Change, kept, wrote, change}
-use Rattle.machine.proofs.HeldTurns.{code-at}
-use Rattle.machine.proofs.HeldAccess.{Meets, access-meets}
+use Rattle.machine.proofs.HeldAccess.{Meets}
+use Rattle.machine.proofs.HeldNext.{next-rest, next-meets, next-place, next-value, next-wrote}
 
 -- settled code of which something is left begins with an access
 pub settled-pending : (h : Local) (c : List Instruction) (k : ℕ) → Settled h → h .rest ≡ drop k c → k < length c → pending h ≡ true
@@ -56,23 +56,16 @@ module _ (code lengths : List ℕ) (m : Machine) (σ : State) (t : ℕ) (held : 
   own = held .threads t (may-small σ t ok)
 
   rest : h .local .rest ≡ x ∷ is
-  rest = own .rest ∙ code-at code t (getD lengths t 0) (threadAt m t .at) left ∙ rw (← ex) (ap (λ (j : ℕ). x ∷ drop j c) (let z : suc (threadAt m t .at) ≡ threadAt m t .at + 1 = omega arith in z))
-
-  begins : beginsWithAccess (x ∷ is) ≡ true
-  unfolding pending
-  begins = subst (λ (j : List Instruction). beginsWithAccess j ≡ true) rest (may-pending σ t ok)
+  rest = next-rest code lengths m σ t held ok x a ex ea
 
   meets : Meets (h .local) x is (m .memory) a
-  meets =
-      subst (Meets (h .local) x is (m .memory)) (ap (λ (rs : List ℕ). accessOf x rs (m .memory)) (held .registers t (may-range σ t ok)) ∙ sym ea)
-      (access-meets (h .local) x is (m .memory) begins)
+  meets = next-meets code lengths m σ t held ok x a ex ea
 
   pub at-place : place σ t ≡ a .location
-  unfolding place placeOf
-  at-place = ap firstPlace rest ∙ meets .place
+  at-place = next-place code lengths m σ t held ok x a ex ea
 
   found : cellOf σ (place σ t) .value ≡ getD (m .memory) (a .location) 0
-  found = held .values (place σ t) near ∙ ap (λ (l : ℕ). getD (m .memory) l 0) at-place
+  found = next-value code lengths m σ t held ok x a ex ea
 
   puts-here : puts (h .local) (cellOf σ (place σ t) .value) ≡ cond (eqb (a .writes) 1) (some (a .value)) none
   unfolding puts
@@ -184,10 +177,7 @@ module _ (code lengths : List ℕ) (m : Machine) (σ : State) (t : ℕ) (held : 
 
   -- ---- the note
   wrote-here : cond (writes σ t) 1 0 ≡ a .writes
-  unfolding writes puts
-  wrote-here =
-      ap (λ (j : List Instruction). cond (given (firstPuts (h .local .registers) j (cellOf σ (place σ t) .value))) 1 0) rest
-      ∙ ap (λ (v : ℕ). cond (given (firstPuts (h .local .registers) (x ∷ is) v)) 1 0) found ∙ meets .wrote
+  wrote-here = next-wrote code lengths m σ t held ok x a ex ea
 
   pub note-behind : (e : LastWrite) → e ≡ lastAt m (a .location)
       → (t ∷ threadAt m t .done ∷ a .location ∷ a .reads ∷ e .thread ∷ e .number ∷ a .writes ∷ 0 ∷ []) ≡ noteBytes (note σ t)

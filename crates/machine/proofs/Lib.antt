@@ -64,12 +64,14 @@ pub mod HeldRows
 pub mod HeldTurns
 -- an access as the code does it
 pub mod HeldAccess
+-- who may step, whether all have ended, whether an assertion failed
+pub mod HeldAsking
+-- a thread's next access, and what it could still do
+pub mod HeldNext
 -- a step
 pub mod HeldStep
 -- the state before the first step
 pub mod HeldStart
--- who may step, whether all have ended, whether an assertion failed
-pub mod HeldAsking
 -- notes in the trail
 pub mod HeldNotes
 -- a schedule carried out

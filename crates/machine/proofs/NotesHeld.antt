@@ -14,7 +14,7 @@ use Rattle.machine.specs.NoteText.{readIn, writeIn, readsIn, writesIn, t
 use Rattle.machine.proofs.Collected.{collected-append, upTo-next, collected-next}
 
 -- ---- the notes are those that the array holds
-flag : (b : Bool) → eqb (cond b 1 0) 1 ≡ b
+pub flag : (b : Bool) → eqb (cond b 1 0) 1 ≡ b
 flag true = refl
 flag false = refl
 

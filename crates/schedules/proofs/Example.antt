@@ -11,7 +11,7 @@ use Rattle.schedules.specs.System.{System}
 use Rattle.schedules.specs.Fulls.{fulls}
 use Rattle.schedules.specs.Listed.{listOf}
 use Rattle.schedules.specs.Calls.{found, nomore, refused, due}
-use Rattle.schedules.specs.Search.{searchFrom}
+use Rattle.schedules.specs.Found.{foundFrom}
 use Rattle.schedules.specs.Greedy.{greedy}
 use Rattle.schedules.specs.Orders.{leastOrder}
 use Rattle.schedules.specs.Computing.{computing}
@@ -42,25 +42,25 @@ listed-two : listOf Two (2 ∷ 1 ∷ []) alike ≡ (0 ∷ 0 ∷ 1 ∷ []) ∷ (0
 unfolding computing
 listed-two = refl
 
--- the search, with nothing cut and everything listed: the next after a bound, also after one that is not full
-abbrev search-from : Option Schedule → Option Schedule
-search-from o = searchFrom Two 2 (λ v σ t. false) (λ s. true) 3 o [] (2 ∷ 1 ∷ [])
+-- the search, with nothing cut and everything listed: all, and those after a bound, also after one that is not full
+abbrev found-from : Option Schedule → List Schedule
+found-from o = foundFrom Two 2 (λ v σ t. false) (λ s. true) 3 o [] (2 ∷ 1 ∷ [])
 
-searched-start : search-from none ≡ some (0 ∷ 0 ∷ 1 ∷ [])
+found-all : found-from none ≡ (0 ∷ 0 ∷ 1 ∷ []) ∷ (0 ∷ 1 ∷ 0 ∷ []) ∷ (1 ∷ 0 ∷ 0 ∷ []) ∷ []
 unfolding computing
-searched-start = refl
+found-all = refl
 
-searched-next : search-from (some (0 ∷ 0 ∷ 1 ∷ [])) ≡ some (0 ∷ 1 ∷ 0 ∷ [])
+found-after : found-from (some (0 ∷ 0 ∷ 1 ∷ [])) ≡ (0 ∷ 1 ∷ 0 ∷ []) ∷ (1 ∷ 0 ∷ 0 ∷ []) ∷ []
 unfolding computing
-searched-next = refl
+found-after = refl
 
-searched-prefix : search-from (some (0 ∷ 1 ∷ [])) ≡ some (0 ∷ 1 ∷ 0 ∷ [])
+found-prefix : found-from (some (0 ∷ 1 ∷ [])) ≡ (0 ∷ 1 ∷ 0 ∷ []) ∷ (1 ∷ 0 ∷ 0 ∷ []) ∷ []
 unfolding computing
-searched-prefix = refl
+found-prefix = refl
 
-searched-end : search-from (some (1 ∷ 0 ∷ 0 ∷ [])) ≡ none
+found-end : found-from (some (1 ∷ 0 ∷ 0 ∷ [])) ≡ []
 unfolding computing
-searched-end = refl
+found-end = refl
 
 -- four calls that need an output of 2 bytes: answered, refused, answered, no more
 calls-two : due 2 ((0 ∷ []) ∷ (1 ∷ 1 ∷ []) ∷ []) ((7 ∷ 7 ∷ 7 ∷ []) ∷ (7 ∷ []) ∷ (7 ∷ 7 ∷ []) ∷ (7 ∷ 7 ∷ []) ∷ [])

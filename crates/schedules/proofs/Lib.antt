@@ -15,11 +15,17 @@ pub mod Classes
 pub mod Calls
 -- what a call offers, and what it answers
 pub mod Offered
--- the first answer: of a test over a list, of a function over numbers, behind a beginning
+-- the first member that passes a test
 pub mod First
--- the search finds the first listed full schedule above the bound
+-- what a test keeps of a list; lists one behind the other
+pub mod Kept
+-- what is above a bound in a list
+pub mod After
+-- all that the search finds, one turn at a time
+pub mod Found
+-- the search finds exactly the listed full schedules above the bound
 pub mod Search
--- the listed schedules: exact, ascending, finite, one for each full schedule; the search walks them
+-- the listed schedules: exact, ascending, finite, one for each full schedule; the search finds them
 pub mod Listed
 -- moving a step to the front over independent ones
 pub mod Front

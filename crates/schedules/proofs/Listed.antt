@@ -1,10 +1,10 @@
 -- The list of a step system: exactly the listed schedules, ascending, finite; every full schedule is alike to exactly one of them; and the search
--- walks it, for every sound cut and every exact test.
+-- finds those of it that are above a bound, for every sound cut and every exact test.
 use mathlib.Core.Path.{_≡_, refl, sym, ap, _∙_}
 use mathlib.Core.Logic.{_↔_}
 use mathlib.Core.Bool.{Bool, true, false}
 use mathlib.Core.Option.{Option}
-use mathlib.Core.List.{List, [], _∷_, _++_, List·Memᴰ}
+use mathlib.Core.List.{[], _∷_, _++_, List·Memᴰ}
 use Prim.Native.Nat.{ℕ, _^_, _<_, _≤_}
 use native.Mathlib.Nat.{le-trans}
 use lib.Dec.{ltb}
@@ -13,12 +13,12 @@ use Rattle.schedules.specs.Lists.{keep, Ascends}
 use Rattle.schedules.specs.Order.{Schedule, less}
 use Rattle.schedules.specs.System.{System, Lawful, run, FullFrom}
 use Rattle.schedules.specs.Fulls.{fulls}
-use Rattle.schedules.specs.Calls.{offer}
-use Rattle.schedules.specs.Search.{searchFrom}
+use Rattle.schedules.specs.Search.{SoundCut}
+use Rattle.schedules.specs.Found.{after, foundFrom}
 use Rattle.schedules.specs.Listed.{Listed, listOf, Smaller}
 use Rattle.schedules.proofs.Fulls.{fulls-exact, fulls-ascend, fulls-length}
 use Rattle.schedules.proofs.Classes.{of-firsts, in-firsts, firsts-ascend, firsts-length, firsts-keep, covered, covered-once}
-use Rattle.schedules.proofs.Search.{offers}
+use Rattle.schedules.proofs.Search.{found-above}
 
 module _ (M : System) (L : Lawful M) (asc : Ascends ltb (M .names)) (ρ : M .State) (like : Schedule → Schedule → Bool) where
   abbrev all-full : Ascends less (fulls M ρ)
@@ -80,14 +80,17 @@ module _ (M : System) (L : Lawful M) (asc : Ascends ltb (M .names)) (ρ : M .Sta
         beaten : (s : Schedule) → List·Memᴰ s (fulls M ρ) → listed s ≡ false → (r : Schedule) × List·Memᴰ r (fulls M ρ) × (less r s ≡ true) × (like r s ≡ true)
         beaten s m e = let b = bad s (fulls-exact M L ρ s .0 m) e in (b .0, member (b .0) (b .1), b .2, b .3)
 
-    -- THE SEARCH WALKS THE LIST
-    pub search-listed : (top : ℕ) → ((σ : M .State) (t : ℕ) → M .may σ t ≡ true → t < top) → (cut : Schedule → M .State → ℕ → Bool) →
-        ((v : Schedule) (t : ℕ) (z : Schedule) → cut v (run M ρ v) t ≡ true → FullFrom M ρ (v ++ (t ∷ z)) → Smaller M ρ like (v ++ (t ∷ z))) →
-        (k : ℕ) (o : Option Schedule) → M .size ρ ≤ k → searchFrom M top cut listed k o [] ρ ≡ offer (listOf M ρ like) o
-    search-listed top bound cut sound k o h =
-        offers M top cut listed L asc bound ρ (λ v t z c f. unlisted (v ++ (t ∷ z)) f (sound v t z c f) (listed (v ++ (t ∷ z))) refl) k o h
-        ∙ ap (λ (l : List Schedule). offer l o) (sym list-keep)
+    -- a cut that gives up only what is alike to a smaller one is sound for the test
+    pub cut-sound : (cut : Schedule → M .State → ℕ → Bool) →
+        ((v : Schedule) (t : ℕ) (z : Schedule) → cut v (run M ρ v) t ≡ true → FullFrom M ρ (v ++ (t ∷ z)) → Smaller M ρ like (v ++ (t ∷ z))) → SoundCut M ρ cut listed
+    cut-sound cut sound v t z c f = unlisted (v ++ (t ∷ z)) f (sound v t z c f) (listed (v ++ (t ∷ z))) refl
       where
         unlisted : (s : Schedule) → FullFrom M ρ s → Smaller M ρ like s → (b : Bool) → listed s ≡ b → listed s ≡ false
         unlisted s f w true e = absurd (good s f e w)
         unlisted s f w false e = e
+
+    -- THE SEARCH FINDS what the list has above the bound
+    pub found-listed : (top : ℕ) → ((σ : M .State) (t : ℕ) → M .may σ t ≡ true → t < top) → (cut : Schedule → M .State → ℕ → Bool) →
+        ((v : Schedule) (t : ℕ) (z : Schedule) → cut v (run M ρ v) t ≡ true → FullFrom M ρ (v ++ (t ∷ z)) → Smaller M ρ like (v ++ (t ∷ z))) →
+        (k : ℕ) (o : Option Schedule) → M .size ρ ≤ k → foundFrom M top cut listed k o [] ρ ≡ after o (listOf M ρ like)
+    found-listed top bound cut sound k o h = found-above M top cut listed L asc bound ρ (cut-sound cut sound) k o h ∙ ap (after o) (sym list-keep)

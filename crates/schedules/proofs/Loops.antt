@@ -1,14 +1,13 @@
 -- The definitions as a loop in code meets them, one turn at a time: what is left, counted in numbers, equals the whole.
 use mathlib.Core.Path.{_≡_, refl, sym, ap, _∙_}
 use mathlib.Core.Bool.{Bool, true, false}
-use mathlib.Core.Option.{Option, none, some}
-use mathlib.Core.List.{List, [], _∷_}
+use mathlib.Core.Option.{none, some}
+use mathlib.Core.List.{[], _∷_}
 use Prim.Native.Nat.{ℕ, zero, suc, _+_, _-_, _<_}
 use native.Mathlib.Omega.{arith}
 use native.Mathlib.Numerals.{add-one, sub-one}
 use Rattle.schedules.specs.Lists.{upTo, first}
 use Rattle.schedules.specs.System.{System}
-use Rattle.schedules.specs.Search.{orElse, children}
 use Rattle.schedules.specs.Greedy.{greedy}
 use Rattle.schedules.proofs.Lists.{first-yes, first-no}
 
@@ -32,21 +31,6 @@ first-here f d j h e = ap (first f) (upTo-more d j h) ∙ first-yes f d (upTo (d
 
 pub first-later : (f : ℕ → Bool) (d j : ℕ) → 0 < j → f d ≡ false → first f (upTo d j) ≡ first f (upTo (d + 1) (j - 1))
 first-later f d j h e = ap (first f) (upTo-more d j h) ∙ first-no f d (upTo (d + 1) (j - 1)) e
-
--- the children of a node of the search
-pub children-none : {A : Type 0} (f : ℕ → Option A) (j d : ℕ) → j ≡ 0 → children f j d ≡ none
-unfolding children
-children-none f j d e = rw e
-
-pub children-found : {A : Type 0} (f : ℕ → Option A) (j d : ℕ) (x : A) → 0 < j → f d ≡ some x → children f j d ≡ some x
-unfolding children orElse
-children-found f zero d x h e = absurd (omega arith)
-children-found f (suc j) d x h e = ap (λ o. orElse o (children f j (d + 1))) e
-
-pub children-next : {A : Type 0} (f : ℕ → Option A) (j d : ℕ) → 0 < j → f d ≡ none → children f j d ≡ children f (j - 1) (d + 1)
-unfolding children orElse
-children-next f zero d h e = absurd (omega arith)
-children-next f (suc j) d h e = ap (λ o. orElse o (children f j (d + 1))) e ∙ ap (λ (i : ℕ). children f i (d + 1)) (sym (sub-one (suc j)))
 
 -- the greedy walk
 module _ (M : System) (fits : M .State → ℕ → Bool) where

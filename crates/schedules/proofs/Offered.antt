@@ -9,14 +9,6 @@ use Rattle.schedules.specs.Lists.{headOf}
 use Rattle.schedules.specs.Order.{Schedule, less}
 use Rattle.schedules.specs.Calls.{refused, next, offer, turn, last}
 
-pub head-none : headOf {A = Schedule} [] ≡ none
-unfolding headOf
-head-none = refl
-
-pub head-some : (s : Schedule) (v : List Schedule) → headOf (s ∷ v) ≡ some s
-unfolding headOf
-head-some s v = refl
-
 head-in : (l : List Schedule) (s : Schedule) → headOf l ≡ some s → List·Memᴰ s l
 unfolding headOf
 head-in [] s e = absurd (let z : _≡_ {A = ℕ} 0 1 = cc in omega arith)

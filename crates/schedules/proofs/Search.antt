@@ -1,23 +1,25 @@
--- The search finds exactly the first listed full schedule above the bound, whatever is cut soundly.
+-- The search finds exactly the listed full schedules above the bound, in order, whatever is cut soundly.
 use mathlib.Core.Path.{_≡_, refl, sym, ap, ap₂, subst, _∙_}
 use mathlib.Core.Bool.{Bool, true, false}
 use mathlib.Core.Option.{Option, none, some}
-use mathlib.Core.List.{List, [], _∷_, _++_, append-assoc, append-nil, List·Memᴰ, List·Memᴰ·not-nil}
+use mathlib.Core.List.{List, [], _∷_, _++_, append-assoc, append-nil, map, map-append, flatMap, List·Memᴰ}
 use Prim.Native.Nat.{ℕ, zero, suc, _+_, _-_, _<_, _≤_}
 use native.Mathlib.Omega.{arith}
+use native.Mathlib.Numerals.{sub-one}
 use lib.Dec.{eqb, ltb, leb}
 use borrow.Author.Tests.{eqb-true, eqb-false, leb-true, leb-false}
-use Rattle.schedules.specs.Lists.{upTo, both, keep, first, Ascends}
+use Rattle.schedules.specs.Lists.{upTo, both, keep, Ascends}
 use Rattle.schedules.specs.Order.{Schedule, less}
 use Rattle.schedules.specs.System.{System, Lawful, run, ended, Allowed, FullFrom}
 use Rattle.schedules.specs.Fulls.{fronts, branch, fullsFrom, fulls}
-use Rattle.schedules.specs.Calls.{offer}
-use Rattle.schedules.specs.Search.{orElse, children, low, past, leaf, kid, searchFrom, SoundCut}
+use Rattle.schedules.specs.Search.{low, past, SoundCut}
+use Rattle.schedules.specs.Found.{after, inTurn, foundAt, foundBy, foundFrom}
 use Rattle.schedules.proofs.Order.{less-front, less-heads, more-heads, less-nil, nil-less}
-use Rattle.schedules.proofs.Lists.{both-false, in-upTo, of-upTo, upTo-ascends, first-no}
+use Rattle.schedules.proofs.Lists.{both-false, in-upTo, of-upTo, upTo-ascends, keep-yes, keep-no}
 use Rattle.schedules.proofs.Runs.{run-nil, run-snoc, full-join, allowed-join}
 use Rattle.schedules.proofs.Fulls.{of-fronts, branch-may, branch-not, fulls-ended, fulls-none, fulls-branch, fulls-sound, fulls-enough}
-use Rattle.schedules.proofs.First.{or-none, first-append, first-none, first-same, head-keep, next-first, first-keep, under, under-nil, under-none, under-two, under-or, first-fronts, answers, children-answers, answers-same, answers-two}
+use Rattle.schedules.proofs.Found.{by-not, by-cut, by-live, found-ended, found-stuck, found-turns}
+use Rattle.schedules.proofs.Kept.{keep-append, keep-none, keep-keep, turn-flat, flat-same, flat-two, flat-through}
 
 -- above the bound
 unfoldable pub above : Option Schedule → Schedule → Bool
@@ -59,74 +61,67 @@ module _ (M : System) (top : ℕ) (cut : Schedule → M .State → ℕ → Bool)
   unfolding good
   good-unlisted o v s e = ap (both (above o s)) e ∙ both-false (above o s)
 
-  abbrev Finder : Type 0
-  Finder = Option Schedule → Schedule → M .State → Option Schedule
+  -- behind the beginning v, those that are looked for
+  unfoldable picked : Option Schedule → Schedule → List Schedule → List Schedule
+  picked o v l = map (λ s. v ++ s) (keep (good o v) l)
 
-  -- one child
-  pub kid-not : (f : Finder) (o : Option Schedule) (v : Schedule) (σ : M .State) (t : ℕ) → M .may σ t ≡ false → kid M top cut listed f o v σ t ≡ none
-  unfolding kid
-  kid-not f o v σ t e = rw (e, kid)
+  picked-nil : (o : Option Schedule) (v : Schedule) → picked o v [] ≡ []
+  unfolding picked keep
+  picked-nil o v = refl
 
-  pub kid-cut : (f : Finder) (o : Option Schedule) (v : Schedule) (σ : M .State) (t : ℕ) → M .may σ t ≡ true → cut v σ t ≡ true → kid M top cut listed f o v σ t ≡ none
-  unfolding kid
-  kid-cut f o v σ t e c = rw (e, c, kid)
+  picked-append : (o : Option Schedule) (v : Schedule) (a b : List Schedule) → picked o v (a ++ b) ≡ picked o v a ++ picked o v b
+  unfolding picked
+  picked-append o v a b = ap (map (λ s. v ++ s)) (keep-append (good o v) a b) ∙ map-append (λ s. v ++ s) (keep (good o v) a) (keep (good o v) b)
 
-  pub kid-live : (f : Finder) (o : Option Schedule) (v : Schedule) (σ : M .State) (t : ℕ) → M .may σ t ≡ true → cut v σ t ≡ false →
-      kid M top cut listed f o v σ t ≡ f (past o t) (v ++ (t ∷ [])) (M .step σ t)
-  unfolding kid
-  kid-live f o v σ t e c = rw (e, c, kid)
+  picked-none : (o : Option Schedule) (v : Schedule) (l : List Schedule) → ((s : Schedule) → List·Memᴰ s l → good o v s ≡ false) → picked o v l ≡ []
+  unfolding picked
+  picked-none o v l h = ap (map (λ s. v ++ s)) (keep-none (good o v) l h)
 
-  -- one turn of the search
-  pub search-ended : (k : ℕ) (o : Option Schedule) (v : Schedule) (σ : M .State) → ended M σ ≡ true → searchFrom M top cut listed k o v σ ≡ leaf M top cut listed o v
-  unfolding searchFrom
-  search-ended zero o v σ e = rw (e, searchFrom)
-  search-ended (suc k) o v σ e = rw (e, searchFrom)
-
-  pub search-none : (o : Option Schedule) (v : Schedule) (σ : M .State) → ended M σ ≡ false → searchFrom M top cut listed zero o v σ ≡ none
-  unfolding searchFrom
-  search-none o v σ e = rw (e, searchFrom)
-
-  pub search-children : (k : ℕ) (o : Option Schedule) (v : Schedule) (σ : M .State) → ended M σ ≡ false →
-      searchFrom M top cut listed (suc k) o v σ ≡ children (kid M top cut listed (λ a b c. searchFrom M top cut listed k a b c) o v σ) (top - low o) (low o)
-  unfolding searchFrom
-  search-children k o v σ e = rw (e, searchFrom)
-
-  leaf-is : (o : Option Schedule) (v : Schedule) → leaf M top cut listed o v ≡ under v (first (good o v) ([] ∷ []))
-  unfolding leaf first under good both above
-  leaf-is none v = go (listed v) refl
+  -- one step on
+  picked-fronts : (o : Option Schedule) (v : Schedule) (t : ℕ) (l : List Schedule) → low o ≤ t → picked (past o t) (v ++ (t ∷ [])) l ≡ picked o v (fronts t l)
+  unfolding picked fronts keep
+  picked-fronts o v t [] h = refl
+  picked-fronts o v t (s ∷ l) h = go (good o v (t ∷ s)) refl (picked-fronts o v t l h)
     where
-      go : (c : Bool) → listed v ≡ c → leaf M top cut listed none v ≡ under v (first (good none v) ([] ∷ []))
-      go true e = rw (append-nil, e, leaf, first) (ap (λ (x : Schedule). some x) (sym (append-nil v)))
-      go false e = rw (append-nil, e, leaf, first)
-  leaf-is (some b) v = sym (ap (under v) (first-no (good (some b) v) [] [] (ap (λ (c : Bool). both c (listed (v ++ []))) (less-nil b))))
-
-  -- the first good one behind the step t
-  unfoldable behind : (Schedule → Bool) → (M .State → List Schedule) → M .State → ℕ → Option Schedule
-  behind g F σ t = elim (M .may σ t) [ true ↦ first g (fronts t (F (M .step σ t))) | false ↦ none ]
-
-  behind-may : (g : Schedule → Bool) (F : M .State → List Schedule) (σ : M .State) (t : ℕ) → M .may σ t ≡ true → behind g F σ t ≡ first g (fronts t (F (M .step σ t)))
-  unfolding behind
-  behind-may g F σ t e = rw (e, behind)
-
-  behind-not : (g : Schedule → Bool) (F : M .State → List Schedule) (σ : M .State) (t : ℕ) → M .may σ t ≡ false → behind g F σ t ≡ none
-  unfolding behind
-  behind-not g F σ t e = rw (e, behind)
-
-  branch-answers : (v : Schedule) (g : Schedule → Bool) (F : M .State → List Schedule) (σ : M .State) (ts : List ℕ) → under v (first g (branch M F σ ts)) ≡ answers (λ t. under v (behind g F σ t)) ts
-  unfolding first branch under answers
-  branch-answers v g F σ [] = refl
-  branch-answers v g F σ (t ∷ ts) = go (M .may σ t) refl (branch-answers v g F σ ts)
-    where
-      rest : Option Schedule
-      rest = first g (branch M F σ ts)
-
-      go : (b : Bool) → M .may σ t ≡ b → under v rest ≡ answers (λ t. under v (behind g F σ t)) ts → under v (first g (branch M F σ (t ∷ ts))) ≡ orElse (under v (behind g F σ t)) (answers (λ t. under v (behind g F σ t)) ts)
+      go : (b : Bool) → good o v (t ∷ s) ≡ b → picked (past o t) (v ++ (t ∷ [])) l ≡ picked o v (fronts t l) → picked (past o t) (v ++ (t ∷ [])) (s ∷ l) ≡ picked o v (fronts t (s ∷ l))
       go true e ih =
-          ap (λ (l : List Schedule). under v (first g l)) (branch-may M F σ t ts e) ∙ ap (under v) (first-append g (fronts t (F (M .step σ t))) (branch M F σ ts))
-          ∙ under-or v (first g (fronts t (F (M .step σ t)))) rest ∙ ap₂ orElse (ap (under v) (sym (behind-may g F σ t e))) ih
+          ap (map (λ s. (v ++ (t ∷ [])) ++ s)) (keep-yes (good (past o t) (v ++ (t ∷ []))) s l (good-step o v t s h ∙ e))
+          ∙ ap₂ {C = List Schedule} (λ x xs. x ∷ xs) (append-assoc v (t ∷ []) s) ih
+          ∙ sym (ap (map (λ s. v ++ s)) (keep-yes (good o v) (t ∷ s) (fronts t l) e))
       go false e ih =
-          ap (λ (l : List Schedule). under v (first g l)) (branch-not M F σ t ts e) ∙ ih
-          ∙ sym (or-none (answers (λ t. under v (behind g F σ t)) ts)) ∙ ap (λ (o : Option Schedule). orElse (under v o) (answers (λ t. under v (behind g F σ t)) ts)) (sym (behind-not g F σ t e))
+          ap (map (λ s. (v ++ (t ∷ [])) ++ s)) (keep-no (good (past o t) (v ++ (t ∷ []))) s l (good-step o v t s h ∙ e))
+          ∙ ih ∙ sym (ap (map (λ s. v ++ s)) (keep-no (good o v) (t ∷ s) (fronts t l) e))
+
+  -- at a full schedule
+  at-is : (o : Option Schedule) (v : Schedule) → foundAt M top cut listed o v ≡ picked o v ([] ∷ [])
+  unfolding foundAt picked keep good both above
+  at-is none v = go (listed v) refl
+    where
+      go : (c : Bool) → listed v ≡ c → foundAt M top cut listed none v ≡ picked none v ([] ∷ [])
+      go true e = rw (append-nil, e, foundAt, keep) (ap {B = List Schedule} (λ x. x ∷ []) (sym (append-nil v)))
+      go false e = rw (append-nil, e, foundAt, keep)
+  at-is (some b) v = sym (ap (map (λ s. v ++ s)) (keep-no (good (some b) v) [] [] (ap (λ (c : Bool). both c (listed (v ++ []))) (less-nil b))))
+
+  -- what lies behind the step t
+  unfoldable behind : (M .State → List Schedule) → M .State → ℕ → List Schedule
+  behind F σ t = elim (M .may σ t) [ true ↦ fronts t (F (M .step σ t)) | false ↦ [] ]
+
+  behind-may : (F : M .State → List Schedule) (σ : M .State) (t : ℕ) → M .may σ t ≡ true → behind F σ t ≡ fronts t (F (M .step σ t))
+  unfolding behind
+  behind-may F σ t e = rw (e, behind)
+
+  behind-not : (F : M .State → List Schedule) (σ : M .State) (t : ℕ) → M .may σ t ≡ false → behind F σ t ≡ []
+  unfolding behind
+  behind-not F σ t e = rw (e, behind)
+
+  branch-flat : (F : M .State → List Schedule) (σ : M .State) (ts : List ℕ) → branch M F σ ts ≡ flatMap (behind F σ) ts
+  unfolding branch flatMap
+  branch-flat F σ [] = refl
+  branch-flat F σ (t ∷ ts) = go (M .may σ t) refl (branch-flat F σ ts)
+    where
+      go : (b : Bool) → M .may σ t ≡ b → branch M F σ ts ≡ flatMap (behind F σ) ts → branch M F σ (t ∷ ts) ≡ behind F σ t ++ flatMap (behind F σ) ts
+      go true e ih = branch-may M F σ t ts e ∙ ap₂ (λ (a b : List Schedule). a ++ b) (sym (behind-may F σ t e)) ih
+      go false e ih = branch-not M F σ t ts e ∙ ih ∙ sym (ap (λ (a : List Schedule). a ++ flatMap (behind F σ) ts) (behind-not F σ t e))
 
   module _ (L : Lawful M) (asc : Ascends ltb (M .names)) (bounded : (σ : M .State) (t : ℕ) → M .may σ t ≡ true → t < top)
       (ρ : M .State) (sound : SoundCut M ρ cut listed) where
@@ -144,77 +139,83 @@ module _ (M : System) (top : ℕ) (cut : Schedule → M .State → ℕ → Bool)
     safe v σ t z at c e f = sound v t z (ap (λ (τ : M .State). cut v τ t) (at .1) ∙ c) (full-join M ρ v (t ∷ z) (at .0) (subst (λ (τ : M .State). FullFrom M τ (t ∷ z)) (sym (at .1)) (e, f)))
 
     abbrev Finds : ℕ → Type 0
-    Finds k = (o : Option Schedule) (v : Schedule) (σ : M .State) → At v σ → searchFrom M top cut listed k o v σ ≡ under v (first (good o v) (fullsFrom M k σ))
+    Finds k = (o : Option Schedule) (v : Schedule) (σ : M .State) → At v σ → foundFrom M top cut listed k o v σ ≡ picked o v (fullsFrom M k σ)
 
     module _ (k : ℕ) (ih : Finds k) (o : Option Schedule) (v : Schedule) (σ : M .State) (at : At v σ) where
       abbrev F : M .State → List Schedule
       F τ = fullsFrom M k τ
 
-      abbrev child : ℕ → Option Schedule
-      child = kid M top cut listed (λ a b c. searchFrom M top cut listed k a b c) o v σ
+      abbrev on : Option Schedule → Schedule → M .State → List Schedule
+      on = λ a b c. foundFrom M top cut listed k a b c
 
-      kid-is : (t : ℕ) → low o ≤ t → child t ≡ under v (behind (good o v) F σ t)
-      kid-is t h = go (M .may σ t) refl (cut v σ t) refl
+      abbrev child : ℕ → List Schedule
+      child = foundBy M top cut listed on o v σ
+
+      child-is : (t : ℕ) → low o ≤ t → child t ≡ picked o v (behind F σ t)
+      child-is t h = go (M .may σ t) refl (cut v σ t) refl
         where
           none-good : (x : Schedule) → cut v σ t ≡ true → M .may σ t ≡ true → List·Memᴰ x (fronts t (F (M .step σ t))) → good o v x ≡ false
           none-good x c e m =
               let r = of-fronts t x (F (M .step σ t)) m in
               rw (r .1) (good-unlisted o v (t ∷ r .0) (safe v σ t (r .0) at c e (fulls-sound M k (M .step σ t) (r .0) (r .2))))
 
-          go : (b : Bool) → M .may σ t ≡ b → (c : Bool) → cut v σ t ≡ c → child t ≡ under v (behind (good o v) F σ t)
-          go false e c d = kid-not (λ a b c. searchFrom M top cut listed k a b c) o v σ t e ∙ sym (ap (under v) (behind-not (good o v) F σ t e) ∙ under-none v)
+          go : (b : Bool) → M .may σ t ≡ b → (c : Bool) → cut v σ t ≡ c → child t ≡ picked o v (behind F σ t)
+          go false e c d = by-not M top cut listed on o v σ t e ∙ sym (ap (picked o v) (behind-not F σ t e) ∙ picked-nil o v)
           go true e true d =
-              kid-cut (λ a b c. searchFrom M top cut listed k a b c) o v σ t e d
-              ∙ sym (ap (under v) (behind-may (good o v) F σ t e ∙ first-none (good o v) (fronts t (F (M .step σ t))) (λ x m. none-good x d e m)) ∙ under-none v)
+              by-cut M top cut listed on o v σ t e d
+              ∙ sym (ap (picked o v) (behind-may F σ t e) ∙ picked-none o v (fronts t (F (M .step σ t))) (λ x m. none-good x d e m))
           go true e false d =
-              kid-live (λ a b c. searchFrom M top cut listed k a b c) o v σ t e d ∙ ih (past o t) (v ++ (t ∷ [])) (M .step σ t) (at-next v σ t at e)
-              ∙ sym (under-two v (t ∷ []) (first (good (past o t) (v ++ (t ∷ []))) (F (M .step σ t))))
-              ∙ ap (λ (x : Option Schedule). under v (under (t ∷ []) x)) (first-same (good (past o t) (v ++ (t ∷ []))) (λ s. good o v (t ∷ s)) (F (M .step σ t)) (λ s. good-step o v t s h))
-              ∙ ap (under v) (sym (first-fronts (good o v) t (F (M .step σ t))) ∙ sym (behind-may (good o v) F σ t e))
+              by-live M top cut listed on o v σ t e d ∙ ih (past o t) (v ++ (t ∷ [])) (M .step σ t) (at-next v σ t at e)
+              ∙ picked-fronts o v t (F (M .step σ t)) h ∙ sym (ap (picked o v) (behind-may F σ t e))
 
-      -- what has an answer is among the names and among the bytes tried
-      tried : (t : ℕ) (x : Schedule) → under v (behind (good o v) F σ t) ≡ some x → List·Memᴰ t (upTo (low o) (top - low o)) × List·Memᴰ t (M .names)
-      tried t x q = go (M .may σ t) refl (leb (low o) t) refl
+      -- what has a member is among the names and among the bytes tried
+      tried : (t : ℕ) → (picked o v (behind F σ t) ≡ [] → ⊥) → List·Memᴰ t (upTo (low o) (top - low o)) × List·Memᴰ t (M .names)
+      tried t q = go (M .may σ t) refl (leb (low o) t) refl
         where
-          nothing : behind (good o v) F σ t ≡ none → ⊥
-          nothing e = let z : _≡_ {A = ℕ} 0 1 = let y : _≡_ {A = Option Schedule} none (some x) = sym (ap (under v) e ∙ under-none v) ∙ q in cc in omega arith
-
           go : (b : Bool) → M .may σ t ≡ b → (c : Bool) → leb (low o) t ≡ c → List·Memᴰ t (upTo (low o) (top - low o)) × List·Memᴰ t (M .names)
-          go false e c d = absurd (nothing (behind-not (good o v) F σ t e))
+          go false e c d = absurd (q (ap (picked o v) (behind-not F σ t e) ∙ picked-nil o v))
           go true e true d = (in-upTo (low o) (top - low o) t (leb-true (low o) t d) (omega (arith, bounded σ t e, leb-true (low o) t d)), L .named σ t e)
-          go true e false d = absurd (nothing (behind-may (good o v) F σ t e ∙ first-none (good o v) (fronts t (F (M .step σ t)))
+          go true e false d = absurd (q (ap (picked o v) (behind-may F σ t e) ∙ picked-none o v (fronts t (F (M .step σ t)))
               (λ y m. let r = of-fronts t y (F (M .step σ t)) m in rw (r .1) (good-low o v t (r .0) (leb-false (low o) t d)))))
 
-      all-kids : children child (top - low o) (low o) ≡ under v (first (good o v) (branch M F σ (M .names)))
-      all-kids =
-          children-answers child (top - low o) (low o)
-          ∙ answers-same child (λ t. under v (behind (good o v) F σ t)) (upTo (low o) (top - low o)) (λ t m. kid-is t (of-upTo (low o) (top - low o) t m .0))
-          ∙ answers-two (λ t. under v (behind (good o v) F σ t)) (upTo (low o) (top - low o)) (M .names) (upTo-ascends (low o) (top - low o)) asc tried
-          ∙ sym (branch-answers v (good o v) F σ (M .names))
+      all-children : inTurn child (top - low o) (low o) ≡ picked o v (branch M F σ (M .names))
+      all-children =
+          turn-flat child (top - low o) (low o)
+          ∙ flat-same child (λ t. picked o v (behind F σ t)) (upTo (low o) (top - low o)) (λ t m. child-is t (of-upTo (low o) (top - low o) t m .0))
+          ∙ flat-two (λ t. picked o v (behind F σ t)) (upTo (low o) (top - low o)) (M .names) (upTo-ascends (low o) (top - low o)) asc tried
+          ∙ sym (flat-through (picked o v) (picked-nil o v) (picked-append o v) (behind F σ) (M .names)) ∙ ap (picked o v) (sym (branch-flat F σ (M .names)))
 
-    -- behind any prefix: the first listed completion above the bound
-    pub finds : (k : ℕ) → Finds k
+    -- behind any prefix: the listed completions above the bound
+    finds : (k : ℕ) → Finds k
     finds zero o v σ at = go (ended M σ) refl
       where
-        go : (b : Bool) → ended M σ ≡ b → searchFrom M top cut listed zero o v σ ≡ under v (first (good o v) (fullsFrom M zero σ))
-        go true e = search-ended zero o v σ e ∙ leaf-is o v ∙ ap (λ (l : List Schedule). under v (first (good o v) l)) (sym (fulls-ended M zero σ e))
-        go false e = search-none o v σ e ∙ sym (ap (λ (l : List Schedule). under v (first (good o v) l)) (fulls-none M σ e) ∙ ap (under v) (first-none (good o v) [] (λ x m. nil x m)) ∙ under-none v)
-          where
-            nil : (x : Schedule) → List·Memᴰ x [] → good o v x ≡ false
-            nil x m = absurd (List·Memᴰ·not-nil m)
+        go : (b : Bool) → ended M σ ≡ b → foundFrom M top cut listed zero o v σ ≡ picked o v (fullsFrom M zero σ)
+        go true e = found-ended M top cut listed zero o v σ e ∙ at-is o v ∙ ap (picked o v) (sym (fulls-ended M zero σ e))
+        go false e = found-stuck M top cut listed zero o v σ e refl ∙ sym (ap (picked o v) (fulls-none M σ e) ∙ picked-nil o v)
     finds (suc k) o v σ at = go (ended M σ) refl (finds k)
       where
-        go : (b : Bool) → ended M σ ≡ b → Finds k → searchFrom M top cut listed (suc k) o v σ ≡ under v (first (good o v) (fullsFrom M (suc k) σ))
-        go true e ih = search-ended (suc k) o v σ e ∙ leaf-is o v ∙ ap (λ (l : List Schedule). under v (first (good o v) l)) (sym (fulls-ended M (suc k) σ e))
-        go false e ih = search-children k o v σ e ∙ all-kids k ih o v σ at ∙ ap (λ (l : List Schedule). under v (first (good o v) l)) (sym (fulls-branch M k σ e))
+        go : (b : Bool) → ended M σ ≡ b → Finds k → foundFrom M top cut listed (suc k) o v σ ≡ picked o v (fullsFrom M (suc k) σ)
+        go true e ih = found-ended M top cut listed (suc k) o v σ e ∙ at-is o v ∙ ap (picked o v) (sym (fulls-ended M (suc k) σ e))
+        go false e ih =
+            found-turns M top cut listed (suc k) o v σ e (omega arith)
+            ∙ ap (λ (i : ℕ). inTurn (foundBy M top cut listed (λ a b c. foundFrom M top cut listed i a b c) o v σ) (top - low o) (low o)) (sub-one (suc k))
+            ∙ all-children k ih o v σ at ∙ ap (picked o v) (sym (fulls-branch M k σ e))
 
-    root-good : (o : Option Schedule) (l : List Schedule) → first (good o []) l ≡ offer (keep listed l) o
-    unfolding offer good both above
-    root-good none l = sym (head-keep listed l)
-    root-good (some b) l = sym (next-first b (keep listed l) ∙ first-keep listed (less b) l)
+    picked-all : (o : Option Schedule) (l : List Schedule) → picked o [] l ≡ keep (good o []) l
+    unfolding picked
+    picked-all o l = map-id (keep (good o []) l)
+      where
+        map-id : (k : List Schedule) → map (λ (s : Schedule). s) k ≡ k
+        map-id [] = refl
+        map-id (x ∷ k) = ap {B = List Schedule} (λ r. x ∷ r) (map-id k)
 
-    -- THE SEARCH from the root answers as a walk over the listed ones among all full schedules would
-    pub offers : (k : ℕ) (o : Option Schedule) → M .size ρ ≤ k → searchFrom M top cut listed k o [] ρ ≡ offer (keep listed (fulls M ρ)) o
-    offers k o h =
-        finds k o [] ρ (tt, run-nil M ρ) ∙ under-nil (first (good o []) (fullsFrom M k ρ)) ∙ root-good o (fullsFrom M k ρ)
-        ∙ ap (λ (l : List Schedule). offer (keep listed l) o) (fulls-enough M L asc k ρ h)
+    root-good : (o : Option Schedule) (l : List Schedule) → keep (good o []) l ≡ after o (keep listed l)
+    unfolding after good both above
+    root-good none l = refl
+    root-good (some b) l = sym (keep-keep listed (less b) l)
+
+    -- THE SEARCH from the root finds the listed ones among all full schedules that are above the bound, in order
+    pub found-above : (k : ℕ) (o : Option Schedule) → M .size ρ ≤ k → foundFrom M top cut listed k o [] ρ ≡ after o (keep listed (fulls M ρ))
+    found-above k o h =
+        finds k o [] ρ (tt, run-nil M ρ) ∙ picked-all o (fullsFrom M k ρ) ∙ root-good o (fullsFrom M k ρ)
+        ∙ ap (λ (l : List Schedule). after o (keep listed l)) (fulls-enough M L asc k ρ h)

@@ -10,11 +10,12 @@ use Rattle.schedules.specs.Fulls.{fronts, branch, fullsFrom, fulls}
 use Rattle.schedules.specs.Classes.{firstsFrom, firsts}
 use Rattle.schedules.specs.Listed.{listOf}
 use Rattle.schedules.specs.Calls.{next, offer, turn, content, last, left, due, served, member}
-use Rattle.schedules.specs.Search.{orElse, children, low, past, leaf, kid, searchFrom}
+use Rattle.schedules.specs.Search.{low, past}
+use Rattle.schedules.specs.Found.{after, inTurn, foundAt, foundBy, foundFrom}
 use Rattle.schedules.specs.Greedy.{greedy}
 use Rattle.schedules.specs.Orders.{trace, nextOf, clear, clearOf, ready, takeOut, leastOrder}
 use Rattle.schedules.specs.Permutations.{without, each, permsOf, permutations, factorial, dropAt, arranged, permutationOf, bring, placeIn, inverse, compose}
 
 unfoldable pub computing : List (List ℕ)
-unfolding upTo both any all keep first headOf less run none-may ended fronts branch fullsFrom fulls firstsFrom firsts listOf next offer turn over content last left due served member orElse children low past leaf kid searchFrom greedy trace nextOf clear clearOf ready takeOut leastOrder without each permsOf permutations factorial dropAt arranged permutationOf bring placeIn inverse compose
+unfolding upTo both any all keep first headOf less run none-may ended fronts branch fullsFrom fulls firstsFrom firsts listOf next offer turn over content last left due served member low past after inTurn foundAt foundBy foundFrom greedy trace nextOf clear clearOf ready takeOut leastOrder without each permsOf permutations factorial dropAt arranged permutationOf bring placeIn inverse compose
 computing = permutations

@@ -13,9 +13,9 @@ pub mod Classes
 pub mod Listed
 -- a list walked by calls: one call, and what a list of calls is to give
 pub mod Calls
--- the search for the least listed schedule above a bound
+-- the bound and the cut of a search
 pub mod Search
--- all that the search finds, in order
+-- all that the search finds above a bound, in order
 pub mod Found
 -- the greedy walk, and what it means to reach a goal
 pub mod Greedy

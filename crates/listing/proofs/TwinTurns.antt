@@ -1,0 +1,157 @@
+-- R2 as loops in code meet it, one note, one register, one thread at a time.
+use Prim.Native.Nat.{ℕ, _+_, _-_, _<_, _≤_}
+use mathlib.Core.Path.{_≡_, refl, sym, ap, ap₂, _∙_}
+use mathlib.Core.Logic.{_≢_}
+use mathlib.Core.Bool.{Bool, true, false, cond, _&&_, false≢true}
+use mathlib.Core.List.{List, [], _∷_, _++_, map, flatMap}
+use native.Mathlib.Omega.{arith}
+use native.Mathlib.Numerals.{add-one}
+use lib.Dec.{eqb, leb}
+use lib.ListN.{length, getD, drop, drop-of-length-le}
+use lib.Seq.{drop-cons}
+use borrow.Author.Tests.{eq-eqb, ne-eqb, leb-true, leb-false}
+use Rattle.program.proofs.Tests.{both}
+use Rattle.schedules.specs.Lists.{upTo, any}
+use Rattle.schedules.proofs.Loops.{upTo-none, upTo-more}
+use Rattle.machine.specs.State.{Event}
+use Rattle.machine.specs.Notes.{Note}
+use Rattle.machine.specs.NoteText.{readIn, readsIn, noteAt, notesAt}
+use Rattle.judge.specs.Judge.{sameRead, sameList}
+use Rattle.listing.specs.HeldTwin.{writeOf, wroteIn, notesFrom, readOf, readAt, NextRead, sameReads}
+
+-- ---- some of the numbers from d on passes a test
+module _ (f : ℕ → Bool) (d j : ℕ) where
+  pub any-over : j ≡ 0 → any f (upTo d j) ≡ false
+  unfolding any
+  any-over e = ap (any f) (upTo-none d j e)
+
+  pub any-here : 0 < j → f d ≡ true → any f (upTo d j) ≡ true
+  unfolding any
+  any-here h e = ap (any f) (upTo-more d j h) ∙ (rw (e, any))
+
+  pub any-further : 0 < j → f d ≡ false → any f (upTo d j) ≡ any f (upTo (d + 1) (j - 1))
+  unfolding any
+  any-further h e = ap (any f) (upTo-more d j h) ∙ (rw (e, any))
+
+-- ---- two lists of numbers, from place i on
+module _ (a b : List ℕ) (i : ℕ) where
+  same-here : i < length a → i < length b → sameList eqb (drop i a) (drop i b) ≡ eqb (getD a i 0) (getD b i 0) && sameList eqb (drop (i + 1) a) (drop (i + 1) b)
+  unfolding sameList
+  same-here h k =
+      ap₂ (λ (x y : List ℕ). sameList eqb x y) (drop-cons a i 0 h) (drop-cons b i 0 k)
+      ∙ ap (λ (n : ℕ). eqb (getD a i 0) (getD b i 0) && sameList eqb (drop n a) (drop n b)) (sym (add-one i))
+
+  pub registers-differ : i < length a → i < length b → getD a i 0 ≢ getD b i 0 → sameList eqb (drop i a) (drop i b) ≡ false
+  registers-differ h k n = let e = ne-eqb (getD a i 0) (getD b i 0) n in same-here h k ∙ (rw e)
+
+  pub registers-further : i < length a → i < length b → getD a i 0 ≡ getD b i 0 → sameList eqb (drop i a) (drop i b) ≡ sameList eqb (drop (i + 1) a) (drop (i + 1) b)
+  registers-further h k q = let e = eq-eqb (getD a i 0) (getD b i 0) q in same-here h k ∙ (rw e)
+
+  pub registers-over : length a ≤ i → length b ≤ i → sameList eqb (drop i a) (drop i b) ≡ true
+  unfolding sameList
+  registers-over h k = ap₂ (λ (x y : List ℕ). sameList eqb x y) (drop-of-length-le a {i = i} h) (drop-of-length-le b {i = i} k)
+
+module _ (trail : List ℕ) (steps : ℕ) where
+  -- ---- the notes from a place on
+  pub notes-whole : notesAt trail steps ≡ notesFrom trail steps 0
+  unfolding notesAt notesFrom
+  notes-whole = let e : steps ≡ steps - 0 = omega arith in ap (λ (n : ℕ). map (noteAt trail) (upTo 0 n)) e
+
+  notes-here : (a : ℕ) → a < steps → notesFrom trail steps a ≡ noteAt trail a ∷ notesFrom trail steps (a + 1)
+  unfolding notesFrom
+  notes-here a h =
+      let e : steps - a - 1 ≡ steps - (a + 1) = omega arith in
+      ap (map (noteAt trail)) (upTo-more a (steps - a) (omega arith) ∙ ap (λ (n : ℕ). a ∷ upTo (a + 1) n) e)
+
+  notes-over : (a : ℕ) → steps ≤ a → notesFrom trail steps a ≡ []
+  unfolding notesFrom
+  notes-over a h = ap (map (noteAt trail)) (upTo-none a (steps - a) (omega arith))
+
+  -- ---- what a thread wrote
+  module _ (u : ℕ) where
+    pub wrote-here : (k : ℕ) → k < steps → writeOf u (noteAt trail k) ≡ true → wroteIn u (notesFrom trail steps k) ≡ true
+    unfolding wroteIn any
+    wrote-here k h e = ap (wroteIn u) (notes-here k h) ∙ (rw (e, any))
+
+    pub wrote-further : (k : ℕ) → k < steps → writeOf u (noteAt trail k) ≡ false → wroteIn u (notesFrom trail steps k) ≡ wroteIn u (notesFrom trail steps (k + 1))
+    unfolding wroteIn any
+    wrote-further k h e = ap (wroteIn u) (notes-here k h) ∙ (rw (e, any))
+
+    pub wrote-over : (k : ℕ) → steps ≤ k → wroteIn u (notesFrom trail steps k) ≡ false
+    unfolding wroteIn any
+    wrote-over k h = ap (wroteIn u) (notes-over k h)
+
+    -- ---- its reads
+    read-none : (n : Note) → readOf u n ≡ false → readIn u n ≡ []
+    unfolding readOf readIn
+    read-none n e = go (eqb (n .thread) u) (n .reads) e
+      where
+        go : (a b : Bool) → a && b ≡ false → cond {A = List (ℕ × Event)} a (cond b ((n .number, n .source) ∷ []) []) [] ≡ []
+        go false b q = refl
+        go true false q = refl
+        go true true q = absurd (false≢true (sym q))
+
+    read-some : (k : ℕ) → readOf u (noteAt trail k) ≡ true → readIn u (noteAt trail k) ≡ readAt trail k ∷ []
+    unfolding readOf readIn readAt
+    read-some k e = let r = both (eqb (noteAt trail k .thread) u) (noteAt trail k .reads) e in rw (r .0, r .1)
+
+    reads-here : (k : ℕ) → k < steps → readsIn u (notesFrom trail steps k) ≡ readIn u (noteAt trail k) ++ readsIn u (notesFrom trail steps (k + 1))
+    unfolding readsIn flatMap
+    reads-here k h = ap (readsIn u) (notes-here k h)
+
+    pub reads-further : (k : ℕ) → k < steps → readOf u (noteAt trail k) ≡ false → readsIn u (notesFrom trail steps k) ≡ readsIn u (notesFrom trail steps (k + 1))
+    reads-further k h e = reads-here k h ∙ ap (λ (l : List (ℕ × Event)). l ++ readsIn u (notesFrom trail steps (k + 1))) (read-none (noteAt trail k) e)
+
+    pub next-here : (a k : ℕ) → a ≤ k → k < steps → readsIn u (notesFrom trail steps a) ≡ readsIn u (notesFrom trail steps k) → readOf u (noteAt trail k) ≡ true → NextRead trail steps u a k
+    next-here a k b h e q = record { behind = b; within = omega arith; left = e; found = λ i. read-some k q }
+
+    pub next-none : (a k : ℕ) → a ≤ k → steps ≤ k → k ≤ steps → readsIn u (notesFrom trail steps a) ≡ readsIn u (notesFrom trail steps k) → NextRead trail steps u a steps
+    next-none a k b h i e =
+        let q : k ≡ steps = omega arith in
+        record { behind = omega arith; within = omega arith; left = e ∙ ap (λ (n : ℕ). readsIn u (notesFrom trail steps n)) q; found = λ l. absurd (omega arith) }
+
+    reads-none : (a r : ℕ) → NextRead trail steps u a r → steps ≤ r → readsIn u (notesFrom trail steps a) ≡ []
+    unfolding readsIn flatMap
+    reads-none a r n h = n .left ∙ ap (readsIn u) (notes-over r h)
+
+    reads-next : (a r : ℕ) → NextRead trail steps u a r → r < steps → readsIn u (notesFrom trail steps a) ≡ readAt trail r ∷ readsIn u (notesFrom trail steps (r + 1))
+    reads-next a r n h = n .left ∙ reads-here r h ∙ ap (λ (l : List (ℕ × Event)). l ++ readsIn u (notesFrom trail steps (r + 1))) (n .found h)
+
+  -- ---- the reads of two threads side by side: those from a on and from b on are still to be compared, and the next ones are noted in i and j
+  module _ (u t : ℕ) where
+    abbrev left : ℕ → ℕ → Bool
+    left a b = sameList sameRead (readsIn u (notesFrom trail steps a)) (readsIn t (notesFrom trail steps b))
+
+    pub record Beside (i j : ℕ) : Type 0 where
+      pub from : ℕ
+      pub other : ℕ
+      pub same : sameReads (notesAt trail steps) u t ≡ left from other
+      pub one : NextRead trail steps u from i
+      pub two : NextRead trail steps t other j
+
+    pub beside-first : (i j : ℕ) → NextRead trail steps u 0 i → NextRead trail steps t 0 j → Beside i j
+    unfolding sameReads
+    beside-first i j m n = record { from = 0; other = 0; same = ap (λ (k : List Note). sameList sameRead (readsIn u k) (readsIn t k)) notes-whole; one = m; two = n }
+
+    module _ (i j : ℕ) (s : Beside i j) where
+      pub beside-short : i < steps → steps ≤ j → sameReads (notesAt trail steps) u t ≡ false
+      unfolding sameList
+      beside-short h k = s .same ∙ ap₂ (λ (x y : List (ℕ × Event)). sameList sameRead x y) (reads-next u (s .from) i (s .one) h) (reads-none t (s .other) j (s .two) k)
+
+      heads : i < steps → j < steps → sameReads (notesAt trail steps) u t ≡ sameRead (readAt trail i) (readAt trail j) && left (i + 1) (j + 1)
+      unfolding sameList
+      heads h k = s .same ∙ ap₂ (λ (x y : List (ℕ × Event)). sameList sameRead x y) (reads-next u (s .from) i (s .one) h) (reads-next t (s .other) j (s .two) k)
+
+      pub beside-differ : i < steps → j < steps → sameRead (readAt trail i) (readAt trail j) ≡ false → sameReads (notesAt trail steps) u t ≡ false
+      beside-differ h k e = heads h k ∙ ap (λ (b : Bool). b && left (i + 1) (j + 1)) e
+
+      pub beside-next : (x y : ℕ) → i < steps → j < steps → sameRead (readAt trail i) (readAt trail j) ≡ true → NextRead trail steps u (i + 1) x → NextRead trail steps t (j + 1) y → Beside x y
+      beside-next x y h k e m n = record { from = i + 1; other = j + 1; same = heads h k ∙ ap (λ (b : Bool). b && left (i + 1) (j + 1)) e; one = m; two = n }
+
+      pub beside-over : steps ≤ i → sameReads (notesAt trail steps) u t ≡ leb steps j
+      unfolding sameList
+      beside-over h = go (leb steps j) refl
+        where
+          go : (b : Bool) → leb steps j ≡ b → sameReads (notesAt trail steps) u t ≡ b
+          go true e = s .same ∙ ap₂ (λ (x y : List (ℕ × Event)). sameList sameRead x y) (reads-none u (s .from) i (s .one) h) (reads-none t (s .other) j (s .two) (leb-true steps j e))
+          go false e = s .same ∙ ap₂ (λ (x y : List (ℕ × Event)). sameList sameRead x y) (reads-none u (s .from) i (s .one) h) (reads-next t (s .other) j (s .two) (leb-false steps j e))

@@ -1,0 +1,145 @@
+// The search: depth first, threads ascending, from a prefix of a run.
+use crate::bounds::first_thread;
+use crate::bounds::stays_along;
+use crate::ending::at_end;
+use crate::lateness::late;
+use crate::permitted_numbers::wide;
+use crate::sleeping::some_asleep;
+use crate::smaller_twin::has_smaller_twin;
+use machine::Machine;
+use machine::ended_all;
+use machine::put_note;
+use machine::step;
+ghost use mathlib.Core.List.{List};
+ghost use Prim.Native.Nat.{ℕ, _*_, _<_, _≤_};
+ghost use lib.ListN.{length};
+ghost use Rattle.program.specs.Program.{Program};
+ghost use Rattle.schedules.specs.Order.{Schedule};
+ghost use Rattle.machine.specs.State.{start};
+ghost use Rattle.machine.specs.Notes.{notes, Noted};
+ghost use Rattle.listing.specs.Bounds.{boundAt};
+ghost use Rattle.listing.specs.Reached.{Reached};
+ghost use Rattle.listing.specs.Walked.{Numbered, Adds, foundBehind, foundWith};
+
+// Adds what is found with t as the next step, unless a rule gives that step up.
+fn turn(
+    code: &[u8; 1536],
+    lengths: &[usize; 6],
+    class: &[usize; 6],
+    groups: usize,
+    numbers: &[u16; 720],
+    count: usize,
+    only: bool,
+    m: Machine,
+    trail: &mut [u8; 192],
+    steps: usize,
+    bound: &[u8],
+    along: bool,
+    out: &mut [u8],
+    room: usize,
+    rows: usize,
+    t: u8,
+) -> usize
+    requires { ⌜ ((threads : ℕ) × (p : Program) × (v : Schedule) × Reached (now code) (now lengths) (now class) threads groups m (now trail) steps p v) × (count ≤ 720) × (rows ≤ room) × (room * 26 ≤ length (now out)) × (t < 6) × (steps < 24) ⌝ }
+    ensures within { λ r. ⌜ r ≤ room ⌝ }
+    ensures noted { λ r. ⌜ ((threads : ℕ) (p : Program) (v : Schedule) → Reached (now (code .entry)) (now (lengths .entry)) (now (class .entry)) threads groups m (now (trail .entry)) steps p v → Noted (now (trail .exit)) (notes (start p) v)) ⌝ }
+    ensures added { λ r. ⌜ ((threads : ℕ) (p : Program) (v : Schedule) → Reached (now (code .entry)) (now (lengths .entry)) (now (class .entry)) threads groups m (now (trail .entry)) steps p v → Numbered (now (class .entry)) groups (now (numbers .entry)) count → Adds p room (foundWith only p steps (boundAt along (now (bound .entry)) steps) v t) (now (out .entry)) rows (now (out .exit)) r) ⌝ }
+{
+    let u = wide(t);
+    let thread = m.threads[u];
+    if lengths[u] <= thread.at {
+        return rows;
+    }
+    if has_smaller_twin(class, groups, m, trail, steps, t) {
+        return rows;
+    }
+    let s = step(code, lengths, m, t);
+    let note = s.note;
+    if late(trail, steps, t, note[2], note[6] == 1) {
+        return rows;
+    }
+    put_note(trail, steps, note);
+    let next = s.machine;
+    if some_asleep(code, lengths, next, trail, steps + 1) {
+        return rows;
+    }
+    let still = stays_along(bound, along, steps, t);
+    walk(
+        code,
+        lengths,
+        class,
+        groups,
+        numbers,
+        count,
+        only,
+        next,
+        trail,
+        steps + 1,
+        bound,
+        still,
+        out,
+        room,
+        rows,
+    )
+}
+
+// Adds all that is found behind the steps taken.
+pub fn walk(
+    code: &[u8; 1536],
+    lengths: &[usize; 6],
+    class: &[usize; 6],
+    groups: usize,
+    numbers: &[u16; 720],
+    count: usize,
+    only: bool,
+    m: Machine,
+    trail: &mut [u8; 192],
+    steps: usize,
+    bound: &[u8],
+    along: bool,
+    out: &mut [u8],
+    room: usize,
+    rows: usize,
+) -> usize
+    requires { ⌜ ((threads : ℕ) × (p : Program) × (v : Schedule) × Reached (now code) (now lengths) (now class) threads groups m (now trail) steps p v) × (count ≤ 720) × (rows ≤ room) × (room * 26 ≤ length (now out)) ⌝ }
+    ensures within { λ r. ⌜ r ≤ room ⌝ }
+    ensures noted { λ r. ⌜ ((threads : ℕ) (p : Program) (v : Schedule) → Reached (now (code .entry)) (now (lengths .entry)) (now (class .entry)) threads groups m (now (trail .entry)) steps p v → Noted (now (trail .exit)) (notes (start p) v)) ⌝ }
+    ensures added { λ r. ⌜ ((threads : ℕ) (p : Program) (v : Schedule) → Reached (now (code .entry)) (now (lengths .entry)) (now (class .entry)) threads groups m (now (trail .entry)) steps p v → Numbered (now (class .entry)) groups (now (numbers .entry)) count → Adds p room (foundBehind only p steps (boundAt along (now (bound .entry)) steps) v) (now (out .entry)) rows (now (out .exit)) r) ⌝ }
+{
+    if ended_all(lengths, m) {
+        if along {
+            return rows;
+        }
+        return at_end(numbers, count, only, m, trail, steps, out, room, rows);
+    }
+    if 24 <= steps {
+        return rows;
+    }
+    let mut n = rows;
+    let mut t = first_thread(bound, along, steps);
+    while t < 6 {
+        if room <= n {
+            return n;
+        }
+        n = turn(
+            code,
+            lengths,
+            class,
+            groups,
+            numbers,
+            count,
+            only,
+            m,
+            trail,
+            steps,
+            bound,
+            along,
+            out,
+            room,
+            n,
+            t,
+        );
+        t += 1;
+    }
+    n
+}

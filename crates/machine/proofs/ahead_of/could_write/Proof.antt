@@ -1,0 +1,40 @@
+-- `could_write` tells by the kind of instruction.
+use borrow.Author.Needs.{needs}
+use Rattle.machine.specs.Ahead.{firstMayPut}
+use Rattle.machine.proofs.ahead_of.could_write.Statement.{statement}
+use Rattle.machine.proofs.ahead_of.could_write.Tie as tie
+
+returns : tie.Need-returns
+unfolding firstMayPut
+returns c = rw (c .enum-told .given .1)
+
+returns-2 : tie.Need-returns-2
+unfolding firstMayPut
+returns-2 c = rw (c .enum-told2 .given .1)
+
+returns-3 : tie.Need-returns-3
+unfolding firstMayPut
+returns-3 c = rw (c .enum-told3 .given .1)
+
+returns-4 : tie.Need-returns-4
+unfolding firstMayPut
+returns-4 c = rw (c .enum-told4 .given .1)
+
+returns-5 : tie.Need-returns-5
+unfolding firstMayPut
+returns-5 c = rw (c .enum-told5 .given .1)
+
+returns-6 : tie.Need-returns-6
+unfolding firstMayPut
+returns-6 c = rw (c .enum-told6 .given .1)
+
+returns-7 : tie.Need-returns-7
+unfolding firstMayPut
+returns-7 c = rw (c .enum-told7 .given .1)
+
+returns-8 : tie.Need-returns-8
+unfolding firstMayPut
+returns-8 c = rw (c .enum-told8 .given .1)
+
+pub could-write-spec : {M : Type 1} → statement M
+could-write-spec = tie.close (tie.spec (λ c. search needs) (λ c. search needs) (λ c. search needs) (λ c. search needs) (λ c. search needs) (λ c. search needs) (λ c. search needs) (λ c. search needs) returns returns-2 returns-3 returns-4 returns-5 returns-6 returns-7 returns-8)

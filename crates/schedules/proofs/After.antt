@@ -1,0 +1,55 @@
+-- What stands above a bound in a list: its first member is what is offered, and behind a member of an ascending list it is what stands behind it.
+use mathlib.Core.Path.{_≡_, refl, sym, ap, subst, _∙_}
+use mathlib.Core.Bool.{Bool, true, false}
+use mathlib.Core.Option.{Option, none, some}
+use mathlib.Core.List.{List, [], _∷_, _++_, List·Memᴰ, List·Memᴰ·head, Memᴰ·append-right}
+use Rattle.schedules.specs.Lists.{both, headOf, Ascends}
+use Rattle.schedules.specs.Order.{Schedule, less}
+use Rattle.schedules.specs.Calls.{offer}
+use Rattle.schedules.specs.Found.{after}
+use Rattle.schedules.proofs.Order.{less-irreflexive, less-asymmetric, less-transitive}
+use Rattle.schedules.proofs.Lists.{keep-no, of-keep, ascends-keep}
+use Rattle.schedules.proofs.Kept.{keep-same, keep-keep, keep-whole}
+use Rattle.schedules.proofs.First.{head-keep, next-first}
+
+-- without a bound it is the whole list
+pub after-none : (l : List Schedule) → after none l ≡ l
+unfolding after
+after-none l = refl
+
+-- the first of it is what a call offers
+pub offer-after : (o : Option Schedule) (l : List Schedule) → headOf (after o l) ≡ offer l o
+unfolding after offer
+offer-after none l = refl
+offer-after (some b) l = head-keep (less b) l ∙ sym (next-first b l)
+
+-- it ascends where the list does
+pub after-ascends : (o : Option Schedule) (l : List Schedule) → Ascends less l → Ascends less (after o l)
+unfolding after
+after-ascends none l a = a
+after-ascends (some b) l a = ascends-keep less (less b) l a
+
+-- behind a member
+pub after-behind : (xs : List Schedule) (s : Schedule) (ys : List Schedule) → Ascends less (xs ++ (s ∷ ys)) → after (some s) (xs ++ (s ∷ ys)) ≡ ys
+unfolding after
+after-behind [] s ys a = keep-no (less s) s ys (less-irreflexive s) ∙ keep-whole (less s) ys (a .0)
+after-behind (x ∷ xs) s ys a = keep-no (less s) x (xs ++ (s ∷ ys)) (less-asymmetric x s (a .0 s (Memᴰ·append-right xs (List·Memᴰ·head refl)))) ∙ after-behind xs s ys (a .1)
+
+-- above a member of what is above a bound
+above-two : (o : Option Schedule) (l : List Schedule) (s : Schedule) → List·Memᴰ s (after o l) → after (some s) (after o l) ≡ after (some s) l
+unfolding after both
+above-two none l s m = refl
+above-two (some b) l s m = keep-keep (less b) (less s) l ∙ keep-same (λ x. both (less s x) (less b x)) (less s) l (λ x. go x (less s x) refl)
+  where
+    b-s : less b s ≡ true
+    b-s = of-keep (less b) l s m .1
+
+    go : (x : Schedule) (c : Bool) → less s x ≡ c → both (less s x) (less b x) ≡ less s x
+    go x true e = ap (λ (c : Bool). both c (less b x)) e ∙ less-transitive b s x b-s e ∙ sym e
+    go x false e = ap (λ (c : Bool). both c (less b x)) e ∙ sym e
+
+-- behind a member of what is above a bound
+pub after-on : (o : Option Schedule) (l xs : List Schedule) (s : Schedule) (ys : List Schedule) → Ascends less l → after o l ≡ xs ++ (s ∷ ys) → after (some s) l ≡ ys
+after-on o l xs s ys a e =
+    sym (above-two o l s (subst (List·Memᴰ s) (sym e) (Memᴰ·append-right xs (List·Memᴰ·head refl))))
+    ∙ ap (after (some s)) e ∙ after-behind xs s ys (subst (Ascends less) e (after-ascends o l a))

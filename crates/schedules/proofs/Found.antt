@@ -1,0 +1,68 @@
+-- All that the search finds, one turn at a time, for code that loops over the next bytes.
+use mathlib.Core.Path.{_≡_, sym, ap, _∙_}
+use mathlib.Core.Bool.{Bool, true, false}
+use mathlib.Core.Option.{Option}
+use mathlib.Core.List.{List, [], _∷_, _++_}
+use Prim.Native.Nat.{ℕ, zero, suc, _+_, _-_, _<_, _≤_}
+use native.Mathlib.Omega.{arith}
+use native.Mathlib.Numerals.{sub-one}
+use Rattle.schedules.specs.Order.{Schedule}
+use Rattle.schedules.specs.System.{System, ended}
+use Rattle.schedules.specs.Search.{low, past}
+use Rattle.schedules.specs.Found.{inTurn, foundAt, foundBy, foundFrom}
+
+-- one behind the other, one at a time
+turn-more : {A : Type 0} (f : ℕ → List A) (j i d : ℕ) → j ≡ suc i → inTurn f j d ≡ f d ++ inTurn f i (d + 1)
+unfolding inTurn
+turn-more f j i d e = rw e
+
+pub in-turn-more : {A : Type 0} (f : ℕ → List A) (top t : ℕ) → t < top → inTurn f (top - t) t ≡ f t ++ inTurn f (top - (t + 1)) (t + 1)
+in-turn-more f top t h = turn-more f (top - t) (top - (t + 1)) t (omega arith)
+
+none-left : {A : Type 0} (f : ℕ → List A) (j d : ℕ) → j ≡ 0 → inTurn f j d ≡ []
+unfolding inTurn
+none-left f j d e = rw e
+
+pub in-turn-over : {A : Type 0} (f : ℕ → List A) (top t : ℕ) → top ≤ t → inTurn f (top - t) t ≡ []
+in-turn-over f top t h = none-left f (top - t) t (omega arith)
+
+module _ (M : System) (top : ℕ) (cut : Schedule → M .State → ℕ → Bool) (listed : Schedule → Bool) where
+  abbrev Finder : Type 0
+  Finder = Option Schedule → Schedule → M .State → List Schedule
+
+  -- behind one next byte
+  pub by-not : (f : Finder) (o : Option Schedule) (v : Schedule) (σ : M .State) (t : ℕ) → M .may σ t ≡ false → foundBy M top cut listed f o v σ t ≡ []
+  unfolding foundBy
+  by-not f o v σ t e = rw (e, foundBy)
+
+  pub by-cut : (f : Finder) (o : Option Schedule) (v : Schedule) (σ : M .State) (t : ℕ) → M .may σ t ≡ true → cut v σ t ≡ true → foundBy M top cut listed f o v σ t ≡ []
+  unfolding foundBy
+  by-cut f o v σ t e c = rw (e, c, foundBy)
+
+  pub by-live : (f : Finder) (o : Option Schedule) (v : Schedule) (σ : M .State) (t : ℕ) → M .may σ t ≡ true → cut v σ t ≡ false →
+      foundBy M top cut listed f o v σ t ≡ f (past o t) (v ++ (t ∷ [])) (M .step σ t)
+  unfolding foundBy
+  by-live f o v σ t e c = rw (e, c, foundBy)
+
+  -- one turn of the search
+  pub found-ended : (k : ℕ) (o : Option Schedule) (v : Schedule) (σ : M .State) → ended M σ ≡ true → foundFrom M top cut listed k o v σ ≡ foundAt M top cut listed o v
+  unfolding foundFrom
+  found-ended zero o v σ e = rw (e, foundFrom)
+  found-ended (suc k) o v σ e = rw (e, foundFrom)
+
+  pub found-stuck : (k : ℕ) (o : Option Schedule) (v : Schedule) (σ : M .State) → ended M σ ≡ false → k ≡ 0 → foundFrom M top cut listed k o v σ ≡ []
+  unfolding foundFrom
+  found-stuck zero o v σ e z = rw (e, foundFrom)
+  found-stuck (suc k) o v σ e z = absurd (omega arith)
+
+  found-suc : (k : ℕ) (o : Option Schedule) (v : Schedule) (σ : M .State) → ended M σ ≡ false →
+      foundFrom M top cut listed (suc k) o v σ ≡ inTurn (foundBy M top cut listed (λ a b c. foundFrom M top cut listed k a b c) o v σ) (top - low o) (low o)
+  unfolding foundFrom
+  found-suc k o v σ e = rw (e, foundFrom)
+
+  pub found-turns : (k : ℕ) (o : Option Schedule) (v : Schedule) (σ : M .State) → ended M σ ≡ false → 0 < k →
+      foundFrom M top cut listed k o v σ ≡ inTurn (foundBy M top cut listed (λ a b c. foundFrom M top cut listed (k - 1) a b c) o v σ) (top - low o) (low o)
+  found-turns zero o v σ e h = absurd (omega arith)
+  found-turns (suc k) o v σ e h =
+      found-suc k o v σ e
+      ∙ ap (λ (i : ℕ). inTurn (foundBy M top cut listed (λ a b c. foundFrom M top cut listed i a b c) o v σ) (top - low o) (low o)) (sym (sub-one (suc k)))
