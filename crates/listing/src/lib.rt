@@ -24,3 +24,7 @@ mod walking;
 mod sleeping;
 // The listed schedules behind a bound, as rows.
 mod listed;
+
+pub use listed::listed_rows;
+pub use permitted_numbers::Permitted;
+pub use permitted_numbers::permitted_numbers as permitted;
