@@ -66,10 +66,15 @@ pub record Next (s : Listing) (bytes : List ℕ) (s' : Listing) : Type 0 where
   pub text : rest s ≡ bytes ++ rest s'
   pub ends : bytes ≡ [] → rest s ≡ []
 
--- pieces handed over one after the other, behind the last of them one of no bytes
-unfoldable pub Pieces : Listing → List (List ℕ) → Type 0
-Pieces s [] = (s' : Listing) × Next s [] s'
-Pieces s (t ∷ ts) = (s' : Listing) × Next s t s' × Pieces s' ts
+-- pieces handed over one after the other, from where printing stood first to where it stands behind them
+unfoldable pub Handed : Listing → List (List ℕ) → Listing → Type 0
+Handed s [] s' = s' ≡ s
+Handed s (t ∷ ts) s' = (u : Listing) × Next s t u × Handed u ts s'
+
+-- their bytes
+unfoldable pub joined : List (List ℕ) → List ℕ
+joined [] = []
+joined (t ∷ ts) = t ++ joined ts
 
 -- what was read stands in front of the buffer
 abbrev pub Within : Input → List ℕ → Type 0

@@ -54,7 +54,8 @@ pub fn steps_of(row: [u8; 26]) -> usize
 
 // The line of the schedule in this row.
 fn schedule_line(out: &mut [u8], row: [u8; 26]) -> usize
-    ensures { λ r. ⌜ ((s : Schedule) (f : Bool) → row ≡ rowBytes s f → length s ≤ 24 → Wrote ((0x50 ∷ cond f 1 0 ∷ s) ∷ []) (now (out .entry)) (now (out .exit)) r) ⌝ }
+    ensures within { λ r. ⌜ r ≤ length (now (out .entry)) ⌝ }
+    ensures line { λ r. ⌜ ((s : Schedule) (f : Bool) → row ≡ rowBytes s f → length s ≤ 24 → Wrote ((0x50 ∷ cond f 1 0 ∷ s) ∷ []) (now (out .entry)) (now (out .exit)) r) ⌝ }
 {
     let n = steps_of(row);
     let mut frame = row;

@@ -1,0 +1,74 @@
+-- Rows of listed schedules, and the frames that are printed of them.
+use Prim.Native.Nat.{ℕ, zero, suc, _+_, _*_, _<_, _≤_}
+use mathlib.Core.Path.{_≡_, refl, sym, ap, subst, _∙_}
+use mathlib.Core.Bool.{Bool, true, false, cond}
+use mathlib.Core.List.{List, [], _∷_, _++_, flatMap, append-assoc}
+use native.Mathlib.Omega.{arith}
+use lib.ListN.{length, getD, set, take, drop}
+use lib.Seq.{take-at, drop-at, drop-drop}
+use Rattle.lines.specs.Over.{over}
+use Rattle.program.specs.Program.{Program}
+use Rattle.program.specs.Compiled.{tabulate}
+use Rattle.schedules.specs.Order.{Schedule}
+use Rattle.listing.specs.Answers.{failing}
+use Rattle.listing.specs.Rows.{rowBytes, rowOf, rowsOf, Shown}
+use Rattle.listing.specs.Printed.{flag, scheduleFrame}
+use Rattle.listing.proofs.RowBytes.{row-length}
+
+-- row k of rows that stand in front of other bytes
+row-in : (p : Program) (ss : List Schedule) (behind : List ℕ) (k : ℕ) → k < length ss → take 26 (drop (k * 26) (rowsOf p ss ++ behind)) ≡ rowOf p (getD ss k [])
+unfolding rowsOf flatMap rowOf
+row-in p [] behind k h = absurd (omega arith)
+row-in p (s ∷ ss) behind zero h =
+    ap (take 26) (append-assoc (rowOf p s) (rowsOf p ss) behind) ∙ take-at (rowOf p s) (rowsOf p ss ++ behind) 26 (row-length s (failing p s))
+row-in p (s ∷ ss) behind (suc k) h =
+    let e : suc k * 26 ≡ 26 + k * 26 = omega arith in
+    ap (λ (j : ℕ). take 26 (drop j ((rowOf p s ++ rowsOf p ss) ++ behind))) e
+    ∙ ap (take 26) (sym (drop-drop (k * 26) 26 ((rowOf p s ++ rowsOf p ss) ++ behind)))
+    ∙ ap (λ (l : List ℕ). take 26 (drop (k * 26) l)) (ap (drop 26) (append-assoc (rowOf p s) (rowsOf p ss) behind) ∙ drop-at (rowOf p s) (rowsOf p ss ++ behind) 26 (row-length s (failing p s)))
+    ∙ row-in p ss behind k (omega arith)
+
+-- row k in a buffer
+pub row-shown : (p : Program) (ss : List Schedule) (held rows : List ℕ) (n k : ℕ) → Shown p ss held rows n → k < n → take 26 (drop (k * 26) rows) ≡ rowOf p (getD ss k [])
+unfolding over
+row-shown p ss held rows n k w h =
+    ap (λ (l : List ℕ). take 26 (drop (k * 26) l)) (w .text) ∙ row-in p ss (drop (length (rowsOf p ss)) held) k (omega (arith, w .counted))
+
+-- ---- one row
+-- the steps behind the first two bytes
+padded : (s : Schedule) (m : ℕ) → length s ≤ m → take (length s) (tabulate (λ k. getD s k 0) m) ≡ s
+unfolding tabulate
+padded [] m h = refl
+padded (x ∷ s) zero h = absurd (omega arith)
+padded (x ∷ s) (suc m) h = ap (λ (l : List ℕ). x ∷ l) (padded s m (omega arith))
+
+pub row-steps : (s : Schedule) (f : Bool) (row : List ℕ) (n : ℕ) → row ≡ rowBytes s f → length s ≤ 24 → n ≡ length s → take n (drop 2 row) ≡ s
+unfolding rowBytes
+row-steps s f row n e h c = ap (λ (l : List ℕ). take n (drop 2 l)) e ∙ ap (λ (k : ℕ). take k (tabulate (λ k. getD s k 0) 24)) c ∙ padded s 24 h
+
+-- with 50 in place of the number of steps
+pub row-frame : (s : Schedule) (f : Bool) (row : List ℕ) (n : ℕ) → row ≡ rowBytes s f → length s ≤ 24 → n ≡ length s → take (n + 2) (set row 0 0x50) ≡ 0x50 ∷ cond f 1 0 ∷ s
+unfolding rowBytes
+row-frame s f row n e h c =
+    let k : n + 2 ≡ suc (suc n) = omega arith in
+    ap (λ (j : ℕ). take j (set row 0 0x50)) k
+    ∙ ap (λ (l : List ℕ). take (suc (suc n)) (set l 0 0x50)) e
+    ∙ ap (λ (l : List ℕ). 0x50 ∷ cond f 1 0 ∷ l) (ap (λ (k : ℕ). take k (tabulate (λ k. getD s k 0) 24)) c ∙ padded s 24 h)
+
+-- how many steps there are, where that is read off the row
+pub row-count : (s : Schedule) (f : Bool) (row : List ℕ) → row ≡ rowBytes s f → getD row 0 0 ≡ length s
+unfolding rowBytes
+row-count s f row e = ap (λ (l : List ℕ). getD l 0 0) e
+
+pub row-failed : (s : Schedule) (f : Bool) (row : List ℕ) → row ≡ rowBytes s f → getD row 1 0 ≡ cond f 1 0
+unfolding rowBytes
+row-failed s f row e = ap (λ (l : List ℕ). getD l 1 0) e
+
+flagged : (f : Bool) → flag f ≡ cond f 1 0
+unfolding flag
+flagged true = refl
+flagged false = refl
+
+pub frame-is : (p : Program) (s : Schedule) → 0x50 ∷ cond (failing p s) 1 0 ∷ s ≡ scheduleFrame p s
+unfolding scheduleFrame
+frame-is p s = ap (λ (b : ℕ). 0x50 ∷ b ∷ s) (sym (flagged (failing p s)))
