@@ -1,12 +1,14 @@
 -- Rows of listed schedules, and the frames that are printed of them.
 use Prim.Native.Nat.{ℕ, zero, suc, _+_, _*_, _<_, _≤_}
-use mathlib.Core.Path.{_≡_, refl, sym, ap, subst, _∙_}
+use mathlib.Core.Path.{_≡_, refl, sym, ap, ap₂, _∙_}
 use mathlib.Core.Bool.{Bool, true, false, cond}
-use mathlib.Core.List.{List, [], _∷_, _++_, flatMap, append-assoc}
+use mathlib.Core.List.{List, [], _∷_, _++_, flatMap, append-assoc, append-nil}
+use native.Mathlib.Numerals.{add-one}
 use native.Mathlib.Omega.{arith}
-use lib.ListN.{length, getD, set, take, drop}
-use lib.Seq.{take-at, drop-at, drop-drop}
+use lib.ListN.{length, getD, set, take, drop, length-drop, drop-of-length-le}
+use lib.Seq.{take-at, drop-at, drop-drop, take-suc, take-all, length-take-le, getD-take, getD-drop}
 use Rattle.lines.specs.Over.{over}
+use Rattle.lines.proofs.Over.{over-snoc}
 use Rattle.program.specs.Program.{Program}
 use Rattle.program.specs.Compiled.{tabulate}
 use Rattle.schedules.specs.Order.{Schedule}
@@ -72,3 +74,24 @@ flagged false = refl
 pub frame-is : (p : Program) (s : Schedule) → 0x50 ∷ cond (failing p s) 1 0 ∷ s ≡ scheduleFrame p s
 unfolding scheduleFrame
 frame-is p s = ap (λ (b : ℕ). 0x50 ∷ b ∷ s) (sym (flagged (failing p s)))
+
+-- ---- a row copied byte by byte
+pub copy-more : (part held row : List ℕ) (i b : ℕ) → i < length part → length part ≤ length held → row ≡ over (take i part) held → b ≡ getD part i 0
+    → set row i b ≡ over (take (i + 1) part) held
+copy-more part held row i b h room e v =
+    let c : length (take i part) ≡ i = length-take-le i part (omega arith) in
+    ap₂ (λ (o : List ℕ) (x : ℕ). set o i x) e v
+    ∙ over-snoc (take i part) held i (getD part i 0) c (omega arith)
+    ∙ ap (λ (t : List ℕ). over t held) (sym (take-suc part i 0 h) ∙ ap (λ (j : ℕ). take j part) (sym (add-one i)))
+
+pub copy-all : (part held row : List ℕ) (i : ℕ) → length part ≤ i → length held ≤ length part → row ≡ over (take i part) held → row ≡ part
+unfolding over
+copy-all part held row i h room e =
+    e ∙ ap (λ (t : List ℕ). t ++ drop (length t) held) (take-all i part h) ∙ ap (λ (t : List ℕ). part ++ t) (drop-of-length-le held room) ∙ append-nil part
+
+-- the part that is copied, where there are so many rows
+pub part-length : (rows : List ℕ) (k : ℕ) → k < 256 → length rows ≡ 6656 → length (take 26 (drop (k * 26) rows)) ≡ 26
+part-length rows k h e = length-take-le 26 (drop (k * 26) rows) (omega (arith, length-drop (k * 26) rows))
+
+pub part-byte : (rows : List ℕ) (from i : ℕ) → i < 26 → getD rows (from + i) 0 ≡ getD (take 26 (drop from rows)) i 0
+part-byte rows from i h = sym (getD-take 26 (drop from rows) i 0 h ∙ getD-drop from rows i 0)

@@ -46,7 +46,7 @@ pub struct Piece {
 
 // Before anything is printed.
 fn unprinted(stage: Stage, program: Compiled, permitted: Permitted) -> Listing
-    ensures { λ r. ⌜ (r .stage ≡ stage) × (r .program ≡ program) × (r .permitted ≡ permitted) × (r .along ≡ false) × (r .steps ≡ 0) × (r .listed ≡ 0) × (r .failed ≡ 0) ⌝ }
+    ensures { λ r. ⌜ (r .stage ≡ stage) × (r .program ≡ program) × (r .permitted ≡ permitted) × (r .along ≡ false) × (r .steps ≡ 0) × (r .listed ≡ 0) × (r .failed ≡ 0) × (length (r .permitted .numbers) ≡ 720) ⌝ }
 {
     Listing {
         stage: stage,

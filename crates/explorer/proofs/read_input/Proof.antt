@@ -1,88 +1,53 @@
+-- `read_input` ends: each turn reads at least one byte. The invariant: what was read lies within the buffer.
 use borrow.Author.Needs.{needs}
+use Prim.Native.Nat.{ℕ, _+_, _-_, _≤_}
+use mathlib.Core.Path.{_≡_, sym, _∙_}
+use mathlib.Core.List.{List}
+use native.Mathlib.Omega.{arith}
+use lib.ListN.{length, take, drop, length-take}
+use lib.Seq.{length-take-le}
+use borrow.Rule.Slice.PartMut.{putMid}
 use Rattle.explorer.proofs.read_input.Statement.{statement}
 use Rattle.explorer.proofs.read_input.Tie as tie
-use Rattle.explorer.proofs.read_input.Reads as reads
-use Rattle.explorer.proofs.read_input.Lts as lts
-use Rattle.io.proofs.count.Reads as count-reads
-use Rattle.libc.proofs.read.Reads as read-reads
 
 abbrev Inv-loop : tie.InvT-loop
-Inv-loop file₀ at₀ file at = ?
+Inv-loop file₀ at₀ file at = (at ≤ length file) × (length file ≡ length file₀)
 
 abbrev μ-loop : tie.MeasureT-loop
-μ-loop file₀ at₀ file at = ?
+μ-loop file₀ at₀ file at = length file - at
 
--- src/main.rt:31:5
-loop-holds : tie.Need-loop-holds Inv-loop μ-loop
-loop-holds c = search needs
+-- the buffer behind a read is as long as before
+abbrev read : (c : tie.After-read Inv-loop μ-loop) → List ℕ
+read c = putMid (c .before .before .before .loop .at) (length (c .before .before .before .loop .file) - c .before .before .before .loop .at) (c .before .before .before .loop .file) (c .read .last .1 .0)
 
--- src/main.rt:32:44
-sub-read : tie.Need-sub-read Inv-loop μ-loop
-sub-read c = search needs
+kept : (c : tie.After-file Inv-loop μ-loop) → length (read (c .before)) ≡ length (c .before .before .before .before .loop .file)
+kept c = c .file .given .1
 
--- src/main.rt:32:44
-part-read-start : tie.Need-part-read-start Inv-loop μ-loop
-part-read-start c = search needs
-
--- src/main.rt:32:44
-part-read-end : tie.Need-part-read-end Inv-loop μ-loop
-part-read-end c = search needs
-
--- src/main.rt:32:13
-read-requires : tie.Need-read-requires Inv-loop μ-loop
-read-requires c κs = search needs
-
--- src/main.rt:34:13
-same-length : tie.Need-same-length Inv-loop μ-loop
-same-length c = search needs
-
--- src/main.rt:34:13
-returns : tie.Need-returns Inv-loop μ-loop
-returns c = search needs
-
--- src/main.rt:36:32
-sub-count : tie.Need-sub-count Inv-loop μ-loop
-sub-count c = search needs
-
--- src/main.rt:36:32
-part-count-start : tie.Need-part-count-start Inv-loop μ-loop
-part-count-start c = search needs
-
--- src/main.rt:36:32
-part-count-end : tie.Need-part-count-end Inv-loop μ-loop
-part-count-end c = search needs
-
--- src/main.rt:36:13
-count-requires : tie.Need-count-requires Inv-loop μ-loop
-count-requires c κs = search needs
-
--- src/main.rt:38:13
-same-length-2 : tie.Need-same-length-2 Inv-loop μ-loop
-same-length-2 c = search needs
-
--- src/main.rt:38:13
 returns-2 : tie.Need-returns-2 Inv-loop μ-loop
-returns-2 c = search needs
+returns-2 c =
+    let l = c .before .before .before .before .before .before .before .before .before .before .loop in
+    let h : l .at ≤ length (read (c .before .before .before .before .before .before .before)) = omega (arith, kept (c .before .before .before .before .before .before), l .inv .0) in
+    (h, sym (length-take-le (l .at) (read (c .before .before .before .before .before .before .before)) h))
 
--- src/main.rt:40:9
+-- what was read more lies within it
+more : (c : tie.Else2 Inv-loop μ-loop) → c .before .before .before .before .before .before .before .before .before .before .loop .at + c .before .count .result ≤ length (read (c .before .before .before .before .before .before .before))
+more c =
+    let l = c .before .before .before .before .before .before .before .before .before .before .loop in
+    let r : List ℕ = read (c .before .before .before .before .before .before .before) in
+    let e : c .before .count .result ≤ length (take (length r - l .at) (drop (l .at) r)) = c .before .count .ensures .0 .0 in
+    omega (arith, kept (c .before .before .before .before .before .before), l .inv .0, e, length-take (length r - l .at) (drop (l .at) r))
+
 add-at : tie.Need-add-at Inv-loop μ-loop
-add-at c = search needs
+add-at c = omega (arith, more c, kept (c .before .before .before .before .before .before), c .before .before .before .before .before .before .before .before .before .before .loop .inv .1)
 
--- src/main.rt:31:5
 loop-less : tie.Need-loop-less Inv-loop μ-loop
-loop-less c = search needs
+loop-less c = omega (arith, more c, c .if2 .left, kept (c .before .before .before .before .before .before))
 
--- src/main.rt:31:5
 loop-again : tie.Need-loop-again Inv-loop μ-loop
-loop-again c = search needs
+loop-again c = (more c, kept (c .before .before .before .before .before .before) ∙ c .before .before .before .before .before .before .before .before .before .before .loop .inv .1)
 
--- src/main.rt:27:1
-same-length-3 : tie.Need-same-length-3 Inv-loop μ-loop
-same-length-3 c = search needs
-
--- src/main.rt:27:1
 returns-3 : tie.Need-returns-3 Inv-loop μ-loop
-returns-3 c = search needs
+returns-3 c = (c .before .loop .inv .0, sym (length-take-le _ _ (c .before .loop .inv .0)))
 
 pub read-input-spec : {M : Type 1} → statement M
 read-input-spec =
@@ -90,21 +55,21 @@ read-input-spec =
     (tie.spec
     Inv-loop
     μ-loop
-    loop-holds
-    sub-read
-    part-read-start
-    part-read-end
-    read-requires
-    same-length
-    returns
-    sub-count
-    part-count-start
-    part-count-end
-    count-requires
-    same-length-2
+    (λ c. search needs)
+    (λ c. search needs)
+    (λ c. search needs)
+    (λ c. search needs)
+    (λ c κs. search needs)
+    (λ c. search needs)
+    (λ c. search needs)
+    (λ c. search needs)
+    (λ c. search needs)
+    (λ c. search needs)
+    (λ c κs. search needs)
+    (λ c. search needs)
     returns-2
     add-at
     loop-less
     loop-again
-    same-length-3
+    (λ c. search needs)
     returns-3)

@@ -1,50 +1,42 @@
+-- `row_at` copies a row byte by byte. The invariant: the first i bytes of the row stand in front of the copy.
 use borrow.Author.Needs.{needs}
+use Prim.Native.Nat.{_-_, _*_, _≤_}
+use mathlib.Core.Path.{_≡_, refl}
+use native.Mathlib.Omega.{arith}
+use lib.ListN.{length, take, drop}
+use Rattle.lines.specs.Over.{over}
+use Rattle.explorer.proofs.RowText.{copy-more, copy-all, part-length, part-byte}
 use Rattle.explorer.proofs.frames.row_at.Statement.{statement}
 use Rattle.explorer.proofs.frames.row_at.Tie as tie
-use Rattle.explorer.proofs.frames.row_at.Reads as reads
-use Rattle.explorer.proofs.frames.row_at.Lts as lts
 
 abbrev Inv-loop : tie.InvT-loop
-Inv-loop rows k row₀ from i₀ row i = ?
+Inv-loop rows k row₀ from i₀ row i = (i ≤ 26) × (from ≡ k * 26) × (length row₀ ≡ 26) × (length row ≡ 26) × (row ≡ over (take i (take 26 (drop from rows))) row₀)
 
 abbrev μ-loop : tie.MeasureT-loop
-μ-loop rows k row₀ from i₀ row i = ?
+μ-loop rows k row₀ from i₀ row i = 26 - i
 
--- src/frames.rt:37:16
-mul-from : tie.Need-mul-from Inv-loop μ-loop
-mul-from c = search needs
-
--- src/frames.rt:39:5
 loop-holds : tie.Need-loop-holds Inv-loop μ-loop
-loop-holds c = search needs
+unfolding over
+loop-holds c = (search needs, search needs, search needs, search needs, refl)
 
--- src/frames.rt:40:23
-add-row : tie.Need-add-row Inv-loop μ-loop
-add-row c = search needs
-
--- src/frames.rt:40:18
-element-copy-out-row : tie.Need-element-copy-out-row Inv-loop μ-loop
-element-copy-out-row c = search needs
-
--- src/frames.rt:40:9
-array-write-row : tie.Need-array-write-row Inv-loop μ-loop
-array-write-row c = search needs
-
--- src/frames.rt:41:9
-add-i : tie.Need-add-i Inv-loop μ-loop
-add-i c = search needs
-
--- src/frames.rt:39:5
-loop-less : tie.Need-loop-less Inv-loop μ-loop
-loop-less c = search needs
-
--- src/frames.rt:39:5
 loop-again : tie.Need-loop-again Inv-loop μ-loop
-loop-again c = search needs
+loop-again c =
+    let a = c .before .before .before .args in
+    let l = c .before .before .loop in
+    let n = part-length (a .rows .now) (a .k) (c .before .before .before .pre .0) (c .before .before .before .pre .1) in (
+      search needs,
+      search needs,
+      search needs,
+      search needs,
+      copy-more (take 26 (drop (a .k * 26) (a .rows .now))) _ (l .row) (l .i) _ (omega (arith, n)) (omega (arith, n, l .inv .2)) (l .inv .4) (part-byte (a .rows .now) (a .k * 26) (l .i) (c .before .loop-test .taken)),
+    )
 
--- src/frames.rt:32:1
 returns : tie.Need-returns Inv-loop μ-loop
-returns c = search needs
+returns c =
+    let a = c .before .before .args in
+    let l = c .before .loop in
+    let n = part-length (a .rows .now) (a .k) (c .before .before .pre .0) (c .before .before .pre .1) in
+    copy-all (take 26 (drop (a .k * 26) (a .rows .now))) _ (l .row) (l .i) (omega (arith, n, c .loop-test .left)) (omega (arith, n, l .inv .2)) (l .inv .4)
 
 pub row-at-spec : {M : Type 1} → statement M
 row-at-spec =
@@ -52,12 +44,12 @@ row-at-spec =
     (tie.spec
     Inv-loop
     μ-loop
-    mul-from
+    (λ c. search needs)
     loop-holds
-    add-row
-    element-copy-out-row
-    array-write-row
-    add-i
-    loop-less
+    (λ c. search needs)
+    (λ c. search needs)
+    (λ c. search needs)
+    (λ c. search needs)
+    (λ c. search needs)
     loop-again
     returns)

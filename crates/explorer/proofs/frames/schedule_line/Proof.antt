@@ -1,52 +1,46 @@
+-- `schedule_line` writes the row with 50 in place of the number of steps, and without what stands behind the steps.
 use borrow.Author.Needs.{needs}
+use mathlib.Core.Path.{_≡_, _∙_, sym}
+use native.Mathlib.Omega.{arith}
+use lib.ListN.{length, set, take, length-set}
+use lib.Seq.{length-take-le}
+use Prim.Native.Nat.{_+_, _≤_}
+use Rattle.lines.proofs.Text.{length-written}
+use Rattle.explorer.proofs.RowText.{row-frame}
+use Rattle.explorer.proofs.LineTurns.{frame-wrote}
 use Rattle.explorer.proofs.frames.schedule_line.Statement.{statement}
 use Rattle.explorer.proofs.frames.schedule_line.Tie as tie
-use Rattle.explorer.proofs.frames.schedule_line.Reads as reads
-use Rattle.explorer.proofs.frames.schedule_line.Lts as lts
-use Rattle.explorer.proofs.frames.steps_of.Reads as steps-of-reads
-use Rattle.lines.proofs.write.Reads as write-reads
 
--- src/frames.rt:59:9
-steps-of-requires : tie.Need-steps-of-requires
-steps-of-requires c κs = search needs
+-- the frame lies within the row
+within : (c : tie.After-write-arg) → c .before .steps-of .result + 2 ≤ length (set (c .before .before .before .args .row) 0 0x50)
+within c =
+    let n : length (c .before .before .before .args .row) ≡ 26 = search needs in
+    omega (arith, length-set (c .before .before .before .args .row) 0 0x50, c .before .steps-of .ensures .0)
 
--- src/frames.rt:61:5
-array-write-frame : tie.Need-array-write-frame
-array-write-frame c = search needs
-
--- src/frames.rt:62:25
-add-frame : tie.Need-add-frame
-add-frame c = search needs
-
--- src/frames.rt:62:16
 array-share-prefix-frame : tie.Need-array-share-prefix-frame
-array-share-prefix-frame c = search needs
+array-share-prefix-frame c = within c
 
--- src/frames.rt:62:16
 slice-aggregate-write : tie.Need-slice-aggregate-write
-slice-aggregate-write c = search needs
+slice-aggregate-write c = sym (length-take-le _ _ (within (c .before)))
 
--- src/frames.rt:62:5
-write-requires : tie.Need-write-requires
-write-requires c κs = search needs
-
--- src/frames.rt:56:1
-same-length : tie.Need-same-length
-same-length c = search needs
-
--- src/frames.rt:56:1
 returns : tie.Need-returns
-returns c = search needs
+returns c =
+    let c5 = c .before .before .before .before .before in
+    let a = c5 .before .before .args in
+    let w = c .before .before .write .ensures in (
+      omega (arith, w .0, length-written (take (c5 .steps-of .result + 2) (set (a .row) 0 0x50)) (length (a .out .now))),
+      λ s f e h. frame-wrote _ _ (a .out .now) _ _ (row-frame s f (a .row) (c5 .steps-of .result) e h (c5 .steps-of .ensures .1 s f e h)) (w .0) (w .1),
+    )
 
 pub schedule-line-spec : {M : Type 1} → statement M
 schedule-line-spec =
     tie.close
     (tie.spec
-    steps-of-requires
-    array-write-frame
-    add-frame
+    (λ c κs. search needs)
+    (λ c. search needs)
+    (λ c. search needs)
     array-share-prefix-frame
     slice-aggregate-write
-    write-requires
-    same-length
+    (λ c κs. search needs)
+    (λ c. search needs)
     returns)

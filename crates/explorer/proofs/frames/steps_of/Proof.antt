@@ -1,25 +1,16 @@
+-- `steps_of` reads the first byte of the row.
 use borrow.Author.Needs.{needs}
+use mathlib.Core.Path.{_∙_, sym}
+use native.Mathlib.Omega.{arith}
+use Rattle.explorer.proofs.RowText.{row-count}
 use Rattle.explorer.proofs.frames.steps_of.Statement.{statement}
 use Rattle.explorer.proofs.frames.steps_of.Tie as tie
-use Rattle.explorer.proofs.frames.steps_of.Reads as reads
-use Rattle.explorer.proofs.frames.steps_of.Lts as lts
-use Rattle.explorer.proofs.frames.wide.Reads as wide-reads
 
--- src/frames.rt:51:18
-array-read-wide : tie.Need-array-read-wide
-array-read-wide c = search needs
-
--- src/frames.rt:51:9
-wide-requires : tie.Need-wide-requires
-wide-requires c κs = search needs
-
--- src/frames.rt:47:1
 returns : tie.Need-returns
-returns c = search needs
+returns c = (omega arith, λ s f e h. omega (arith, h, c .if1 .taken, c .before .wide .ensures, row-count s f (c .before .before .args .t1) e))
 
--- src/frames.rt:47:1
 returns-2 : tie.Need-returns-2
-returns-2 c = search needs
+returns-2 c = (c .if1 .left, λ s f e h. c .before .wide .ensures ∙ row-count s f (c .before .before .args .t1) e)
 
 pub steps-of-spec : {M : Type 1} → statement M
-steps-of-spec = tie.close (tie.spec array-read-wide wide-requires returns returns-2)
+steps-of-spec = tie.close (tie.spec (λ c. search needs) (λ c κs. search needs) returns returns-2)
