@@ -1,77 +1,68 @@
+-- `schedule_lines` goes through the rows. The invariant: the lines of the first k schedules stand in front of the output, and so many of these fail.
 use borrow.Author.Needs.{needs}
+use Prim.Native.Nat.{ℕ, _+_, _-_, _*_, _≤_}
+use mathlib.Core.Path.{_≡_, refl, ap, subst, _∙_}
+use mathlib.Core.List.{List, map}
+use native.Mathlib.Omega.{arith}
+use lib.ListN.{length, take}
+use lib.Seq.{take-all}
+use borrow.Rule.Slice.PartMut.{midOf, putMid, mid-len}
+use Rattle.program.specs.Program.{Program}
+use Rattle.schedules.specs.Lists.{keep}
+use Rattle.schedules.specs.Order.{Schedule}
+use Rattle.machine.specs.NoteText.{Wrote}
+use Rattle.machine.proofs.WrittenLines.{wrote-none}
+use Rattle.listing.specs.Answers.{failing}
+use Rattle.listing.specs.Rows.{Shown}
+use Rattle.listing.specs.Printed.{scheduleFrame}
+use Rattle.explorer.specs.Pieces.{Short}
+use Rattle.explorer.proofs.LineTurns.{lines-more}
 use Rattle.explorer.proofs.frames.schedule_lines.Statement.{statement}
 use Rattle.explorer.proofs.frames.schedule_lines.Tie as tie
-use Rattle.explorer.proofs.frames.schedule_lines.Reads as reads
-use Rattle.explorer.proofs.frames.schedule_lines.Lts as lts
-use Rattle.explorer.proofs.frames.row_at.Reads as row-at-reads
-use Rattle.explorer.proofs.frames.schedule_line.Reads as schedule-line-reads
-use Rattle.explorer.proofs.frames.wide.Reads as wide-reads
 
 abbrev Inv-loop : tie.InvT-loop
-Inv-loop out₀ rows n at₀ failed₀ k₀ out at failed k = ?
+Inv-loop out₀ rows n at₀ failed₀ k₀ out at failed k =
+    (k ≤ n) × (at ≤ length out) × (length out ≡ length out₀) × (failed ≤ k * 256)
+    × ((p : Program) (ss : List Schedule) (held : List ℕ) → Shown p ss held rows n → Short ss
+      → (Wrote (map (scheduleFrame p) (take k ss)) out₀ out at) × (failed ≡ length (keep (failing p) (take k ss))))
 
 abbrev μ-loop : tie.MeasureT-loop
-μ-loop out₀ rows n at₀ failed₀ k₀ out at failed k = ?
+μ-loop out₀ rows n at₀ failed₀ k₀ out at failed k = n - k
 
--- src/frames.rt:75:5
 loop-holds : tie.Need-loop-holds Inv-loop μ-loop
-loop-holds c = search needs
+unfolding keep
+loop-holds c = (search needs, search needs, search needs, search needs, λ p ss held w short. (wrote-none (c .before .args .out .now), refl))
 
--- src/frames.rt:76:19
-row-at-requires : tie.Need-row-at-requires Inv-loop μ-loop
-row-at-requires c κs = search needs
+-- how far the lines reach
+room : (c : tie.After-slice-known2 Inv-loop μ-loop) → c .before .before .before .before .before .before .loop .at + c .before .before .schedule-line .result ≤ length (c .before .before .before .before .before .before .loop .out)
+room c =
+    let l = c .before .before .before .before .before .before .loop in
+    let h : c .before .before .schedule-line .result ≤ length (midOf (l .at) (length (l .out) - l .at) (l .out)) = c .before .before .schedule-line .ensures .0 in
+    omega (arith, h, mid-len (l .at) (length (l .out)) (l .out) (omega arith), l .inv .1)
 
--- src/frames.rt:77:29
-sub-schedule-line : tie.Need-sub-schedule-line Inv-loop μ-loop
-sub-schedule-line c = search needs
-
--- src/frames.rt:77:29
-part-schedule-line-start : tie.Need-part-schedule-line-start Inv-loop μ-loop
-part-schedule-line-start c = search needs
-
--- src/frames.rt:77:29
-part-schedule-line-end : tie.Need-part-schedule-line-end Inv-loop μ-loop
-part-schedule-line-end c = search needs
-
--- src/frames.rt:77:15
-schedule-line-requires : tie.Need-schedule-line-requires Inv-loop μ-loop
-schedule-line-requires c κs = search needs
-
--- src/frames.rt:77:9
 add-at : tie.Need-add-at Inv-loop μ-loop
-add-at c = search needs
+add-at c = omega (arith, room c, c .before .before .before .before .before .before .loop .inv .2)
 
--- src/frames.rt:78:24
-array-read-wide : tie.Need-array-read-wide Inv-loop μ-loop
-array-read-wide c = search needs
-
--- src/frames.rt:78:19
-wide-requires : tie.Need-wide-requires Inv-loop μ-loop
-wide-requires c κs = search needs
-
--- src/frames.rt:78:9
-add-failed : tie.Need-add-failed Inv-loop μ-loop
-add-failed c = search needs
-
--- src/frames.rt:79:9
-add-k : tie.Need-add-k Inv-loop μ-loop
-add-k c = search needs
-
--- src/frames.rt:75:5
-loop-less : tie.Need-loop-less Inv-loop μ-loop
-loop-less c = search needs
-
--- src/frames.rt:75:5
 loop-again : tie.Need-loop-again Inv-loop μ-loop
-loop-again c = search needs
+loop-again c =
+    let l = c .before .before .before .before .before .before .before .loop in
+    let kept : length (putMid (l .at) (length (l .out) - l .at) (l .out) (c .before .before .before .schedule-line .last .0)) ≡ length (l .out) = c .before .before .out .given .1 in (
+      search needs,
+      omega (arith, room (c .before), kept),
+      kept ∙ l .inv .2,
+      omega (arith, l .inv .3, c .wide .ensures .1),
+      λ p ss held w short.
+          let r = lines-more p ss held (c .before .before .before .before .before .before .before .before .before .args .rows .now) (c .before .before .before .before .before .before .before .before .before .args .out .now) (l .out) _ (c .before .before .before .before .before .row-at .result) (c .before .before .before .before .before .before .before .before .before .args .n) (l .k) (l .at) _ (l .failed)
+          w short (c .before .before .before .before .before .before .loop-test .taken) (l .inv .4 p ss held w short) (c .before .before .before .before .before .row-at .ensures) (c .before .before .before .schedule-line .ensures .1) in
+          (r .0, ap (λ (j : ℕ). l .failed + j) (c .wide .ensures .0) ∙ r .1),
+    )
 
--- src/frames.rt:67:1
-same-length : tie.Need-same-length Inv-loop μ-loop
-same-length c = search needs
-
--- src/frames.rt:67:1
 returns : tie.Need-returns Inv-loop μ-loop
-returns c = search needs
+returns c p ss held w short =
+    let l = c .before .loop in
+    let e : take (l .k) ss ≡ ss = take-all (l .k) ss (omega (arith, w .counted, c .loop-test .left, l .inv .0)) in
+    subst (λ (ts : List Schedule). (Wrote (map (scheduleFrame p) ts) (c .before .before .before .args .out .now) (l .out) (l .at)) × (l .failed ≡ length (keep (failing p) ts))) e
+    (l .inv .4 p ss held w short)
 
 pub schedule-lines-spec : {M : Type 1} → statement M
 schedule-lines-spec =
@@ -80,17 +71,17 @@ schedule-lines-spec =
     Inv-loop
     μ-loop
     loop-holds
-    row-at-requires
-    sub-schedule-line
-    part-schedule-line-start
-    part-schedule-line-end
-    schedule-line-requires
+    (λ c κs. search needs)
+    (λ c. search needs)
+    (λ c. search needs)
+    (λ c. search needs)
+    (λ c κs. search needs)
     add-at
-    array-read-wide
-    wide-requires
-    add-failed
-    add-k
-    loop-less
+    (λ c. search needs)
+    (λ c κs. search needs)
+    (λ c. search needs)
+    (λ c. search needs)
+    (λ c. search needs)
     loop-again
-    same-length
+    (λ c. search needs)
     returns)
