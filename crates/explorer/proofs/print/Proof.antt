@@ -1,70 +1,63 @@
+-- `print` writes piece after piece and ends, since each turn leaves less. The invariant: some text, and what is left behind it, are what is printed of
+-- the file. A turn that goes on puts the piece behind that text.
 use borrow.Author.Needs.{needs}
+use Prim.Native.Nat.{ℕ, _≤_, _<_}
+use mathlib.Core.Path.{_≡_, sym, ap, _∙_}
+use mathlib.Core.List.{List, [], _++_, append-assoc}
+use native.Mathlib.Omega.{arith}
+use lib.ListN.{length, take, length-append}
+use lib.Seq.{length-take-le}
+use Rattle.listing.specs.Printed.{printed}
+use Rattle.explorer.specs.Pieces.{rest, Sound}
 use Rattle.explorer.proofs.print.Statement.{statement}
 use Rattle.explorer.proofs.print.Tie as tie
-use Rattle.explorer.proofs.print.Reads as reads
-use Rattle.explorer.proofs.print.Lts as lts
-use Rattle.explorer.proofs.pieces.begin.Reads as begin-reads
-use Rattle.explorer.proofs.pieces.next.Reads as next-reads
-use Rattle.io.proofs.write_all.Reads as write-all-reads
-use Rattle.os.proofs.fail.Reads as fail-reads
 
 abbrev Inv-loop : tie.InvT-loop
-Inv-loop file listing₀ out₀ t6 listing out = ?
+Inv-loop file listing₀ out₀ t6 listing out = Sound listing × (length out ≡ 13568) × ((t : List ℕ) × (t ++ rest listing ≡ printed file))
 
 abbrev μ-loop : tie.MeasureT-loop
-μ-loop file listing₀ out₀ t6 listing out = ?
+μ-loop file listing₀ out₀ t6 listing out = length (rest listing)
 
--- src/main.rt:47:9
-begin-requires : tie.Need-begin-requires Inv-loop μ-loop
-begin-requires c κs = search needs
-
--- src/main.rt:49:5
 loop-holds : tie.Need-loop-holds Inv-loop μ-loop
-loop-holds c = search needs
+loop-holds c = (c .begin .ensures .sound, search needs, ([], c .begin .ensures .whole))
 
--- src/main.rt:50:35
 slice-aggregate-next : tie.Need-slice-aggregate-next Inv-loop μ-loop
-slice-aggregate-next c = search needs
+slice-aggregate-next c = sym (c .before .loop .inv .1)
 
--- src/main.rt:50:13
 next-requires : tie.Need-next-requires Inv-loop μ-loop
-next-requires c κs = search needs
+next-requires c κs = let n : 13568 ≤ length (c .before .loop .out) = omega (arith, c .before .loop .inv .1) in (c .before .loop .inv .0, n)
 
--- src/main.rt:53:13
-returns : tie.Need-returns Inv-loop μ-loop
-returns c = search needs
+-- the piece lies within the buffer
+piece : (c : tie.After-next Inv-loop μ-loop) → c .next .result .length ≤ length (c .next .last .1 .0)
+piece c = c .next .ensures .0
 
--- src/main.rt:55:42
 array-share-prefix-out : tie.Need-array-share-prefix-out Inv-loop μ-loop
-array-share-prefix-out c = search needs
+array-share-prefix-out c = piece (c .before .before)
 
--- src/main.rt:55:42
 slice-aggregate-write-all : tie.Need-slice-aggregate-write-all Inv-loop μ-loop
-slice-aggregate-write-all c = search needs
+slice-aggregate-write-all c = sym (length-take-le _ _ (piece (c .before .before .before)))
 
--- src/main.rt:55:13
-write-all-requires : tie.Need-write-all-requires Inv-loop μ-loop
-write-all-requires c κs = search needs
-
--- src/main.rt:56:22
-slice-aggregate-fail : tie.Need-slice-aggregate-fail Inv-loop μ-loop
-slice-aggregate-fail c = search needs
-
--- src/main.rt:56:13
-fail-requires : tie.Need-fail-requires Inv-loop μ-loop
-fail-requires c κs = search needs
-
--- src/main.rt:57:13
-returns-2 : tie.Need-returns-2 Inv-loop μ-loop
-returns-2 c = search needs
-
--- src/main.rt:49:5
 loop-less : tie.Need-loop-less Inv-loop μ-loop
-loop-less c = search needs
+loop-less c =
+    let n = c .before .before .before .before .before .before in
+    let l = n .before .before .loop in
+    let k : ℕ = n .next .result .length in
+    let o : List ℕ = n .next .last .1 .0 in
+    let e : length (rest (l .listing)) ≡ length (take k o ++ rest (n .next .result .listing)) = ap length (n .next .ensures .1 .text) in
+    let h : length (rest (n .next .result .listing)) < length (rest (l .listing)) =
+    omega (arith, e, length-append (take k o) (rest (n .next .result .listing)), length-take-le k o (piece n), c .before .before .before .before .if1 .left) in
+    h
 
--- src/main.rt:49:5
 loop-again : tie.Need-loop-again Inv-loop μ-loop
-loop-again c = search needs
+loop-again c =
+    let n = c .before .before .before .before .before .before in
+    let l = n .before .before .loop in
+    let t : List ℕ = l .inv .2 .0 in
+    let b : List ℕ = take (n .next .result .length) (n .next .last .1 .0) in (
+      n .next .ensures .1 .sound,
+      n .next .kept .1 .0 ∙ l .inv .1,
+      (t ++ b, append-assoc t b (rest (n .next .result .listing)) ∙ ap (λ (r : List ℕ). t ++ r) (sym (n .next .ensures .1 .text)) ∙ l .inv .2 .1),
+    )
 
 pub print-spec : {M : Type 1} → statement M
 print-spec =
@@ -72,16 +65,16 @@ print-spec =
     (tie.spec
     Inv-loop
     μ-loop
-    begin-requires
+    (λ c κs. search needs)
     loop-holds
     slice-aggregate-next
     next-requires
-    returns
+    (λ c. search needs)
     array-share-prefix-out
     slice-aggregate-write-all
-    write-all-requires
-    slice-aggregate-fail
-    fail-requires
-    returns-2
+    (λ c κs. search needs)
+    (λ c. search needs)
+    (λ c κs. search needs)
+    (λ c. search needs)
     loop-less
     loop-again)

@@ -13,8 +13,7 @@ returns c =
     let a = c13 .before .before .before .before .before .before .before .before .before .args in
     let w = c .before .before .write .ensures in
     frame-wrote _ _ (a .out .now) _ _
-    (rw
-    (
+    (rw (
       c5 .byte-of16 .ensures,
       c5 .before .byte-of15 .ensures,
       c5 .before .before .byte-of14 .ensures,

@@ -24,7 +24,7 @@ abbrev Inv-loop : tie.InvT-loop
 Inv-loop out₀ rows n at₀ failed₀ k₀ out at failed k =
     (k ≤ n) × (at ≤ length out) × (length out ≡ length out₀) × (failed ≤ k * 256)
     × ((p : Program) (ss : List Schedule) (held : List ℕ) → Shown p ss held rows n → Short ss
-      → (Wrote (map (scheduleFrame p) (take k ss)) out₀ out at) × (failed ≡ length (keep (failing p) (take k ss))))
+    → (Wrote (map (scheduleFrame p) (take k ss)) out₀ out at) × (failed ≡ length (keep (failing p) (take k ss))))
 
 abbrev μ-loop : tie.MeasureT-loop
 μ-loop out₀ rows n at₀ failed₀ k₀ out at failed k = n - k
