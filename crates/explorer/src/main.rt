@@ -10,6 +10,7 @@ mod frames;
 // The output, piece by piece.
 mod pieces;
 
+use libc::STDERR_FILENO;
 use libc::STDIN_FILENO;
 use libc::STDOUT_FILENO;
 use pieces::begin;
@@ -53,7 +54,7 @@ fn print(file: &[u8]) {
             return;
         }
         if !io::write_all(STDOUT_FILENO, &out[..n]) {
-            os::fail(&[b'w', b'r', b'i', b't', b'e']);
+            io::write_all(STDERR_FILENO, b"standard output cannot be written\n");
             return;
         }
         listing = piece.listing;
@@ -64,6 +65,8 @@ fn main() {
     let mut file = [0u8; 4097];
     match read_input(&mut file) {
         Input::Bytes(n) => print(&file[..n]),
-        Input::Failed => os::fail(&[b'r', b'e', b'a', b'd']),
+        Input::Failed => {
+            io::write_all(STDERR_FILENO, b"standard input cannot be read\n");
+        }
     }
 }
