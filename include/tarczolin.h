@@ -35,6 +35,32 @@ uint64_t tarczolin_graph(const uint8_t *file, size_t file_len, const uint8_t *sc
  * have any length. No and a refusal change no byte. */
 uint64_t tarczolin_judge(const uint8_t *file, size_t file_len, const uint8_t *graph, size_t graph_len, uint8_t *out, size_t out_len);
 
+/* The least listed schedule. Answered: it stands in front of the output, the answer carries its length, and the bytes
+ * behind it keep their value. Refused, in this order: the program's (1 to 9); 22 at place 0, an output of under 24 bytes.
+ * A refusal changes no byte. */
+uint64_t tarczolin_start(const uint8_t *file, size_t file_len, uint8_t *out, size_t out_len);
+
+/* The least listed schedule after a full one, listed or not. Answered as by tarczolin_start; no more: kind 2. Refused, in
+ * this order: the program's; 22; 20 and 21 of the schedule given, as by tarczolin_graph. No more and a refusal change no
+ * byte. */
+uint64_t tarczolin_continue(const uint8_t *file, size_t file_len, const uint8_t *schedule, size_t schedule_len, uint8_t *out, size_t out_len);
+
+/* The first listed schedule that fails. Answered as by tarczolin_start; none fails: kind 2, and then no schedule at all
+ * fails. Refused: the program's; 22. None and a refusal change no byte. */
+uint64_t tarczolin_violation(const uint8_t *file, size_t file_len, uint8_t *out, size_t out_len);
+
+/* How many schedules are listed, and how many of these fail. Answered: kind 1 and the rest 0. Both words keep their
+ * value on refusal (1 to 9). */
+uint64_t tarczolin_count(const uint8_t *file, size_t file_len, uint64_t *listed, uint64_t *failing);
+
+/* Many listed schedules at a time, as rows of 26 bytes: the number of steps, 1 where the schedule fails and 0 where it
+ * does not, and the steps, with zeros behind them up to 24. Answered: as many rows as the output has room for stand in
+ * front of it, from the first listed schedule on or after the given one (which need not be listed nor full), the answer
+ * carries their number, not their bytes, and the bytes behind them keep their value; 0 where there is no more or no room.
+ * Refused: the program's (1 to 9), and no byte changes. */
+uint64_t tarczolin_rows(const uint8_t *file, size_t file_len, uint8_t *out, size_t out_len);
+uint64_t tarczolin_rows_after(const uint8_t *file, size_t file_len, const uint8_t *schedule, size_t schedule_len, uint8_t *out, size_t out_len);
+
 #ifdef __cplusplus
 }
 #endif

@@ -68,3 +68,15 @@ pub mod TwinTurns
 pub mod HeldAsleep
 -- the walk from the start finds what is listed
 pub mod ListedRows
+-- the first row behind a bound, read back
+pub mod FirstRow
+-- what the decoder's answer says of the file
+pub mod Decoded
+-- the calls that give a schedule, way by way
+pub mod FileCalls
+-- the list counted by pieces
+pub mod CountedRows
+-- what count says of a program file
+pub mod CountCalled
+-- the calls by rows, way by way
+pub mod RowsSaid

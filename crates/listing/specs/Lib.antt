@@ -35,3 +35,9 @@ pub mod Walked
 pub mod HeldTwin
 -- whether a thread is asleep, read off the machine; for the code
 pub mod HeldSleep
+-- the answers as the code gives them
+pub mod Said
+-- count's answer as the code gives it
+pub mod CountWord
+-- listed schedules by rows, on a program file
+pub mod RowsCall

@@ -24,6 +24,24 @@ mod walking;
 mod sleeping;
 // The listed schedules behind a bound, as rows.
 mod listed;
+// The calls that give a schedule.
+mod calling;
+
+pub use calling::ListAnswer;
+pub use calling::continue_from;
+pub use calling::start;
+pub use calling::violation;
+// How many are listed, and how many of these fail.
+mod counting;
+
+pub use counting::CountAnswer;
+pub use counting::count;
+// Listed schedules by rows.
+mod row_calls;
+
+pub use row_calls::RowsAnswer;
+pub use row_calls::first_rows;
+pub use row_calls::next_rows;
 
 pub use listed::listed_rows;
 pub use permitted_numbers::Permitted;

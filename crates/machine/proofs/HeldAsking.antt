@@ -52,6 +52,10 @@ module _ (code lengths : List ℕ) (m : Machine) (σ : State) (held : Holds code
       go (yes l) = lt-ltb (threadAt m t .at) (getD lengths t 0) l ∙ sym (held-may t h l)
       go (no l) = le-ltb (threadAt m t .at) (getD lengths t 0) (omega (arith, l)) ∙ sym (held-ended t h (omega (arith, l)))
 
+  -- by a number that is the thread's
+  pub may-named : (i t : ℕ) → t ≡ i → i < 6 → ltb (threadAt m i .at) (getD lengths i 0) ≡ may σ t
+  may-named i t e h = may-held i h ∙ ap (may σ) (sym e)
+
   -- a thread that may step is ready to
   pub ready-held : (t : ℕ) → getD lengths t 0 ≤ 16 → may σ t ≡ true → Ready lengths m t
   ready-held t n e =

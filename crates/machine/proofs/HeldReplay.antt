@@ -11,12 +11,13 @@ use Rattle.schedules.specs.Order.{Schedule}
 use Rattle.schedules.specs.System.{run, ended, Allowed}
 use Rattle.schedules.proofs.Runs.{run-snoc, allowed-join, allowed-length}
 use Rattle.machine.specs.declared.state.Machine.{Machine}
+use Rattle.machine.specs.declared.stepping.Effect.{Effect}
 use Rattle.machine.specs.declared.stepping.Stepped.{Stepped}
 use Rattle.machine.specs.declared.replaying.Verdict.the-variants.{Whole, Refused}
 use Rattle.machine.specs.State.{State, place, step, may, SC, start}
 use Rattle.machine.specs.Notes.{Note, note, notes, noteBytes, Noted}
 use Rattle.machine.specs.Replay.{replayFrom, replay}
-use Rattle.machine.specs.Held.{Holds, Ready, HoldsStep, Loaded, verdictOf, HoldsRun}
+use Rattle.machine.specs.Held.{threadAt, Holds, ReadyThread, Ready, HoldsStep, behind, Loaded, verdictOf, HoldsRun}
 use Rattle.machine.proofs.Steps.{may-range, run-threads}
 use Rattle.machine.proofs.Start.{start-threads}
 use Rattle.machine.proofs.Lawful.{lawful, start-24}
@@ -24,7 +25,7 @@ use Rattle.machine.proofs.NoteGraph.{notes-length}
 use Rattle.machine.proofs.Regular.{place-in, regular-run, regular-start}
 use Rattle.machine.proofs.Replay.{nil-full, nil-short, cons-goes, cons-stops}
 use Rattle.machine.proofs.HeldStart.{threads-held, short-held}
-use Rattle.machine.proofs.HeldAsking.{ready-held}
+use Rattle.machine.proofs.HeldAsking.{held-may, held-ended, ready-held}
 use Rattle.machine.proofs.HeldNotes.{noted-none}
 
 -- the notes of a step more
@@ -70,10 +71,10 @@ module _ (code lengths : List ℕ) (threads : ℕ) (p : Program) (loaded : Loade
     }
 
     module _ (ok : may σ t ≡ true) where
-      pub replay-ready : Ready lengths m t
+      replay-ready : Ready lengths m t
       replay-ready = ready-held code lengths m σ (done .holds) t (short-held code lengths threads p loaded t (omega (arith, may-range σ t ok, run-threads (take k s) (start p), start-threads p, threads-held code lengths threads p loaded))) ok
 
-      pub replay-near : place σ t < 8
+      replay-near : place σ t < 8
       replay-near =
           let r = regular-run (take k s) (start p) (regular-start p (loaded .wellFormed)) (done .allowed) in
           omega (arith, place-in σ r t, r .eight)
@@ -82,13 +83,13 @@ module _ (code lengths : List ℕ) (threads : ℕ) (p : Program) (loaded : Loade
       more-allowed = subst (Allowed SC (start p)) (sym next) (allowed-join SC (start p) (take k s) (t ∷ []) (done .allowed) (ok, tt))
 
       -- there is room for its note
-      pub replay-room : k < 24
+      replay-room : k < 24
       replay-room = omega (arith, allowed-length SC lawful (start p) (take (k + 1) s) more-allowed, length-take-le (k + 1) s (omega arith), start-24 p (loaded .wellFormed))
 
       same-length : k ≡ length (notes (start p) (take k s))
       same-length = sym (notes-length (take k s) (start p) ∙ length-take-le k s (done .within))
 
-      pub replay-more : (r : Stepped) (trail' : List ℕ) → HoldsStep code lengths σ t r
+      replay-more : (r : Stepped) (trail' : List ℕ) → HoldsStep code lengths σ t r
           → ((ns : List Note) (n : Note) → Noted trail ns → k ≡ length ns → r .note ≡ noteBytes n → Noted trail' (ns ++ (n ∷ [])))
           → Progress code lengths p s (r .machine) trail' (k + 1)
       replay-more r trail' held note-put =
@@ -103,6 +104,29 @@ module _ (code lengths : List ℕ) (threads : ℕ) (p : Program) (loaded : Loade
                 ∙ ap (λ (τ : State). replayFrom (suc k) τ (drop (suc k) s)) (sym state)
                 ∙ ap (λ (j : ℕ). replayFrom j (run SC (start p) (take (k + 1) s)) (drop j s)) (let z : suc k ≡ k + 1 = omega arith in z);
           }
+
+    -- the code names its thread by u, and finds what it does in the machine itself
+    module _ (u : ℕ) (eu : u ≡ t) (six : t < 6) where
+      pub replay-over : getD lengths u 0 ≤ threadAt m u .at → may σ t ≡ false
+      replay-over l = held-ended code lengths m σ (done .holds) t six (subst (λ (v : ℕ). getD lengths v 0 ≤ threadAt m v .at) eu l)
+
+      module _ (left : threadAt m u .at < getD lengths u 0) where
+        may-here : may σ t ≡ true
+        may-here = held-may code lengths m σ (done .holds) t six (subst (λ (v : ℕ). threadAt m v .at < getD lengths v 0) eu left)
+
+        pub replay-thread : ReadyThread lengths (threadAt m u) t
+        replay-thread = subst (λ (v : ℕ). ReadyThread lengths (threadAt m v) t) (sym eu) (replay-ready may-here)
+
+        pub replay-fits : k < 24
+        replay-fits = replay-room may-here
+
+        pub replay-stored : (e : Effect) (trail' : List ℕ)
+            → ((n : Machine) (τ : State) → threadAt n t ≡ threadAt m u → n .memory ≡ m .memory → n .last ≡ m .last → Holds code lengths n τ → may τ t ≡ true → place τ t < 8 → HoldsStep code lengths τ t (behind n t e))
+            → ((ns : List Note) (n : Note) → Noted trail ns → k ≡ length ns → e .note ≡ noteBytes n → Noted trail' (ns ++ (n ∷ [])))
+            → Progress code lengths p s (behind m u e .machine) trail' (k + 1)
+        replay-stored e trail' acts note-put =
+            replay-more may-here (behind m u e) trail'
+            (subst (λ (v : ℕ). HoldsStep code lengths σ t (behind m v e)) (sym eu) (acts m σ (ap (threadAt m) (sym eu)) refl refl (done .holds) may-here (replay-near may-here))) note-put
 
   -- ---- none is left
   module _ (h : length s ≤ k) where

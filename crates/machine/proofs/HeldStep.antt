@@ -5,25 +5,26 @@ use native.Mathlib.Decide.{ℕ-discrete}
 use native.Mathlib.Nat.{mod-eq-of-lt}
 use mathlib.Core.Path.{_≡_, refl, sym, ap, subst, _∙_}
 use mathlib.Core.Logic.{inl, inr, _≢_}
-use mathlib.Core.Bool.{Bool, true, cond}
+use mathlib.Core.Bool.{Bool, true, false, cond, true≢false}
 use mathlib.Core.Option.{none, some}
 use mathlib.Core.List.{List, [], _∷_}
 use lib.Dec.{eqb}
 use lib.ListN.{length, getD, set, drop, length-drop, length-set}
-use lib.Seq.{getD-set-other, getD-set-same}
-use borrow.Author.Tests.{eq-eqb, ne-eqb}
+use lib.Seq.{getD-set-other, getD-set-same, set-getD}
+use borrow.Author.Tests.{eq-eqb, ne-eqb, eqb-true}
 use Rattle.program.specs.declared.instruction.Instruction.{Instruction}
 use Rattle.program.specs.Compiled.{instructionAt, threadCode}
 use Rattle.machine.specs.declared.accessing.Access.{Access}
 use Rattle.machine.specs.declared.state.ThreadState.{ThreadState}
 use Rattle.machine.specs.declared.state.LastWrite.{LastWrite}
 use Rattle.machine.specs.declared.state.Machine.{Machine}
+use Rattle.machine.specs.declared.stepping.Effect.{Effect}
 use Rattle.machine.specs.Local.{Local, settle, firstTakes, firstPuts, firstNext, pending, takes, puts, next}
 use Rattle.machine.specs.State.{Thread, Cell, State, threadOf, cellOf, place, latest, advanced, step, may}
 use Rattle.machine.specs.Trail.{writes}
 use Rattle.machine.specs.Notes.{note, noteBytes}
 use Rattle.machine.specs.Turns.{accessOf, localOf}
-use Rattle.machine.specs.Held.{idle, unwritten, threadAt, lastAt, eventOf, HoldsThread, Holds, HoldsStep}
+use Rattle.machine.specs.Held.{idle, unwritten, threadAt, lastAt, eventOf, HoldsThread, Holds, HoldsStep, threadBehind, behind}
 use Rattle.machine.proofs.Access.{Settled, settle-law}
 use Rattle.machine.proofs.Steps.{may-small, may-range, cell-other, step-threads, step-cells}
 use Rattle.machine.proofs.Change.{thread-cases, noted-done, wrote-own, Change, kept, wrote, change}
@@ -70,26 +71,26 @@ module _ (code lengths : List ℕ) (m : Machine) (σ : State) (t : ℕ) (held : 
   unfolding puts
   puts-here = ap (λ (j : List Instruction). firstPuts (h .local .registers) j (cellOf σ (place σ t) .value)) rest ∙ ap (firstPuts (h .local .registers) (x ∷ is)) found ∙ meets .puts
 
-  behind : next (h .local) (cellOf σ (place σ t) .value) ≡ settle 0 (a .registers) is
+  local-behind : next (h .local) (cellOf σ (place σ t) .value) ≡ settle 0 (a .registers) is
   unfolding next
-  behind = ap (λ (j : List Instruction). firstNext (h .local) j (cellOf σ (place σ t) .value)) rest ∙ ap (firstNext (h .local) (x ∷ is)) found ∙ meets .next
+  local-behind = ap (λ (j : List Instruction). firstNext (h .local) j (cellOf σ (place σ t) .value)) rest ∙ ap (firstNext (h .local) (x ∷ is)) found ∙ meets .next
 
   -- ---- the thread
   thread-behind : HoldsThread c k (advanced h (cellOf σ (place σ t)))
   unfolding advanced
   thread-behind =
-      let e : next (h .local) (cellOf σ (place σ t) .value) ≡ localOf c k = behind ∙ sym ek in
+      let e : next (h .local) (cellOf σ (place σ t) .value) ≡ localOf c k = local-behind ∙ sym ek in
       record {
         rest = ap (λ (l : Local). l .rest) e;
         failed = ap (λ (l : Local). l .failed) e;
         done = noted-done _ _ _ ∙ omega (arith, own .done, counted);
-        settled = λ l. settled-pending (next (h .local) (cellOf σ (place σ t) .value)) c (k .at) (subst Settled (sym behind) (settle-law is 0 (a .registers) .0)) (ap (λ (l : Local). l .rest) e) l;
+        settled = λ l. settled-pending (next (h .local) (cellOf σ (place σ t) .value)) c (k .at) (subst Settled (sym local-behind) (settle-law is 0 (a .registers) .0)) (ap (λ (l : Local). l .rest) e) l;
         bounded = omega (arith, own .bounded);
       }
 
   registers-behind : advanced h (cellOf σ (place σ t)) .local .registers ≡ k .registers
   unfolding advanced
-  registers-behind = ap (λ (l : Local). l .registers) (behind ∙ sym ek)
+  registers-behind = ap (λ (l : Local). l .registers) (local-behind ∙ sym ek)
 
   -- ---- the whole, in a machine that has this thread in its place
   module _ (m' : Machine) (et : m' .threads ≡ set (m .threads) t k) where
@@ -186,47 +187,80 @@ module _ (code lengths : List ℕ) (m : Machine) (σ : State) (t : ℕ) (held : 
       let reads : cond (takes (h .local)) 1 0 ≡ a .reads = ap (λ (j : List Instruction). cond (firstTakes j) 1 0) rest ∙ meets .reads in
       sym (λ i. t ∷ own .done i ∷ at-place i ∷ reads i ∷ source i .0 ∷ source i .1 ∷ wrote-here i ∷ 0 ∷ [])
 
--- ---- the code's step: it names its thread t by u, and location l by its remainder
-module _ (code lengths : List ℕ) (m : Machine) (σ : State) (t u : ℕ) (eu : u ≡ t) (held : Holds code lengths m σ) (ok : may σ t ≡ true) (near : place σ t < 8)
-    (x : Instruction) (a : Access) (k : ThreadState) (l : ℕ)
-    (left : threadAt m u .at < getD lengths u 0)
-    (ex : x ≡ instructionAt code (u * 16 + threadAt m u .at)) (ea : a ≡ accessOf x (threadAt m u .registers) (m .memory))
-    (ek : localOf (threadCode code u (getD lengths u 0)) k ≡ settle 0 (a .registers) (drop (threadAt m u .at + 1) (threadCode code u (getD lengths u 0))))
-    (later : threadAt m u .at + 1 ≤ k .at) (counted : k .done ≡ threadAt m u .done + 1) (el : l ≡ a .location) where
-  ok' : may σ u ≡ true
-  ok' = subst (λ (v : ℕ). may σ v ≡ true) (sym eu) ok
+-- ---- the code's step: what its thread u, which stands so, does with this memory; a its access, k the thread behind it
+pub record Acted (code lengths : List ℕ) (thread : ThreadState) (memory : List ℕ) (u : ℕ) (a : Access) (k : ThreadState) : Type 0 where
+  pub left : thread .at < getD lengths u 0
+  pub access : a ≡ accessOf (instructionAt code (u * 16 + thread .at)) (thread .registers) memory
+  pub local : localOf (threadCode code u (getD lengths u 0)) k ≡ settle 0 (a .registers) (drop (thread .at + 1) (threadCode code u (getD lengths u 0)))
+  pub later : thread .at + 1 ≤ k .at
+  pub counted : k .done ≡ thread .done + 1
 
-  near' : place σ u < 8
-  near' = subst (λ (v : ℕ). place σ v < 8) (sym eu) near
+-- a location's last write behind it
+abbrev pub lastOf : ℕ → ThreadState → LastWrite → Access → LastWrite
+lastOf t thread e a = cond (eqb (a .writes) 1) (record { thread = t; number = thread .done }) e
+
+-- what it changes; the code names a location l by its remainder
+abbrev pub effectOf : ℕ → ThreadState → List ℕ → List LastWrite → Access → ThreadState → ℕ → Effect
+effectOf t thread memory last a k l = record {
+  registers = k .registers;
+  at = k .at;
+  done = k .done;
+  failed = k .failed;
+  place = l % 8;
+  value = cond (eqb (a .writes) 1) (a .value) (getD memory (l % 8) 0);
+  thread = lastOf t thread (getD last (l % 8) unwritten) a .thread;
+  number = lastOf t thread (getD last (l % 8) unwritten) a .number;
+  note = t ∷ thread .done ∷ a .location ∷ a .reads ∷ getD last (l % 8) unwritten .thread ∷ getD last (l % 8) unwritten .number ∷ a .writes ∷ 0 ∷ [];
+}
+
+module _ (code lengths : List ℕ) (m : Machine) (σ : State) (t : ℕ) (held : Holds code lengths m σ) (ok : may σ t ≡ true) (near : place σ t < 8)
+    (a : Access) (k : ThreadState) (l : ℕ) (el : l ≡ a .location) (acts : Acted code lengths (threadAt m t) (m .memory) t a k) where
+  abbrev x : Instruction
+  x = instructionAt code (t * 16 + threadAt m t .at)
+
+  abbrev effect : Effect
+  effect = effectOf t (threadAt m t) (m .memory) (m .last) a k l
 
   own-location : l % 8 ≡ a .location
-  own-location = ap (λ (v : ℕ). v % 8) el ∙ mod-eq-of-lt (let q = at-place code lengths m σ u held ok' near' x a k left ex ea ek later counted in omega (arith, q, near'))
+  own-location =
+      let q = at-place code lengths m σ t held ok near x a k (acts .left) refl (acts .access) (acts .local) (acts .later) (acts .counted) in
+      ap (λ (v : ℕ). v % 8) el ∙ mod-eq-of-lt (omega (arith, q, near))
 
-  noted-here : (t ∷ threadAt m u .done ∷ a .location ∷ a .reads ∷ lastAt m (l % 8) .thread ∷ lastAt m (l % 8) .number ∷ a .writes ∷ 0 ∷ []) ≡ noteBytes (note σ t)
-  noted-here =
-      ap (λ (v : ℕ). v ∷ threadAt m u .done ∷ a .location ∷ a .reads ∷ lastAt m (l % 8) .thread ∷ lastAt m (l % 8) .number ∷ a .writes ∷ 0 ∷ []) (sym eu)
-      ∙ note-behind code lengths m σ u held ok' near' x a k left ex ea ek later counted (lastAt m (l % 8)) (ap (lastAt m) own-location)
-      ∙ ap (λ (v : ℕ). noteBytes (note σ v)) eu
+  holds-behind : Holds code lengths (behind m t effect .machine) (step σ t)
+  holds-behind = go (eqb (a .writes) 1) refl
+    where
+      entry : Bool → LastWrite
+      entry b =
+          let e : LastWrite = cond b (record { thread = t; number = threadAt m t .done }) (getD (m .last) (l % 8) unwritten) in
+          record { thread = e .thread; number = e .number }
 
-  -- nothing was written
-  pub step-still : (a .writes ≡ 1 → ⊥) → HoldsStep code lengths σ t (record {
-    machine = record { threads = set (m .threads) u k; memory = m .memory; last = m .last };
-    note = t ∷ threadAt m u .done ∷ a .location ∷ a .reads ∷ lastAt m (l % 8) .thread ∷ lastAt m (l % 8) .number ∷ a .writes ∷ 0 ∷ [];
-  })
-  step-still n = record {
-    holds = subst (λ (v : ℕ). Holds code lengths (record { threads = set (m .threads) u k; memory = m .memory; last = m .last }) (step σ v)) eu
-        (holds-still code lengths m σ u held ok' near' x a k left ex ea ek later counted _ refl n refl refl);
-    noted = noted-here;
+      go : (b : Bool) → eqb (a .writes) 1 ≡ b → Holds code lengths (behind m t effect .machine) (step σ t)
+      go true q =
+          holds-written code lengths m σ t held ok near x a (threadBehind effect) (acts .left) refl (acts .access) (acts .local) (acts .later) (acts .counted)
+          (behind m t effect .machine) refl (l % 8) own-location (eqb-true (a .writes) 1 q)
+          (ap (λ (b : Bool). set (m .memory) (l % 8) (cond b (a .value) (getD (m .memory) (l % 8) 0))) q)
+          (ap (λ (b : Bool). set (m .last) (l % 8) (entry b)) q)
+      go false q =
+          holds-still code lengths m σ t held ok near x a (threadBehind effect) (acts .left) refl (acts .access) (acts .local) (acts .later) (acts .counted)
+          (behind m t effect .machine) refl (λ e. true≢false (sym (eq-eqb (a .writes) 1 e) ∙ q))
+          (ap (λ (b : Bool). set (m .memory) (l % 8) (cond b (a .value) (getD (m .memory) (l % 8) 0))) q ∙ set-getD (m .memory) (l % 8) 0)
+          (ap (λ (b : Bool). set (m .last) (l % 8) (entry b)) q ∙ set-getD (m .last) (l % 8) unwritten)
+
+  pub holds-effect : HoldsStep code lengths σ t (behind m t effect)
+  holds-effect = record {
+    holds = holds-behind;
+    noted = note-behind code lengths m σ t held ok near x a k (acts .left) refl (acts .access) (acts .local) (acts .later) (acts .counted) (lastAt m (l % 8)) (ap (lastAt m) own-location);
   }
 
-  -- something was
-  pub step-written : a .writes ≡ 1 → HoldsStep code lengths σ t (record {
-    machine = record { threads = set (m .threads) u k; memory = set (m .memory) (l % 8) (a .value); last = set (m .last) (l % 8) (record { thread = t; number = threadAt m u .done }) };
-    note = t ∷ threadAt m u .done ∷ a .location ∷ a .reads ∷ lastAt m (l % 8) .thread ∷ lastAt m (l % 8) .number ∷ a .writes ∷ 0 ∷ [];
-  })
-  step-written w = record {
-    holds = subst (λ (v : ℕ). Holds code lengths (record { threads = set (m .threads) u k; memory = set (m .memory) (l % 8) (a .value); last = set (m .last) (l % 8) (record { thread = t; number = threadAt m u .done }) }) (step σ v)) eu
-        (holds-written code lengths m σ u held ok' near' x a k left ex ea ek later counted _ refl (l % 8) own-location w refl
-        (ap (λ (v : ℕ). set (m .last) (l % 8) (record { thread = v; number = threadAt m u .done })) (sym eu)));
-    noted = noted-here;
-  }
+-- the code has the thread, the memory and the last writes by themselves, and the thread's number as u
+pub effect-holds : (code lengths : List ℕ) (m : Machine) (σ : State) (t u : ℕ) (thread : ThreadState) (memory : List ℕ) (last : List LastWrite) (a : Access) (k : ThreadState) (l : ℕ)
+    → u ≡ t → l ≡ a .location → Acted code lengths thread memory u a k
+    → threadAt m t ≡ thread → m .memory ≡ memory → m .last ≡ last → Holds code lengths m σ → may σ t ≡ true → place σ t < 8 → HoldsStep code lengths σ t (behind m t (effectOf t thread memory last a k l))
+effect-holds code lengths m σ t u thread memory last a k l eu el acts et em es held ok near =
+    subst (λ (v : ℕ). P v thread memory last) (sym eu)
+    (subst (λ (h : ThreadState). P t h memory last) et
+    (subst (λ (v : List ℕ). P t (threadAt m t) v last) em
+    (subst (P t (threadAt m t) (m .memory)) es (holds-effect code lengths m σ t held ok near a k l el)))) acts
+  where
+    P : ℕ → ThreadState → List ℕ → List LastWrite → Type 0
+    P v h n w = Acted code lengths h n v a k → HoldsStep code lengths σ t (behind m t (effectOf t h n w a k l))

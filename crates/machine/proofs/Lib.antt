@@ -58,6 +58,8 @@ pub mod NotesHeld
 pub mod NoteWriting
 pub mod GraphWritten
 -- How the machine's functions meet the definitions.
+-- registers chosen one by one, and rows by their first byte
+pub mod HeldRows
 -- settling by turns
 pub mod HeldTurns
 -- an access as the code does it

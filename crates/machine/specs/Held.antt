@@ -3,7 +3,7 @@ use Prim.Native.Nat.{ℕ, _<_, _≤_}
 use mathlib.Core.Path.{_≡_}
 use mathlib.Core.Bool.{true, false}
 use mathlib.Core.List.{List, []}
-use lib.ListN.{length, getD, drop, take}
+use lib.ListN.{length, getD, set, drop, take}
 use Rattle.program.specs.declared.instruction.Instruction.{Instruction}
 use Rattle.program.specs.Program.{Program}
 use Rattle.program.specs.WellFormed.{WellFormed}
@@ -13,6 +13,7 @@ use Rattle.schedules.specs.System.{run, Allowed}
 use Rattle.machine.specs.declared.state.ThreadState.{ThreadState}
 use Rattle.machine.specs.declared.state.LastWrite.{LastWrite}
 use Rattle.machine.specs.declared.state.Machine.{Machine}
+use Rattle.machine.specs.declared.stepping.Effect.{Effect}
 use Rattle.machine.specs.declared.stepping.Stepped.{Stepped}
 use Rattle.machine.specs.declared.replaying.Verdict.{Verdict}
 use Rattle.machine.specs.declared.replaying.Verdict.the-variants.{Whole, Refused}
@@ -68,17 +69,35 @@ pub record Loaded (code lengths : List ℕ) (threads : ℕ) (p : Program) : Type
   pub wellFormed : WellFormed p
   pub codes : p .threads ≡ tabulate (λ t. threadCode code t (getD lengths t 0)) threads
 
--- thread t has an instruction left, among at most sixteen
-pub record Ready (lengths : List ℕ) (m : Machine) (t : ℕ) : Type 0 where
+-- thread t, which stands so, has an instruction left, among at most sixteen
+pub record ReadyThread (lengths : List ℕ) (k : ThreadState) (t : ℕ) : Type 0 where
   pub six : t < 6
   pub sixteen : getD lengths t 0 ≤ 16
-  pub left : threadAt m t .at < getD lengths t 0
-  pub bounded : threadAt m t .done ≤ threadAt m t .at
+  pub left : k .at < getD lengths t 0
+  pub bounded : k .done ≤ k .at
+
+-- thread t of the machine
+abbrev pub Ready : List ℕ → Machine → ℕ → Type 0
+Ready lengths m t = ReadyThread lengths (threadAt m t) t
 
 -- what a step of thread t leaves: the next state, and the step's note
 pub record HoldsStep (code lengths : List ℕ) (σ : State) (t : ℕ) (r : Stepped) : Type 0 where
   pub holds : Holds code lengths (r .machine) (step σ t)
   pub noted : r .note ≡ noteBytes (note σ t)
+
+-- the thread and the last write that a step leaves
+abbrev pub threadBehind : Effect → ThreadState
+threadBehind e = record { registers = e .registers; at = e .at; done = e .done; failed = e .failed }
+
+abbrev pub lastBehind : Effect → LastWrite
+lastBehind e = record { thread = e .thread; number = e .number }
+
+-- the machine behind a step of thread t that changes so much, and the step's note
+abbrev pub behind : Machine → ℕ → Effect → Stepped
+behind m t e = record {
+  machine = record { threads = set (m .threads) t (threadBehind e); memory = set (m .memory) (e .place) (e .value); last = set (m .last) (e .place) (lastBehind e) };
+  note = e .note;
+}
 
 -- a verdict on a schedule that led to this state
 unfoldable pub verdictOf : Verdict → State → Replayed

@@ -4,10 +4,12 @@
 mod graph_text;
 // A thread by itself: operands, and what an instruction that is no access does.
 mod local;
-// A thread carried to its next access.
-mod settling;
 // What an access does.
 mod accessing;
+// What the instruction in a row does.
+mod by_row;
+// A thread carried to its next access.
+mod settling;
 // The machine's state: threads, memory, last writes.
 mod state;
 // A step.
@@ -41,5 +43,7 @@ pub use starting::started;
 pub use state::LastWrite;
 pub use state::Machine;
 pub use state::ThreadState;
+pub use stepping::Effect;
 pub use stepping::Stepped;
+pub use stepping::acted;
 pub use stepping::step;

@@ -1,32 +1,42 @@
-// A thread by itself: its four registers, and what an instruction does that is no access.
-use program::Instruction;
+// A thread by itself: its four registers, the value of an operand, and what an instruction can do that is no access.
 use program::Operand;
-use std::num::wrapping_add_u32;
 ghost use mathlib.Core.Path.{_≡_};
 ghost use Prim.Native.Nat.{_+_, _*_, _<_, _≤_};
+ghost use mathlib.Core.Bool.{cond};
+ghost use lib.Dec.{eqb};
 ghost use lib.ListN.{getD, set};
 ghost use Rattle.machine.specs.Local.{eval};
-ghost use Rattle.machine.specs.Turns.{standing, going, failing, turnOf};
+ghost use Rattle.machine.specs.Turns.{standing, going, failing};
+
+// v where k is i, else w.
+fn chosen(k: usize, i: usize, v: u32, w: u32) -> u32
+    ensures { λ r. ⌜ r ≡ cond (eqb k i) v w ⌝ }
+{
+    if k == i {
+        return v;
+    }
+    w
+}
 
 // The register k; 0 for a number that names none.
 pub fn register_at(registers: [u32; 4], k: usize) -> u32
     ensures { λ r. ⌜ r ≡ getD registers k 0 ⌝ }
 {
-    if k < 4 {
-        return registers[k];
-    }
-    0
+    let a = chosen(k, 0, registers[0], 0);
+    let b = chosen(k, 1, registers[1], a);
+    let c = chosen(k, 2, registers[2], b);
+    chosen(k, 3, registers[3], c)
 }
 
 // The registers with v in register k.
 pub fn with_register(registers: [u32; 4], k: usize, v: u32) -> [u32; 4]
     ensures { λ r. ⌜ r ≡ set registers k v ⌝ }
 {
-    let mut n = registers;
-    if k < 4 {
-        n[k] = v;
-    }
-    n
+    let a = chosen(k, 0, v, registers[0]);
+    let b = chosen(k, 1, v, registers[1]);
+    let c = chosen(k, 2, v, registers[2]);
+    let d = chosen(k, 3, v, registers[3]);
+    [a, b, c, d]
 }
 
 // A byte as a larger number.
@@ -56,7 +66,7 @@ pub struct Turn {
 }
 
 // An access, which is left alone.
-fn left(registers: [u32; 4]) -> Turn
+pub fn left(registers: [u32; 4]) -> Turn
     ensures { λ r. ⌜ r ≡ standing registers ⌝ }
 {
     Turn {
@@ -68,7 +78,7 @@ fn left(registers: [u32; 4]) -> Turn
 }
 
 // Carried out, with these registers behind it, and so many instructions skipped.
-fn passed(registers: [u32; 4], skip: u8) -> Turn
+pub fn passed(registers: [u32; 4], skip: u8) -> Turn
     ensures { λ r. ⌜ r ≡ going registers skip ⌝ }
 {
     Turn {
@@ -80,7 +90,7 @@ fn passed(registers: [u32; 4], skip: u8) -> Turn
 }
 
 // An assertion that failed.
-fn failed(registers: [u32; 4]) -> Turn
+pub fn failed(registers: [u32; 4]) -> Turn
     ensures { λ r. ⌜ r ≡ failing registers ⌝ }
 {
     Turn {
@@ -88,38 +98,5 @@ fn failed(registers: [u32; 4]) -> Turn
         failed: true,
         registers: registers,
         skip: 0,
-    }
-}
-
-// Carries out one instruction unless it is an access.
-pub fn turned(i: Instruction, registers: [u32; 4]) -> Turn
-    ensures { λ r. ⌜ r ≡ turnOf i registers ⌝ }
-{
-    match i {
-        Instruction::Store(_, _) => left(registers),
-        Instruction::Load(_, _) => left(registers),
-        Instruction::FetchAdd(_, _, _) => left(registers),
-        Instruction::CompareSwap(_, _, _, _) => left(registers),
-        Instruction::Assign(r, p) => {
-            let v = value(p, registers);
-            passed(with_register(registers, wide(r), v), 0)
-        }
-        Instruction::AddAssign(r, p) => {
-            let k = wide(r);
-            let v = wrapping_add_u32(register_at(registers, k), value(p, registers));
-            passed(with_register(registers, k, v), 0)
-        }
-        Instruction::SkipUnless(r, p, n) => {
-            if register_at(registers, wide(r)) == value(p, registers) {
-                return passed(registers, 0);
-            }
-            passed(registers, n)
-        }
-        Instruction::Assert(r, p) => {
-            if register_at(registers, wide(r)) == value(p, registers) {
-                return passed(registers, 0);
-            }
-            failed(registers)
-        }
     }
 }

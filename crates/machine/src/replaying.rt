@@ -1,10 +1,13 @@
 // A schedule of any length carried out as far as it goes: whole, or refused by 20 at its first byte that may not step, or by 21 if it is not full.
 use crate::asking::ended_all;
-use crate::asking::may;
+use crate::local::wide;
 use crate::noting::put_note;
 use crate::starting::started;
+use crate::state::LastWrite;
 use crate::state::Machine;
-use crate::stepping::step;
+use crate::state::ThreadState;
+use crate::stepping::acted;
+ghost use mathlib.Core.Path.{_≡_};
 ghost use Rattle.program.specs.Program.{Program};
 ghost use Rattle.machine.specs.Held.{Loaded, HoldsRun};
 
@@ -22,7 +25,19 @@ pub struct Run {
     pub steps: usize,
 }
 
-// Carries out a schedule of the program in these rows.
+// A run that ends here.
+fn ended_here(verdict: Verdict, m: Machine, trail: [u8; 192], steps: usize) -> Run
+    ensures { λ r. ⌜ r ≡ record { verdict = verdict; machine = m; trail = trail; steps = steps } ⌝ }
+{
+    Run {
+        verdict: verdict,
+        machine: m,
+        trail: trail,
+        steps: steps,
+    }
+}
+
+// Carries out a schedule of the program in these rows. Each step is stored in the one machine.
 pub fn replayed(code: &[u8; 1536], lengths: &[usize; 6], threads: usize, schedule: &[u8]) -> Run
     requires { ⌜ ((p : Program) × Loaded (now code) (now lengths) threads p) ⌝ }
     ensures { λ r. ⌜ ((p : Program) → Loaded (now (code .entry)) (now (lengths .entry)) threads p → HoldsRun (now (code .entry)) (now (lengths .entry)) p (now (schedule .entry)) r) ⌝ }
@@ -32,32 +47,36 @@ pub fn replayed(code: &[u8; 1536], lengths: &[usize; 6], threads: usize, schedul
     let mut k = 0;
     while k < schedule.len() {
         let t = schedule[k];
-        if !may(lengths, m, t) {
-            return Run {
-                verdict: Verdict::Refused(20, k),
-                machine: m,
-                trail: trail,
-                steps: k,
-            };
+        if 6 <= t {
+            return ended_here(Verdict::Refused(20, k), m, trail, k);
         }
-        let s = step(code, lengths, m, t);
-        let note = s.note;
+        let u = wide(t);
+        let thread = m.threads[u];
+        if lengths[u] <= thread.at {
+            return ended_here(Verdict::Refused(20, k), m, trail, k);
+        }
+        let memory = m.memory;
+        let last = m.last;
+        let e = acted(code, lengths, thread, memory, last, t);
+        let rs = e.registers;
+        m.threads[u] = ThreadState {
+            registers: rs,
+            at: e.at,
+            done: e.done,
+            failed: e.failed,
+        };
+        let l = e.place;
+        m.memory[l] = e.value;
+        m.last[l] = LastWrite {
+            thread: e.thread,
+            number: e.number,
+        };
+        let note = e.note;
         put_note(&mut trail, k, note);
-        m = s.machine;
         k += 1;
     }
     if ended_all(lengths, m) {
-        return Run {
-            verdict: Verdict::Whole,
-            machine: m,
-            trail: trail,
-            steps: k,
-        };
+        return ended_here(Verdict::Whole, m, trail, k);
     }
-    Run {
-        verdict: Verdict::Refused(21, k),
-        machine: m,
-        trail: trail,
-        steps: k,
-    }
+    ended_here(Verdict::Refused(21, k), m, trail, k)
 }

@@ -1,8 +1,8 @@
 // A thread carried to its next access, or to its end.
-use crate::local::turned;
+use crate::by_row::is_access;
+use crate::by_row::turned;
 use crate::local::wide;
 use crate::state::ThreadState;
-use program::instruction_at;
 ghost use mathlib.Core.Path.{_≡_};
 ghost use Prim.Native.Nat.{_+_, _*_, _<_, _≤_};
 ghost use lib.ListN.{drop};
@@ -26,7 +26,7 @@ pub fn settle(
     let mut rs = registers;
     let mut i = from;
     while i < n {
-        let turn = turned(instruction_at(code, t * 16 + i), rs);
+        let turn = turned(code, t * 16 + i, rs);
         if turn.access {
             return ThreadState {
                 registers: rs,
@@ -48,6 +48,45 @@ pub fn settle(
     }
     ThreadState {
         registers: rs,
+        at: n,
+        done: done,
+        failed: false,
+    }
+}
+
+// The same, quick where an access or the end comes at once. The registers are taken one by one, so that none of the ways keeps them in memory.
+pub fn settled(
+    code: &[u8; 1536],
+    t: usize,
+    n: usize,
+    from: usize,
+    registers: [u32; 4],
+    done: u8,
+) -> ThreadState
+    requires { ⌜ (t < 6) × (n ≤ 16) × (from ≤ n) ⌝ }
+    ensures local { λ s. ⌜ localOf (threadCode (now (code .entry)) t n) s ≡ settle 0 registers (drop from (threadCode (now (code .entry)) t n)) ⌝ }
+    ensures within { λ s. ⌜ (from ≤ s .at) × (s .at ≤ n) × (s .done ≡ done) ⌝ }
+{
+    if from < n {
+        if is_access(code, t * 16 + from) {
+            return ThreadState {
+                registers: registers,
+                at: from,
+                done: done,
+                failed: false,
+            };
+        }
+        let k = settle(code, t, n, from, registers, done);
+        let rs = k.registers;
+        return ThreadState {
+            registers: [rs[0], rs[1], rs[2], rs[3]],
+            at: k.at,
+            done: k.done,
+            failed: k.failed,
+        };
+    }
+    ThreadState {
+        registers: registers,
         at: n,
         done: done,
         failed: false,

@@ -1,20 +1,105 @@
 // A step: a thread's next access, then its instructions up to the next one.
-use crate::accessing::accessed;
+use crate::by_row::accessed_at;
 use crate::local::wide;
-use crate::settling::settle;
+use crate::settling::settled;
 use crate::state::LastWrite;
 use crate::state::Machine;
-use program::instruction_at;
+use crate::state::ThreadState;
 ghost use mathlib.Core.Path.{_≡_};
-ghost use mathlib.Core.Bool.{true};
+ghost use mathlib.Core.Bool.{true, cond};
 ghost use Prim.Native.Nat.{_<_};
+ghost use lib.Dec.{eqb};
 ghost use Rattle.machine.specs.State.{State, place, may};
-ghost use Rattle.machine.specs.Held.{Holds, Ready, HoldsStep};
+ghost use Rattle.machine.specs.Held.{threadAt, Holds, ReadyThread, Ready, HoldsStep, behind};
+
+// What a step changes: its thread, and at its place the value and the last write, as they are behind it; and the step's note. Single bytes that
+// are stored together behind the step stand apart here, so that no processor reads two stores as one load.
+pub struct Effect {
+    pub registers: [u32; 4],
+    pub at: usize,
+    pub place: usize,
+    pub note: [u8; 8],
+    pub value: u32,
+    pub done: u8,
+    pub thread: u8,
+    pub failed: bool,
+    pub number: u8,
+}
 
 // The machine behind a step, and the step's note.
 pub struct Stepped {
     pub machine: Machine,
     pub note: [u8; 8],
+}
+
+// The value at a place behind an access that wrote v (1) or nothing (0), where x stood.
+fn value_behind(writes: u8, v: u32, x: u32) -> u32
+    ensures { λ r. ⌜ r ≡ cond (eqb writes 1) v x ⌝ }
+{
+    if writes == 1 {
+        return v;
+    }
+    x
+}
+
+// The last write of a place behind thread t's access `number`, which wrote (1) or did not (0), where e was.
+fn last_behind(writes: u8, t: u8, number: u8, e: LastWrite) -> LastWrite
+    ensures { λ r. ⌜ r ≡ cond (eqb writes 1) (record { thread = t; number = number }) e ⌝ }
+{
+    if writes == 1 {
+        return LastWrite {
+            thread: t,
+            number: number,
+        };
+    }
+    e
+}
+
+// What a step of thread t changes where the thread stands so, with this memory and these last writes. A search that has its own copy of the
+// machine stores these few values there: no machine is passed.
+pub fn acted(
+    code: &[u8; 1536],
+    lengths: &[usize; 6],
+    thread: ThreadState,
+    memory: [u32; 8],
+    last: [LastWrite; 8],
+    t: u8,
+) -> Effect
+    requires { ⌜ ReadyThread (now lengths) thread t ⌝ }
+    ensures within { λ e. ⌜ e .place < 8 ⌝ }
+    ensures step { λ e. ⌜ ((m : Machine) (σ : State) → threadAt m t ≡ thread → m .memory ≡ memory → m .last ≡ last → Holds (now (code .entry)) (now (lengths .entry)) m σ → may σ t ≡ true → place σ t < 8 → HoldsStep (now (code .entry)) (now (lengths .entry)) σ t (behind m t e)) ⌝ }
+{
+    let u = wide(t);
+    let at = thread.at;
+    let done = thread.done;
+    let registers = thread.registers;
+    let a = accessed_at(code, u * 16 + at, registers, memory);
+    let rs = a.registers;
+    let k = settled(code, u, lengths[u], at + 1, rs, done + 1);
+    let ks = k.registers;
+    let l = wide(a.location) % 8;
+    let e = last[l];
+    let w = last_behind(a.writes, t, done, e);
+    Effect {
+        registers: ks,
+        at: k.at,
+        done: k.done,
+        failed: k.failed,
+        place: l,
+        value: value_behind(a.writes, a.value, memory[l]),
+        thread: w.thread,
+        number: w.number,
+        note: [
+            t,
+            done,
+            a.location,
+            a.reads,
+            e.thread,
+            e.number,
+            a.writes,
+            0,
+        ],
+    }
 }
 
 // A step of thread t, which has not ended.
@@ -25,37 +110,23 @@ pub fn step(code: &[u8; 1536], lengths: &[usize; 6], m: Machine, t: u8) -> Stepp
     let mut n = m;
     let u = wide(t);
     let thread = n.threads[u];
-    let at = thread.at;
-    let done = thread.done;
-    let registers = thread.registers;
     let memory = n.memory;
-    let a = accessed(instruction_at(code, u * 16 + at), registers, memory);
-    let rs = a.registers;
-    let k = settle(code, u, lengths[u], at + 1, rs, done + 1);
-    n.threads[u] = k;
-    let l = wide(a.location) % 8;
-    let e = n.last[l];
-    let note = [
-        t,
-        done,
-        a.location,
-        a.reads,
-        e.thread,
-        e.number,
-        a.writes,
-        0,
-    ];
-    if a.writes == 1 {
-        n.memory[l] = a.value;
-        n.last[l] = LastWrite {
-            thread: t,
-            number: done,
-        };
-        return Stepped {
-            machine: n,
-            note: note,
-        };
-    }
+    let last = n.last;
+    let e = acted(code, lengths, thread, memory, last, t);
+    let rs = e.registers;
+    n.threads[u] = ThreadState {
+        registers: rs,
+        at: e.at,
+        done: e.done,
+        failed: e.failed,
+    };
+    let l = e.place;
+    n.memory[l] = e.value;
+    n.last[l] = LastWrite {
+        thread: e.thread,
+        number: e.number,
+    };
+    let note = e.note;
     Stepped {
         machine: n,
         note: note,

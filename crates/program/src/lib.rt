@@ -28,3 +28,4 @@ pub use file::decode;
 pub use instruction::Instruction;
 pub use instruction::Operand;
 pub use row::instruction_at;
+pub use row::operand_at;

@@ -11,7 +11,7 @@ ghost use Rattle.program.specs.Compiled.{rowAt, instructionAt};
 ghost use Rattle.program.specs.Held.{agree, Written};
 
 // The operand in row `row` at position `j`.
-fn operand_at(code: &[u8; 1536], row: usize, j: usize) -> Operand
+pub fn operand_at(code: &[u8; 1536], row: usize, j: usize) -> Operand
     requires { ⌜ (row < 96) × (j < 12) ⌝ }
     ensures { λ r. ⌜ r ≡ operand (rowAt (now (code .entry)) row) j ⌝ }
 {

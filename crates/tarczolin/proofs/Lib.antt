@@ -4,3 +4,7 @@ pub mod Checked
 pub mod Graphs
 -- What the judge's answer says.
 pub mod Judgements
+-- What the listing's answers say.
+pub mod Told
+-- What the listing's answer to count says.
+pub mod Tallies

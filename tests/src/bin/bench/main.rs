@@ -2,10 +2,12 @@
 mod check;
 mod graph;
 mod judge;
+mod step;
 mod timing;
 
 fn main() {
     check::report();
     graph::report();
+    step::report();
     judge::report();
 }

@@ -1,12 +1,14 @@
 -- `replayed` takes one byte after the other. The invariant: what has been done and what is left make the answer.
 use borrow.Author.Needs.{needs}
 use Prim.Native.Nat.{_-_}
-use mathlib.Core.Path.{refl, sym, _∙_}
-use borrow.Author.Tests.{not-true, not-false}
-use lib.ListN.{length}
+use native.Mathlib.Omega.{arith}
+use mathlib.Core.Path.{refl, sym, subst, _∙_}
+use lib.ListN.{length, getD}
 use Rattle.program.specs.Program.{Program}
-use Rattle.machine.specs.Held.{Loaded}
-use Rattle.machine.proofs.HeldReplay.{Progress, progress-start, replay-stops, replay-ready, replay-near, replay-room, replay-more, replay-whole, replay-short}
+use Rattle.machine.specs.declared.replaying.Run.{Run}
+use Rattle.machine.specs.Held.{Loaded, HoldsRun}
+use Rattle.machine.proofs.HeldAsking.{may-none}
+use Rattle.machine.proofs.HeldReplay.{Progress, progress-start, replay-stops, replay-over, replay-thread, replay-fits, replay-stored, replay-whole, replay-short}
 use Rattle.machine.proofs.replaying.replayed.Statement.{statement}
 use Rattle.machine.proofs.replaying.replayed.Tie as tie
 
@@ -24,67 +26,51 @@ loop-holds c = λ p loaded. progress-start (c .before .before .args .code .now) 
 
 returns : tie.Need-returns Inv-loop μ-loop
 returns c =
-    let c3 = c .before .before .before in
-    let c4 = c3 .before in
-    let c7 = c4 .before .before .before in
-    λ p loaded. replay-stops (c7 .args .code .now) (c7 .args .lengths .now) (c7 .args .threads) p loaded (c7 .args .schedule .now) (c4 .loop .m) (c4
-    .loop .trail) (c4 .loop .k) (c4 .loop .inv p loaded) (c3 .loop-test .taken) (sym (c .before .may .ensures (c7 .args .code .now) _ (c4 .loop .inv p
-    loaded .holds)) ∙ not-true _ (c .if1 .taken))
-
-step-requires : tie.Need-step-requires Inv-loop μ-loop
-step-requires c κs =
-    let c3 = c .before .before .before in
-    let c4 = c3 .before in
-    let c7 = c4 .before .before .before in
-    replay-ready (c7 .args .code .now) (c7 .args .lengths .now) (c7 .args .threads) (c7 .pre .0) (c7 .pre .1) (c7 .args .schedule .now) (c4 .loop .m)
-    (c4 .loop .trail) (c4 .loop .k) (c4 .loop .inv (c7 .pre .0) (c7 .pre .1)) (c3 .loop-test .taken) (sym (c .before .may .ensures (c7 .args .code
-    .now) _ (c4 .loop .inv (c7 .pre .0) (c7 .pre .1) .holds)) ∙ not-false _ (c .if1 .left))
-
-put-note-requires : tie.Need-put-note-requires Inv-loop μ-loop
-put-note-requires c κs =
-    let c3 = c .before .before .before in
-    let c4 = c3 .before in
-    let c6 = c4 .before .before in
-    let c7 = c6 .before in
-    let c10 = c7 .before .before .before in (
-      replay-room (c10 .args .code .now) (c10 .args .lengths .now) (c10 .args .threads) (c10 .pre .0) (c10 .pre .1) (c10 .args .schedule .now) (c7
-          .loop .m) (c7 .loop .trail) (c7 .loop .k) (c7 .loop .inv (c10 .pre .0) (c10 .pre .1)) (c6 .loop-test .taken) (sym (c4 .may .ensures (c10 .args
-          .code .now) _ (c7 .loop .inv (c10 .pre .0) (c10 .pre .1) .holds)) ∙ not-false _ (c3 .if1 .left)),
-      c7 .loop .inv (c10 .pre .0) (c10 .pre .1) .noted
-          .size,
-    )
-
-loop-again : tie.Need-loop-again Inv-loop μ-loop
-loop-again c =
-    let c4 = c .before .before .before .before in
-    let c5 = c4 .before in
-    let c6 = c5 .before in
-    let c8 = c6 .before .before in
-    let c9 = c8 .before in
-    let c12 = c9 .before .before .before in
-    λ p loaded. replay-more (c12 .args .code .now) (c12 .args .lengths .now) (c12 .args .threads) p loaded (c12 .args .schedule .now) (c9 .loop .m)
-    (c9 .loop .trail) (c9 .loop .k) (c9 .loop .inv p loaded) (c8 .loop-test .taken) (sym (c6 .may .ensures (c12 .args .code .now) _ (c9 .loop .inv p
-    loaded .holds)) ∙ not-false _ (c5 .if1 .left)) (c4 .step .result) _ (c4 .step .ensures _ (c9 .loop .inv p loaded .holds) (sym (c6 .may .ensures
-    (c12 .args .code .now) _ (c9 .loop .inv p loaded .holds)) ∙ not-false _ (c5 .if1 .left)) (replay-near (c12 .args .code .now) (c12 .args .lengths
-    .now) (c12 .args .threads) p loaded (c12 .args .schedule .now) (c9 .loop .m) (c9 .loop .trail) (c9 .loop .k) (c9 .loop .inv p loaded) (c8
-    .loop-test .taken) (sym (c6 .may .ensures (c12 .args .code .now) _ (c9 .loop .inv p loaded .holds)) ∙ not-false _ (c5 .if1 .left)))) (c .before
-    .put-note .ensures)
+    let i = c .before .before .before .before .before .before .before .args in
+    let j = c .before .before .before .before .loop in
+    λ p loaded. subst (HoldsRun (i .code .now) (i .lengths .now) p (i .schedule .now)) (sym (c .ended-here .ensures)) (replay-stops (i .code .now) (i .lengths .now) (i .threads) p loaded (i .schedule .now) (j .m) (j .trail) (j .k) (j .inv p loaded) (c .before .before .before .loop-test .taken) (may-none _ _ (c .before .if1 .taken)))
 
 returns-2 : tie.Need-returns-2 Inv-loop μ-loop
 returns-2 c =
-    let c3 = c .before .before .before in
-    let c6 = c3 .before .before .before in
-    λ p loaded. replay-whole (c6 .args .code .now) (c6 .args .lengths .now) (c6 .args .threads) p loaded (c6 .args .schedule .now) (c3 .loop .m) (c3
-    .loop .trail) (c3 .loop .k) (c3 .loop .inv p loaded) (c .before .before .loop-test .left) (sym (c .before .ended-all .ensures (c6 .args .code
-    .now) _ (c3 .loop .inv p loaded .holds)) ∙ c .if2 .taken)
+    let i = c .before .before .before .before .before .before .before .before .before .before .before .before .args in
+    let j = c .before .before .before .before .before .before .before .before .before .loop in
+    λ p loaded. subst (HoldsRun (i .code .now) (i .lengths .now) p (i .schedule .now)) (sym (c .ended-here2 .ensures)) (replay-stops (i .code .now) (i .lengths .now) (i .threads) p loaded (i .schedule .now) (j .m) (j .trail) (j .k) (j .inv p loaded) (c .before .before .before .before .before .before .before .before .loop-test .taken) (replay-over (i .code .now) (i .lengths .now) (i .threads) p loaded (i .schedule .now) (j .m) (j .trail) (j .k) (j .inv p loaded) (c .before .before .before .before .before .before .before .before .loop-test .taken) (c .before .before .before .before .before .wide .result) (c .before .before .before .before .before .wide .ensures) (omega (arith, c .before .before .before .before .before .before .if1 .left)) (c .before .if2 .taken)))
+
+acted-requires : tie.Need-acted-requires Inv-loop μ-loop
+acted-requires c κs =
+    let i = c .before .before .before .before .before .before .before .before .before .before .before .before .before .args in
+    let j = c .before .before .before .before .before .before .before .before .before .before .loop in
+    replay-thread (i .code .now) (i .lengths .now) (i .threads) (c .before .before .before .before .before .before .before .before .before .before .before .before .before .pre .0) (c .before .before .before .before .before .before .before .before .before .before .before .before .before .pre .1) (i .schedule .now) (j .m) (j .trail) (j .k) (j .inv (c .before .before .before .before .before .before .before .before .before .before .before .before .before .pre .0) (c .before .before .before .before .before .before .before .before .before .before .before .before .before .pre .1)) (c .before .before .before .before .before .before .before .before .before .loop-test .taken) (c .before .before .before .before .before .before .wide .result) (c .before .before .before .before .before .before .wide .ensures) (omega (arith, c .before .before .before .before .before .before .before .if1 .left)) (c .before .before .if2 .left)
+
+put-note-requires : tie.Need-put-note-requires Inv-loop μ-loop
+put-note-requires c κs =
+    let i = c .before .before .before .before .before .before .before .before .before .before .before .before .before .before .before .before .before .args in
+    let j = c .before .before .before .before .before .before .before .before .before .before .before .before .before .before .loop in
+    (replay-fits (i .code .now) (i .lengths .now) (i .threads) (c .before .before .before .before .before .before .before .before .before .before .before .before .before .before .before .before .before .pre .0) (c .before .before .before .before .before .before .before .before .before .before .before .before .before .before .before .before .before .pre .1) (i .schedule .now) (j .m) (j .trail) (j .k) (j .inv (c .before .before .before .before .before .before .before .before .before .before .before .before .before .before .before .before .before .pre .0) (c .before .before .before .before .before .before .before .before .before .before .before .before .before .before .before .before .before .pre .1)) (c .before .before .before .before .before .before .before .before .before .before .before .before .before .loop-test .taken) (c .before .before .before .before .before .before .before .before .before .before .wide .result) (c .before .before .before .before .before .before .before .before .before .before .wide .ensures) (omega (arith, c .before .before .before .before .before .before .before .before .before .before .before .if1 .left)) (c .before .before .before .before .before .before .if2 .left), j .inv (c .before .before .before .before .before .before .before .before .before .before .before .before .before .before .before .before .before .pre .0) (c .before .before .before .before .before .before .before .before .before .before .before .before .before .before .before .before .before .pre .1) .noted .size)
+
+add-k : tie.Need-add-k Inv-loop μ-loop
+add-k c =
+    let i = c .before .before .before .before .before .before .before .before .before .before .before .before .before .before .before .before .before .before .args in
+    let j = c .before .before .before .before .before .before .before .before .before .before .before .before .before .before .before .loop in
+    omega (arith, replay-fits (i .code .now) (i .lengths .now) (i .threads) (c .before .before .before .before .before .before .before .before .before .before .before .before .before .before .before .before .before .before .pre .0) (c .before .before .before .before .before .before .before .before .before .before .before .before .before .before .before .before .before .before .pre .1) (i .schedule .now) (j .m) (j .trail) (j .k) (j .inv (c .before .before .before .before .before .before .before .before .before .before .before .before .before .before .before .before .before .before .pre .0) (c .before .before .before .before .before .before .before .before .before .before .before .before .before .before .before .before .before .before .pre .1)) (c .before .before .before .before .before .before .before .before .before .before .before .before .before .before .loop-test .taken) (c .before .before .before .before .before .before .before .before .before .before .before .wide .result) (c .before .before .before .before .before .before .before .before .before .before .before .wide .ensures) (omega (arith, c .before .before .before .before .before .before .before .before .before .before .before .before .if1 .left)) (c .before .before .before .before .before .before .before .if2 .left))
+
+loop-again : tie.Need-loop-again Inv-loop μ-loop
+loop-again c =
+    let i = c .before .before .before .before .before .before .before .before .before .before .before .before .before .before .before .before .before .before .args in
+    let j = c .before .before .before .before .before .before .before .before .before .before .before .before .before .before .before .loop in
+    λ p loaded. replay-stored (i .code .now) (i .lengths .now) (i .threads) p loaded (i .schedule .now) (j .m) (j .trail) (j .k) (j .inv p loaded) (c .before .before .before .before .before .before .before .before .before .before .before .before .before .before .loop-test .taken) (c .before .before .before .before .before .before .before .before .before .before .before .wide .result) (c .before .before .before .before .before .before .before .before .before .before .before .wide .ensures) (omega (arith, c .before .before .before .before .before .before .before .before .before .before .before .before .if1 .left)) (c .before .before .before .before .before .before .before .if2 .left) (c .before .before .before .before .acted .result) _ (c .before .before .before .before .acted .ensures .1) (c .put-note .ensures)
 
 returns-3 : tie.Need-returns-3 Inv-loop μ-loop
 returns-3 c =
-    let c3 = c .before .before .before in
-    let c6 = c3 .before .before .before in
-    λ p loaded. replay-short (c6 .args .code .now) (c6 .args .lengths .now) (c6 .args .threads) p loaded (c6 .args .schedule .now) (c3 .loop .m) (c3
-    .loop .trail) (c3 .loop .k) (c3 .loop .inv p loaded) (c .before .before .loop-test .left) (sym (c .before .ended-all .ensures (c6 .args .code
-    .now) _ (c3 .loop .inv p loaded .holds)) ∙ c .if2 .left)
+    let i = c .before .before .before .before .before .before .before .args in
+    let j = c .before .before .before .before .loop in
+    λ p loaded. subst (HoldsRun (i .code .now) (i .lengths .now) p (i .schedule .now)) (sym (c .ended-here3 .ensures)) (replay-whole (i .code .now) (i .lengths .now) (i .threads) p loaded (i .schedule .now) (j .m) (j .trail) (j .k) (j .inv p loaded) (c .before .before .before .loop-test .left) (sym (c .before .before .ended-all .ensures (i .code .now) _ (j .inv p loaded .holds)) ∙ c .before .if3 .taken))
+
+returns-4 : tie.Need-returns-4 Inv-loop μ-loop
+returns-4 c =
+    let i = c .before .before .before .before .before .before .before .args in
+    let j = c .before .before .before .before .loop in
+    λ p loaded. subst (HoldsRun (i .code .now) (i .lengths .now) p (i .schedule .now)) (sym (c .ended-here4 .ensures)) (replay-short (i .code .now) (i .lengths .now) (i .threads) p loaded (i .schedule .now) (j .m) (j .trail) (j .k) (j .inv p loaded) (c .before .before .before .loop-test .left) (sym (c .before .before .ended-all .ensures (i .code .now) _ (j .inv p loaded .holds)) ∙ c .before .if3 .left))
 
 pub replayed-spec : {M : Type 1} → statement M
-replayed-spec = tie.close (tie.spec Inv-loop μ-loop started-requires loop-holds (λ c. search needs) (λ c κs. search needs) returns step-requires put-note-requires (λ c. search needs) (λ c. search needs) loop-again (λ c κs. search needs) returns-2 returns-3)
+replayed-spec = tie.close (tie.spec Inv-loop μ-loop started-requires loop-holds (λ c. search needs) (λ c κs. search needs) returns (λ c κs. search needs) (λ c. search needs) (λ c. search needs) (λ c. search needs) (λ c. search needs) (λ c κs. search needs) returns-2 acted-requires (λ c. search needs) (λ c. search needs) (λ c. search needs) (λ c. search needs) (λ c. search needs) (λ c. search needs) put-note-requires add-k (λ c. search needs) loop-again (λ c κs. search needs) (λ c κs. search needs) returns-3 (λ c κs. search needs) returns-4)

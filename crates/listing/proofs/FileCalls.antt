@@ -1,0 +1,182 @@
+-- The calls that give a schedule, way by way.
+use Prim.Native.Nat.{ℕ, _/_, _<_, _≤_}
+use mathlib.Core.Path.{_≡_, refl, sym, ap, subst, _∙_}
+use mathlib.Core.Bool.{Bool, true, false}
+use mathlib.Core.List.{List, [], _∷_, List·Memᴰ, List·Memᴰ·head}
+use mathlib.Core.Option.{Option, none, some}
+use native.Mathlib.Omega.{arith}
+use lib.Dec.{ltb}
+use lib.ListN.{length, getD, take, drop}
+use borrow.Author.Tests.{lt-ltb, le-ltb}
+use Rattle.lines.specs.Over.{over}
+use Rattle.program.specs.Program.{Program}
+use Rattle.program.specs.WellFormed.{WellFormed}
+use Rattle.program.specs.Decode.{Decoded, accepted, decode}
+use Rattle.program.specs.Decode as File
+use Rattle.schedules.specs.Lists.{keep, first, headOf}
+use Rattle.schedules.specs.Order.{Schedule}
+use Rattle.schedules.specs.System.{run}
+use Rattle.schedules.specs.Calls.{Answer, found, nomore, refused, turn, short, content, offer}
+use Rattle.schedules.specs.Found.{after}
+use Rattle.schedules.proofs.First.{head-keep}
+use Rattle.schedules.proofs.After.{offer-after}
+use Rattle.machine.specs.State.{SC, start}
+use Rattle.machine.specs.Replay.{Replayed, whole, replay}
+use Rattle.machine.specs.Replay as Replay
+use Rattle.machine.specs.Held.{verdictOf, HoldsRun}
+use Rattle.machine.specs.declared.replaying.Run.{Run}
+use Rattle.machine.specs.declared.replaying.Verdict.{Verdict}
+use Rattle.machine.specs.declared.replaying.Verdict.the-variants.{Whole, Refused}
+use Rattle.listing.specs.declared.calling.ListAnswer.{ListAnswer}
+use Rattle.listing.specs.Answers.{startOf, continued, continueOf, failing, Violation, fails-first, none-fails, refused-by, violationBy, violationContent, violationOf}
+use Rattle.listing.specs.OnFile.{startOn, startFile, continueOn, continueFile, violationOn, violationFile}
+use Rattle.listing.specs.Said.{said, violationSaid}
+use Rattle.listing.specs.ListOf.{listOf}
+use Rattle.listing.specs.Search.{sought}
+use Rattle.listing.specs.Bounds.{boundAt}
+use Rattle.listing.specs.Rows.{rowBytes, rowOf, Shown}
+use Rattle.listing.proofs.FirstRow.{row-steps, row-count, sought-24, First, first-none, first-some}
+
+-- an answer is said, and the output is what it leaves
+abbrev pub Says : ListAnswer → List ℕ → Answer → List ℕ → Type 0
+Says r out' a out = (r ≡ said a) × (out' ≡ content a out)
+
+-- ---- the first one
+module _ (out : List ℕ) (o : Option Schedule) where
+  pub turn-short : length out < 24 → turn (short 24 out) o ≡ refused 22 0
+  unfolding turn
+  turn-short h = rw (lt-ltb (length out) 24 h)
+
+  pub turn-none : 24 ≤ length out → o ≡ none → turn (short 24 out) o ≡ nomore
+  unfolding turn
+  turn-none h e = rw (le-ltb (length out) 24 h, e)
+
+  pub turn-some : (s : Schedule) → 24 ≤ length out → o ≡ some s → turn (short 24 out) o ≡ found s
+  unfolding turn
+  turn-some s h e = rw (le-ltb (length out) 24 h, e)
+
+-- what is read off the row of the first of a list
+module _ (p : Program) (held row : List ℕ) (rows : ℕ) (size : length held ≡ 26) (only : Bool) (o : Option Schedule) (w : WellFormed p)
+    (nonzero : (rows ≡ 0) → ⊥) (shown : Shown p (take (length held / 26) (after o (sought only p))) held row rows) where
+  abbrev here : First p held row rows size (after o (sought only p))
+  here = first-some p held row rows size (after o (sought only p)) nonzero shown
+
+  pub first-24 : length (here .schedule) ≤ 24
+  first-24 = sought-24 p w only o (here .schedule) (subst (λ (l : List Schedule). List·Memᴰ (here .schedule) l) (sym (here .is)) (List·Memᴰ·head refl))
+
+  pub first-head : headOf (after o (sought only p)) ≡ some (here .schedule)
+  unfolding headOf
+  first-head = ap headOf (here .is)
+
+  pub first-length : (n : ℕ) → n ≡ getD row 0 0 → n ≡ length (here .schedule)
+  unfolding rowOf
+  first-length n e = e ∙ ap (λ (b : List ℕ). getD b 0 0) (here .bytes) ∙ row-count (here .schedule) (failing p (here .schedule))
+
+  pub first-steps : (n : ℕ) → n ≡ getD row 0 0 → take n (drop 2 row) ≡ here .schedule
+  unfolding rowOf
+  first-steps n e =
+      ap (λ (k : ℕ). take k (drop 2 row)) (first-length n e) ∙ ap (λ (b : List ℕ). take (length (here .schedule)) (drop 2 b)) (here .bytes)
+      ∙ row-steps (here .schedule) (failing p (here .schedule)) first-24
+
+-- ---- start, on a file
+module _ (file out : List ℕ) where
+  pub start-refused : (n k : ℕ) → decode file ≡ File.refused n k → startFile file out .0 ≡ refused n k
+  unfolding startOn
+  start-refused n k e = ap (λ (d : Decoded). startOn d out .0) e
+
+  pub start-refused-out : (n k : ℕ) → decode file ≡ File.refused n k → startFile file out .1 ≡ out
+  unfolding startOn content
+  start-refused-out n k e = ap (λ (d : Decoded). startOn d out .1) e
+
+  module _ (p : Program) (b : List ℕ) where
+    start-turn : turn (short 24 out) (headOf (after (boundAt false b 0) (sought false p))) ≡ startOf p out .0
+    unfolding startOf boundAt sought
+    start-turn = ap (turn (short 24 out)) (offer-after none (listOf p))
+
+    start-on : decode file ≡ accepted p → startOf p out .0 ≡ startFile file out .0
+    unfolding startOn
+    start-on e = ap (λ (d : Decoded). startOn d out .0) (sym e)
+
+    pub start-answered : decode file ≡ accepted p → turn (short 24 out) (headOf (after (boundAt false b 0) (sought false p))) ≡ startFile file out .0
+    start-answered e = start-turn ∙ start-on e
+
+    pub start-output : decode file ≡ accepted p → content (turn (short 24 out) (headOf (after (boundAt false b 0) (sought false p)))) out ≡ startFile file out .1
+    unfolding startOn startOf
+    start-output e = ap (λ (a : Answer). content a out) start-turn ∙ ap (λ (d : Decoded). startOn d out .1) (sym e)
+
+-- ---- continue, on a program
+module _ (p : Program) (s : Schedule) (out : List ℕ) where
+  pub continue-short : length out < 24 → continueOf p s out ≡ (refused 22 0, out)
+  unfolding continueOf content
+  continue-short h = rw (lt-ltb (length out) 24 h)
+
+  module _ (code lengths : List ℕ) (r : Run) (held : HoldsRun code lengths p s r) (wide : 24 ≤ length out) where
+    -- refused by 20 or 21
+    pub continue-refused : (n k : ℕ) → r .verdict ≡ Refused n k → continueOf p s out ≡ (refused n k, out)
+    unfolding continueOf continued content verdictOf
+    continue-refused n k e =
+        let v : replay p s ≡ Replay.refused n k = sym (held .answer) ∙ ap (λ (v : Verdict). verdictOf v (run SC (start p) (take (r .steps) s))) e in
+        rw (le-ltb (length out) 24 wide, v)
+
+    abbrev next : Answer
+    next = turn (short 24 out) (headOf (after (boundAt true s 0) (sought false p)))
+
+    pub continue-whole : r .verdict ≡ Whole → (turn (short 24 out) (headOf (after (boundAt true s 0) (sought false p)))) ≡ continueOf p s out .0
+    unfolding continueOf continued verdictOf boundAt sought turn
+    continue-whole e =
+        let σ = run SC (start p) (take (r .steps) s) in
+        let v : replay p s ≡ whole σ = sym (held .answer) ∙ ap (λ (v : Verdict). verdictOf v σ) e in
+        rw (le-ltb (length out) 24 wide, v) (ap (turn false) (offer-after (some s) (listOf p)))
+
+    pub continue-output : r .verdict ≡ Whole → content (turn (short 24 out) (headOf (after (boundAt true s 0) (sought false p)))) out ≡ continueOf p s out .1
+    unfolding continueOf
+    continue-output e = ap (λ (a : Answer). content a out) (continue-whole e)
+
+-- on a file
+module _ (file s out : List ℕ) where
+  pub continue-file : (p : Program) → decode file ≡ accepted p → continueOf p s out ≡ continueFile file s out
+  unfolding continueOn
+  continue-file p e = ap (λ (d : Decoded). continueOn d s out) (sym e)
+
+  pub continue-file-refused : (n k : ℕ) → decode file ≡ File.refused n k → continueFile file s out ≡ (refused n k, out)
+  unfolding continueOn content
+  continue-file-refused n k e = ap (λ (d : Decoded). continueOn d s out) e
+
+-- ---- violation
+same-said : (b : Bool) (o : Option Schedule) → said (turn b o) ≡ violationSaid (violationBy b o)
+unfolding said violationSaid turn violationBy
+same-said true o = refl
+same-said false none = refl
+same-said false (some s) = refl
+
+same-content : (b : Bool) (o : Option Schedule) (out : List ℕ) → content (turn b o) out ≡ violationContent (violationBy b o) out
+unfolding content violationContent turn violationBy
+same-content true o out = refl
+same-content false none out = refl
+same-content false (some s) out = refl
+
+module _ (file out b : List ℕ) where
+  pub violation-refused : (n k : ℕ) → decode file ≡ File.refused n k → violationFile file out ≡ (refused-by n k, out)
+  unfolding violationOn violationContent
+  violation-refused n k e = ap (λ (d : Decoded). violationOn d out) e
+
+  module _ (p : Program) (e : decode file ≡ accepted p) where
+    sought-first : headOf (after (boundAt false b 0) (sought true p)) ≡ first (failing p) (listOf p)
+    unfolding boundAt sought after
+    sought-first = head-keep (failing p) (listOf p)
+
+    violation-on : violationOf p out ≡ violationFile file out
+    unfolding violationOn
+    violation-on = ap (λ (d : Decoded). violationOn d out) (sym e)
+
+    pub violation-said : said (turn (short 24 out) (headOf (after (boundAt false b 0) (sought true p)))) ≡ violationSaid (violationFile file out .0)
+    unfolding violationOf
+    violation-said =
+        same-said (short 24 out) (headOf (after (boundAt false b 0) (sought true p)))
+        ∙ ap (λ (o : Option Schedule). violationSaid (violationBy (short 24 out) o)) sought-first ∙ ap (λ (r : Violation × List ℕ). violationSaid (r .0)) violation-on
+
+    pub violation-output : content (turn (short 24 out) (headOf (after (boundAt false b 0) (sought true p)))) out ≡ violationFile file out .1
+    unfolding violationOf
+    violation-output =
+        same-content (short 24 out) (headOf (after (boundAt false b 0) (sought true p))) out
+        ∙ ap (λ (o : Option Schedule). violationContent (violationBy (short 24 out) o) out) sought-first ∙ ap (λ (r : Violation × List ℕ). r .1) violation-on

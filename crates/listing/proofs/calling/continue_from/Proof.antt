@@ -1,0 +1,27 @@
+-- `continue_from` decodes the file first.
+use borrow.Author.Needs.{needs}
+use mathlib.Core.Path.{_≡_, sym, ap, _∙_}
+use Rattle.program.specs.Compiled.{programOf}
+use Rattle.schedules.specs.Calls.{Result}
+use Rattle.listing.specs.Said.{said}
+use Rattle.listing.proofs.Decoded.{decoded-refused, decoded-accepted, decoded-well-formed}
+use Rattle.listing.proofs.FileCalls.{continue-file, continue-file-refused}
+use Rattle.listing.proofs.calling.continue_from.Statement.{statement}
+use Rattle.listing.proofs.calling.continue_from.Tie as tie
+
+continued-requires : tie.Need-continued-requires
+continued-requires c κs = decoded-well-formed (c .before .before .before .before .decode .result) (c .before .before .before .before .before .before .before .before .args .file .now) (c .before .before .before .before .decode .ensures) (c .before .before .enum-told .given .1)
+
+returns : tie.Need-returns
+unfolding said
+returns c =
+    let e = continue-file-refused (c .before .before .before .before .before .before .before .args .file .now) (c .before .before .before .before .before .before .before .args .schedule .now) (c .before .before .before .before .before .before .before .args .out .now) _ _ (decoded-refused (c .before .before .before .decode .result) (c .before .before .before .before .before .before .before .args .file .now) (c .before .before .before .decode .ensures) _ _ (c .before .v .given .1)) in
+    (ap (λ (r : Result). said (r .0)) (sym e), ap (λ (r : Result). r .1) (sym e))
+
+returns-2 : tie.Need-returns-2
+returns-2 c =
+    let e = continue-file (c .before .before .before .before .before .before .before .before .before .before .before .args .file .now) (c .before .before .before .before .before .before .before .before .before .before .before .args .schedule .now) (c .before .before .before .before .before .before .before .before .before .before .before .args .out .now) (programOf (c .before .before .before .before .before .before .before .decode .result .program)) (decoded-accepted (c .before .before .before .before .before .before .before .decode .result) (c .before .before .before .before .before .before .before .before .before .before .before .args .file .now) (c .before .before .before .before .before .before .before .decode .ensures) (c .before .before .before .before .before .enum-told .given .1)) in
+    (c .before .before .continued .ensures .0 ∙ ap (λ (r : Result). said (r .0)) e, c .before .before .continued .ensures .1 ∙ ap (λ (r : Result). r .1) e)
+
+pub continue-from-spec : {M : Type 1} → statement M
+continue-from-spec = tie.close (tie.spec (λ c κs. search needs) (λ c. search needs) (λ c. search needs) continued-requires returns (λ c. search needs) returns-2)

@@ -1,0 +1,38 @@
+-- `put_schedule` copies step after step. The invariant: the first k stand over the front.
+use borrow.Author.Needs.{needs}
+use Prim.Native.Nat.{_≤_, _-_}
+use mathlib.Core.Path.{_≡_, refl, sym, ap, _∙_}
+use native.Mathlib.Omega.{arith}
+use lib.ListN.{length, take, drop}
+use Rattle.lines.specs.Over.{over}
+use Rattle.listing.proofs.FirstRow.{schedule-more}
+use Rattle.listing.proofs.calling.put_schedule.Statement.{statement}
+use Rattle.listing.proofs.calling.put_schedule.Tie as tie
+
+abbrev Inv-loop : tie.InvT-loop
+Inv-loop out₀ row n k₀ out k = (k ≤ n) × (length out ≡ length out₀) × (out ≡ over (take k (drop 2 row)) out₀)
+
+abbrev μ-loop : tie.MeasureT-loop
+μ-loop out₀ row n k₀ out k = n - k
+
+loop-holds : tie.Need-loop-holds Inv-loop μ-loop
+unfolding over
+loop-holds c = (omega arith, refl, refl)
+
+loop-again : tie.Need-loop-again Inv-loop μ-loop
+loop-again c =
+    let a = c .before .before .before .args in
+    let l = c .before .before .loop in
+    let h = c .before .loop-test .taken in (
+      search needs,
+      search needs,
+      schedule-more (a .row .now) (a .out .now) (l .out) (l .k) _ (c .before .before .before .pre .2) (omega (arith, h, c .before .before .before .pre .0)) (omega (arith, h, c .before .before .before .pre .0, c .before .before .before .pre .1)) (l .inv .2) refl,
+    )
+
+returns : tie.Need-returns Inv-loop μ-loop
+returns c =
+    let e : c .before .loop .k ≡ c .before .before .args .n = omega (arith, c .loop-test .left, c .before .loop .inv .0) in
+    c .before .loop .inv .2 ∙ ap (λ k. over (take k (drop 2 (c .before .before .args .row .now))) (c .before .before .args .out .now)) e
+
+pub put-schedule-spec : {M : Type 1} → statement M
+put-schedule-spec = tie.close (tie.spec Inv-loop μ-loop loop-holds (λ c. search needs) (λ c. search needs) (λ c. search needs) (λ c. search needs) (λ c. search needs) loop-again (λ c. search needs) returns)

@@ -1,0 +1,30 @@
+-- `violation` decodes the file first.
+use borrow.Author.Needs.{needs}
+use mathlib.Core.Path.{_≡_, sym, ap, _∙_}
+use mathlib.Core.List.{List}
+use Prim.Native.Nat.{ℕ}
+use Rattle.program.specs.Compiled.{programOf}
+use Rattle.listing.specs.Answers.{Violation}
+use Rattle.listing.specs.Said.{violationSaid}
+use Rattle.listing.proofs.Decoded.{decoded-refused, decoded-accepted, decoded-well-formed}
+use Rattle.listing.proofs.FileCalls.{violation-refused, violation-said, violation-output}
+use Rattle.listing.proofs.calling.violation.Statement.{statement}
+use Rattle.listing.proofs.calling.violation.Tie as tie
+
+next-listed-requires : tie.Need-next-listed-requires
+next-listed-requires c κs = decoded-well-formed (c .before .before .before .before .decode .result) (c .before .before .before .before .before .before .before .args .file .now) (c .before .before .before .before .decode .ensures) (c .before .before .enum-told .given .1)
+
+returns : tie.Need-returns
+unfolding violationSaid
+returns c =
+    let e = violation-refused (c .before .before .before .before .before .before .args .file .now) (c .before .before .before .before .before .before .args .out .now) (c .before .before .before .before .before .before .args .file .now) _ _ (decoded-refused (c .before .before .before .decode .result) (c .before .before .before .before .before .before .args .file .now) (c .before .before .before .decode .ensures) _ _ (c .before .v .given .1)) in
+    (ap (λ (r : Violation × List ℕ). violationSaid (r .0)) (sym e), ap (λ (r : Violation × List ℕ). r .1) (sym e))
+
+returns-2 : tie.Need-returns-2
+returns-2 c =
+    let e = decoded-accepted (c .before .before .before .before .before .before .before .decode .result) (c .before .before .before .before .before .before .before .before .before .before .args .file .now) (c .before .before .before .before .before .before .before .decode .ensures) (c .before .before .before .before .before .enum-told .given .1) in
+    let p = programOf (c .before .before .before .before .before .before .before .decode .result .program) in
+    (c .before .before .next-listed .ensures .0 ∙ violation-said (c .before .before .before .before .before .before .before .before .before .before .args .file .now) (c .before .before .before .before .before .before .before .before .before .before .args .out .now) (c .before .before .before .before .before .before .before .before .before .before .args .file .now) p e, c .before .before .next-listed .ensures .1 ∙ violation-output (c .before .before .before .before .before .before .before .before .before .before .args .file .now) (c .before .before .before .before .before .before .before .before .before .before .args .out .now) (c .before .before .before .before .before .before .before .before .before .before .args .file .now) p e)
+
+pub violation-spec : {M : Type 1} → statement M
+violation-spec = tie.close (tie.spec (λ c κs. search needs) (λ c. search needs) (λ c. search needs) next-listed-requires returns (λ c. search needs) returns-2)

@@ -1,0 +1,24 @@
+-- `first_rows` decodes the file first.
+use borrow.Author.Needs.{needs}
+use mathlib.Core.Option.{none}
+use Rattle.program.specs.Compiled.{programOf}
+use Rattle.listing.specs.Bounds.{boundAt}
+use Rattle.listing.proofs.Decoded.{decoded-refused, decoded-accepted, decoded-well-formed}
+use Rattle.listing.proofs.RowsSaid.{rows-refused, rows-written}
+use Rattle.listing.proofs.row_calls.first_rows.Statement.{statement}
+use Rattle.listing.proofs.row_calls.first_rows.Tie as tie
+
+rows-of-requires : tie.Need-rows-of-requires
+rows-of-requires c κs = decoded-well-formed (c .before .before .before .before .decode .result) (c .before .before .before .before .before .before .before .args .file .now) (c .before .before .before .before .decode .ensures) (c .before .before .enum-told .given .1)
+
+returns : tie.Need-returns
+returns c = rows-refused (c .before .before .before .before .before .before .args .file .now) (c .before .before .before .before .before .before .args .out .now) none _ _ (decoded-refused (c .before .before .before .decode .result) (c .before .before .before .before .before .before .args .file .now) (c .before .before .before .decode .ensures) _ _ (c .before .v .given .1))
+
+returns-2 : tie.Need-returns-2
+unfolding boundAt
+returns-2 c =
+    let e = decoded-accepted (c .before .before .before .before .before .before .before .decode .result) (c .before .before .before .before .before .before .before .before .before .before .args .file .now) (c .before .before .before .before .before .before .before .decode .ensures) (c .before .before .before .before .before .enum-told .given .1) in
+    rows-written (c .before .before .before .before .before .before .before .before .before .before .args .file .now) (c .before .before .before .before .before .before .before .before .before .before .args .out .now) none (programOf (c .before .before .before .before .before .before .before .decode .result .program)) _ _ e (c .before .before .rows-of .ensures)
+
+pub first-rows-spec : {M : Type 1} → statement M
+first-rows-spec = tie.close (tie.spec (λ c κs. search needs) (λ c. search needs) (λ c. search needs) rows-of-requires returns (λ c. search needs) returns-2)

@@ -1,0 +1,29 @@
+-- What the calls that give many listed schedules at a time say of a program file: as many rows as the output has room for stand in front of it; or
+-- the file is refused, and no byte changes.
+use Prim.Native.Nat.{ℕ, _/_}
+use mathlib.Core.List.{List}
+use mathlib.Core.Option.{Option, none, some}
+use lib.ListN.{length, take}
+use Rattle.lines.specs.Over.{over}
+use Rattle.program.specs.Program.{Program}
+use Rattle.program.specs.Decode.{Decoded, accepted, refused, decode}
+use Rattle.schedules.specs.Order.{Schedule}
+use Rattle.schedules.specs.Found.{after}
+use Rattle.listing.specs.declared.row_calls.RowsAnswer.{RowsAnswer}
+use Rattle.listing.specs.declared.row_calls.RowsAnswer.the-variants.{Written, Refused}
+use Rattle.listing.specs.ListOf.{listOf}
+use Rattle.listing.specs.Rows.{rowsOf}
+
+-- the listed schedules that stand in such an output, behind the bound or from the first one on
+unfoldable pub fitting : Program → Option Schedule → List ℕ → List Schedule
+fitting p o out = take (length out / 26) (after o (listOf p))
+
+-- so many rows, or the refusal
+unfoldable pub rowsSaid : Decoded → Option Schedule → List ℕ → RowsAnswer
+rowsSaid (accepted p) o out = Written (length (fitting p o out))
+rowsSaid (refused n k) o out = Refused n k
+
+-- the output behind that
+unfoldable pub rowsOutput : Decoded → Option Schedule → List ℕ → List ℕ
+rowsOutput (accepted p) o out = over (rowsOf p (fitting p o out)) out
+rowsOutput (refused n k) o out = out

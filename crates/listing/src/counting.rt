@@ -1,0 +1,96 @@
+// How many schedules are listed, and how many of these fail.
+use crate::listed::listed_rows;
+use crate::permitted_numbers::permitted_numbers;
+use crate::permitted_numbers::wide;
+use program::Compiled;
+ghost use mathlib.Core.Path.{_≡_};
+ghost use mathlib.Core.List.{List};
+ghost use Prim.Native.Nat.{ℕ, _≤_};
+ghost use lib.ListN.{length};
+ghost use Rattle.program.specs.Program.{Program};
+ghost use Rattle.program.specs.WellFormed.{WellFormed};
+ghost use Rattle.program.specs.Compiled.{programOf};
+ghost use Rattle.schedules.specs.Lists.{keep};
+ghost use Rattle.schedules.specs.Order.{Schedule};
+ghost use Rattle.listing.specs.Answers.{failing, countOf};
+ghost use Rattle.listing.specs.Rows.{Shown};
+ghost use Rattle.listing.specs.OnFile.{countFile};
+ghost use Rattle.listing.specs.CountWord.{countSaid};
+
+pub struct Tally {
+    pub listed: usize,
+    pub failing: usize,
+}
+
+pub enum CountAnswer {
+    // How many are listed, and how many of these fail.
+    Counted(usize, usize),
+    // The refusal's number and place.
+    Refused(u8, usize),
+}
+
+// How many of these rows are of schedules that fail.
+fn failing_in(rows: &[u8; 1664], n: usize) -> usize
+    requires { ⌜ n ≤ 64 ⌝ }
+    ensures { λ r. ⌜ ((p : Program) (ss : List Schedule) (held : List ℕ) → Shown p ss held (now (rows .entry)) n → r ≡ length (keep (failing p) ss)) ⌝ }
+{
+    let mut failing = 0;
+    let mut k = 0;
+    while k < n {
+        if rows[k * 26 + 1] == 1 {
+            failing += 1;
+        }
+        k += 1;
+    }
+    failing
+}
+
+// Of an accepted program: 64 rows at a time, each time behind the last row of the time before.
+pub fn counts(program: Compiled) -> Tally
+    requires { ⌜ WellFormed (programOf program) ⌝ }
+    ensures { λ r. ⌜ (r .listed ≡ countOf (programOf program) .listed) × (r .failing ≡ countOf (programOf program) .failed) ⌝ }
+{
+    let class = program.class;
+    let groups = program.groups;
+    let permitted = permitted_numbers(class, groups);
+    let none = [0u8; 1];
+    let mut rows = [0u8; 1664];
+    let mut n = listed_rows(program, permitted, false, &none, false, &mut rows);
+    let mut listed = 0;
+    let mut failing = 0;
+    while 0 < n {
+        listed += n;
+        failing += failing_in(&rows, n);
+        let before = rows;
+        let at = (n - 1) * 26;
+        let length = wide(before[at]);
+        n = listed_rows(
+            program,
+            permitted,
+            false,
+            &before[at + 2..at + 2 + length],
+            true,
+            &mut rows,
+        );
+    }
+    Tally {
+        listed: listed,
+        failing: failing,
+    }
+}
+
+// Of a program file, which may be refused.
+pub fn count(file: &[u8]) -> CountAnswer
+    ensures { λ r. ⌜ r ≡ countSaid (countFile (now (file .entry))) ⌝ }
+{
+    let a = program::decode(file);
+    let v = a.verdict;
+    match v {
+        program::Verdict::Refused(n, k) => CountAnswer::Refused(n, k),
+        program::Verdict::Accepted => {
+            let p = a.program;
+            let c = counts(p);
+            CountAnswer::Counted(c.listed, c.failing)
+        }
+    }
+}

@@ -1,0 +1,25 @@
+-- What the calls that give a listed schedule say: answered, with the schedule's length; nothing for no more or none; or the refusal.
+use lib.ListN.{length}
+use Rattle.schedules.specs.Calls.{Answer, found, nomore, refused}
+use Rattle.listing.specs.declared.calling.ListAnswer.{ListAnswer}
+use Rattle.listing.specs.declared.calling.ListAnswer.the-variants.{Found, NoMore, Refused}
+use Rattle.listing.specs.Answers.{Violation, fails-first, none-fails, refused-by}
+use Rattle.tarczolin.specs.Word as word
+
+-- start and continue
+unfoldable pub listed : Answer → word.Said
+listed (found s) = word.answered (length s)
+listed nomore = word.nothing
+listed (refused n k) = word.refused n k
+
+-- violation
+unfoldable pub violated : Violation → word.Said
+violated (fails-first s) = word.answered (length s)
+violated none-fails = word.nothing
+violated (refused-by n k) = word.refused n k
+
+-- by the answer as the code gives it
+unfoldable pub toldOf : ListAnswer → word.Said
+toldOf (Found n) = word.answered n
+toldOf NoMore = word.nothing
+toldOf (Refused n k) = word.refused n k
