@@ -1,19 +1,17 @@
 -- Before anything is printed, all that is printed of the file is left.
-use Prim.Native.Nat.{ℕ, _+_, _<_, _≤_, _^_}
-use mathlib.Core.Path.{_≡_, refl, sym, ap, subst, _∙_}
+use Prim.Native.Nat.{ℕ, _+_, _≤_}
+use mathlib.Core.Path.{_≡_, sym, ap, subst, _∙_}
 use mathlib.Core.Bool.{Bool, false}
 use mathlib.Core.List.{List, [], _∷_, _++_, map}
 use native.Mathlib.Omega.{arith}
 use lib.ListN.{length, take, drop}
 use Rattle.program.specs.Program.{Program}
 use Rattle.program.specs.WellFormed.{WellFormed}
-use Rattle.program.specs.Decode.{Decoded, accepted, refused, decode}
-use Rattle.program.specs.Compiled.{programOf, verdictOf, answerOf}
+use Rattle.program.specs.Decode.{Decoded, decode}
+use Rattle.program.specs.Compiled.{programOf, answerOf}
 use Rattle.program.specs.declared.file.Compiled.{Compiled}
 use Rattle.program.specs.declared.file.Answer.{Answer}
-use Rattle.program.specs.declared.file.Verdict.{Verdict}
 use Rattle.program.specs.declared.file.Verdict.the-variants as File
-use Rattle.program.proofs.AcceptedWellFormed.{accepted-well-formed}
 use Rattle.schedules.specs.Lists.{upTo, keep}
 use Rattle.schedules.specs.Order.{Schedule}
 use Rattle.schedules.specs.Found.{after}
@@ -24,33 +22,28 @@ use Rattle.listing.specs.ListOf.{permits, listOf}
 use Rattle.listing.specs.Answers.{failing, Counts, countOf}
 use Rattle.listing.specs.ClassGroups.{groupsOf}
 use Rattle.listing.specs.Bounds.{boundAt}
-use Rattle.listing.specs.Walked.{Numbered}
 use Rattle.listing.specs.Printed.{scheduleFrame, countFrame, printedFrames, printed}
-use Rattle.listing.specs.declared.permitted_numbers.Permitted.{Permitted}
 use Rattle.listing.proofs.TheList.{list-length}
+use Rattle.listing.proofs.Decoded.{decoded-refused, decoded-accepted, decoded-well-formed}
 use Rattle.explorer.specs.declared.pieces.Stage.{Stage}
-use Rattle.explorer.specs.declared.pieces.Stage.the-variants.{Refused, Walking, Ended}
+use Rattle.explorer.specs.declared.pieces.Stage.the-variants.{Refused, Walking}
 use Rattle.explorer.specs.declared.pieces.Listing.{Listing}
-use Rattle.explorer.specs.Pieces.{left, counts, framesLeft, rest, Ready, Begun}
+use Rattle.explorer.specs.Pieces.{left, counts, framesLeft, rest, Begun}
 
 module _ (file : List ℕ) (a : Answer) (s : Listing) (e : answerOf a ≡ decode file) where
   -- a refused file
   pub begun-refused : (n k : ℕ) → a .verdict ≡ File.Refused n k → s .stage ≡ Refused n k → Begun file s
-  unfolding rest framesLeft printed answerOf verdictOf
+  unfolding rest framesLeft printed
   begun-refused n k v g =
-      let d : refused n k ≡ decode file = sym (ap (λ (x : Verdict). verdictOf x (programOf (a .program))) v) ∙ e in record {
+      record {
         sound = λ w. absurd (let q : _≡_ {A = Stage} (Refused n k) Walking = sym g ∙ w in let z : _≡_ {A = ℕ} 0 1 = cc in omega arith);
-        whole = ap (λ (t : Stage). textOf (framesLeft t s)) g ∙ ap (λ (d : Decoded). textOf (printedFrames d)) d;
+        whole = ap (λ (t : Stage). textOf (framesLeft t s)) g ∙ ap (λ (d : Decoded). textOf (printedFrames d)) (sym (decoded-refused a file e n k v));
       }
 
   -- an accepted one
   module _ (v : a .verdict ≡ File.Accepted) (program : s .program ≡ a .program) (along : s .along ≡ false) (listed : s .listed ≡ 0) (failed : s .failed ≡ 0) where
     abbrev p : Program
     p = programOf (a .program)
-
-    accepted-is : decode file ≡ accepted p
-    unfolding answerOf verdictOf
-    accepted-is = sym e ∙ ap (λ (x : Verdict). verdictOf x p) v
 
     left-all : left s ≡ listOf p
     unfolding left boundAt after
@@ -68,7 +61,7 @@ module _ (file : List ℕ) (a : Answer) (s : Listing) (e : answerOf a ≡ decode
         ap (λ (i : ℕ). record { listed = i; failed = s .failed + length (keep (failing (programOf (s .program))) (left s)) }) a ∙ ap (λ (j : ℕ). record { listed = length (listOf p); failed = j }) b
 
     well-formed : WellFormed p
-    well-formed = accepted-well-formed file p accepted-is
+    well-formed = decoded-well-formed a file e v
 
     pub begun-accepted : s .stage ≡ Walking → s .steps ≡ 0 → length (s .permitted .numbers) ≡ 720
         → (s .permitted .count ≤ 720) × (take (s .permitted .count) (s .permitted .numbers) ≡ keep (λ k. permits (groupsOf (a .program .class) (a .program .groups)) (permutationOf k)) (upTo 0 720))
@@ -90,5 +83,5 @@ module _ (file : List ℕ) (a : Answer) (s : Listing) (e : answerOf a ≡ decode
           ∙ ap (λ (c : Compiled). textOf (map (scheduleFrame (programOf c)) (left s) ++ (countFrame (counts s) ∷ []))) program
           ∙ ap (λ (l : List Schedule). textOf (map (scheduleFrame p) l ++ (countFrame (counts s) ∷ []))) left-all
           ∙ ap (λ (c : Counts). textOf (map (scheduleFrame p) (listOf p) ++ (countFrame c ∷ []))) counts-all
-          ∙ ap (λ (d : Decoded). textOf (printedFrames d)) (sym accepted-is);
+          ∙ ap (λ (d : Decoded). textOf (printedFrames d)) (sym (decoded-accepted a file e v));
     }

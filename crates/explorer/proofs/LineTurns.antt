@@ -1,20 +1,19 @@
 -- The lines of listed schedules, one row after the other; how long they are; the lines of the counts and of a refusal.
-use Prim.Native.Nat.{ℕ, zero, suc, _+_, _-_, _*_, _/_, _%_, _<_, _≤_}
+use Prim.Native.Nat.{ℕ, _+_, _-_, _*_, _<_, _≤_}
 use mathlib.Core.Path.{_≡_, refl, sym, ap, subst, _∙_}
 use mathlib.Core.Bool.{Bool, true, false, cond}
 use mathlib.Core.List.{List, [], _∷_, _++_, map, map-append, append-assoc}
 use native.Mathlib.Numerals.{add-one}
 use native.Mathlib.Omega.{arith}
-use lib.ListN.{length, getD, set, take, drop, length-append}
+use lib.ListN.{length, getD, take, drop, length-append}
 use lib.Seq.{take-suc}
 use borrow.Rule.Slice.PartMut.{midOf, putMid}
 use Rattle.lines.specs.Text.{text, written}
 use Rattle.lines.specs.Over.{over}
 use Rattle.lines.proofs.Text.{length-text}
 use Rattle.program.specs.Program.{Program}
-use Rattle.program.specs.WellFormed.{WellFormed, Everywhere}
 use Rattle.program.specs.Decode.{refused}
-use Rattle.program.proofs.Everywhere.{everywhere-all, everywhere-getD}
+use Rattle.program.proofs.Everywhere.{everywhere-getD}
 use Rattle.schedules.specs.Lists.{keep}
 use Rattle.schedules.specs.Order.{Schedule}
 use Rattle.schedules.specs.Found.{after}
@@ -26,7 +25,7 @@ use Rattle.listing.specs.Answers.{failing, Counts}
 use Rattle.listing.specs.Rows.{rowBytes, rowOf, Shown}
 use Rattle.listing.specs.Printed.{bytesOf, scheduleFrame, countFrame, printedFrames}
 use Rattle.explorer.specs.Pieces.{Short}
-use Rattle.explorer.proofs.RowText.{row-shown, row-frame, row-failed, frame-is}
+use Rattle.explorer.proofs.RowText.{row-shown, row-failed, frame-is}
 
 -- ---- one line
 pub frame-wrote : (f g out xs : List ℕ) (n : ℕ) → f ≡ g → n ≡ length (written f (length out)) → xs ≡ over (written f (length out)) out → Wrote (g ∷ []) out xs n

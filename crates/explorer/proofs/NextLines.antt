@@ -2,8 +2,8 @@
 use Prim.Native.Nat.{ℕ, zero, suc, _+_, _-_, _*_, _/_, _<_, _≤_, _^_}
 use mathlib.Core.Path.{_≡_, refl, sym, ap, ap₂, subst, _∙_}
 use mathlib.Core.Bool.{Bool, true, false}
-use mathlib.Core.Option.{Option, none, some}
-use mathlib.Core.List.{List, [], _∷_, _++_, map, map-append, append-assoc, append-nil, List·Memᴰ}
+use mathlib.Core.Option.{Option, some}
+use mathlib.Core.List.{List, [], _∷_, _++_, map, map-append, append-assoc, append-nil}
 use native.Mathlib.Omega.{arith}
 use lib.ListN.{length, getD, take, drop, length-append, length-take, take-append-drop}
 use lib.Seq.{take-all, take-suc}
@@ -17,13 +17,11 @@ use Rattle.program.specs.Decode.{refused}
 use Rattle.program.specs.declared.file.Compiled.{Compiled}
 use Rattle.program.proofs.Everywhere.{everywhere-all, everywhere-getD}
 use Rattle.schedules.specs.Lists.{keep}
-use Rattle.schedules.specs.Order.{Schedule, less}
+use Rattle.schedules.specs.Order.{Schedule}
 use Rattle.schedules.specs.Found.{after}
 use Rattle.schedules.proofs.Kept.{keep-append}
-use Rattle.schedules.proofs.Lists.{of-keep}
 use Rattle.machine.specs.Text.{textOf}
 use Rattle.machine.specs.NoteText.{Wrote}
-use Rattle.machine.proofs.Lawful.{at-most-24}
 use Rattle.machine.proofs.WrittenLines.{wrote-whole, wrote-more}
 use Rattle.listing.specs.ListOf.{listOf}
 use Rattle.listing.specs.Answers.{failing, Counts}
@@ -33,13 +31,14 @@ use Rattle.listing.specs.Walked.{Numbered}
 use Rattle.listing.specs.declared.permitted_numbers.Permitted.{Permitted}
 use Rattle.listing.specs.Rows.{rowBytes, rowOf, Shown}
 use Rattle.listing.specs.Printed.{scheduleFrame, countFrame, printedFrames}
-use Rattle.listing.proofs.TheList.{list-exact}
 use Rattle.listing.proofs.Walk.{sought-on}
+use Rattle.listing.proofs.FirstRow.{sought-24}
+use Rattle.listing.proofs.CountedRows.{keep-length}
 use Rattle.explorer.specs.declared.pieces.Stage.{Stage}
 use Rattle.explorer.specs.declared.pieces.Stage.the-variants.{Refused, Walking, Ended}
 use Rattle.explorer.specs.declared.pieces.Listing.{Listing}
 use Rattle.explorer.specs.Pieces.{Short, left, counts, framesLeft, rest, Ready, Sound, Next}
-use Rattle.explorer.proofs.RowText.{row-shown, row-steps}
+use Rattle.explorer.proofs.RowText.{row-shown, row-bound}
 use Rattle.explorer.proofs.LineTurns.{lines-length, text-append, lines-some, count-length, refusal-length}
 
 -- ---- what stands in front of the buffer
@@ -77,12 +76,7 @@ next-refusal s s' out xs n k m e e' room w =
     (f .0, next-last s s' (take m xs) e' (f .1 ∙ ap (λ (g : Stage). textOf (framesLeft g s)) (sym e)))
 
 -- ---- the walk
--- what stands behind a bound stands in the list
-after-in : (o : Option Schedule) (l : List Schedule) (s : Schedule) → List·Memᴰ s (after o l) → List·Memᴰ s l
-unfolding after
-after-in none l s m = m
-after-in (some b) l s m = of-keep (less b) l s m .0
-
+-- some of a list
 everywhere-take : {A : Type 0} (P : A → Type 0) (n : ℕ) (l : List A) → Everywhere P l → Everywhere P (take n l)
 everywhere-take P zero l h = tt
 everywhere-take P (suc n) [] h = tt
@@ -90,12 +84,12 @@ everywhere-take P (suc n) (x ∷ l) h = (h .0, everywhere-take P n l (h .1))
 
 -- listed schedules have at most 24 steps
 pub short-left : (s : Listing) → Ready s → Short (take 256 (left s))
-unfolding left
+unfolding left sought
 short-left s r =
     let p : Program = programOf (s .program) in
     let o : Option Schedule = boundAt (s .along) (take (s .steps) (drop 2 (s .last))) 0 in
     everywhere-take (λ x. length x ≤ 24) 256 (after o (listOf p))
-    (everywhere-all (λ x. length x ≤ 24) (after o (listOf p)) (λ x m. at-most-24 p (r .wellFormed) x (list-exact p x .0 (after-in o (listOf p) x m) .0)))
+    (everywhere-all (λ x. length x ≤ 24) (after o (listOf p)) (sought-24 p (r .wellFormed) false o))
 
 -- the rows that the walk along the list writes are of the next 256 that are left
 pub shown-left : (s : Listing) (bound held rows : List ℕ) (n : ℕ) → length held ≡ 6656 → bound ≡ take (s .steps) (drop 2 (s .last))
@@ -105,15 +99,6 @@ unfolding left sought
 shown-left s bound held rows n h e w =
     subst (λ (b : List ℕ). Shown (programOf (s .program)) (take 256 (after (boundAt (s .along) b 0) (listOf (programOf (s .program))))) held rows n) e
     (subst (λ (j : ℕ). Shown (programOf (s .program)) (take (j / 26) (after (boundAt (s .along) bound 0) (listOf (programOf (s .program))))) held rows n) h w)
-
-kept-fewer : (g : Schedule → Bool) (l : List Schedule) → length (keep g l) ≤ length l
-unfolding keep
-kept-fewer g [] = omega arith
-kept-fewer g (x ∷ l) = go (g x) refl (kept-fewer g l)
-  where
-    go : (b : Bool) → g x ≡ b → length (keep g l) ≤ length l → length (keep g (x ∷ l)) ≤ length (x ∷ l)
-    go true e h = rw (e, keep) (omega arith)
-    go false e h = rw (e, keep) (omega arith)
 
 module _ (s : Listing) (r : Ready s) (held rows : List ℕ) (n : ℕ) (w : Shown (programOf (s .program)) (take 256 (left s)) held rows n) where
   abbrev p : Program
@@ -129,7 +114,7 @@ module _ (s : Listing) (r : Ready s) (held rows : List ℕ) (n : ℕ) (w : Shown
   listed-fits = omega (arith, w .counted, length-take 256 (left s), r .fits)
 
   pub failed-fits : (m : ℕ) → m ≡ length (keep (failing p) next256) → s .failed + m ≤ s .listed + n
-  failed-fits m e = omega (arith, w .counted, r .few, kept-fewer (failing p) next256)
+  failed-fits m e = omega (arith, w .counted, r .few, keep-length (failing p) next256)
 
   -- the frames left, while schedules are listed
   rest-walking : s .stage ≡ Walking → rest s ≡ textOf (map (scheduleFrame p) (left s) ++ (countFrame (counts s) ∷ []))
@@ -198,7 +183,7 @@ module _ (s : Listing) (r : Ready s) (held rows : List ℕ) (n : ℕ) (w : Shown
       newest-short = everywhere-getD (λ x. length x ≤ 24) next256 255 [] (short-left s r) (omega arith)
 
       bound-is : take (s' .steps) (drop 2 (s' .last)) ≡ newest
-      bound-is = row-steps newest (failing p newest) (s' .last) (s' .steps) newest-row newest-short (steps newest (failing p newest) newest-row newest-short)
+      bound-is = row-bound newest (failing p newest) (s' .last) (s' .steps) newest-row newest-short (steps newest (failing p newest) newest-row newest-short)
 
       left-is : left s' ≡ behind
       unfolding left boundAt

@@ -10,12 +10,12 @@ use lib.Seq.{take-at, drop-at, drop-drop, take-suc, take-all, length-take-le, ge
 use Rattle.lines.specs.Over.{over}
 use Rattle.lines.proofs.Over.{over-snoc}
 use Rattle.program.specs.Program.{Program}
-use Rattle.program.specs.Compiled.{tabulate}
 use Rattle.schedules.specs.Order.{Schedule}
 use Rattle.listing.specs.Answers.{failing}
 use Rattle.listing.specs.Rows.{rowBytes, rowOf, rowsOf, Shown}
 use Rattle.listing.specs.Printed.{flag, scheduleFrame}
 use Rattle.listing.proofs.RowBytes.{row-length}
+use Rattle.listing.proofs.FirstRow.{row-steps}
 
 -- row k of rows that stand in front of other bytes
 row-in : (p : Program) (ss : List Schedule) (behind : List ℕ) (k : ℕ) → k < length ss → take 26 (drop (k * 26) (rowsOf p ss ++ behind)) ≡ rowOf p (getD ss k [])
@@ -38,15 +38,8 @@ row-shown p ss held rows n k w h =
 
 -- ---- one row
 -- the steps behind the first two bytes
-padded : (s : Schedule) (m : ℕ) → length s ≤ m → take (length s) (tabulate (λ k. getD s k 0) m) ≡ s
-unfolding tabulate
-padded [] m h = refl
-padded (x ∷ s) zero h = absurd (omega arith)
-padded (x ∷ s) (suc m) h = ap (λ (l : List ℕ). x ∷ l) (padded s m (omega arith))
-
-pub row-steps : (s : Schedule) (f : Bool) (row : List ℕ) (n : ℕ) → row ≡ rowBytes s f → length s ≤ 24 → n ≡ length s → take n (drop 2 row) ≡ s
-unfolding rowBytes
-row-steps s f row n e h c = ap (λ (l : List ℕ). take n (drop 2 l)) e ∙ ap (λ (k : ℕ). take k (tabulate (λ k. getD s k 0) 24)) c ∙ padded s 24 h
+pub row-bound : (s : Schedule) (f : Bool) (row : List ℕ) (n : ℕ) → row ≡ rowBytes s f → length s ≤ 24 → n ≡ length s → take n (drop 2 row) ≡ s
+row-bound s f row n e h c = ap₂ (λ (k : ℕ) (l : List ℕ). take k (drop 2 l)) c e ∙ row-steps s f h
 
 -- with 50 in place of the number of steps
 pub row-frame : (s : Schedule) (f : Bool) (row : List ℕ) (n : ℕ) → row ≡ rowBytes s f → length s ≤ 24 → n ≡ length s → take (n + 2) (set row 0 0x50) ≡ 0x50 ∷ cond f 1 0 ∷ s
@@ -54,14 +47,10 @@ unfolding rowBytes
 row-frame s f row n e h c =
     let k : n + 2 ≡ suc (suc n) = omega arith in
     ap (λ (j : ℕ). take j (set row 0 0x50)) k
-    ∙ ap (λ (l : List ℕ). take (suc (suc n)) (set l 0 0x50)) e
-    ∙ ap (λ (l : List ℕ). 0x50 ∷ cond f 1 0 ∷ l) (ap (λ (k : ℕ). take k (tabulate (λ k. getD s k 0) 24)) c ∙ padded s 24 h)
+    ∙ ap₂ (λ (m : ℕ) (l : List ℕ). take (suc (suc m)) (set l 0 0x50)) c e
+    ∙ ap (λ (l : List ℕ). 0x50 ∷ cond f 1 0 ∷ l) (row-steps s f h)
 
--- how many steps there are, where that is read off the row
-pub row-count : (s : Schedule) (f : Bool) (row : List ℕ) → row ≡ rowBytes s f → getD row 0 0 ≡ length s
-unfolding rowBytes
-row-count s f row e = ap (λ (l : List ℕ). getD l 0 0) e
-
+-- whether the schedule fails
 pub row-failed : (s : Schedule) (f : Bool) (row : List ℕ) → row ≡ rowBytes s f → getD row 1 0 ≡ cond f 1 0
 unfolding rowBytes
 row-failed s f row e = ap (λ (l : List ℕ). getD l 1 0) e

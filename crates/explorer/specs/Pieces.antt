@@ -4,7 +4,6 @@ use mathlib.Core.Path.{_≡_}
 use mathlib.Core.List.{List, [], _∷_, _++_, map}
 use lib.ListN.{length, take, drop}
 use Rattle.program.specs.Compiled.{programOf}
-use Rattle.program.specs.Program.{Program}
 use Rattle.program.specs.WellFormed.{WellFormed, Everywhere}
 use Rattle.program.specs.Decode.{refused}
 use Rattle.schedules.specs.Lists.{keep}

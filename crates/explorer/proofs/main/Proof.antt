@@ -1,6 +1,6 @@
 -- `main` prints what was read.
 use borrow.Author.Needs.{needs}
-use mathlib.Core.Path.{_≡_, subst}
+use mathlib.Core.Path.{subst}
 use Rattle.explorer.specs.declared.Input.{Input}
 use Rattle.explorer.specs.Pieces.{Within}
 use Rattle.explorer.proofs.main.Statement.{statement}

@@ -1,7 +1,5 @@
 -- `refusal_line` writes the frame of a refusal.
 use borrow.Author.Needs.{needs}
-use mathlib.Core.Path.{refl}
-use Rattle.program.specs.Decode.{refused}
 use Rattle.listing.specs.Printed.{bytesOf, printedFrames}
 use Rattle.explorer.proofs.LineTurns.{frame-wrote}
 use Rattle.explorer.proofs.frames.refusal_line.Statement.{statement}

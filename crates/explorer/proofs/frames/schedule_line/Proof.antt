@@ -1,6 +1,6 @@
 -- `schedule_line` writes the row with 50 in place of the number of steps, and without what stands behind the steps.
 use borrow.Author.Needs.{needs}
-use mathlib.Core.Path.{_≡_, _∙_, sym}
+use mathlib.Core.Path.{_≡_, sym}
 use native.Mathlib.Omega.{arith}
 use lib.ListN.{length, set, take, length-set}
 use lib.Seq.{length-take-le}
