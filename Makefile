@@ -1,5 +1,7 @@
 # make test              every check: formatting, proofs, edits that must be refused, Rust tests over the static library
 # make check FILE=F      is F a program file? prints accepted, or the refusal's number, place, line and reason
+# make list FILE=F       the list of F, or its refusal, as the listing program prints it
+# make explorer          the listing program itself: target/bin/explorer
 # make tool              builds the command: target/cargo/release/tarczolin
 # make bench             times of the library beside plain Rust
 # make fuzz SECONDS=N    random bytes to every call, for so long
@@ -9,10 +11,12 @@ SECONDS ?= 600
 CARGO = cargo
 QUIET = --quiet --release --offline --locked
 LIBRARY = target/staticlib/libtarczolin.a
+EXPLORER = target/bin/explorer
+SOURCES = crates.txt $(shell find crates -name '*.rt' -o -name '*.antt')
 VALGRIND = valgrind --quiet --error-exitcode=9 --leak-check=full --show-leak-kinds=definite --errors-for-leak-kinds=definite \
   --suppressions=$(CURDIR)/tests/valgrind.supp --trace-children=yes --log-file=$(CURDIR)/target/valgrind/%p.log
 
-.PHONY: test check tool bench fuzz valgrind
+.PHONY: test check list explorer tool bench fuzz valgrind
 
 test:
 	@rm -f target/tally
@@ -20,6 +24,11 @@ test:
 
 check: $(LIBRARY)
 	@$(CARGO) run $(QUIET) --bin tarczolin -- check $(FILE)
+
+list: $(EXPLORER)
+	@$(EXPLORER) < $(FILE)
+
+explorer: $(EXPLORER)
 
 tool: $(LIBRARY)
 	@$(CARGO) build $(QUIET) --bin tarczolin
@@ -36,5 +45,8 @@ valgrind: $(LIBRARY)
 	@TEST_SHARE=100 FUZZ_SECONDS=20 CARGO_TARGET_X86_64_UNKNOWN_LINUX_GNU_RUNNER='$(VALGRIND)' $(CARGO) test $(QUIET) --workspace
 	@cat target/valgrind/*.log; test -z "$$(cat target/valgrind/*.log)" && echo 'valgrind reports nothing beside what tests/valgrind.supp leaves out'
 
-$(LIBRARY): crates.txt $(shell find crates -name '*.rt' -o -name '*.antt')
+$(LIBRARY): $(SOURCES)
 	@rt staticlib tarczolin
+
+$(EXPLORER): $(SOURCES)
+	@rt check explorer

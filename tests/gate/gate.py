@@ -103,6 +103,8 @@ def rust_tests(tally):
     if status != 0 or not library.is_file():
         tally.fail('rt staticlib tarczolin made no library, so the Rust tests were not run')
         return
+    if not (TARGET / 'bin' / 'explorer').is_file():
+        tally.fail('rt ci left no target/bin/explorer for the Rust tests to run')
     cargo_tests(tally, CARGO_TEST)
 
 

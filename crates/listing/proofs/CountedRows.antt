@@ -178,7 +178,7 @@ unfolding after
 after-in none l s m = m
 after-in (some b) l s m = of-keep (less b) l s m .0
 
-keep-length : {A : Type 0} (f : A → Bool) (l : List A) → length (keep f l) ≤ length l
+pub keep-length : {A : Type 0} (f : A → Bool) (l : List A) → length (keep f l) ≤ length l
 unfolding keep
 keep-length f [] = omega arith
 keep-length f (x ∷ l) = go (keep-length f l) (f x) refl

@@ -39,6 +39,9 @@ pub use counting::count;
 // Listed schedules by rows.
 mod row_calls;
 
+pub use listed::listed_rows;
+pub use permitted_numbers::Permitted;
+pub use permitted_numbers::permitted_numbers as permitted;
 pub use row_calls::RowsAnswer;
 pub use row_calls::first_rows;
 pub use row_calls::next_rows;

@@ -1,0 +1,135 @@
+// What the program prints, piece by piece.
+use crate::frames::count_line;
+use crate::frames::refusal_line;
+use crate::frames::row_at;
+use crate::frames::schedule_lines;
+use crate::frames::steps_of;
+use listing::Permitted;
+use listing::listed_rows;
+use listing::permitted;
+use program::Compiled;
+use program::Verdict;
+ghost use mathlib.Core.Path.{_≡_};
+ghost use mathlib.Core.Bool.{false};
+ghost use Prim.Native.Nat.{_≤_};
+ghost use lib.ListN.{length, take};
+ghost use Rattle.explorer.specs.declared.pieces.Stage.the-variants.{Walking, Ended};
+ghost use Rattle.explorer.specs.Pieces.{Ready, Sound, Begun, Next};
+
+pub enum Stage {
+    // The file is refused, by this number at this place.
+    Refused(u8, usize),
+    // Schedules are listed, then their counts.
+    Walking,
+    // All is printed.
+    Ended,
+}
+
+// Where the printing stands: the program, with its permitted permutations; whether a schedule was printed, the row of the last one and its
+// steps; how many were printed, and how many of these fail.
+pub struct Listing {
+    pub stage: Stage,
+    pub program: Compiled,
+    pub permitted: Permitted,
+    pub along: bool,
+    pub last: [u8; 26],
+    pub steps: usize,
+    pub listed: u64,
+    pub failed: u64,
+}
+
+// So many bytes come next, and what comes behind them.
+pub struct Piece {
+    pub length: usize,
+    pub listing: Listing,
+}
+
+// Before anything is printed.
+fn unprinted(stage: Stage, program: Compiled, permitted: Permitted) -> Listing
+    ensures { λ r. ⌜ (r .stage ≡ stage) × (r .program ≡ program) × (r .permitted ≡ permitted) × (r .along ≡ false) × (r .steps ≡ 0) × (r .listed ≡ 0) × (r .failed ≡ 0) × (length (r .permitted .numbers) ≡ 720) ⌝ }
+{
+    Listing {
+        stage: stage,
+        program: program,
+        permitted: permitted,
+        along: false,
+        last: [0u8; 26],
+        steps: 0,
+        listed: 0,
+        failed: 0,
+    }
+}
+
+// All that is printed of this file is still to come.
+pub fn begin(file: &[u8]) -> Listing
+    ensures { λ r. ⌜ Begun (now (file .entry)) r ⌝ }
+{
+    let a = program::decode(file);
+    let program = a.program;
+    let class = program.class;
+    let numbers = permitted(class, program.groups);
+    let v = a.verdict;
+    match v {
+        Verdict::Refused(n, k) => unprinted(Stage::Refused(n, k), program, numbers),
+        Verdict::Accepted => unprinted(Stage::Walking, program, numbers),
+    }
+}
+
+// Nothing comes behind these bytes.
+fn last_piece(s: Listing, length: usize) -> Piece
+    ensures { λ r. ⌜ (r .length ≡ length) × (r .listing .stage ≡ Ended) ⌝ }
+{
+    let program = s.program;
+    let permitted = s.permitted;
+    Piece {
+        length: length,
+        listing: unprinted(Stage::Ended, program, permitted),
+    }
+}
+
+// The lines of the next 256 listed schedules, or of all that are left and then the line of the counts.
+fn walk_on(s: Listing, out: &mut [u8]) -> Piece
+    requires { ⌜ (s .stage ≡ Walking) × Ready s × (13568 ≤ length (now out)) ⌝ }
+    ensures { λ r. ⌜ (r .length ≤ length (now (out .exit))) × Next s (take (r .length) (now (out .exit))) (r .listing) ⌝ }
+{
+    let program = s.program;
+    let permitted = s.permitted;
+    let last = s.last;
+    let to = s.steps + 2;
+    let mut rows = [0u8; 6656];
+    let n = listed_rows(program, permitted, false, &last[2..to], s.along, &mut rows);
+    let lines = schedule_lines(out, &rows, n);
+    let at = lines.length;
+    let listed = s.listed + n as u64;
+    let failed = s.failed + lines.failed as u64;
+    if n < 256 {
+        return last_piece(s, at + count_line(&mut out[at..], listed, failed));
+    }
+    let row = row_at(&rows, 255);
+    Piece {
+        length: at,
+        listing: Listing {
+            stage: Stage::Walking,
+            program: program,
+            permitted: permitted,
+            along: true,
+            last: row,
+            steps: steps_of(row),
+            listed: listed,
+            failed: failed,
+        },
+    }
+}
+
+// Writes what comes next to the front of the output; no bytes only where nothing is left.
+pub fn next(s: Listing, out: &mut [u8]) -> Piece
+    requires { ⌜ Sound s × (13568 ≤ length (now out)) ⌝ }
+    ensures { λ r. ⌜ (r .length ≤ length (now (out .exit))) × Next s (take (r .length) (now (out .exit))) (r .listing) ⌝ }
+{
+    let stage = s.stage;
+    match stage {
+        Stage::Refused(n, k) => last_piece(s, refusal_line(out, n, k)),
+        Stage::Walking => walk_on(s, out),
+        Stage::Ended => last_piece(s, 0),
+    }
+}
