@@ -14,7 +14,7 @@ LIBRARY = target/staticlib/libtarczolin.a
 EXPLORER = target/bin/explorer
 SOURCES = crates.txt $(shell find crates -name '*.rt' -o -name '*.antt')
 VALGRIND = valgrind --quiet --error-exitcode=9 --leak-check=full --show-leak-kinds=definite --errors-for-leak-kinds=definite \
-  --suppressions=$(CURDIR)/tests/valgrind.supp --trace-children=yes --log-file=$(CURDIR)/target/valgrind/%p.log
+  --trace-children=yes --log-file=$(CURDIR)/target/valgrind/%p.log
 
 .PHONY: test check list explorer tool bench fuzz valgrind
 
@@ -43,7 +43,7 @@ fuzz: $(LIBRARY)
 valgrind: $(LIBRARY)
 	@rm -rf target/valgrind && mkdir -p target/valgrind
 	@TEST_SHARE=100 FUZZ_SECONDS=20 CARGO_TARGET_X86_64_UNKNOWN_LINUX_GNU_RUNNER='$(VALGRIND)' $(CARGO) test $(QUIET) --workspace
-	@cat target/valgrind/*.log; test -z "$$(cat target/valgrind/*.log)" && echo 'valgrind reports nothing beside what tests/valgrind.supp leaves out'
+	@cat target/valgrind/*.log; test -z "$$(cat target/valgrind/*.log)" && echo 'valgrind reports nothing'
 
 $(LIBRARY): $(SOURCES)
 	@rt staticlib tarczolin
