@@ -102,26 +102,23 @@ module _ (code lengths class : List ℕ) (threads groups : ℕ) (m : Machine) (t
   pub turn-ended : (u : ℕ) → u ≡ t → t < 6 → getD lengths u 0 ≤ threadAt m u .at → foundWith only p steps o v t ≡ []
   turn-ended u e h l = with-ended h (subst (λ (k : ℕ). getD lengths k 0 ≤ threadAt m k .at) e l)
 
-  pub turn-may : (u : ℕ) → u ≡ t → t < 6 → threadAt m u .at < getD lengths u 0 → may (run SC (start p) v) t ≡ true
-  turn-may u e h l = reached-may-yes code lengths class threads groups m trail steps p v at t h (subst (λ (k : ℕ). threadAt m k .at < getD lengths k 0) e l)
-
   module _ (ok : may (run SC (start p) v) t ≡ true) (r : Stepped)
       (stepped : (τ : State) → Holds code lengths m τ → may τ t ≡ true → place τ t < 8 → HoldsStep code lengths τ t r) where
-    behind : HoldsStep code lengths (run SC (start p) v) t r
-    behind = stepped σ (at .holds) ok (reached-place code lengths class threads groups m trail steps p v at t)
+    here : HoldsStep code lengths (run SC (start p) v) t r
+    here = stepped σ (at .holds) ok (reached-place code lengths class threads groups m trail steps p v at t)
 
     -- R1 by the note of the step
     pub turn-late : (answer : Bool) → ((ns : List Note) → Noted trail ns → length ns ≡ steps → answer ≡ late (reverse (map did ns)) (doing t (getD (r .note) 2 0) (eqb (getD (r .note) 6 0) 1)))
         → answer ≡ late (taken p v) (action (run SC (start p) v) t)
     turn-late answer h =
-        late-answered code lengths class threads groups m trail steps p v at answer _ h ∙ ap (late (taken p v)) (action-noted σ t (r .note) (behind .noted))
+        late-answered code lengths class threads groups m trail steps p v at answer _ h ∙ ap (late (taken p v)) (action-noted σ t (r .note) (here .noted))
 
     -- the prefix with this step
     pub turn-next : (trail' : List ℕ) → late (taken p v) (action (run SC (start p) v) t) ≡ false → ((ns : List Note) (n : Note) → Noted trail ns → steps ≡ length ns → r .note ≡ noteBytes n → Noted trail' (ns ++ (n ∷ [])))
         → Reached code lengths class threads groups (r .machine) trail' (steps + 1) p (v ++ (t ∷ []))
     turn-next trail' ontime h =
-        reached-next code lengths class threads groups m trail steps p v at t ok r trail' behind
-        (h (notes (start p) v) (note σ t) (at .noted) (sym (notes-counted code lengths class threads groups m trail steps p v at)) (behind .noted)) ontime
+        reached-next code lengths class threads groups m trail steps p v at t ok r trail' here
+        (h (notes (start p) v) (note σ t) (at .noted) (sym (notes-counted code lengths class threads groups m trail steps p v at)) (here .noted)) ontime
 
   -- no rule gives it up
   pub with-live : may (run SC (start p) v) t ≡ true → any (twin p (run SC (start p) v) t) (upTo 0 t) ≡ false → late (taken p v) (action (run SC (start p) v) t) ≡ false
@@ -192,6 +189,18 @@ module _ (code lengths class : List ℕ) (groups : ℕ) (numbers : List ℕ) (co
             adds-same p room _ _ out out'' n n'' (in-turn-more (λ d. foundWith only p steps o v d) 6 t h)
             (adds-more p room (foundWith only p steps o v t) _ out out' out'' n n' n'' (adds threads p v here num) a)),
       )
+
+  -- a thread that has ended adds nothing; the code names it by u
+  pub left-skip : (trail out : List ℕ) (n t u : ℕ) → u ≡ t → t < 6 → getD lengths u 0 ≤ threadAt m u .at → Rest trail out n t → Rest trail out n (t + 1)
+  left-skip trail out n t u eu h l rest =
+      left-next trail out trail out n n t h rest (λ threads p v here. here .noted)
+      (λ threads p v here num. adds-none p room _ out n (turn-ended code lengths class threads groups m trail steps p v here only o t u eu h l))
+
+  -- stepped or not, the loop goes on with what there is then
+  pub left-joined : (trail out trail' out' : List ℕ) (n n' t : ℕ) → trail' ≡ trail → out' ≡ out → n' ≡ n → n ≤ room → length out ≡ length out₀ → Rest trail out n t
+      → (n' ≤ room) × (length out' ≡ length out₀) × Rest trail' out' n' t
+  left-joined trail out trail' out' n n' t et eo en fits size rest =
+      (subst (λ (k : ℕ). k ≤ room) (sym en) fits, ap length eo ∙ size, subst (λ (x : List ℕ). Rest x out' n' t) (sym et) (subst (λ (x : List ℕ). Rest trail x n' t) (sym eo) (subst (λ (k : ℕ). Rest trail out k t) (sym en) rest)))
 
   -- no step is left
   pub left-over : (trail out : List ℕ) (n t : ℕ) → 6 ≤ t → Rest trail out n t → (threads : ℕ) (p : Program) (v : Schedule)

@@ -6,22 +6,25 @@ use crate::lateness::late;
 use crate::permitted_numbers::wide;
 use crate::sleeping::some_asleep;
 use crate::smaller_twin::has_smaller_twin;
+use machine::LastWrite;
 use machine::Machine;
+use machine::ThreadState;
+use machine::acted;
 use machine::ended_all;
 use machine::put_note;
-use machine::step;
 ghost use mathlib.Core.List.{List};
 ghost use Prim.Native.Nat.{ℕ, _*_, _<_, _≤_};
-ghost use lib.ListN.{length};
+ghost use lib.ListN.{length, getD};
 ghost use Rattle.program.specs.Program.{Program};
 ghost use Rattle.schedules.specs.Order.{Schedule};
 ghost use Rattle.machine.specs.State.{start};
 ghost use Rattle.machine.specs.Notes.{notes, Noted};
+ghost use Rattle.machine.specs.Held.{threadAt};
 ghost use Rattle.listing.specs.Bounds.{boundAt};
 ghost use Rattle.listing.specs.Reached.{Reached};
 ghost use Rattle.listing.specs.Walked.{Numbered, Adds, foundBehind, foundWith};
 
-// Adds what is found with t as the next step, unless a rule gives that step up.
+// Adds what is found with t, which has not ended, as the next step, unless a rule gives that step up.
 fn turn(
     code: &[u8; 1536],
     lengths: &[usize; 6],
@@ -40,26 +43,38 @@ fn turn(
     rows: usize,
     t: u8,
 ) -> usize
-    requires { ⌜ ((threads : ℕ) × (p : Program) × (v : Schedule) × Reached (now code) (now lengths) (now class) threads groups m (now trail) steps p v) × (count ≤ 720) × (rows ≤ room) × (room * 26 ≤ length (now out)) × (t < 6) × (steps < 24) ⌝ }
+    requires { ⌜ ((threads : ℕ) × (p : Program) × (v : Schedule) × Reached (now code) (now lengths) (now class) threads groups m (now trail) steps p v) × (count ≤ 720) × (rows ≤ room) × (room * 26 ≤ length (now out)) × (t < 6) × (steps < 24) × (threadAt m t .at < getD (now lengths) t 0) ⌝ }
     ensures within { λ r. ⌜ r ≤ room ⌝ }
     ensures noted { λ r. ⌜ ((threads : ℕ) (p : Program) (v : Schedule) → Reached (now (code .entry)) (now (lengths .entry)) (now (class .entry)) threads groups m (now (trail .entry)) steps p v → Noted (now (trail .exit)) (notes (start p) v)) ⌝ }
     ensures added { λ r. ⌜ ((threads : ℕ) (p : Program) (v : Schedule) → Reached (now (code .entry)) (now (lengths .entry)) (now (class .entry)) threads groups m (now (trail .entry)) steps p v → Numbered (now (class .entry)) groups (now (numbers .entry)) count → Adds p room (foundWith only p steps (boundAt along (now (bound .entry)) steps) v t) (now (out .entry)) rows (now (out .exit)) r) ⌝ }
 {
-    let u = wide(t);
-    let thread = m.threads[u];
-    if lengths[u] <= thread.at {
-        return rows;
-    }
     if has_smaller_twin(class, groups, m, trail, steps, t) {
         return rows;
     }
-    let s = step(code, lengths, m, t);
-    let note = s.note;
+    let mut next = m;
+    let u = wide(t);
+    let thread = next.threads[u];
+    let memory = next.memory;
+    let last = next.last;
+    let e = acted(code, lengths, thread, memory, last, t);
+    let note = e.note;
     if late(trail, steps, t, note[2], note[6] == 1) {
         return rows;
     }
     put_note(trail, steps, note);
-    let next = s.machine;
+    let rs = e.registers;
+    next.threads[u] = ThreadState {
+        registers: rs,
+        at: e.at,
+        done: e.done,
+        failed: e.failed,
+    };
+    let l = e.place;
+    next.memory[l] = e.value;
+    next.last[l] = LastWrite {
+        thread: e.thread,
+        number: e.number,
+    };
     if some_asleep(code, lengths, next, trail, steps + 1) {
         return rows;
     }
@@ -121,24 +136,28 @@ pub fn walk(
         if room <= n {
             return n;
         }
-        n = turn(
-            code,
-            lengths,
-            class,
-            groups,
-            numbers,
-            count,
-            only,
-            m,
-            trail,
-            steps,
-            bound,
-            along,
-            out,
-            room,
-            n,
-            t,
-        );
+        let u = wide(t);
+        let thread = m.threads[u];
+        if thread.at < lengths[u] {
+            n = turn(
+                code,
+                lengths,
+                class,
+                groups,
+                numbers,
+                count,
+                only,
+                m,
+                trail,
+                steps,
+                bound,
+                along,
+                out,
+                room,
+                n,
+                t,
+            );
+        }
         t += 1;
     }
     n

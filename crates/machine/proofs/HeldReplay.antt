@@ -26,6 +26,7 @@ use Rattle.machine.proofs.Regular.{place-in, regular-run, regular-start
 use Rattle.machine.proofs.Replay.{nil-full, nil-short, cons-goes, cons-stops}
 use Rattle.machine.proofs.HeldStart.{threads-held, short-held}
 use Rattle.machine.proofs.HeldAsking.{held-may, held-ended, ready-held}
+use Rattle.machine.proofs.HeldStep.{stored-step}
 use Rattle.machine.proofs.HeldNotes.{noted-none}
 
 -- the notes of a step more
@@ -126,7 +127,7 @@ module _ (code lengths : List ℕ) (threads : ℕ) (p : Program) (loaded : Loade
             → Progress code lengths p s (behind m u e .machine) trail' (k + 1)
         replay-stored e trail' acts note-put =
             replay-more may-here (behind m u e) trail'
-            (subst (λ (v : ℕ). HoldsStep code lengths σ t (behind m v e)) (sym eu) (acts m σ (ap (threadAt m) (sym eu)) refl refl (done .holds) may-here (replay-near may-here))) note-put
+            (stored-step code lengths m t u e eu acts σ (done .holds) may-here (replay-near may-here)) note-put
 
   -- ---- none is left
   module _ (h : length s ≤ k) where

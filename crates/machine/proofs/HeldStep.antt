@@ -264,3 +264,10 @@ effect-holds code lengths m σ t u thread memory last a k l eu el acts et em es 
   where
     P : ℕ → ThreadState → List ℕ → List LastWrite → Type 0
     P v h n w = Acted code lengths h n v a k → HoldsStep code lengths σ t (behind m t (effectOf t h n w a k l))
+
+-- what a step changes, stored in the machine that it was found in
+pub stored-step : (code lengths : List ℕ) (m : Machine) (t u : ℕ) (e : Effect) → u ≡ t
+    → ((n : Machine) (τ : State) → threadAt n t ≡ threadAt m u → n .memory ≡ m .memory → n .last ≡ m .last → Holds code lengths n τ → may τ t ≡ true → place τ t < 8 → HoldsStep code lengths τ t (behind n t e))
+    → (τ : State) → Holds code lengths m τ → may τ t ≡ true → place τ t < 8 → HoldsStep code lengths τ t (behind m u e)
+stored-step code lengths m t u e eu acts τ held ok near =
+    subst (λ (v : ℕ). HoldsStep code lengths τ t (behind m v e)) (sym eu) (acts m τ (ap (threadAt m) (sym eu)) refl refl held ok near)

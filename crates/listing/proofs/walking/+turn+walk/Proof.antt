@@ -5,16 +5,19 @@ use Prim.Native.Nat.{ℕ, _<_, _≤_, _-_, _*_, _+_}
 use mathlib.Core.Path.{_≡_, refl, sym, ap, subst, _∙_}
 use mathlib.Core.List.{List, [], _∷_, _++_}
 use mathlib.Core.Option.{Option}
+use mathlib.Core.Logic.{⊎-elim}
 use native.Mathlib.Omega.{arith}
-use lib.ListN.{length}
+use lib.ListN.{length, getD}
 use borrow.Fn.Kinds.{In}
 use borrow.Fn.PlainCycle.{Measures, is, falls, and}
 use Rattle.schedules.specs.Order.{Schedule}
+use Rattle.machine.specs.Held.{threadAt, ReadyThread, behind}
+use Rattle.machine.proofs.HeldStep.{stored-step}
 use Rattle.listing.specs.Bounds.{boundAt}
 use Rattle.listing.specs.Walked.{Adds, foundBehind}
-use Rattle.listing.proofs.ReachedStep.{reached-trail, reached-back, reached-able, reached-most}
+use Rattle.listing.proofs.ReachedStep.{reached-trail, reached-back, reached-may-yes, reached-able, reached-most}
 use Rattle.listing.proofs.AddedRows.{adds-none, adds-same}
-use Rattle.listing.proofs.WalkTurns.{with-twin, with-late, with-asleep, with-live, turn-ended, turn-may, turn-late, turn-next, behind-bound, behind-end, behind-stuck, Left, left-start, left-next, left-over, left-full}
+use Rattle.listing.proofs.WalkTurns.{with-twin, with-late, with-asleep, with-live, turn-late, turn-next, behind-bound, behind-end, behind-stuck, Left, left-start, left-next, left-skip, left-joined, left-over, left-full}
 use Rattle.listing.proofs.walking.turn.Reads as turn
 use Rattle.listing.proofs.walking.turn.Kinds as turn-kinds
 use Rattle.listing.proofs.walking.+turn+walk.Lts-turn as turn-lts
@@ -30,7 +33,7 @@ use Rattle.listing.proofs.sleeping.some_asleep.Reads as some-asleep-rea
 use Rattle.listing.proofs.smaller_twin.has_smaller_twin.Reads as has-smaller-twin-reads
 use Rattle.machine.proofs.ended_all.Reads as ended-all-reads
 use Rattle.machine.proofs.put_note.Reads as put-note-reads
-use Rattle.machine.proofs.step.Reads as step-reads
+use Rattle.machine.proofs.acted.Reads as acted-reads
 use Rattle.listing.proofs.walking.+turn+walk.{statement}
 use Rattle.listing.proofs.walking.+turn+walk.Tie.{close}
 
@@ -54,12 +57,12 @@ walk-below t = and 7 walk-kinds.ps (falls 7 walk-kinds.ps _<_ μ-walk t) walk.Pr
 
 abbrev turn-callees : ℕ → turn-lts.Claims
 turn-callees t = (
-  wide-reads.Asked,
-  wide-reads.Learnt,
   has-smaller-twin-reads.Asked,
   has-smaller-twin-reads.Learnt,
-  step-reads.Asked,
-  step-reads.Learnt,
+  wide-reads.Asked,
+  wide-reads.Learnt,
+  acted-reads.Asked,
+  acted-reads.Learnt,
   late-reads.Asked,
   late-reads.Learnt,
   put-note-reads.Asked,
@@ -73,141 +76,151 @@ turn-callees t = (
 )
 
 abbrev walk-callees : ℕ → walk-lts.Claims
-walk-callees t = (ended-all-reads.Asked, ended-all-reads.Learnt, at-end-reads.Asked, at-end-reads.Learnt, first-thread-reads.Asked, first-thread-reads.Learnt, turn-below t, turn.Post)
+walk-callees t = (ended-all-reads.Asked, ended-all-reads.Learnt, at-end-reads.Asked, at-end-reads.Learnt, first-thread-reads.Asked, first-thread-reads.Learnt, wide-reads.Asked, wide-reads.Learnt, turn-below t, turn.Post)
 
 -- ---- turn
 turn-returns : (t : ℕ) → turn-lts.Need-returns (turn-callees t) (turn-at t) turn.Post
 turn-returns t c =
-    let a = c .before .before .before .before .before .before .before .args in (
-      c .before .before .before .before .before .before .before .pre .1 .2,
+    let a = c .before .before .before .before .before .args in (
+      c .before .before .before .before .before .pre .1 .2,
       (
         (λ threads p v at. at .noted),
         λ threads p v at num.
+            let ok = reached-may-yes (a .code .now) (a .lengths .now) (a .class .now) threads (a .groups) (a .m) (a .trail .now) (a .steps) p v at (a .t) (c .before .before .before .before .before .pre .1 .4) (c .before .before .before .before .before .pre .1 .6) in
             adds-none p (a .room) _ (a .out .now) (a .rows)
-            (turn-ended (a .code .now) (a .lengths .now) (a .class .now) threads (a .groups) (a .t8) (a .trail .now) (a .steps) p v at (a .only) (boundAt (a .along) (a .bound .now) (a .steps)) (a .t)
-            (c .before .before .before .before .wide .result) (c .before .before .before .before .wide .ensures) (c .before .before .before .before .before .before .before .pre .1 .4) (c .if1 .taken)),
+            (with-twin (a .code .now) (a .lengths .now) (a .class .now) threads (a .groups) (a .m) (a .trail .now) (a .steps) p v at (a .only) (boundAt (a .along) (a .bound .now) (a .steps)) (a .t) ok (sym (c .before .has-smaller-twin .ensures (a .code .now) (a .lengths .now) threads p v at ok) ∙ c .if1 .taken)),
       ),
     )
+
+turn-acted-requires : (t : ℕ) → turn-lts.Need-acted-requires (turn-callees t) (turn-at t) turn.Post
+turn-acted-requires t c κs =
+    let a = c .before .before .before .before .before .before .before .before .before .args in
+    let e = c .before .before .before .before .before .before .before .before .before .pre .1 .0 in
+    subst (λ (v : ℕ). ReadyThread (a .lengths .now) (threadAt (a .m) v) (a .t)) (sym (c .before .before .before .wide .ensures)) (reached-able (a .code .now) (a .lengths .now) (a .class .now) (e .0) (a .groups) (a .m) (a .trail .now) (a .steps) (e .1) (e .2) (e .3) (a .t) (reached-may-yes (a .code .now) (a .lengths .now) (a .class .now) (e .0) (a .groups) (a .m) (a .trail .now) (a .steps) (e .1) (e .2) (e .3) (a .t) (c .before .before .before .before .before .before .before .before .before .pre .1 .4) (c .before .before .before .before .before .before .before .before .before .pre .1 .6)))
 
 turn-returns-2 : (t : ℕ) → turn-lts.Need-returns-2 (turn-callees t) (turn-at t) turn.Post
 turn-returns-2 t c =
-    let a = c .before .before .before .before .before .before .before .before .before .before .args in (
-      c .before .before .before .before .before .before .before .before .before .before .pre .1 .2,
+    let a = c .before .before .before .before .before .before .before .before .before .before .before .before .before .before .args in (
+      c .before .before .before .before .before .before .before .before .before .before .before .before .before .before .pre .1 .2,
       (
         (λ threads p v at. at .noted),
         λ threads p v at num.
             let o = boundAt (a .along) (a .bound .now) (a .steps) in
-            let ok = turn-may (a .code .now) (a .lengths .now) (a .class .now) threads (a .groups) (a .t8) (a .trail .now) (a .steps) p v at (a .only) o (a .t) (c .before .before .before .before .before .before .before .wide .result) (c .before .before .before .before .before .before .before .wide .ensures) (c .before .before .before .before .before .before .before .before .before .before .pre .1 .4) (c .before .before .before .if1 .left) in
+            let ok = reached-may-yes (a .code .now) (a .lengths .now) (a .class .now) threads (a .groups) (a .m) (a .trail .now) (a .steps) p v at (a .t) (c .before .before .before .before .before .before .before .before .before .before .before .before .before .before .pre .1 .4) (c .before .before .before .before .before .before .before .before .before .before .before .before .before .before .pre .1 .6) in
             adds-none p (a .room) _ (a .out .now) (a .rows)
-            (with-twin (a .code .now) (a .lengths .now) (a .class .now) threads (a .groups) (a .t8) (a .trail .now) (a .steps) p v at (a .only) o (a .t) ok
-            (sym (c .before .has-smaller-twin .ensures (a .code .now) (a .lengths .now) threads p v at ok) ∙ c .if2 .taken)),
+            (with-late (a .code .now) (a .lengths .now) (a .class .now) threads (a .groups) (a .m) (a .trail .now) (a .steps) p v at (a .only) o (a .t) ok
+            (sym (turn-late (a .code .now) (a .lengths .now) (a .class .now) threads (a .groups) (a .m) (a .trail .now) (a .steps) p v at (a .only) o (a .t) ok (behind (a .m) (c .before .before .before .before .before .before .before .before .wide .result) (c .before .before .before .before .acted .result)) (stored-step (a .code .now) (a .lengths .now) (a .m) (a .t) (c .before .before .before .before .before .before .before .before .wide .result) (c .before .before .before .before .acted .result) (c .before .before .before .before .before .before .before .before .wide .ensures) (c .before .before .before .before .acted .ensures .1)) (c .before .late .result) (c .before .late .ensures)) ∙ c .if2 .taken)),
       ),
     )
 
-turn-step-requires : (t : ℕ) → turn-lts.Need-step-requires (turn-callees t) (turn-at t) turn.Post
-turn-step-requires t c κs =
-    let a = c .before .before .before .before .before .before .before .before .before .before .args in
-    let e = c .before .before .before .before .before .before .before .before .before .before .pre .1 .0 in
-    let ok = turn-may (a .code .now) (a .lengths .now) (a .class .now) (e .0) (a .groups) (a .t8) (a .trail .now) (a .steps) (e .1) (e .2) (e .3) (a .only) (boundAt (a .along) (a .bound .now) (a .steps)) (a .t) (c .before .before .before .before .before .before .before .wide .result) (c .before .before .before .before .before .before .before .wide .ensures) (c .before .before .before .before .before .before .before .before .before .before .pre .1 .4) (c .before .before .before .if1 .left) in
-    reached-able (a .code .now) (a .lengths .now) (a .class .now) (e .0) (a .groups) (a .t8) (a .trail .now) (a .steps) (e .1) (e .2) (e .3) (a .t) ok
+turn-mul-t29 : (t : ℕ) → turn-lts.Need-mul-t29 (turn-callees t) (turn-at t) turn.Post
+turn-mul-t29 t c =
+    omega (arith, c .before .before .before .before .before .before .before .before .before .before .before .wide .ensures, c .before .before .before .before .before .before .before .before .before .before .before .before .before .before .before .before .before .pre .1 .4)
 
-turn-returns-3 : (t : ℕ) → turn-lts.Need-returns-3 (turn-callees t) (turn-at t) turn.Post
-turn-returns-3 t c =
-    let a = c .before .before .before .before .before .before .before .before .before .before .before .before .before .before .before .args in (
-      c .before .before .before .before .before .before .before .before .before .before .before .before .before .before .before .pre .1 .2,
-      (
-        (λ threads p v at. at .noted),
-        λ threads p v at num.
-            let o = boundAt (a .along) (a .bound .now) (a .steps) in
-            let ok = turn-may (a .code .now) (a .lengths .now) (a .class .now) threads (a .groups) (a .t8) (a .trail .now) (a .steps) p v at (a .only) o (a .t) (c .before .before .before .before .before .before .before .before .before .before .before .before .wide .result) (c .before .before .before .before .before .before .before .before .before .before .before .before .wide .ensures) (c .before .before .before .before .before .before .before .before .before .before .before .before .before .before .before .pre .1 .4) (c .before .before .before .before .before .before .before .before .if1 .left) in
-            adds-none p (a .room) _ (a .out .now) (a .rows)
-            (with-late (a .code .now) (a .lengths .now) (a .class .now) threads (a .groups) (a .t8) (a .trail .now) (a .steps) p v at (a .only) o (a .t) ok
-            (sym (turn-late (a .code .now) (a .lengths .now) (a .class .now) threads (a .groups) (a .t8) (a .trail .now) (a .steps) p v at (a .only) o (a .t) ok (c .before .before .before .before .step .result) (c .before .before .before .before .step .ensures) (c .before .late .result) (c .before .late .ensures)) ∙ c .if3 .taken)),
-      ),
-    )
+turn-element-set-from-next : (t : ℕ) → turn-lts.Need-element-set-from-next (turn-callees t) (turn-at t) turn.Post
+turn-element-set-from-next t c =
+    omega (arith, c .before .before .before .before .before .before .before .before .before .before .before .wide .ensures, c .before .before .before .before .before .before .before .before .before .before .before .before .before .before .before .before .before .pre .1 .4)
+
+turn-mul-next : (t : ℕ) → turn-lts.Need-mul-next (turn-callees t) (turn-at t) turn.Post
+turn-mul-next t c =
+    omega (arith, c .before .before .before .before .before .before .before .acted .ensures .0)
+
+turn-element-write-next : (t : ℕ) → turn-lts.Need-element-write-next (turn-callees t) (turn-at t) turn.Post
+turn-element-write-next t c =
+    omega (arith, c .before .before .before .before .before .before .before .acted .ensures .0)
+
+turn-mul-t29-2 : (t : ℕ) → turn-lts.Need-mul-t29-2 (turn-callees t) (turn-at t) turn.Post
+turn-mul-t29-2 t c =
+    omega (arith, c .before .before .before .before .before .before .before .acted .ensures .0)
+
+turn-element-set-from-next-2 : (t : ℕ) → turn-lts.Need-element-set-from-next-2 (turn-callees t) (turn-at t) turn.Post
+turn-element-set-from-next-2 t c =
+    omega (arith, c .before .before .before .before .before .before .before .acted .ensures .0)
 
 turn-put-note-requires : (t : ℕ) → turn-lts.Need-put-note-requires (turn-callees t) (turn-at t) turn.Post
-turn-put-note-requires t c κs = (c .before .before .before .before .before .before .before .before .before .before .before .before .before .before .before .before .pre .1 .5, c .before .before .before .before .before .before .before .before .before .before .before .before .before .before .before .before .pre .1 .0 .3 .noted .size)
+turn-put-note-requires t c κs =
+    (c .before .before .before .before .before .before .before .before .before .before .before .before .before .before .before .pre .1 .5, c .before .before .before .before .before .before .before .before .before .before .before .before .before .before .before .pre .1 .0 .3 .noted .size)
+
+turn-add-some-asleep : (t : ℕ) → turn-lts.Need-add-some-asleep (turn-callees t) (turn-at t) turn.Post
+turn-add-some-asleep t c =
+    omega (arith, c .before .before .before .before .before .before .before .before .before .before .before .before .before .before .before .before .before .before .pre .1 .5)
 
 turn-some-asleep-requires : (t : ℕ) → turn-lts.Need-some-asleep-requires (turn-callees t) (turn-at t) turn.Post
 turn-some-asleep-requires t c κs =
-    let a = c .before .before .before .before .before .before .before .before .before .before .before .before .before .before .before .before .before .before .before .args in
-    let e = c .before .before .before .before .before .before .before .before .before .before .before .before .before .before .before .before .before .before .before .pre .1 .0 in
+    let a = c .before .before .before .before .before .before .before .before .before .before .before .before .before .before .before .before .before .before .args in
+    let e = c .before .before .before .before .before .before .before .before .before .before .before .before .before .before .before .before .before .before .pre .1 .0 in
     let o = boundAt (a .along) (a .bound .now) (a .steps) in
-    let ok = turn-may (a .code .now) (a .lengths .now) (a .class .now) (e .0) (a .groups) (a .t8) (a .trail .now) (a .steps) (e .1) (e .2) (e .3) (a .only) o (a .t) (c .before .before .before .before .before .before .before .before .before .before .before .before .before .before .before .before .wide .result) (c .before .before .before .before .before .before .before .before .before .before .before .before .before .before .before .before .wide .ensures) (c .before .before .before .before .before .before .before .before .before .before .before .before .before .before .before .before .before .before .before .pre .1 .4) (c .before .before .before .before .before .before .before .before .before .before .before .before .if1 .left) in (
+    let ok = reached-may-yes (a .code .now) (a .lengths .now) (a .class .now) (e .0) (a .groups) (a .m) (a .trail .now) (a .steps) (e .1) (e .2) (e .3) (a .t) (c .before .before .before .before .before .before .before .before .before .before .before .before .before .before .before .before .before .before .pre .1 .4) (c .before .before .before .before .before .before .before .before .before .before .before .before .before .before .before .before .before .before .pre .1 .6) in (
       a .class .now,
       e .0,
       a .groups,
       e .1,
       e .2 ++ (a .t ∷ []),
-      turn-next (a .code .now) (a .lengths .now) (a .class .now) (e .0) (a .groups) (a .t8) (a .trail .now) (a .steps) (e .1) (e .2) (e .3) (a .only) o (a .t) ok (c .before .before .before .before .before .before .before .before .step .result) (c .before .before .before .before .before .before .before .before .step .ensures) (c .before .before .put-note .last .0) (sym (turn-late (a .code .now) (a .lengths .now) (a .class .now) (e .0) (a .groups) (a .t8) (a .trail .now) (a .steps) (e .1) (e .2) (e .3) (a .only) o (a .t) ok (c .before .before .before .before .before .before .before .before .step .result) (c .before .before .before .before .before .before .before .before .step .ensures) (c .before .before .before .before .before .late .result) (c .before .before .before .before .before .late .ensures)) ∙ c .before .before .before .before .if3 .left) (c .before .before .put-note .ensures),
+      turn-next (a .code .now) (a .lengths .now) (a .class .now) (e .0) (a .groups) (a .m) (a .trail .now) (a .steps) (e .1) (e .2) (e .3) (a .only) o (a .t) ok (behind (a .m) (c .before .before .before .before .before .before .before .before .before .before .before .before .wide .result) (c .before .before .before .before .before .before .before .before .acted .result)) (stored-step (a .code .now) (a .lengths .now) (a .m) (a .t) (c .before .before .before .before .before .before .before .before .before .before .before .before .wide .result) (c .before .before .before .before .before .before .before .before .acted .result) (c .before .before .before .before .before .before .before .before .before .before .before .before .wide .ensures) (c .before .before .before .before .before .before .before .before .acted .ensures .1)) (c .before .before .put-note .last .0) (sym (turn-late (a .code .now) (a .lengths .now) (a .class .now) (e .0) (a .groups) (a .m) (a .trail .now) (a .steps) (e .1) (e .2) (e .3) (a .only) o (a .t) ok (behind (a .m) (c .before .before .before .before .before .before .before .before .before .before .before .before .wide .result) (c .before .before .before .before .before .before .before .before .acted .result)) (stored-step (a .code .now) (a .lengths .now) (a .m) (a .t) (c .before .before .before .before .before .before .before .before .before .before .before .before .wide .result) (c .before .before .before .before .before .before .before .before .acted .result) (c .before .before .before .before .before .before .before .before .before .before .before .before .wide .ensures) (c .before .before .before .before .before .before .before .before .acted .ensures .1)) (c .before .before .before .before .before .late .result) (c .before .before .before .before .before .late .ensures)) ∙ c .before .before .before .before .if2 .left) (c .before .before .put-note .ensures),
     )
 
-turn-add-some-asleep : (t : ℕ) → turn-lts.Need-add-some-asleep (turn-callees t) (turn-at t) turn.Post
-turn-add-some-asleep t c = omega (arith, c .before .before .before .before .before .before .before .before .before .before .before .before .before .before .before .before .before .before .before .pre .1 .5)
-
-turn-returns-4 : (t : ℕ) → turn-lts.Need-returns-4 (turn-callees t) (turn-at t) turn.Post
-turn-returns-4 t c =
-    let a = c .before .before .before .before .before .before .before .before .before .before .before .before .before .before .before .before .before .before .before .before .before .args in (
-      c .before .before .before .before .before .before .before .before .before .before .before .before .before .before .before .before .before .before .before .before .before .pre .1 .2,
+turn-returns-3 : (t : ℕ) → turn-lts.Need-returns-3 (turn-callees t) (turn-at t) turn.Post
+turn-returns-3 t c =
+    let a = c .before .before .before .before .before .before .before .before .before .before .before .before .before .before .before .before .before .before .before .before .args in (
+      c .before .before .before .before .before .before .before .before .before .before .before .before .before .before .before .before .before .before .before .before .pre .1 .2,
       (
         (λ threads p v at.
             let o = boundAt (a .along) (a .bound .now) (a .steps) in
-            let ok = turn-may (a .code .now) (a .lengths .now) (a .class .now) threads (a .groups) (a .t8) (a .trail .now) (a .steps) p v at (a .only) o (a .t) (c .before .before .before .before .before .before .before .before .before .before .before .before .before .before .before .before .before .before .wide .result) (c .before .before .before .before .before .before .before .before .before .before .before .before .before .before .before .before .before .before .wide .ensures) (c .before .before .before .before .before .before .before .before .before .before .before .before .before .before .before .before .before .before .before .before .before .pre .1 .4) (c .before .before .before .before .before .before .before .before .before .before .before .before .before .before .if1 .left) in
-            let next = turn-next (a .code .now) (a .lengths .now) (a .class .now) threads (a .groups) (a .t8) (a .trail .now) (a .steps) p v at (a .only) o (a .t) ok (c .before .before .before .before .before .before .before .before .before .before .step .result) (c .before .before .before .before .before .before .before .before .before .before .step .ensures) (c .before .before .before .before .put-note .last .0) (sym (turn-late (a .code .now) (a .lengths .now) (a .class .now) threads (a .groups) (a .t8) (a .trail .now) (a .steps) p v at (a .only) o (a .t) ok (c .before .before .before .before .before .before .before .before .before .before .step .result) (c .before .before .before .before .before .before .before .before .before .before .step .ensures) (c .before .before .before .before .before .before .before .late .result) (c .before .before .before .before .before .before .before .late .ensures)) ∙ c .before .before .before .before .before .before .if3 .left) (c .before .before .before .before .put-note .ensures) in
-            reached-back (a .code .now) (a .lengths .now) (a .class .now) threads (a .groups) (a .t8) (a .trail .now) (a .steps) p v at (c .before .before .before .before .put-note .last .0) (a .t ∷ []) (next .noted) .noted),
+            let ok = reached-may-yes (a .code .now) (a .lengths .now) (a .class .now) threads (a .groups) (a .m) (a .trail .now) (a .steps) p v at (a .t) (c .before .before .before .before .before .before .before .before .before .before .before .before .before .before .before .before .before .before .before .before .pre .1 .4) (c .before .before .before .before .before .before .before .before .before .before .before .before .before .before .before .before .before .before .before .before .pre .1 .6) in
+            let next = turn-next (a .code .now) (a .lengths .now) (a .class .now) threads (a .groups) (a .m) (a .trail .now) (a .steps) p v at (a .only) o (a .t) ok (behind (a .m) (c .before .before .before .before .before .before .before .before .before .before .before .before .before .before .wide .result) (c .before .before .before .before .before .before .before .before .before .before .acted .result)) (stored-step (a .code .now) (a .lengths .now) (a .m) (a .t) (c .before .before .before .before .before .before .before .before .before .before .before .before .before .before .wide .result) (c .before .before .before .before .before .before .before .before .before .before .acted .result) (c .before .before .before .before .before .before .before .before .before .before .before .before .before .before .wide .ensures) (c .before .before .before .before .before .before .before .before .before .before .acted .ensures .1)) (c .before .before .before .before .put-note .last .0) (sym (turn-late (a .code .now) (a .lengths .now) (a .class .now) threads (a .groups) (a .m) (a .trail .now) (a .steps) p v at (a .only) o (a .t) ok (behind (a .m) (c .before .before .before .before .before .before .before .before .before .before .before .before .before .before .wide .result) (c .before .before .before .before .before .before .before .before .before .before .acted .result)) (stored-step (a .code .now) (a .lengths .now) (a .m) (a .t) (c .before .before .before .before .before .before .before .before .before .before .before .before .before .before .wide .result) (c .before .before .before .before .before .before .before .before .before .before .acted .result) (c .before .before .before .before .before .before .before .before .before .before .before .before .before .before .wide .ensures) (c .before .before .before .before .before .before .before .before .before .before .acted .ensures .1)) (c .before .before .before .before .before .before .before .late .result) (c .before .before .before .before .before .before .before .late .ensures)) ∙ c .before .before .before .before .before .before .if2 .left) (c .before .before .before .before .put-note .ensures) in
+            reached-back (a .code .now) (a .lengths .now) (a .class .now) threads (a .groups) (a .m) (a .trail .now) (a .steps) p v at (c .before .before .before .before .put-note .last .0) (a .t ∷ []) (next .noted) .noted),
         λ threads p v at num.
             let o = boundAt (a .along) (a .bound .now) (a .steps) in
-            let ok = turn-may (a .code .now) (a .lengths .now) (a .class .now) threads (a .groups) (a .t8) (a .trail .now) (a .steps) p v at (a .only) o (a .t) (c .before .before .before .before .before .before .before .before .before .before .before .before .before .before .before .before .before .before .wide .result) (c .before .before .before .before .before .before .before .before .before .before .before .before .before .before .before .before .before .before .wide .ensures) (c .before .before .before .before .before .before .before .before .before .before .before .before .before .before .before .before .before .before .before .before .before .pre .1 .4) (c .before .before .before .before .before .before .before .before .before .before .before .before .before .before .if1 .left) in
-            let next = turn-next (a .code .now) (a .lengths .now) (a .class .now) threads (a .groups) (a .t8) (a .trail .now) (a .steps) p v at (a .only) o (a .t) ok (c .before .before .before .before .before .before .before .before .before .before .step .result) (c .before .before .before .before .before .before .before .before .before .before .step .ensures) (c .before .before .before .before .put-note .last .0) (sym (turn-late (a .code .now) (a .lengths .now) (a .class .now) threads (a .groups) (a .t8) (a .trail .now) (a .steps) p v at (a .only) o (a .t) ok (c .before .before .before .before .before .before .before .before .before .before .step .result) (c .before .before .before .before .before .before .before .before .before .before .step .ensures) (c .before .before .before .before .before .before .before .late .result) (c .before .before .before .before .before .before .before .late .ensures)) ∙ c .before .before .before .before .before .before .if3 .left) (c .before .before .before .before .put-note .ensures) in
+            let ok = reached-may-yes (a .code .now) (a .lengths .now) (a .class .now) threads (a .groups) (a .m) (a .trail .now) (a .steps) p v at (a .t) (c .before .before .before .before .before .before .before .before .before .before .before .before .before .before .before .before .before .before .before .before .pre .1 .4) (c .before .before .before .before .before .before .before .before .before .before .before .before .before .before .before .before .before .before .before .before .pre .1 .6) in
+            let next = turn-next (a .code .now) (a .lengths .now) (a .class .now) threads (a .groups) (a .m) (a .trail .now) (a .steps) p v at (a .only) o (a .t) ok (behind (a .m) (c .before .before .before .before .before .before .before .before .before .before .before .before .before .before .wide .result) (c .before .before .before .before .before .before .before .before .before .before .acted .result)) (stored-step (a .code .now) (a .lengths .now) (a .m) (a .t) (c .before .before .before .before .before .before .before .before .before .before .before .before .before .before .wide .result) (c .before .before .before .before .before .before .before .before .before .before .acted .result) (c .before .before .before .before .before .before .before .before .before .before .before .before .before .before .wide .ensures) (c .before .before .before .before .before .before .before .before .before .before .acted .ensures .1)) (c .before .before .before .before .put-note .last .0) (sym (turn-late (a .code .now) (a .lengths .now) (a .class .now) threads (a .groups) (a .m) (a .trail .now) (a .steps) p v at (a .only) o (a .t) ok (behind (a .m) (c .before .before .before .before .before .before .before .before .before .before .before .before .before .before .wide .result) (c .before .before .before .before .before .before .before .before .before .before .acted .result)) (stored-step (a .code .now) (a .lengths .now) (a .m) (a .t) (c .before .before .before .before .before .before .before .before .before .before .before .before .before .before .wide .result) (c .before .before .before .before .before .before .before .before .before .before .acted .result) (c .before .before .before .before .before .before .before .before .before .before .before .before .before .before .wide .ensures) (c .before .before .before .before .before .before .before .before .before .before .acted .ensures .1)) (c .before .before .before .before .before .before .before .late .result) (c .before .before .before .before .before .before .before .late .ensures)) ∙ c .before .before .before .before .before .before .if2 .left) (c .before .before .before .before .put-note .ensures) in
             adds-none p (a .room) _ (a .out .now) (a .rows)
-            (with-asleep (a .code .now) (a .lengths .now) (a .class .now) threads (a .groups) (a .t8) (a .trail .now) (a .steps) p v at (a .only) o (a .t) ok
-            (sym (c .before .some-asleep .ensures (a .class .now) threads (a .groups) p (v ++ (a .t ∷ [])) next) ∙ c .if4 .taken)),
+            (with-asleep (a .code .now) (a .lengths .now) (a .class .now) threads (a .groups) (a .m) (a .trail .now) (a .steps) p v at (a .only) o (a .t) ok (sym (c .before .some-asleep .ensures (a .class .now) threads (a .groups) p (v ++ (a .t ∷ [])) next) ∙ c .if3 .taken)),
       ),
     )
 
 turn-add-walk : (t : ℕ) → turn-lts.Need-add-walk (turn-callees t) (turn-at t) turn.Post
-turn-add-walk t c = omega (arith, c .before .before .before .before .before .before .before .before .before .before .before .before .before .before .before .before .before .before .before .before .before .before .before .pre .1 .5)
+turn-add-walk t c =
+    omega (arith, c .before .before .before .before .before .before .before .before .before .before .before .before .before .before .before .before .before .before .before .before .before .before .pre .1 .5)
 
 turn-walk-requires : (t : ℕ) → turn-lts.Need-walk-requires (turn-callees t) (turn-at t) turn.Post
 turn-walk-requires t c κs =
-    let a = c .before .before .before .before .before .before .before .before .before .before .before .before .before .before .before .before .before .before .before .before .before .before .before .before .args in
-    let e = c .before .before .before .before .before .before .before .before .before .before .before .before .before .before .before .before .before .before .before .before .before .before .before .before .pre .1 .0 in
+    let a = c .before .before .before .before .before .before .before .before .before .before .before .before .before .before .before .before .before .before .before .before .before .before .before .args in
+    let e = c .before .before .before .before .before .before .before .before .before .before .before .before .before .before .before .before .before .before .before .before .before .before .before .pre .1 .0 in
     let o = boundAt (a .along) (a .bound .now) (a .steps) in
-    let ok = turn-may (a .code .now) (a .lengths .now) (a .class .now) (e .0) (a .groups) (a .t8) (a .trail .now) (a .steps) (e .1) (e .2) (e .3) (a .only) o (a .t) (c .before .before .before .before .before .before .before .before .before .before .before .before .before .before .before .before .before .before .before .before .before .wide .result) (c .before .before .before .before .before .before .before .before .before .before .before .before .before .before .before .before .before .before .before .before .before .wide .ensures) (c .before .before .before .before .before .before .before .before .before .before .before .before .before .before .before .before .before .before .before .before .before .before .before .before .pre .1 .4) (c .before .before .before .before .before .before .before .before .before .before .before .before .before .before .before .before .before .if1 .left) in (
-      omega (arith, c .before .before .before .before .before .before .before .before .before .before .before .before .before .before .before .before .before .before .before .before .before .before .before .before .pre .0, c .before .before .before .before .before .before .before .before .before .before .before .before .before .before .before .before .before .before .before .before .before .before .before .before .pre .1 .5),
+    let ok = reached-may-yes (a .code .now) (a .lengths .now) (a .class .now) (e .0) (a .groups) (a .m) (a .trail .now) (a .steps) (e .1) (e .2) (e .3) (a .t) (c .before .before .before .before .before .before .before .before .before .before .before .before .before .before .before .before .before .before .before .before .before .before .before .pre .1 .4) (c .before .before .before .before .before .before .before .before .before .before .before .before .before .before .before .before .before .before .before .before .before .before .before .pre .1 .6) in (
+      omega (arith, c .before .before .before .before .before .before .before .before .before .before .before .before .before .before .before .before .before .before .before .before .before .before .before .pre .0, c .before .before .before .before .before .before .before .before .before .before .before .before .before .before .before .before .before .before .before .before .before .before .before .pre .1 .5),
       (
         (
           e .0,
           e .1,
           e .2 ++ (a .t ∷ []),
-          turn-next (a .code .now) (a .lengths .now) (a .class .now) (e .0) (a .groups) (a .t8) (a .trail .now) (a .steps) (e .1) (e .2) (e .3) (a .only) o (a .t) ok (c .before .before .before .before .before .before .before .before .before .before .before .before .before .step .result) (c .before .before .before .before .before .before .before .before .before .before .before .before .before .step .ensures) (c .before .before .before .before .before .before .before .put-note .last .0) (sym (turn-late (a .code .now) (a .lengths .now) (a .class .now) (e .0) (a .groups) (a .t8) (a .trail .now) (a .steps) (e .1) (e .2) (e .3) (a .only) o (a .t) ok (c .before .before .before .before .before .before .before .before .before .before .before .before .before .step .result) (c .before .before .before .before .before .before .before .before .before .before .before .before .before .step .ensures) (c .before .before .before .before .before .before .before .before .before .before .late .result) (c .before .before .before .before .before .before .before .before .before .before .late .ensures)) ∙ c .before .before .before .before .before .before .before .before .before .if3 .left) (c .before .before .before .before .before .before .before .put-note .ensures),
+          turn-next (a .code .now) (a .lengths .now) (a .class .now) (e .0) (a .groups) (a .m) (a .trail .now) (a .steps) (e .1) (e .2) (e .3) (a .only) o (a .t) ok (behind (a .m) (c .before .before .before .before .before .before .before .before .before .before .before .before .before .before .before .before .before .wide .result) (c .before .before .before .before .before .before .before .before .before .before .before .before .before .acted .result)) (stored-step (a .code .now) (a .lengths .now) (a .m) (a .t) (c .before .before .before .before .before .before .before .before .before .before .before .before .before .before .before .before .before .wide .result) (c .before .before .before .before .before .before .before .before .before .before .before .before .before .acted .result) (c .before .before .before .before .before .before .before .before .before .before .before .before .before .before .before .before .before .wide .ensures) (c .before .before .before .before .before .before .before .before .before .before .before .before .before .acted .ensures .1)) (c .before .before .before .before .before .before .before .put-note .last .0) (sym (turn-late (a .code .now) (a .lengths .now) (a .class .now) (e .0) (a .groups) (a .m) (a .trail .now) (a .steps) (e .1) (e .2) (e .3) (a .only) o (a .t) ok (behind (a .m) (c .before .before .before .before .before .before .before .before .before .before .before .before .before .before .before .before .before .wide .result) (c .before .before .before .before .before .before .before .before .before .before .before .before .before .acted .result)) (stored-step (a .code .now) (a .lengths .now) (a .m) (a .t) (c .before .before .before .before .before .before .before .before .before .before .before .before .before .before .before .before .before .wide .result) (c .before .before .before .before .before .before .before .before .before .before .before .before .before .acted .result) (c .before .before .before .before .before .before .before .before .before .before .before .before .before .before .before .before .before .wide .ensures) (c .before .before .before .before .before .before .before .before .before .before .before .before .before .acted .ensures .1)) (c .before .before .before .before .before .before .before .before .before .before .late .result) (c .before .before .before .before .before .before .before .before .before .before .late .ensures)) ∙ c .before .before .before .before .before .before .before .before .before .if2 .left) (c .before .before .before .before .before .before .before .put-note .ensures),
         ),
-        c .before .before .before .before .before .before .before .before .before .before .before .before .before .before .before .before .before .before .before .before .before .before .before .before .pre .1 .1,
-        c .before .before .before .before .before .before .before .before .before .before .before .before .before .before .before .before .before .before .before .before .before .before .before .before .pre .1 .2,
-        c .before .before .before .before .before .before .before .before .before .before .before .before .before .before .before .before .before .before .before .before .before .before .before .before .pre .1 .3,
+        c .before .before .before .before .before .before .before .before .before .before .before .before .before .before .before .before .before .before .before .before .before .before .before .pre .1 .1,
+        c .before .before .before .before .before .before .before .before .before .before .before .before .before .before .before .before .before .before .before .before .before .before .before .pre .1 .2,
+        c .before .before .before .before .before .before .before .before .before .before .before .before .before .before .before .before .before .before .before .before .before .before .before .pre .1 .3,
       ),
     )
 
-turn-returns-5 : (t : ℕ) → turn-lts.Need-returns-5 (turn-callees t) (turn-at t) turn.Post
-turn-returns-5 t c =
-    let a = c .before .before .before .before .before .before .before .before .before .before .before .before .before .before .before .before .before .before .before .before .before .before .before .before .before .before .before .args in (
+turn-returns-4 : (t : ℕ) → turn-lts.Need-returns-4 (turn-callees t) (turn-at t) turn.Post
+turn-returns-4 t c =
+    let a = c .before .before .before .before .before .before .before .before .before .before .before .before .before .before .before .before .before .before .before .before .before .before .before .before .before .before .args in (
       c .before .before .walk .ensures .0,
       (
         (λ threads p v at.
             let o = boundAt (a .along) (a .bound .now) (a .steps) in
-            let ok = turn-may (a .code .now) (a .lengths .now) (a .class .now) threads (a .groups) (a .t8) (a .trail .now) (a .steps) p v at (a .only) o (a .t) (c .before .before .before .before .before .before .before .before .before .before .before .before .before .before .before .before .before .before .before .before .before .before .before .before .wide .result) (c .before .before .before .before .before .before .before .before .before .before .before .before .before .before .before .before .before .before .before .before .before .before .before .before .wide .ensures) (c .before .before .before .before .before .before .before .before .before .before .before .before .before .before .before .before .before .before .before .before .before .before .before .before .before .before .before .pre .1 .4) (c .before .before .before .before .before .before .before .before .before .before .before .before .before .before .before .before .before .before .before .before .if1 .left) in
-            let next = turn-next (a .code .now) (a .lengths .now) (a .class .now) threads (a .groups) (a .t8) (a .trail .now) (a .steps) p v at (a .only) o (a .t) ok (c .before .before .before .before .before .before .before .before .before .before .before .before .before .before .before .before .step .result) (c .before .before .before .before .before .before .before .before .before .before .before .before .before .before .before .before .step .ensures) (c .before .before .before .before .before .before .before .before .before .before .put-note .last .0) (sym (turn-late (a .code .now) (a .lengths .now) (a .class .now) threads (a .groups) (a .t8) (a .trail .now) (a .steps) p v at (a .only) o (a .t) ok (c .before .before .before .before .before .before .before .before .before .before .before .before .before .before .before .before .step .result) (c .before .before .before .before .before .before .before .before .before .before .before .before .before .before .before .before .step .ensures) (c .before .before .before .before .before .before .before .before .before .before .before .before .before .late .result) (c .before .before .before .before .before .before .before .before .before .before .before .before .before .late .ensures)) ∙ c .before .before .before .before .before .before .before .before .before .before .before .before .if3 .left) (c .before .before .before .before .before .before .before .before .before .before .put-note .ensures) in
-            reached-back (a .code .now) (a .lengths .now) (a .class .now) threads (a .groups) (a .t8) (a .trail .now) (a .steps) p v at _ (a .t ∷ []) (c .before .before .walk .ensures .1 .0 threads p (v ++ (a .t ∷ [])) next) .noted),
+            let ok = reached-may-yes (a .code .now) (a .lengths .now) (a .class .now) threads (a .groups) (a .m) (a .trail .now) (a .steps) p v at (a .t) (c .before .before .before .before .before .before .before .before .before .before .before .before .before .before .before .before .before .before .before .before .before .before .before .before .before .before .pre .1 .4) (c .before .before .before .before .before .before .before .before .before .before .before .before .before .before .before .before .before .before .before .before .before .before .before .before .before .before .pre .1 .6) in
+            let next = turn-next (a .code .now) (a .lengths .now) (a .class .now) threads (a .groups) (a .m) (a .trail .now) (a .steps) p v at (a .only) o (a .t) ok (behind (a .m) (c .before .before .before .before .before .before .before .before .before .before .before .before .before .before .before .before .before .before .before .before .wide .result) (c .before .before .before .before .before .before .before .before .before .before .before .before .before .before .before .before .acted .result)) (stored-step (a .code .now) (a .lengths .now) (a .m) (a .t) (c .before .before .before .before .before .before .before .before .before .before .before .before .before .before .before .before .before .before .before .before .wide .result) (c .before .before .before .before .before .before .before .before .before .before .before .before .before .before .before .before .acted .result) (c .before .before .before .before .before .before .before .before .before .before .before .before .before .before .before .before .before .before .before .before .wide .ensures) (c .before .before .before .before .before .before .before .before .before .before .before .before .before .before .before .before .acted .ensures .1)) (c .before .before .before .before .before .before .before .before .before .before .put-note .last .0) (sym (turn-late (a .code .now) (a .lengths .now) (a .class .now) threads (a .groups) (a .m) (a .trail .now) (a .steps) p v at (a .only) o (a .t) ok (behind (a .m) (c .before .before .before .before .before .before .before .before .before .before .before .before .before .before .before .before .before .before .before .before .wide .result) (c .before .before .before .before .before .before .before .before .before .before .before .before .before .before .before .before .acted .result)) (stored-step (a .code .now) (a .lengths .now) (a .m) (a .t) (c .before .before .before .before .before .before .before .before .before .before .before .before .before .before .before .before .before .before .before .before .wide .result) (c .before .before .before .before .before .before .before .before .before .before .before .before .before .before .before .before .acted .result) (c .before .before .before .before .before .before .before .before .before .before .before .before .before .before .before .before .before .before .before .before .wide .ensures) (c .before .before .before .before .before .before .before .before .before .before .before .before .before .before .before .before .acted .ensures .1)) (c .before .before .before .before .before .before .before .before .before .before .before .before .before .late .result) (c .before .before .before .before .before .before .before .before .before .before .before .before .before .late .ensures)) ∙ c .before .before .before .before .before .before .before .before .before .before .before .before .if2 .left) (c .before .before .before .before .before .before .before .before .before .before .put-note .ensures) in
+            reached-back (a .code .now) (a .lengths .now) (a .class .now) threads (a .groups) (a .m) (a .trail .now) (a .steps) p v at _ (a .t ∷ []) (c .before .before .walk .ensures .1 .0 threads p (v ++ (a .t ∷ [])) next) .noted),
         λ threads p v at num.
             let o = boundAt (a .along) (a .bound .now) (a .steps) in
-            let ok = turn-may (a .code .now) (a .lengths .now) (a .class .now) threads (a .groups) (a .t8) (a .trail .now) (a .steps) p v at (a .only) o (a .t) (c .before .before .before .before .before .before .before .before .before .before .before .before .before .before .before .before .before .before .before .before .before .before .before .before .wide .result) (c .before .before .before .before .before .before .before .before .before .before .before .before .before .before .before .before .before .before .before .before .before .before .before .before .wide .ensures) (c .before .before .before .before .before .before .before .before .before .before .before .before .before .before .before .before .before .before .before .before .before .before .before .before .before .before .before .pre .1 .4) (c .before .before .before .before .before .before .before .before .before .before .before .before .before .before .before .before .before .before .before .before .if1 .left) in
-            let next = turn-next (a .code .now) (a .lengths .now) (a .class .now) threads (a .groups) (a .t8) (a .trail .now) (a .steps) p v at (a .only) o (a .t) ok (c .before .before .before .before .before .before .before .before .before .before .before .before .before .before .before .before .step .result) (c .before .before .before .before .before .before .before .before .before .before .before .before .before .before .before .before .step .ensures) (c .before .before .before .before .before .before .before .before .before .before .put-note .last .0) (sym (turn-late (a .code .now) (a .lengths .now) (a .class .now) threads (a .groups) (a .t8) (a .trail .now) (a .steps) p v at (a .only) o (a .t) ok (c .before .before .before .before .before .before .before .before .before .before .before .before .before .before .before .before .step .result) (c .before .before .before .before .before .before .before .before .before .before .before .before .before .before .before .before .step .ensures) (c .before .before .before .before .before .before .before .before .before .before .before .before .before .late .result) (c .before .before .before .before .before .before .before .before .before .before .before .before .before .late .ensures)) ∙ c .before .before .before .before .before .before .before .before .before .before .before .before .if3 .left) (c .before .before .before .before .before .before .before .before .before .before .put-note .ensures) in
+            let ok = reached-may-yes (a .code .now) (a .lengths .now) (a .class .now) threads (a .groups) (a .m) (a .trail .now) (a .steps) p v at (a .t) (c .before .before .before .before .before .before .before .before .before .before .before .before .before .before .before .before .before .before .before .before .before .before .before .before .before .before .pre .1 .4) (c .before .before .before .before .before .before .before .before .before .before .before .before .before .before .before .before .before .before .before .before .before .before .before .before .before .before .pre .1 .6) in
+            let next = turn-next (a .code .now) (a .lengths .now) (a .class .now) threads (a .groups) (a .m) (a .trail .now) (a .steps) p v at (a .only) o (a .t) ok (behind (a .m) (c .before .before .before .before .before .before .before .before .before .before .before .before .before .before .before .before .before .before .before .before .wide .result) (c .before .before .before .before .before .before .before .before .before .before .before .before .before .before .before .before .acted .result)) (stored-step (a .code .now) (a .lengths .now) (a .m) (a .t) (c .before .before .before .before .before .before .before .before .before .before .before .before .before .before .before .before .before .before .before .before .wide .result) (c .before .before .before .before .before .before .before .before .before .before .before .before .before .before .before .before .acted .result) (c .before .before .before .before .before .before .before .before .before .before .before .before .before .before .before .before .before .before .before .before .wide .ensures) (c .before .before .before .before .before .before .before .before .before .before .before .before .before .before .before .before .acted .ensures .1)) (c .before .before .before .before .before .before .before .before .before .before .put-note .last .0) (sym (turn-late (a .code .now) (a .lengths .now) (a .class .now) threads (a .groups) (a .m) (a .trail .now) (a .steps) p v at (a .only) o (a .t) ok (behind (a .m) (c .before .before .before .before .before .before .before .before .before .before .before .before .before .before .before .before .before .before .before .before .wide .result) (c .before .before .before .before .before .before .before .before .before .before .before .before .before .before .before .before .acted .result)) (stored-step (a .code .now) (a .lengths .now) (a .m) (a .t) (c .before .before .before .before .before .before .before .before .before .before .before .before .before .before .before .before .before .before .before .before .wide .result) (c .before .before .before .before .before .before .before .before .before .before .before .before .before .before .before .before .acted .result) (c .before .before .before .before .before .before .before .before .before .before .before .before .before .before .before .before .before .before .before .before .wide .ensures) (c .before .before .before .before .before .before .before .before .before .before .before .before .before .before .before .before .acted .ensures .1)) (c .before .before .before .before .before .before .before .before .before .before .before .before .before .late .result) (c .before .before .before .before .before .before .before .before .before .before .before .before .before .late .ensures)) ∙ c .before .before .before .before .before .before .before .before .before .before .before .before .if2 .left) (c .before .before .before .before .before .before .before .before .before .before .put-note .ensures) in
             adds-same p (a .room) _ _ (a .out .now) _ (a .rows) _
-            (with-live (a .code .now) (a .lengths .now) (a .class .now) threads (a .groups) (a .t8) (a .trail .now) (a .steps) p v at (a .only) o (a .t) ok
-            (sym (c .before .before .before .before .before .before .before .before .before .before .before .before .before .before .before .before .before .before .has-smaller-twin .ensures (a .code .now) (a .lengths .now) threads p v at ok) ∙ c .before .before .before .before .before .before .before .before .before .before .before .before .before .before .before .before .before .if2 .left)
-            (sym (turn-late (a .code .now) (a .lengths .now) (a .class .now) threads (a .groups) (a .t8) (a .trail .now) (a .steps) p v at (a .only) o (a .t) ok (c .before .before .before .before .before .before .before .before .before .before .before .before .before .before .before .before .step .result) (c .before .before .before .before .before .before .before .before .before .before .before .before .before .before .before .before .step .ensures) (c .before .before .before .before .before .before .before .before .before .before .before .before .before .late .result) (c .before .before .before .before .before .before .before .before .before .before .before .before .before .late .ensures)) ∙ c .before .before .before .before .before .before .before .before .before .before .before .before .if3 .left)
-            (sym (c .before .before .before .before .before .before .before .some-asleep .ensures (a .class .now) threads (a .groups) p (v ++ (a .t ∷ [])) next) ∙ c .before .before .before .before .before .before .if4 .left)
+            (with-live (a .code .now) (a .lengths .now) (a .class .now) threads (a .groups) (a .m) (a .trail .now) (a .steps) p v at (a .only) o (a .t) ok
+            (sym (c .before .before .before .before .before .before .before .before .before .before .before .before .before .before .before .before .before .before .before .before .before .before .has-smaller-twin .ensures (a .code .now) (a .lengths .now) threads p v at ok) ∙ c .before .before .before .before .before .before .before .before .before .before .before .before .before .before .before .before .before .before .before .before .before .if1 .left)
+            (sym (turn-late (a .code .now) (a .lengths .now) (a .class .now) threads (a .groups) (a .m) (a .trail .now) (a .steps) p v at (a .only) o (a .t) ok (behind (a .m) (c .before .before .before .before .before .before .before .before .before .before .before .before .before .before .before .before .before .before .before .before .wide .result) (c .before .before .before .before .before .before .before .before .before .before .before .before .before .before .before .before .acted .result)) (stored-step (a .code .now) (a .lengths .now) (a .m) (a .t) (c .before .before .before .before .before .before .before .before .before .before .before .before .before .before .before .before .before .before .before .before .wide .result) (c .before .before .before .before .before .before .before .before .before .before .before .before .before .before .before .before .acted .result) (c .before .before .before .before .before .before .before .before .before .before .before .before .before .before .before .before .before .before .before .before .wide .ensures) (c .before .before .before .before .before .before .before .before .before .before .before .before .before .before .before .before .acted .ensures .1)) (c .before .before .before .before .before .before .before .before .before .before .before .before .before .late .result) (c .before .before .before .before .before .before .before .before .before .before .before .before .before .late .ensures)) ∙ c .before .before .before .before .before .before .before .before .before .before .before .before .if2 .left)
+            (sym (c .before .before .before .before .before .before .before .some-asleep .ensures (a .class .now) threads (a .groups) p (v ++ (a .t ∷ [])) next) ∙ c .before .before .before .before .before .before .if3 .left)
             ∙ ap (λ (b : Option Schedule). foundBehind (a .only) p (a .steps + 1) b (v ++ (a .t ∷ []))) (sym (c .before .before .before .before .before .stays-along .ensures)))
             (c .before .before .walk .ensures .1 .1 threads p (v ++ (a .t ∷ [])) next num),
       ),
@@ -215,11 +228,11 @@ turn-returns-5 t c =
 
 -- ---- walk
 abbrev walk-Inv-loop : walk-lts.InvT-loop
-walk-Inv-loop code lengths class groups numbers count only m trail₀ steps bound along out₀ room rows n₀ t₀ trail out n t =
+walk-Inv-loop code lengths class groups numbers count only trail₀ steps bound along out₀ room rows m n₀ t₀ trail out n t =
     (n ≤ room) × (length out ≡ length out₀) × Left code lengths class groups numbers count only m trail₀ steps (boundAt along bound steps) out₀ room rows trail out n t
 
 abbrev walk-μ-loop : walk-lts.MeasureT-loop
-walk-μ-loop code lengths class groups numbers count only m trail₀ steps bound along out₀ room rows n₀ t₀ trail out n t = 6 - t
+walk-μ-loop code lengths class groups numbers count only trail₀ steps bound along out₀ room rows m n₀ t₀ trail out n t = 6 - t
 
 walk-returns : (t : ℕ) → walk-lts.Need-returns (walk-callees t) (walk-at t) walk.Post walk-Inv-loop walk-μ-loop
 walk-returns t c =
@@ -236,7 +249,7 @@ walk-at-end-requires : (t : ℕ) → walk-lts.Need-at-end-requires (walk-callees
 walk-at-end-requires t c κs =
     let a = c .before .before .before .before .before .before .before .args in
     let e = c .before .before .before .before .before .before .before .pre .1 .0 in
-    (reached-most (a .code .now) (a .lengths .now) (a .class .now) (e .0) (a .groups) (a .m) (a .trail .now) (a .steps) (e .1) (e .2) (e .3), c .before .before .before .before .before .before .before .pre .1 .1, c .before .before .before .before .before .before .before .pre .1 .2, c .before .before .before .before .before .before .before .pre .1 .3)
+    (reached-most (a .code .now) (a .lengths .now) (a .class .now) (e .0) (a .groups) (a .t8) (a .trail .now) (a .steps) (e .1) (e .2) (e .3), c .before .before .before .before .before .before .before .pre .1 .1, c .before .before .before .before .before .before .before .pre .1 .2, c .before .before .before .before .before .before .before .pre .1 .3)
 
 walk-returns-2 : (t : ℕ) → walk-lts.Need-returns-2 (walk-callees t) (walk-at t) walk.Post walk-Inv-loop walk-μ-loop
 walk-returns-2 t c =
@@ -266,7 +279,7 @@ walk-loop-holds t c =
     let a = c .before .before .before .before .before .before .args in (
       c .before .before .before .before .before .before .pre .1 .2,
       refl,
-      left-start (a .code .now) (a .lengths .now) (a .class .now) (a .groups) (a .numbers .now) (a .count) (a .only) (a .m) (a .trail .now) (a .steps) (boundAt (a .along) (a .bound .now) (a .steps)) (a .out .now) (a .room) (a .rows) (c .first-thread .result)
+      left-start (a .code .now) (a .lengths .now) (a .class .now) (a .groups) (a .numbers .now) (a .count) (a .only) (a .t8) (a .trail .now) (a .steps) (boundAt (a .along) (a .bound .now) (a .steps)) (a .out .now) (a .room) (a .rows) (c .first-thread .result)
           (λ threads p v at. sym (c .before .before .before .ended-all .ensures (a .code .now) _ (at .holds)) ∙ c .before .before .if1 .left) (c .before .if3 .left) (c .first-thread .ensures),
     )
 
@@ -277,34 +290,37 @@ walk-returns-4 t c =
       l .inv .0,
       (
         (λ threads p v at. l .inv .2 threads p v at .0),
-        left-full (a .code .now) (a .lengths .now) (a .class .now) (a .groups) (a .numbers .now) (a .count) (a .only) (a .m) (a .trail .now) (a .steps) (boundAt (a .along) (a .bound .now) (a .steps)) (a .out .now) (a .room) (a .rows) (l .trail) (l .out) (l .n) (l .t) (c .if4 .taken) (l .inv .2),
+        left-full (a .code .now) (a .lengths .now) (a .class .now) (a .groups) (a .numbers .now) (a .count) (a .only) (a .t8) (a .trail .now) (a .steps) (boundAt (a .along) (a .bound .now) (a .steps)) (a .out .now) (a .room) (a .rows) (l .trail) (l .out) (l .n) (l .t) (c .if4 .taken) (l .inv .2),
       ),
     )
 
 walk-turn-requires : (t : ℕ) → walk-lts.Need-turn-requires (walk-callees t) (walk-at t) walk.Post walk-Inv-loop walk-μ-loop
 walk-turn-requires t c κs =
-    let a = c .before .before .before .before .before .before .before .before .before .before .before .args in
-    let l = c .before .before .before .before .loop in
-    let e = c .before .before .before .before .before .before .before .before .before .before .before .pre .1 .0 in (
-      omega (arith, c .before .before .before .before .before .before .before .before .before .before .before .pre .0),
+    let a = c .before .before .before .before .before .before .before .before .before .before .before .before .before .before .before .before .args in
+    let l = c .before .before .before .before .before .before .before .before .before .loop in
+    let e = c .before .before .before .before .before .before .before .before .before .before .before .before .before .before .before .before .pre .1 .0 in (
+      omega (arith, c .before .before .before .before .before .before .before .before .before .before .before .before .before .before .before .before .pre .0),
       (
-        (e .0, e .1, e .2, reached-trail (a .code .now) (a .lengths .now) (a .class .now) (e .0) (a .groups) (a .m) (a .trail .now) (a .steps) (e .1) (e .2) (e .3) (l .trail) (l .inv .2 (e .0) (e .1) (e .2) (e .3) .0)),
-        c .before .before .before .before .before .before .before .before .before .before .before .pre .1 .1,
+        (e .0, e .1, e .2, reached-trail (a .code .now) (a .lengths .now) (a .class .now) (e .0) (a .groups) (a .t8) (a .trail .now) (a .steps) (e .1) (e .2) (e .3) (l .trail) (l .inv .2 (e .0) (e .1) (e .2) (e .3) .0)),
+        c .before .before .before .before .before .before .before .before .before .before .before .before .before .before .before .before .pre .1 .1,
         l .inv .0,
-        omega (arith, c .before .before .before .before .before .before .before .before .before .before .before .pre .1 .3, l .inv .1),
-        c .before .before .before .loop-test .taken,
-        c .before .before .before .before .before .before .if3 .left,
+        omega (arith, c .before .before .before .before .before .before .before .before .before .before .before .before .before .before .before .before .pre .1 .3, l .inv .1),
+        c .before .before .before .before .before .before .before .before .loop-test .taken,
+        c .before .before .before .before .before .before .before .before .before .before .before .if3 .left,
+        subst (λ (v : ℕ). threadAt (a .t8) v .at < getD (a .lengths .now) v 0) (c .before .before .before .before .before .before .wide .ensures) (c .before .before .if5 .taken),
       ),
     )
 
 walk-loop-again : (t : ℕ) → walk-lts.Need-loop-again (walk-callees t) (walk-at t) walk.Post walk-Inv-loop walk-μ-loop
 walk-loop-again t c =
     let a = c .before .before .before .before .before .before .before .before .before .before .before .before .before .before .args in
-    let l = c .before .before .before .before .before .before .before .loop in (
-      c .before .before .turn .ensures .0,
-      search needs,
-      left-next (a .code .now) (a .lengths .now) (a .class .now) (a .groups) (a .numbers .now) (a .count) (a .only) (a .m) (a .trail .now) (a .steps) (boundAt (a .along) (a .bound .now) (a .steps)) (a .out .now) (a .room) (a .rows) (l .trail) (l .out) _ _ (l .n) _ (l .t) (c .before .before .before .before .before .before .loop-test .taken) (l .inv .2) (c .before .before .turn .ensures .1 .0) (c .before .before .turn .ensures .1 .1),
-    )
+    let l = c .before .before .before .before .before .before .before .loop in
+    ⊎-elim
+    (λ w. left-joined (a .code .now) (a .lengths .now) (a .class .now) (a .groups) (a .numbers .now) (a .count) (a .only) (a .t8) (a .trail .now) (a .steps) (boundAt (a .along) (a .bound .now) (a .steps)) (a .out .now) (a .room) (a .rows) _ _ _ _ _ _ _ (w .6) (w .7) (w .8) (w .3 .ensures .0) (w .4 .given ∙ l .inv .1)
+    (left-next (a .code .now) (a .lengths .now) (a .class .now) (a .groups) (a .numbers .now) (a .count) (a .only) (a .t8) (a .trail .now) (a .steps) (boundAt (a .along) (a .bound .now) (a .steps)) (a .out .now) (a .room) (a .rows) (l .trail) (l .out) _ _ (l .n) _ (l .t) (c .before .before .before .before .before .before .loop-test .taken) (l .inv .2) (w .3 .ensures .1 .0) (w .3 .ensures .1 .1)))
+    (λ w. left-joined (a .code .now) (a .lengths .now) (a .class .now) (a .groups) (a .numbers .now) (a .count) (a .only) (a .t8) (a .trail .now) (a .steps) (boundAt (a .along) (a .bound .now) (a .steps)) (a .out .now) (a .room) (a .rows) _ _ _ _ _ _ _ (w .1) (w .2) (w .3) (l .inv .0) (l .inv .1)
+    (left-skip (a .code .now) (a .lengths .now) (a .class .now) (a .groups) (a .numbers .now) (a .count) (a .only) (a .t8) (a .trail .now) (a .steps) (boundAt (a .along) (a .bound .now) (a .steps)) (a .out .now) (a .room) (a .rows) (l .trail) (l .out) (l .n) (l .t) (c .before .before .before .before .wide .result) (c .before .before .before .before .wide .ensures) (c .before .before .before .before .before .before .loop-test .taken) (w .0 .left) (l .inv .2)))
+    (c .if5 .came)
 
 walk-returns-5 : (t : ℕ) → walk-lts.Need-returns-5 (walk-callees t) (walk-at t) walk.Post walk-Inv-loop walk-μ-loop
 walk-returns-5 t c =
@@ -313,11 +329,11 @@ walk-returns-5 t c =
       l .inv .0,
       (
         (λ threads p v at. l .inv .2 threads p v at .0),
-        left-over (a .code .now) (a .lengths .now) (a .class .now) (a .groups) (a .numbers .now) (a .count) (a .only) (a .m) (a .trail .now) (a .steps) (boundAt (a .along) (a .bound .now) (a .steps)) (a .out .now) (a .room) (a .rows) (l .trail) (l .out) (l .n) (l .t) (c .loop-test .left) (l .inv .2),
+        left-over (a .code .now) (a .lengths .now) (a .class .now) (a .groups) (a .numbers .now) (a .count) (a .only) (a .t8) (a .trail .now) (a .steps) (boundAt (a .along) (a .bound .now) (a .steps)) (a .out .now) (a .room) (a .rows) (l .trail) (l .out) (l .n) (l .t) (c .loop-test .left) (l .inv .2),
       ),
     )
 
 pub +turn+walk-spec : {M : Type 1} → statement M
 +turn+walk-spec = close μ-turn μ-walk
-    (λ t. turn-lts.spec (turn-callees t) (turn-at t) turn.Post (λ c κs. search needs) (λ c. search needs) (λ c. search needs) (λ c. search needs) (λ c. search needs) (turn-returns t) (λ c κs. search needs) (turn-returns-2 t) (turn-step-requires t) (λ c. search needs) (λ c. search needs) (λ c κs. search needs) (turn-returns-3 t) (turn-put-note-requires t) (turn-add-some-asleep t) (turn-some-asleep-requires t) (turn-returns-4 t) (λ c κs. search needs) (turn-add-walk t) (turn-walk-requires t) (λ c. search needs) (turn-returns-5 t))
-    (λ t. walk-lts.spec (walk-callees t) (walk-at t) walk.Post walk-Inv-loop walk-μ-loop (λ c κs. search needs) (walk-returns t) (walk-at-end-requires t) (λ c. search needs) (walk-returns-2 t) (walk-returns-3 t) (λ c κs. search needs) (walk-loop-holds t) (λ c. search needs) (walk-returns-4 t) (walk-turn-requires t) (λ c. search needs) (λ c. search needs) (walk-loop-again t) (λ c. search needs) (walk-returns-5 t))
+    (λ t. turn-lts.spec (turn-callees t) (turn-at t) turn.Post (λ c κs. search needs) (turn-returns t) (λ c κs. search needs) (λ c. search needs) (λ c. search needs) (turn-acted-requires t) (λ c. search needs) (λ c. search needs) (λ c κs. search needs) (turn-returns-2 t) (turn-put-note-requires t) (turn-mul-t29 t) (turn-element-set-from-next t) (turn-mul-next t) (turn-element-write-next t) (turn-mul-t29-2 t) (turn-element-set-from-next-2 t) (turn-add-some-asleep t) (turn-some-asleep-requires t) (turn-returns-3 t) (λ c κs. search needs) (turn-add-walk t) (turn-walk-requires t) (λ c. search needs) (turn-returns-4 t))
+    (λ t. walk-lts.spec (walk-callees t) (walk-at t) walk.Post walk-Inv-loop walk-μ-loop (λ c κs. search needs) (walk-returns t) (walk-at-end-requires t) (λ c. search needs) (walk-returns-2 t) (walk-returns-3 t) (λ c κs. search needs) (walk-loop-holds t) (λ c. search needs) (walk-returns-4 t) (λ c κs. search needs) (λ c. search needs) (λ c. search needs) (λ c. search needs) (λ c. search needs) (walk-turn-requires t) (λ c. search needs) (λ c. search needs) (walk-loop-again t) (λ c. search needs) (walk-returns-5 t))
