@@ -2,7 +2,8 @@
 """The gate: every check of the repository, one after the other. A failed check does not stop the later ones.
 
 The very last line is `N passed, M failed`; the exit status is 0 exactly when M is 0. N counts what rt proves and refuses,
-the must-fail edits that were refused for the right reason, and the Rust tests.
+the must-fail edits that were refused for the right reason, that listing cites only laws of the crates below, and the
+Rust tests.
 """
 import os
 import re
@@ -12,6 +13,7 @@ import sys
 from pathlib import Path
 
 sys.dont_write_bytecode = True
+import laws_only  # noqa: E402
 import must_fail  # noqa: E402
 
 ROOT = Path(__file__).resolve().parents[2]
@@ -63,6 +65,15 @@ def every_crate_is_listed(tally):
     for name in names:
         if name not in folders:
             tally.fail(f'crates.txt lists {name}, and there is no crates/{name}')
+
+
+def only_laws(tally):
+    """Crate listing opens no definition of a crate below."""
+    wrong = laws_only.said(ROOT, 'listing')
+    for why in wrong:
+        tally.fail(why)
+    if not wrong:
+        tally.add(1, 0)
 
 
 def formatting(tally):
@@ -135,7 +146,7 @@ def main():
     os.environ.setdefault('FUZZ_SECONDS', '110')
     os.environ.pop('TEST_SHARE', None)  # the gate runs every case
     tally = Tally()
-    for check in (every_crate_is_listed, formatting, proofs, reasons, rust_tests, browser):
+    for check in (every_crate_is_listed, only_laws, formatting, proofs, reasons, rust_tests, browser):
         try:
             check(tally)
         except Exception as error:  # a check that cannot be carried out has failed

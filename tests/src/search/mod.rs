@@ -1,6 +1,6 @@
 //! The list by a search in plain Rust, unproved: what the library's search is measured against. Depth first, threads
 //! ascending; a prefix is given up where every completion of it has a smaller alike schedule (rules R1, R2, R3), and a full
-//! schedule is tested against every permitted exchange of threads.
+//! schedule is tested against every permitted exchange of threads but the identity.
 mod state;
 pub mod walk;
 
@@ -24,8 +24,9 @@ pub struct Search<'a> {
     ahead: Ahead,
     /// The threads alike to each, as bits.
     alike: [u8; 6],
-    /// For each permitted permutation the thread that comes to each place, ascending.
-    permitted: Vec<Vec<u8>>,
+    /// For each permitted permutation but the identity the thread that comes to each place, ascending. The identity gives no smaller
+    /// schedule: by R1 no step of the prefix could have come earlier.
+    exchanges: Vec<Vec<u8>>,
     schedule: [u8; 24],
     trail: [Step; 24],
     /// The source of each access of each thread; what lies behind the accesses done is of no meaning.
@@ -46,7 +47,7 @@ impl<'a> Search<'a> {
             program,
             ahead: Ahead::of(program),
             alike,
-            permitted: permitted(program),
+            exchanges: permitted(program).split_off(1),
             schedule: [0; 24],
             trail: [Step::default(); 24],
             sources: [[state::NONE; 24]; 6],
@@ -143,17 +144,20 @@ impl<'a> Search<'a> {
         })
     }
 
-    /// The earlier steps that this access of t depends on, as bits.
+    /// The earlier steps that this access of t depends on, as bits; only the test at a full schedule asks for them.
     fn before(&self, depth: usize, t: u8, access: Pending) -> u32 {
+        if self.exchanges.is_empty() {
+            return 0;
+        }
         let depends = |step: &Step| step.t == t || (step.location == access.location && (step.wrote || access.writes));
         (0..depth).fold(0, |bits, k| bits | (depends(&self.trail[k]) as u32) << k)
     }
 
-    /// At a full schedule: is the least schedule of every permitted exchange of its run no smaller?
+    /// At a full schedule: is the least schedule of every other permitted exchange of its run no smaller?
     fn is_least(&self, depth: usize) -> bool {
         let mut of_thread = [0u32; 6];
         (0..depth).for_each(|k| of_thread[self.trail[k].t as usize] |= 1 << k);
-        self.permitted.iter().all(|from| !self.smaller(depth, &of_thread, from))
+        self.exchanges.iter().all(|from| !self.smaller(depth, &of_thread, from))
     }
 
     /// Is the least schedule of the run whose thread t at place p is `from[p]` smaller? Found step by step.

@@ -1,10 +1,11 @@
-//! A step: the library's, carried out by a replay, beside plain Rust's on the same program and schedule.
-use crate::timing::best;
+//! A step: the library's, in a replay and in the search, beside plain Rust's on the same program.
+use crate::timing::{best, best_of};
 use std::hint::black_box;
-use tarczolin_tests::calls::graph;
+use tarczolin_tests::calls::{count, graph, Answer};
 use tarczolin_tests::files::lines;
 use tarczolin_tests::oracle::decode::{decode, Program};
 use tarczolin_tests::oracle::machine::{opened, Event, Thread, INITIAL};
+use tarczolin_tests::search::Search;
 
 /// A machine of fixed size: threads, memory, and the last write of each location.
 struct Machine {
@@ -74,15 +75,46 @@ fn row(name: &str, words: &str, schedule: &[u8]) {
     println!("{name}: a step {library:.1} ns, plain Rust {plain:.1} ns, ratio {:.2}", library / plain);
 }
 
+/// Prints the best times of a step of the search through one program that declares no threads alike: a count's time over the steps that
+/// are taken, which are the same in both.
+fn searched(name: &str, words: &str) {
+    let file = lines(words);
+    let program = decode(&file).unwrap();
+    let mut search = Search::new(&program);
+    let counts = search.count();
+    let steps = search.prefixes - 1;
+    let counted = || {
+        let (mut listed, mut failing) = (0, 0);
+        assert_eq!(count(black_box(&file), &mut listed, &mut failing), Answer::Answered(0));
+        assert_eq!((listed, failing), counts, "both agree");
+    };
+    let rounds = (2_000_000 / steps).clamp(3, 300) as usize;
+    let (library, plain) = best_of(rounds, 1, counted, || Search::new(&decode(black_box(&file)).unwrap()).count());
+    let (library, plain) = (library / steps as f64, plain / steps as f64);
+    println!("{name}: {steps} steps, {} listed, a step {library:.1} ns, plain Rust {plain:.1} ns, ratio {:.2}", counts.0, library / plain);
+}
+
+/// A thread of four accesses and two register instructions, and one that loads, adds 1 and stores twice.
+const SUMS: &str = "01 1200000000000001 21000100000000 1201010100000000 13020201000000000100000001 23020000000000 110303 ";
+const INCREMENT: &str = "110000 21000000000001 10000100000000 ";
+
+/// Twelve stores of one location beside twelve loads.
+fn twelve() -> String {
+    format!("01 {} 01 {} ", "10000000000001 ".repeat(12), "110000 ".repeat(12))
+}
+
 pub fn report() {
+    println!("A step in the search, with all that its rules ask there: tarczolin_count beside plain Rust's search by the same rules, over the");
+    println!("number of steps that the search takes (asked: at most 2)");
+    searched("12 stores beside 12 loads", &twelve());
+    searched("three threads of four accesses and two register instructions", &SUMS.repeat(3));
+    searched("three threads that load, add 1 and store twice", &format!("01 {INCREMENT} {INCREMENT} ").repeat(3));
+    searched("six threads that load, add 1 and store", &format!("01 {INCREMENT} ").repeat(6));
     println!("A step in a replay by tarczolin_graph beside plain Rust: 23 steps refused by 21, less none refused at the first byte, over 23.");
     println!("Both decode the file, store each step in one machine, keep what it read, from where, and whether it wrote, and write no text");
-    let accesses = |kinds: &str| format!("01 {} ", kinds.repeat(12));
     let alternating: Vec<u8> = (0..24).map(|k| k % 2).collect();
-    row("12 stores beside 12 loads", &(accesses("10000000000001 ") + &accesses("110000 ")), &alternating);
-    let sums = "01 1200000000000001 21000100000000 1201010100000000 13020201000000000100000001 23020000000000 110303 ";
+    row("12 stores beside 12 loads", &twelve(), &alternating);
     let six: Vec<u8> = (0..24).map(|k| k % 6).collect();
-    row("six threads of four accesses and two register instructions", &sums.repeat(6), &six);
-    let increment = "110000 21000000000001 10000100000000 ";
-    row("six threads that load, add 1 and store twice", &format!("01 {increment} {increment} ").repeat(6), &six);
+    row("six threads of four accesses and two register instructions", &SUMS.repeat(6), &six);
+    row("six threads that load, add 1 and store twice", &format!("01 {INCREMENT} {INCREMENT} ").repeat(6), &six);
 }
