@@ -1,5 +1,5 @@
 -- THE PIECES TOGETHER are what is printed of the file, of which no more than 4,097 bytes have to be read.
-use Prim.Native.Nat.{ℕ, _<_}
+use Prim.Native.Nat.{ℕ}
 use mathlib.Core.Path.{_≡_, refl, sym, ap, _∙_}
 use mathlib.Core.Bool.{Bool, true, false}
 use mathlib.Core.List.{List, [], _∷_, _++_, append-assoc, append-nil}
@@ -7,17 +7,13 @@ use native.Mathlib.Omega.{arith}
 use lib.Dec.{leb}
 use lib.ListN.{length, take}
 use lib.Seq.{take-all, length-take-le}
-use borrow.Author.Tests.{lt-ltb, leb-true, leb-false}
-use Rattle.program.specs.Decode.{Decoded, refused, decode}
+use borrow.Author.Tests.{leb-true, leb-false}
+use Rattle.program.specs.Decode.{Decoded, decode}
+use Rattle.program.proofs.HeldFile.{too-large}
 use Rattle.machine.specs.Text.{textOf}
 use Rattle.listing.specs.Printed.{printedFrames, printed}
 use Rattle.explorer.specs.declared.pieces.Listing.{Listing}
 use Rattle.explorer.specs.Pieces.{rest, Begun, Next, Handed, joined}
-
--- a file that is too long is refused for its length alone
-too-long : (file : List ℕ) → 4096 < length file → decode file ≡ refused 1 0
-unfolding decode
-too-long file h = rw (lt-ltb 4096 (length file) h)
 
 -- 4,097 bytes tell
 pub front-decides : (file : List ℕ) → decode (take 4097 file) ≡ decode file
@@ -27,7 +23,7 @@ front-decides file = go (leb (length file) 4097) refl
     go true e = ap decode (take-all 4097 file (leb-true (length file) 4097 e))
     go false e =
         let h = leb-false (length file) 4097 e in
-        too-long (take 4097 file) (omega (arith, length-take-le 4097 file (omega (arith, h)))) ∙ sym (too-long file (omega (arith, h)))
+        too-large (take 4097 file) (omega (arith, length-take-le 4097 file (omega (arith, h)))) ∙ sym (too-large file (omega (arith, h)))
 
 pub front-printed : (file : List ℕ) → printed (take 4097 file) ≡ printed file
 unfolding printed

@@ -1,33 +1,22 @@
 -- The machine agrees with the threads by themselves: each is where it would be alone, and each location has what its last write leaves.
 -- A step keeps this as long as what it reads is the value given.
-use Prim.Native.Nat.{ℕ, zero, suc}
+use Prim.Native.Nat.{ℕ, suc}
 use mathlib.Core.Path.{_≡_, refl, sym, ap, subst, _∙_}
 use mathlib.Core.Logic.{inl, inr}
 use mathlib.Core.Bool.{Bool, true, false}
-use mathlib.Core.List.{List, [], _∷_, map}
-use lib.ListN.{length, getD}
-use Rattle.program.specs.Program.{Program, initial}
+use lib.ListN.{length}
+use Rattle.program.specs.Program.{Program}
 use Rattle.program.specs.WellFormed.{WellFormed}
 use Rattle.machine.specs.Local.{Local, placeOf, takes, puts, next}
-use Rattle.machine.specs.State.{Cell, State, freshCell, threadOf, cellOf, place, latest, advanced, step, may, start}
+use Rattle.machine.specs.State.{Cell, State, threadOf, cellOf, place, latest, advanced, step, may, start}
 use Rattle.machine.proofs.Access.{blind-next, blind-puts}
 use Rattle.machine.proofs.Steps.{may-pending, may-range, step-threads}
 use Rattle.machine.proofs.Change.{thread-cases, noted-done, Change, kept, wrote}
 use Rattle.machine.proofs.Start.{start-threads, start-writes, start-history}
 use Rattle.machine.proofs.Regular.{Regular, changes, regular-step, regular-start}
+use Rattle.machine.proofs.HeldStart.{start-value}
 use Rattle.machine.proofs.Histories.{upcoming}
 use Rattle.judge.specs.Consistent.{Values, alone, localAt, Reads, locationOf, outOf, Leaves}
-
--- the value that location l starts with
-fresh-value : (vs : List ℕ) (l : ℕ) → getD (map freshCell vs) l (freshCell 0) .value ≡ getD vs l 0
-unfolding freshCell
-fresh-value [] l = refl
-fresh-value (x ∷ vs) zero = refl
-fresh-value (x ∷ vs) (suc l) = fresh-value vs l
-
-start-value : (p : Program) (l : ℕ) → cellOf (start p) l .value ≡ getD (initial p) l 0
-unfolding cellOf start
-start-value p l = fresh-value (initial p) l
 
 module _ (p : Program) (v : Values) where
   pub record Agrees (σ : State) : Type 0 where

@@ -1,19 +1,14 @@
 -- Whether a thread fits depends only on the places of the accesses that a text can name: a table of 16 places a thread is enough.
 use Prim.Native.Nat.{ℕ}
-use mathlib.Core.Path.{_≡_, refl, sym, _∙_}
-use mathlib.Core.Bool.{Bool, true, false}
+use mathlib.Core.Path.{_≡_, sym, _∙_}
 use native.Mathlib.Omega.{arith}
+use Rattle.program.proofs.HeldCode.{equal-tests}
 use Rattle.machine.specs.State.{Event, State}
 use Rattle.machine.specs.Graph.{Graph}
 use Rattle.judge.specs.Consistent.{ReadsFrom}
 use Rattle.judge.specs.Judge.{fits}
 use Rattle.judge.proofs.Fitting.{FitAt, row-in, fits-is, is-fits}
 use Rattle.judge.proofs.Readable.{Named, Readable}
-
-same-truth : (a b : Bool) → (a ≡ true → b ≡ true) → (b ≡ true → a ≡ true) → a ≡ b
-same-truth true b f h = sym (f refl)
-same-truth false true f h = h refl
-same-truth false false f h = refl
 
 module _ (n : ℕ) (g : Graph) (R : Readable n g) where
   -- what stands in a row can be named
@@ -28,6 +23,6 @@ module _ (n : ℕ) (g : Graph) (R : Readable n g) where
   }
 
   pub fits-places : (pl ql : Event → ℕ) → ((e : Event) → Named n e → pl e ≡ ql e) → (σ : State) (t : ℕ) → fits g pl σ t ≡ fits g ql σ t
-  fits-places pl ql same σ t = same-truth (fits g pl σ t) (fits g ql σ t)
+  fits-places pl ql same σ t = equal-tests (fits g pl σ t) (fits g ql σ t)
       (λ h. is-fits g ql σ t (fit-places pl ql same σ t (fits-is g pl σ t h)))
       (λ h. is-fits g pl σ t (fit-places ql pl (λ e k. sym (same e k)) σ t (fits-is g ql σ t h)))

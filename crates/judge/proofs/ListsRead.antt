@@ -1,5 +1,5 @@
 -- The `41` lines of a graph pass, location by location, and give its lists back.
-use Prim.Native.Nat.{ℕ, zero, suc, _+_, _*_, _%_, _<_, _≤_}
+use Prim.Native.Nat.{ℕ, zero, suc, _+_, _%_, _<_, _≤_}
 use mathlib.Core.Path.{_≡_, refl, sym, ap, subst, _∙_}
 use mathlib.Core.Logic.{_⊎_, inl, inr, ⊎-elim}
 use mathlib.Core.Bool.{true}
@@ -12,8 +12,9 @@ use Rattle.schedules.proofs.Lists.{all-of}
 use Rattle.schedules.specs.Order.{less}
 use Rattle.schedules.proofs.Order.{less-front, less-heads}
 use Rattle.machine.specs.State.{Event}
-use Rattle.machine.specs.Graph.{Graph}
+use Rattle.machine.specs.Graph.{Graph, graphWith}
 use Rattle.machine.specs.Text.{eventBytes, writeFrame, writeFrames}
+use Rattle.machine.proofs.NoteLength.{bytes-length}
 use Rattle.judge.specs.Consistent.{Distinct}
 use Rattle.judge.specs.Reading.{Frame, isRead, eventsIn, writesIn, known, isEvent, inRange, key, Reading, inOrder, refusal, withLine, after}
 use Rattle.judge.proofs.Readable.{Named, Unwritten, is-event, is-new, reverse-in, distinct-reverse}
@@ -25,11 +26,6 @@ events-back : (es : List Event) → eventsIn (eventBytes es) ≡ es
 unfolding eventsIn eventBytes
 events-back [] = refl
 events-back (e ∷ es) = ap {B = List Event} (λ l. e ∷ l) (events-back es)
-
-events-length : (es : List Event) → length (eventBytes es) ≡ 2 * length es
-unfolding eventBytes
-events-length [] = refl
-events-length (e ∷ es) = let ih = events-length es in omega arith
 
 -- who stands in lists of which the last ones are empty, and in lists with one more
 in-front : (pre : List (List Event)) (m k : ℕ) (x : Event) → List·Memᴰ x (getD (pre ++ replicate m []) k []) → List·Memᴰ x (getD pre k [])
@@ -43,9 +39,6 @@ in-last [] w (suc k) x i = absurd (List·Memᴰ·not-nil i)
 in-last (v ∷ pre) w zero x i = inl i
 in-last (v ∷ pre) w (suc k) x i = in-last pre w k x i
 
-abbrev graphOf : List (List (ℕ × Event)) → List (List Event) → Graph
-graphOf rs ws = record { reads = rs; writes = ws }
-
 module _ (n : ℕ) (R : List (List (ℕ × Event))) where
   abbrev lineOf : ℕ → List Event → Frame
   lineOf l es = 0x41 ∷ l ∷ eventBytes es
@@ -56,7 +49,7 @@ module _ (n : ℕ) (R : List (List (ℕ × Event))) where
       less (r .last) (0x41 ∷ l ∷ []) ≡ true → refusal n r (lineOf l es) ≡ 0
   unfolding refusal known inRange inOrder key isRead writesIn
   write-passes l es r h c e d u k =
-      let q = events-length es in
+      let q = bytes-length es in
       rw (
         le-leb 4 (length (lineOf l es)) (omega arith),
         eq-eqb (length (lineOf l es) % 2) 0 (omega arith),
@@ -67,13 +60,13 @@ module _ (n : ℕ) (R : List (List (ℕ × Event))) where
         is-new (r .graph .writes) es d u,
       )
 
-  line-graph : (l : ℕ) (es : List Event) (pre post : List (List Event)) (w : List Event) (r : Reading) → length pre ≡ l → r .graph ≡ graphOf R (pre ++ (w ∷ post)) →
-      after (lineOf l (reverse es)) r .graph ≡ graphOf R (pre ++ (es ∷ post))
+  line-graph : (l : ℕ) (es : List Event) (pre post : List (List Event)) (w : List Event) (r : Reading) → length pre ≡ l → r .graph ≡ graphWith R (pre ++ (w ∷ post)) →
+      after (lineOf l (reverse es)) r .graph ≡ graphWith R (pre ++ (es ∷ post))
   unfolding after withLine isRead writesIn
   line-graph l es pre post w r here g =
-      ap (λ (h : Graph). graphOf (h .reads) (set (h .writes) l (reverse (eventsIn (eventBytes (reverse es)))))) g
-      ∙ ap (λ (v : List Event). graphOf R (set (pre ++ (w ∷ post)) l v)) (ap reverse (events-back (reverse es)) ∙ reverse-reverse es)
-      ∙ ap (λ (v : List (List Event)). graphOf R v) (set-at pre w post es l here)
+      ap (λ (h : Graph). graphWith (h .reads) (set (h .writes) l (reverse (eventsIn (eventBytes (reverse es)))))) g
+      ∙ ap (λ (v : List Event). graphWith R (set (pre ++ (w ∷ post)) l v)) (ap reverse (events-back (reverse es)) ∙ reverse-reverse es)
+      ∙ ap (λ (v : List (List Event)). graphWith R v) (set-at pre w post es l here)
 
   line-last : (l : ℕ) (es : List Event) (r : Reading) (k : ℕ) → l < k → less (after (lineOf l es) r .last) (0x41 ∷ k ∷ []) ≡ true
   unfolding after key isRead
@@ -96,9 +89,9 @@ module _ (n : ℕ) (R : List (List (ℕ × Event))) where
   }
 
   -- one location: no line, or one that passes
-  list-read : (ws : List Event) (lists pre : List (List Event)) (l : ℕ) (r : Reading) → length pre ≡ l → l ≤ 7 → r .graph ≡ graphOf R (pre ++ replicate (length (ws ∷ lists)) []) →
+  list-read : (ws : List Event) (lists pre : List (List Event)) (l : ℕ) (r : Reading) → length pre ≡ l → l ≤ 7 → r .graph ≡ graphWith R (pre ++ replicate (length (ws ∷ lists)) []) →
       ((k : ℕ) → l ≤ k → less (r .last) (0x41 ∷ k ∷ []) ≡ true) → Remaining (ws ∷ lists) pre →
-      Passing n r (writeFrame l ws) × (afterAll (writeFrame l ws) r .graph ≡ graphOf R
+      Passing n r (writeFrame l ws) × (afterAll (writeFrame l ws) r .graph ≡ graphWith R
       (pre ++ (ws ∷ replicate (length lists) []))) × ((k : ℕ) → suc l ≤ k → less (afterAll (writeFrame l ws) r .last) (0x41 ∷ k ∷ []) ≡ true)
   unfolding afterAll writeFrame
   list-read [] lists pre l r here c g u C = (tt, g, λ k h. u k (omega arith))
@@ -114,16 +107,16 @@ module _ (n : ℕ) (R : List (List (ℕ × Event))) where
         λ k h. line-last l zs r k (omega arith),
       )
 
-  pub lists-read : (lists pre : List (List Event)) (l : ℕ) (r : Reading) → length pre ≡ l → l + length lists ≤ 8 → r .graph ≡ graphOf R (pre ++ replicate (length lists) []) →
+  pub lists-read : (lists pre : List (List Event)) (l : ℕ) (r : Reading) → length pre ≡ l → l + length lists ≤ 8 → r .graph ≡ graphWith R (pre ++ replicate (length lists) []) →
       ((k : ℕ) → l ≤ k → less (r .last) (0x41 ∷ k ∷ []) ≡ true) → Remaining lists pre →
-      Passing n r (writeFrames l lists) × (afterAll (writeFrames l lists) r .graph ≡ graphOf R (pre ++ lists))
+      Passing n r (writeFrames l lists) × (afterAll (writeFrames l lists) r .graph ≡ graphWith R (pre ++ lists))
   unfolding afterAll writeFrames
   lists-read [] pre l r here h g u C = (tt, g)
   lists-read (ws ∷ lists) pre l r here h g u C =
       let fs = writeFrame l ws in
       let a = list-read ws lists pre l r here (omega arith) g u C in
       let ih = lists-read lists (pre ++ (ws ∷ [])) (suc l) (afterAll fs r) (length-append pre (ws ∷ []) ∙ omega arith) (omega arith)
-      (a .1 ∙ ap (λ (v : List (List Event)). graphOf R v) (sym (append-assoc pre (ws ∷ []) (replicate (length lists) [])))) (a .2) (remaining-tail ws lists pre C) in (
+      (a .1 ∙ ap (λ (v : List (List Event)). graphWith R v) (sym (append-assoc pre (ws ∷ []) (replicate (length lists) [])))) (a .2) (remaining-tail ws lists pre C) in (
         passing-append n fs (writeFrames (suc l) lists) r (a .0) (ih .0),
-        ap (λ (s : Reading). s .graph) (after-append fs (writeFrames (suc l) lists) r) ∙ ih .1 ∙ ap (λ (v : List (List Event)). graphOf R v) (append-assoc pre (ws ∷ []) lists),
+        ap (λ (s : Reading). s .graph) (after-append fs (writeFrames (suc l) lists) r) ∙ ih .1 ∙ ap (λ (v : List (List Event)). graphWith R v) (append-assoc pre (ws ∷ []) lists),
       )

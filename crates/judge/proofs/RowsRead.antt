@@ -9,7 +9,7 @@ use lib.Seq.{set-at, getD-at}
 use Rattle.schedules.specs.Order.{less}
 use Rattle.schedules.proofs.Order.{less-front, less-heads}
 use Rattle.machine.specs.State.{Event}
-use Rattle.machine.specs.Graph.{Graph}
+use Rattle.machine.specs.Graph.{Graph, graphWith}
 use Rattle.machine.specs.Text.{readFrame, readFrames}
 use Rattle.judge.specs.Consistent.{Descends}
 use Rattle.judge.specs.Reading.{Frame, isRead, known, inRange, key, inOrder, Reading, refusal, withLine, after}
@@ -34,9 +34,6 @@ precedes-read t i = record {
   locations = λ l. less-heads 0x40 0x41 (t ∷ i ∷ []) (l ∷ []) (omega arith);
 }
 
-abbrev graphOf : List (List (ℕ × Event)) → List (List Event) → Graph
-graphOf rs ws = record { reads = rs; writes = ws }
-
 module _ (n : ℕ) (W : List (List Event)) where
   -- a `40` line that is in range and in order passes
   read-passes : (t : ℕ) (x : ℕ × Event) (r : Reading) → Named n (t, x .0) → Source n (x .1) → less (r .last) (0x40 ∷ t ∷ x .0 ∷ []) ≡ true → refusal n r (readFrame t x) ≡ 0
@@ -46,16 +43,16 @@ module _ (n : ℕ) (W : List (List Event)) where
   module _ (pre : List (List (ℕ × Event))) (t : ℕ) (here : length pre ≡ t) (post : List (List (ℕ × Event))) where
     -- behind the lines of thread t, with this row
     pub record Row (rs : List (ℕ × Event)) (r : Reading) : Type 0 where
-      pub graph : r .graph ≡ graphOf (pre ++ (rs ∷ post)) W
+      pub graph : r .graph ≡ graphWith (pre ++ (rs ∷ post)) W
       pub next : (i : ℕ) → ((y : ℕ × Event) → List·Memᴰ y rs → y .0 < i) → less (r .last) (0x40 ∷ t ∷ i ∷ []) ≡ true
       pub precedes : Precedes (suc t) (r .last)
 
     row-line : (x : ℕ × Event) (rs : List (ℕ × Event)) (r : Reading) → Row rs r → Row (x ∷ rs) (after (readFrame t x) r)
     unfolding after withLine key isRead readFrame
     row-line x rs r R = record {
-      graph = ap (λ (g : Graph). graphOf (set (g .reads) t (x ∷ getD (g .reads) t [])) (g .writes)) (R .graph)
-          ∙ ap (λ (w : List (ℕ × Event)). graphOf (set (pre ++ (rs ∷ post)) t (x ∷ w)) W) (getD-at pre rs post [] t here)
-          ∙ ap (λ (l : List (List (ℕ × Event))). graphOf l W) (set-at pre rs post (x ∷ rs) t here);
+      graph = ap (λ (g : Graph). graphWith (set (g .reads) t (x ∷ getD (g .reads) t [])) (g .writes)) (R .graph)
+          ∙ ap (λ (w : List (ℕ × Event)). graphWith (set (pre ++ (rs ∷ post)) t (x ∷ w)) W) (getD-at pre rs post [] t here)
+          ∙ ap (λ (l : List (List (ℕ × Event))). graphWith l W) (set-at pre rs post (x ∷ rs) t here);
       next = λ i h. less-front 0x40 (t ∷ x .0 ∷ []) (t ∷ i ∷ []) ∙ less-front t (x .0 ∷ []) (i ∷ []) ∙ less-heads (x .0) i [] [] (h x (List·Memᴰ·head refl));
       precedes = precedes-read t (x .0);
     }
@@ -82,9 +79,9 @@ module _ (n : ℕ) (W : List (List Event)) where
 
   -- behind the lines of all threads
   pub rows-read : (rows pre : List (List (ℕ × Event))) (t : ℕ) (r : Reading) → length pre ≡ t → t + length rows ≤ n →
-      r .graph ≡ graphOf (pre ++ replicate (length rows) []) W → Precedes t (r .last) →
+      r .graph ≡ graphWith (pre ++ replicate (length rows) []) W → Precedes t (r .last) →
       ((k : ℕ) → Descends (getD rows k [])) → ((k : ℕ) (x : ℕ × Event) → List·Memᴰ x (getD rows k []) → (x .0 ≤ 15) × Source n (x .1)) →
-      Passing n r (readFrames t rows) × (afterAll (readFrames t rows) r .graph ≡ graphOf (pre ++ rows) W) × ((l : ℕ) → less
+      Passing n r (readFrames t rows) × (afterAll (readFrames t rows) r .graph ≡ graphWith (pre ++ rows) W) × ((l : ℕ) → less
       (afterAll (readFrames t rows) r .last) (0x41 ∷ l ∷ []) ≡ true)
   unfolding afterAll readFrames
   rows-read [] pre t r here h g u d c = (tt, g, u .locations)
@@ -93,10 +90,10 @@ module _ (n : ℕ) (W : List (List Event)) where
       let R : Row pre t here (replicate (length rows) []) [] r = record { graph = g; next = λ i k. u .threads t i (omega arith); precedes = precedes-later t (r .last) u } in
       let a = row-read pre t here (replicate (length rows) []) rs r (d 0) (omega arith) (c 0) R in
       let ih = rows-read rows (pre ++ (rs ∷ [])) (suc t) (afterAll fs r) (length-append pre (rs ∷ []) ∙ omega arith) (omega arith)
-      (a .1 .graph ∙ ap (λ (l : List (List (ℕ × Event))). graphOf l W) (sym (append-assoc pre (rs ∷ []) (replicate (length rows) []))))
+      (a .1 .graph ∙ ap (λ (l : List (List (ℕ × Event))). graphWith l W) (sym (append-assoc pre (rs ∷ []) (replicate (length rows) []))))
       (a .1 .precedes) (λ k. d (suc k)) (λ k. c (suc k)) in
       let q = after-append fs (readFrames (suc t) rows) r in (
         passing-append n fs (readFrames (suc t) rows) r (a .0) (ih .0),
-        ap (λ (s : Reading). s .graph) q ∙ ih .1 ∙ ap (λ (l : List (List (ℕ × Event))). graphOf l W) (append-assoc pre (rs ∷ []) rows),
+        ap (λ (s : Reading). s .graph) q ∙ ih .1 ∙ ap (λ (l : List (List (ℕ × Event))). graphWith l W) (append-assoc pre (rs ∷ []) rows),
         λ l. ap (λ (s : Reading). less (s .last) (0x41 ∷ l ∷ [])) q ∙ ih .2 l,
       )

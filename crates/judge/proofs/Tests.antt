@@ -8,7 +8,7 @@ use borrow.Author.Tests.{eqb-true, eq-eqb, not-true}
 use lib.Dec.{eqb}
 use Rattle.program.proofs.Tests.{both}
 use Rattle.machine.specs.State.{Event}
-use Rattle.machine.specs.Graph.{Graph}
+use Rattle.machine.specs.Graph.{Graph, graphWith}
 use Rattle.judge.specs.Judge.{sameEvent, sameRead, sameList, sameGraph}
 
 pub both-and : {a b : Bool} → a ≡ true → b ≡ true → a && b ≡ true
@@ -56,9 +56,6 @@ module _ {A : Type 0} (f : A → A → Bool) where
   unfolding sameList
   same-list s [] = refl
   same-list s (x ∷ xs) = both-and (s x) (same-list s xs)
-
-abbrev graphWith : List (List (ℕ × Event)) → List (List Event) → Graph
-graphWith rs ws = record { reads = rs; writes = ws }
 
 pub same-graph-is : (g h : Graph) → sameGraph g h ≡ true → g ≡ h
 unfolding sameGraph

@@ -21,7 +21,7 @@ use Rattle.machine.specs.Graph.{endOf}
 use Rattle.machine.specs.Held.{threadAt}
 use Rattle.machine.specs.Notes.{Note, notes}
 use Rattle.machine.specs.NoteText.{readsIn, notesAt}
-use Rattle.machine.proofs.Everywhere.{everywhere-at}
+use Rattle.program.proofs.Everywhere.{everywhere-at}
 use Rattle.machine.proofs.Steps.{may-pending, run-threads}
 use Rattle.machine.proofs.Start.{start-threads}
 use Rattle.machine.proofs.HeldStart.{threads-held, code-held}
@@ -85,13 +85,13 @@ module _ (code lengths class : List ℕ) (threads groups : ℕ) (m : Machine) (t
   -- two members of one line
   module _ (u t : ℕ) (line : Together p u t) where
     group : Group p (line .0)
-    group = everywhere-at (Group p) (p .groups) (line .0) (r .loaded .wellFormed .groups) (line .1)
+    group = everywhere-at (Group p) (line .1) (r .loaded .wellFormed .groups)
 
     here : u < threads
-    here = omega (arith, threads-held code lengths threads p (r .loaded), everywhere-at (λ x. x < length (p .threads)) (line .0) u (group .exist) (line .2))
+    here = omega (arith, threads-held code lengths threads p (r .loaded), everywhere-at (λ x. x < length (p .threads)) (line .2) (group .exist))
 
     there : t < threads
-    there = omega (arith, threads-held code lengths threads p (r .loaded), everywhere-at (λ x. x < length (p .threads)) (line .0) t (group .exist) (line .3))
+    there = omega (arith, threads-held code lengths threads p (r .loaded), everywhere-at (λ x. x < length (p .threads)) (line .3) (group .exist))
 
     one-length : getD lengths u 0 ≡ getD lengths t 0
     one-length =

@@ -24,7 +24,7 @@ use Rattle.machine.specs.State.{Event, History, Thread, Cell, State, threadOf, 
 use Rattle.machine.specs.Graph.{endOf, Full}
 use Rattle.machine.specs.Exchange.{movedSchedule, Moves}
 use Rattle.machine.proofs.Suffix.{Suffix, suffix-equal}
-use Rattle.machine.proofs.Everywhere.{everywhere-at}
+use Rattle.program.proofs.Everywhere.{everywhere-at}
 use Rattle.machine.proofs.Steps.{run-threads}
 use Rattle.machine.proofs.Start.{start-threads}
 use Rattle.machine.proofs.Regular.{regular-start, regular-run}
@@ -81,9 +81,9 @@ module _ (p : Program) (w : WellFormed p) where
   -- two members of one `02` line exist and have one code
   members : (u t : ℕ) → Together p u t → (u < length (p .threads)) × (t < length (p .threads)) × (codeOf p u ≡ codeOf p t)
   members u t k =
-      let g = everywhere-at (Group p) (p .groups) (k .0) (w .groups) (k .1) in (
-        everywhere-at (λ x. x < length (p .threads)) (k .0) u (g .exist) (k .2),
-        everywhere-at (λ x. x < length (p .threads)) (k .0) t (g .exist) (k .3),
+      let g = everywhere-at (Group p) (k .1) (w .groups) in (
+        everywhere-at (λ x. x < length (p .threads)) (k .2) (g .exist),
+        everywhere-at (λ x. x < length (p .threads)) (k .3) (g .exist),
         g .equal u t (k .2) (k .3),
       )
 

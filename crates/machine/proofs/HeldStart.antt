@@ -33,7 +33,7 @@ fresh-value [] l = refl
 fresh-value (v ∷ vs) zero = refl
 fresh-value (v ∷ vs) (suc l) = fresh-value vs l
 
-start-value : (p : Program) (l : ℕ) → cellOf (start p) l .value ≡ getD (initial p) l 0
+pub start-value : (p : Program) (l : ℕ) → cellOf (start p) l .value ≡ getD (initial p) l 0
 unfolding cellOf start
 start-value p l = fresh-value (initial p) l
 

@@ -12,7 +12,7 @@ use Rattle.schedules.specs.Order.{Schedule}
 use Rattle.machine.specs.State.{Cell, noThread, freshCell, threadOf, opened, start}
 use Rattle.machine.specs.Graph.{Full, endOf, graph}
 use Rattle.machine.specs.Exchange.{Permutation, Together, Permitted, movedReads, movedWrites, movedSchedule, movedThread, movedCell, Moves, Turns}
-use Rattle.machine.proofs.Everywhere.{everywhere-at}
+use Rattle.program.proofs.Everywhere.{everywhere-at}
 use Rattle.machine.proofs.Start.{start-threads, start-thread, start-cases, everyone}
 use Rattle.machine.proofs.Exchange.{moves-full, moves-graph}
 
@@ -42,9 +42,9 @@ module _ (p : Program) (w : WellFormed p) (π : ℕ → ℕ) (m : Permitted p π
   -- a thread that moves exists, so does the one in whose place it comes, and both have one code
   moves-in : (t : ℕ) → Together p t (π t) → (t < length (p .threads)) × (π t < length (p .threads)) × (codeOf p t ≡ codeOf p (π t))
   moves-in t k =
-      let g = everywhere-at (Group p) (p .groups) (k .0) (w .groups) (k .1) in (
-        everywhere-at (λ u. u < length (p .threads)) (k .0) t (g .exist) (k .2),
-        everywhere-at (λ u. u < length (p .threads)) (k .0) (π t) (g .exist) (k .3),
+      let g = everywhere-at (Group p) (k .1) (w .groups) in (
+        everywhere-at (λ u. u < length (p .threads)) (k .2) (g .exist),
+        everywhere-at (λ u. u < length (p .threads)) (k .3) (g .exist),
         g .equal t (π t) (k .2) (k .3),
       )
 

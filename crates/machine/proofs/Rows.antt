@@ -1,11 +1,11 @@
 -- A state's graph, row by row and list by list.
 use Prim.Native.Nat.{ℕ}
 use mathlib.Core.Path.{_≡_, ap, ap₂, sym, _∙_}
-use mathlib.Core.List.{List, []}
+use mathlib.Core.List.{[]}
 use lib.ListN.{length, getD, length-map, List·getD-map}
 use lib.Seq.{ext-getD}
-use Rattle.machine.specs.State.{Event, State, noThread, freshCell, threadOf, cellOf}
-use Rattle.machine.specs.Graph.{Graph, readsOf, writesOf, graphOf}
+use Rattle.machine.specs.State.{State, noThread, freshCell, threadOf, cellOf}
+use Rattle.machine.specs.Graph.{Graph, graphWith, readsOf, writesOf, graphOf}
 
 pub row-at : (σ : State) (t : ℕ) → getD (graphOf σ .reads) t [] ≡ threadOf σ t .history .reads
 unfolding graphOf readsOf threadOf noThread
@@ -20,13 +20,10 @@ pub graph-sizes : (σ : State) → (length (graphOf σ .reads) ≡ length (σ .t
 unfolding graphOf
 graph-sizes σ = (length-map (σ .threads) readsOf, length-map (σ .cells) writesOf)
 
-abbrev both : List (List (ℕ × Event)) → List (List Event) → Graph
-both rs ws = record { reads = rs; writes = ws }
-
 -- a graph is a state's if it is so row by row and list by list
 pub same-graph : (σ : State) (g : Graph) → length (σ .threads) ≡ length (g .reads) → length (σ .cells) ≡ length (g .writes) →
     ((t : ℕ) → threadOf σ t .history .reads ≡ getD (g .reads) t []) → ((l : ℕ) → cellOf σ l .writes ≡ getD (g .writes) l []) → graphOf σ ≡ g
-same-graph σ g a b r w = ap₂ both
+same-graph σ g a b r w = ap₂ graphWith
     (ext-getD [] (graphOf σ .reads) (g .reads) (graph-sizes σ .0 ∙ a) (λ t h. row-at σ t ∙ r t))
     (ext-getD [] (graphOf σ .writes) (g .writes) (graph-sizes σ .1 ∙ b) (λ l h. order-at σ l ∙ w l))
 

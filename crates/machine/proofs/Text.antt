@@ -13,7 +13,8 @@ use Rattle.program.specs.WellFormed.{Everywhere}
 use Rattle.machine.specs.State.{Event}
 use Rattle.machine.specs.Graph.{Graph}
 use Rattle.machine.specs.Text.{readFrame, readFrames, eventBytes, writeFrame, writeFrames, frames, textOf, graphText}
-use Rattle.machine.proofs.Everywhere.{everywhere-of, everywhere-append, everywhere-reverse}
+use Rattle.program.proofs.Everywhere.{everywhere-all, everywhere-append}
+use Rattle.machine.proofs.Everywhere.{everywhere-reverse}
 use Rattle.machine.proofs.Frames.{frames-injective}
 
 -- both numbers of an event are bytes
@@ -55,7 +56,7 @@ unfolding readFrames
 reads-bytes [] t h b = tt
 reads-bytes (rs ∷ rows) t h b =
     everywhere-append Bytes (map (readFrame t) (reverse rs)) (readFrames (suc t) rows)
-    (row-bytes t (omega arith) (reverse rs) (everywhere-reverse ReadByte rs (everywhere-of ReadByte rs (b 0))))
+    (row-bytes t (omega arith) (reverse rs) (everywhere-reverse ReadByte rs (everywhere-all ReadByte rs (b 0))))
     (reads-bytes rows (suc t) (omega arith) (λ k. b (suc k)))
 
 event-bytes : (es : List Event) → Everywhere EventByte es → Bytes (eventBytes es)
@@ -73,7 +74,7 @@ unfolding writeFrames
 writes-bytes [] l h b = tt
 writes-bytes (ws ∷ rows) l h b =
     everywhere-append Bytes (writeFrame l ws) (writeFrames (suc l) rows)
-    (cell-bytes l (omega arith) ws (everywhere-of EventByte ws (b 0)))
+    (cell-bytes l (omega arith) ws (everywhere-all EventByte ws (b 0)))
     (writes-bytes rows (suc l) (omega arith) (λ k. b (suc k)))
 
 pub frames-bytes : (n : ℕ) (g : Graph) → Printable n g → Everywhere Bytes (frames g)

@@ -6,7 +6,7 @@ use mathlib.Core.List.{List, [], _∷_, map, map-map}
 use lib.ListN.{length, getD}
 use lib.Seq.{ext-getD}
 use Rattle.machine.specs.State.{Event}
-use Rattle.machine.specs.Graph.{Graph}
+use Rattle.machine.specs.Graph.{Graph, graphWith}
 use Rattle.machine.specs.Exchange.{Permutation, movedEvent, movedRead, movedReads, movedWrites, Turns}
 
 -- moving twice
@@ -66,13 +66,10 @@ turns-both ρ π g h k within r s = record {
   writes = s .writes ∙ ap (map (movedWrites ρ)) (r .writes) ∙ writes-twice ρ π (g .writes);
 }
 
-abbrev both : List (List (ℕ × Event)) → List (List Event) → Graph
-both rs ws = record { reads = rs; writes = ws }
-
 -- what an exchange makes of a graph is one graph
 pub turned-once : (π : ℕ → ℕ) (q : Permutation π) (g h k : Graph) → length (h .reads) ≡ length (k .reads) → ((t : ℕ) → t < length (h .reads) → q .inverse t < length (g .reads)) → Turns π g h → Turns π g k → h ≡ k
 turned-once π q g h k e within r s =
-    ap₂ both
+    ap₂ graphWith
     (ext-getD [] (h .reads) (k .reads) e (λ u i.
     let a = q .after-inverse u in
     ap (λ (z : ℕ). getD (h .reads) z []) (sym a) ∙ r .reads (q .inverse u) (within u i) ∙ sym (s .reads (q .inverse u) (within u i)) ∙ ap (λ (z : ℕ). getD (k .reads) z []) a))

@@ -14,6 +14,10 @@ pub record Graph : Type 0 where
   pub reads : List (List (ℕ × Event))
   pub writes : List (List Event)
 
+-- the graph of these reads and these writes
+abbrev pub graphWith : List (List (ℕ × Event)) → List (List Event) → Graph
+graphWith rs ws = record { reads = rs; writes = ws }
+
 unfoldable pub readsOf : Thread → List (ℕ × Event)
 readsOf h = h .history .reads
 
