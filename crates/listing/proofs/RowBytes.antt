@@ -3,13 +3,12 @@ use Prim.Native.Nat.{ℕ, zero, suc, _+_, _-_, _*_, _<_, _≤_}
 use mathlib.Core.Path.{_≡_, refl, sym, ap, ap₂, _∙_}
 use mathlib.Core.Logic.{_≢_}
 use mathlib.Core.Bool.{Bool, cond}
-use mathlib.Core.List.{List, [], _∷_, _++_, map}
+use mathlib.Core.List.{List}
 use native.Mathlib.Omega.{arith}
 use lib.ListN.{length, getD, set, take, length-map, length-take, List·getD-eq-default}
 use lib.Seq.{take-suc, take-all}
 use Rattle.lines.specs.Over.{over}
 use Rattle.lines.proofs.Over.{over-snoc}
-use Rattle.program.specs.Compiled.{tabulate}
 use Rattle.program.proofs.Tabulate.{length-tabulate, getD-tabulate}
 use Rattle.schedules.specs.Lists.{upTo}
 use Rattle.schedules.specs.Order.{Schedule}
