@@ -4,7 +4,7 @@ use mathlib.Core.Path.{_≡_, refl, sym, ap, ap₂, _∙_}
 use mathlib.Core.Logic.{_≢_}
 use mathlib.Core.Bool.{Bool, true, false, not, _&&_, true≢false, false≢true}
 use mathlib.Core.List.{List, [], _∷_}
-use borrow.Author.Tests.{eqb-true, eq-eqb, not-true}
+use borrow.Author.Tests.{eqb-true, eq-eqb, ne-eqb, not-true}
 use lib.Dec.{eqb}
 use Rattle.program.proofs.Tests.{both}
 use Rattle.machine.specs.State.{Event}
@@ -44,7 +44,41 @@ pub same-read : (a : ℕ × Event) → sameRead a a ≡ true
 unfolding sameRead
 same-read a = both-and (eq-eqb (a .0) (a .0) refl) (is-same-event (a .1) (a .1) refl)
 
+-- reads compared part by part: the number, then the source's thread and number
+pub read-differs : (a b : ℕ × Event) → a .0 ≢ b .0 → sameRead a b ≡ false
+unfolding sameRead
+read-differs a b n = rw (ne-eqb (a .0) (b .0) n)
+
+pub read-sources : (a b : ℕ × Event) → a .0 ≡ b .0 → sameRead a b ≡ sameEvent (a .1) (b .1)
+unfolding sameRead
+read-sources a b e = rw (eq-eqb (a .0) (b .0) e)
+
+pub event-differs : (a b : Event) → a .0 ≢ b .0 → sameEvent a b ≡ false
+unfolding sameEvent
+event-differs a b n = rw (ne-eqb (a .0) (b .0) n)
+
+pub event-numbers : (a b : Event) → a .0 ≡ b .0 → sameEvent a b ≡ eqb (a .1) (b .1)
+unfolding sameEvent
+event-numbers a b e = rw (eq-eqb (a .0) (b .0) e)
+
 module _ {A : Type 0} (f : A → A → Bool) where
+  -- lists compared member by member
+  pub same-nil : sameList f [] [] ≡ true
+  unfolding sameList
+  same-nil = refl
+
+  pub same-cons : (x : A) (xs : List A) (y : A) (ys : List A) → sameList f (x ∷ xs) (y ∷ ys) ≡ f x y && sameList f xs ys
+  unfolding sameList
+  same-cons x xs y ys = refl
+
+  pub same-shorter : (y : A) (ys : List A) → sameList f [] (y ∷ ys) ≡ false
+  unfolding sameList
+  same-shorter y ys = refl
+
+  pub same-longer : (x : A) (xs : List A) → sameList f (x ∷ xs) [] ≡ false
+  unfolding sameList
+  same-longer x xs = refl
+
   pub same-list-is : ((x y : A) → f x y ≡ true → x ≡ y) → (xs ys : List A) → sameList f xs ys ≡ true → xs ≡ ys
   unfolding sameList
   same-list-is s [] [] e = refl

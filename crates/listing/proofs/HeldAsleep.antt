@@ -19,10 +19,12 @@ use Rattle.machine.specs.Ahead.{mayPut, couldConflict, couldMeet}
 use Rattle.machine.specs.Notes.{Note, Noted}
 use Rattle.machine.specs.Held.{threadAt, Holds}
 use Rattle.machine.specs.declared.state.Machine.{Machine}
+use Rattle.machine.proofs.HeldNext.{meets-held}
 use Rattle.listing.specs.Rules.{late, taken, asleep}
 use Rattle.listing.specs.NotedSteps.{did, doing}
 use Rattle.listing.specs.Reached.{Reached}
 use Rattle.listing.specs.HeldSleep.{Counters, Short, unmetBy, unmet}
+use Rattle.listing.proofs.StepBytes.{next-action}
 use Rattle.listing.proofs.ReachedStep.{reached-may-yes, reached-may-not, reached-ready}
 use Rattle.listing.proofs.ReachedLate.{late-answered}
 
@@ -34,11 +36,10 @@ module _ (code lengths : List ℕ) (m : Machine) (σ : State) (held : Holds code
 
   -- what is left to thread k shows in its code
   pub unmet-other : k < 6 → k ≢ u → (b : Bool) → b ≡ any (couldConflict l w) (drop (getD at k 0) (threadCode code k (getD lengths k 0))) → not b ≡ unmetBy σ u l w k
-  unfolding couldMeet
   unmet-other h n b e =
       let q = ne-eqb k u n in
       let r : b ≡ couldMeet l w (threadOf σ k .local) =
-      e ∙ ap (λ (i : ℕ). any (couldConflict l w) (drop i (threadCode code k (getD lengths k 0)))) (standing k h) ∙ sym (ap (any (couldConflict l w)) (held .threads k h .rest)) in
+      e ∙ ap (λ (i : ℕ). any (couldConflict l w) (drop i (threadCode code k (getD lengths k 0)))) (standing k h) ∙ sym (meets-held code lengths m σ held k l w h) in
       rw q (ap not r)
 
 -- ---- thread u behind a prefix
@@ -73,10 +74,10 @@ module _ (code lengths class : List ℕ) (threads groups : ℕ) (m : Machine) (a
       found = ask can
 
       told : b ≡ late (taken p v) (action σ u)
-      unfolding action
       told =
           late-answered code lengths class threads groups m array steps p v reached b (doing u l wrote) eb
           ∙ ap₂ (λ (x : ℕ) (y : Bool). late (taken p v) (doing u x y)) (found .0) (found .1)
+          ∙ ap (late (taken p v)) (next-action σ u)
 
       -- which is not late
       pub asleep-timely : b ≡ false → false ≡ asleep p v (run SC (start p) v) u

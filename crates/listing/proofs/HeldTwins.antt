@@ -2,7 +2,7 @@
 use Prim.Native.Nat.{ℕ, _-_, _<_}
 use mathlib.Core.Path.{_≡_, refl, sym, ap, subst, fun-ext, _∙_}
 use mathlib.Core.Bool.{Bool, true, false, not, _&&_, true≢false}
-use mathlib.Core.List.{List, [], reverse, reverse-reverse}
+use mathlib.Core.List.{List, reverse, reverse-reverse}
 use native.Mathlib.Omega.{arith}
 use native.Mathlib.Decide.{decLt}
 use lib.Dec.{eqb}
@@ -15,13 +15,13 @@ use Rattle.program.proofs.HeldCode.{equal-tests}
 use Rattle.schedules.specs.Lists.{any}
 use Rattle.schedules.specs.Order.{Schedule}
 use Rattle.machine.specs.declared.state.Machine.{Machine}
-use Rattle.machine.specs.Local.{Local, beginsWithAccess, pending}
 use Rattle.machine.specs.State.{Event, State, threadOf, may, start}
 use Rattle.machine.specs.Graph.{endOf}
 use Rattle.machine.specs.Held.{threadAt}
 use Rattle.machine.specs.Notes.{Note, notes}
 use Rattle.machine.specs.NoteText.{readsIn, notesAt}
 use Rattle.program.proofs.Everywhere.{everywhere-at}
+use Rattle.machine.proofs.Access.{nothing-pending}
 use Rattle.machine.proofs.Steps.{may-pending, run-threads}
 use Rattle.machine.proofs.Start.{start-threads}
 use Rattle.machine.proofs.HeldStart.{threads-held, code-held}
@@ -49,10 +49,6 @@ same-turned a b x y e f = equal-tests (sameList sameRead a b) (sameList sameRead
     (λ s. is-same-list a b (sym (reverse-reverse a) ∙ ap reverse (e ∙ same-list-is sameRead same-read-is x y s ∙ sym f) ∙ reverse-reverse b))
 
 -- ---- as much code left: the same place in code of the same length, which t has not left
-no-code : (h : Local) → h .rest ≡ [] → pending h ≡ false
-unfolding pending beginsWithAccess
-no-code h e = rw e
-
 as-much-left : (n a b : ℕ) → b < n → eqb (n - a) (n - b) ≡ eqb a b
 as-much-left n a b h = equal-tests (eqb (n - a) (n - b)) (eqb a b)
     (λ e. let q = eqb-true (n - a) (n - b) e in eq-eqb a b (omega arith))
@@ -116,7 +112,7 @@ module _ (code lengths class : List ℕ) (threads groups : ℕ) (m : Machine) (t
       where
         go : Dec (threadAt m t .at < getD lengths t 0) → threadAt m t .at < getD lengths t 0
         go (yes h) = h
-        go (no h) = absurd (true≢false (sym (may-pending σ t ok) ∙ no-code (threadOf σ t .local)
+        go (no h) = absurd (true≢false (sym (may-pending σ t ok) ∙ nothing-pending (threadOf σ t .local)
             (r .holds .threads t (small t there) .rest ∙ drop-of-length-le (threadCode code t (getD lengths t 0)) {i = threadAt m t .at} (omega (arith, h, length-code code t (getD lengths t 0))))))
 
     same-rest : may σ t ≡ true → eqb (length (threadOf σ u .local .rest)) (length (threadOf σ t .local .rest)) ≡ eqb (threadAt m u .at) (threadAt m t .at)

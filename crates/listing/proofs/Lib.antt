@@ -29,6 +29,8 @@ pub mod Calls
 pub mod Demand3
 -- for the code: the list walked by the search
 pub mod Walk
+-- steps and reads by the bytes of their notes
+pub mod StepBytes
 -- R1 over the notes, one step back at a time
 pub mod GoingBack
 -- threads of one class stand in one line

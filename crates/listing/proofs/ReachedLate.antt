@@ -1,20 +1,22 @@
 -- R1 behind a prefix that the arrays hold: what the notes say of its steps, and the bytes of a note as an action.
 use Prim.Native.Nat.{ℕ}
-use mathlib.Core.Path.{_≡_, refl, ap, _∙_}
-use mathlib.Core.Bool.{Bool, true, false, cond}
+use mathlib.Core.Path.{_≡_, ap, ap₂, _∙_}
+use mathlib.Core.Bool.{Bool}
 use mathlib.Core.List.{List, map, reverse}
 use lib.Dec.{eqb}
 use lib.ListN.{length, getD}
 use Rattle.program.specs.Program.{Program}
 use Rattle.schedules.specs.Order.{Schedule}
-use Rattle.machine.specs.State.{State, place, start}
-use Rattle.machine.specs.Trail.{Action, action, writes}
+use Rattle.machine.specs.State.{State, start}
+use Rattle.machine.specs.Trail.{Action, action}
 use Rattle.machine.specs.Notes.{Note, note, notes, noteBytes, Noted}
 use Rattle.machine.specs.declared.state.Machine.{Machine}
-use Rattle.machine.proofs.NoteGraph.{notes-length}
+use Rattle.machine.proofs.NoteGraph.{notes-length, noted-location, noted-wrote}
+use Rattle.machine.proofs.NotesHeld.{byte-location, byte-wrote}
 use Rattle.listing.specs.Rules.{late, taken}
 use Rattle.listing.specs.NotedSteps.{did, doing}
 use Rattle.listing.specs.Reached.{Reached}
+use Rattle.listing.proofs.StepBytes.{next-action}
 use Rattle.listing.proofs.GoingBack.{noted-steps}
 
 module _ (code lengths class : List ℕ) (threads groups : ℕ) (m : Machine) (array : List ℕ) (steps : ℕ) (p : Program) (v : Schedule)
@@ -35,11 +37,8 @@ module _ (code lengths class : List ℕ) (threads groups : ℕ) (m : Machine) (a
 
 -- THE BYTES OF A STEP'S NOTE say what the step does
 pub action-noted : (σ : State) (t : ℕ) (bytes : List ℕ) → bytes ≡ noteBytes (note σ t) → doing t (getD bytes 2 0) (eqb (getD bytes 6 0) 1) ≡ action σ t
-unfolding noteBytes note action
 action-noted σ t bytes e =
-    ap (λ (bs : List ℕ). doing t (getD bs 2 0) (eqb (getD bs 6 0) 1)) e
-    ∙ flag (writes σ t)
-  where
-    flag : (w : Bool) → doing t (place σ t) (eqb (cond w 1 0) 1) ≡ doing t (place σ t) w
-    flag true = refl
-    flag false = refl
+    ap₂ (λ (l : ℕ) (w : Bool). doing t l w)
+    (ap (λ (bs : List ℕ). getD bs 2 0) e ∙ byte-location (note σ t) ∙ noted-location σ t)
+    (ap (λ (bs : List ℕ). eqb (getD bs 6 0) 1) e ∙ byte-wrote (note σ t) ∙ noted-wrote σ t)
+    ∙ next-action σ t

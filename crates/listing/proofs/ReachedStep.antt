@@ -9,12 +9,11 @@ use lib.ListN.{length, getD, length-append}
 use Rattle.program.specs.Program.{Program}
 use Rattle.schedules.specs.Order.{Schedule}
 use Rattle.schedules.specs.System.{run, Allowed}
-use Rattle.schedules.specs.Orders.{trace}
-use Rattle.schedules.proofs.Runs.{run-snoc, allowed-join, allowed-length}
-use Rattle.machine.specs.State.{State, place, step, may, SC, start}
+use Rattle.schedules.proofs.Runs.{run-nil, run-snoc, allowed-join, allowed-length}
+use Rattle.machine.specs.State.{State, place, may, SC, start}
 use Rattle.machine.specs.Trail.{Action, action}
 use Rattle.machine.specs.Trail as Trail
-use Rattle.machine.specs.Notes.{Note, note, notes, Noted}
+use Rattle.machine.specs.Notes.{note, notes, Noted}
 use Rattle.machine.specs.Held.{threadAt, Holds, Loaded, Ready, HoldsStep}
 use Rattle.machine.specs.declared.state.Machine.{Machine}
 use Rattle.machine.specs.declared.stepping.Stepped.{Stepped}
@@ -22,19 +21,14 @@ use Rattle.machine.proofs.Steps.{may-range, run-threads}
 use Rattle.machine.proofs.Start.{start-threads}
 use Rattle.machine.proofs.Lawful.{lawful, start-24}
 use Rattle.machine.proofs.Regular.{place-in, regular-run, regular-start}
-use Rattle.machine.proofs.FreeSteps.{trail-more}
+use Rattle.machine.proofs.FreeSteps.{trail-nil, trail-more}
+use Rattle.machine.proofs.NoteGraph.{notes-nil, notes-join, notes-snoc}
 use Rattle.machine.proofs.HeldStart.{threads-held, short-held}
 use Rattle.machine.proofs.HeldAsking.{held-may, held-ended, ready-held}
 use Rattle.machine.proofs.HeldNotes.{noted-fewer, noted-none}
 use Rattle.listing.specs.Rules.{late, Timely, taken}
 use Rattle.listing.specs.ClassGroups.{groupsOf}
 use Rattle.listing.specs.Reached.{Reached}
-
--- the notes of a run that goes on
-pub notes-join : (σ : State) (u s : Schedule) → notes σ (u ++ s) ≡ notes σ u ++ notes (run SC σ u) s
-unfolding notes run
-notes-join σ [] s = refl
-notes-join σ (t ∷ u) s = ap (λ (ns : List Note). note σ t ∷ ns) (notes-join (step σ t) u s)
 
 -- no step is late among none, nor with one more that is on time
 timely-none : Timely []
@@ -62,22 +56,17 @@ timely-more acts a h ontime u b z e = go (last-or-before acts a u b z e)
     go (inl q) = ap₂ (λ (l : List Action) (x : Action). late (reverse l) x) (q .0) (q .1) ∙ ontime
     go (inr q) = h u b (q .0) (q .1)
 
--- an array that holds notes holds the first of them
-pub noted-front : (trail : List ℕ) (ns ms : List Note) → Noted trail (ns ++ ms) → Noted trail ns
-noted-front = noted-fewer
-
 pub reached-start : (code lengths class : List ℕ) (threads groups : ℕ) (m : Machine) (trail : List ℕ) (p : Program)
     → Loaded code lengths threads p → p .groups ≡ groupsOf class groups → Holds code lengths m (start p) → length trail ≡ 192
     → Reached code lengths class threads groups m trail 0 p []
-unfolding run notes trace
 reached-start code lengths class threads groups m trail p loaded lines held n = record {
   loaded = loaded;
   lines = lines;
   allowed = tt;
-  holds = held;
-  noted = noted-none trail n;
+  holds = subst (Holds code lengths m) (sym (run-nil SC (start p))) held;
+  noted = subst (Noted trail) (sym (notes-nil (start p))) (noted-none trail n);
   counted = refl;
-  timely = timely-none;
+  timely = subst Timely (sym (trail-nil (start p))) timely-none;
 }
 
 module _ (code lengths class : List ℕ) (threads groups : ℕ) (m : Machine) (trail : List ℕ) (steps : ℕ) (p : Program) (v : Schedule)
@@ -132,13 +121,13 @@ module _ (code lengths class : List ℕ) (threads groups : ℕ) (m : Machine) (t
     pub reached-next : (r : Stepped) (trail' : List ℕ) → HoldsStep code lengths (run SC (start p) v) t r
         → Noted trail' (notes (start p) v ++ (note (run SC (start p) v) t ∷ [])) → late (taken p v) (action (run SC (start p) v) t) ≡ false
         → Reached code lengths class threads groups (r .machine) trail' (steps + 1) p (v ++ (t ∷ []))
-    unfolding notes taken
+    unfolding taken
     reached-next r trail' held noted ontime = record {
       loaded = at .loaded;
       lines = at .lines;
       allowed = more-allowed;
       holds = subst (Holds code lengths (r .machine)) (sym (run-snoc SC (start p) v t)) (held .holds);
-      noted = subst (Noted trail') (sym (notes-join (start p) v (t ∷ []))) noted;
+      noted = subst (Noted trail') (sym (notes-snoc (start p) v t)) noted;
       counted = omega (arith, length-append v (t ∷ []), at .counted);
       timely = subst Timely (sym (trail-more v t (start p))) (timely-more (Trail.trail (start p) v) (action (run SC (start p) v) t) (at .timely) ontime);
     }

@@ -1,20 +1,23 @@
 -- The test at a full schedule that the arrays hold: read off its notes, by the numbers of the permitted permutations, it is the test.
-use Prim.Native.Nat.{ℕ, zero, suc, _+_, _<_, _≤_}
+use Prim.Native.Nat.{ℕ, _≤_}
 use mathlib.Core.Path.{_≡_, refl, sym, ap, ap₂, _∙_}
-use mathlib.Core.Bool.{Bool, true, false, not}
+use mathlib.Core.Bool.{not}
 use mathlib.Core.List.{List, [], _∷_, map}
 use native.Mathlib.Omega.{arith}
 use lib.ListN.{length, getD, take}
 use Rattle.program.specs.Program.{Program}
 use Rattle.schedules.specs.Lists.{upTo, all, keep}
 use Rattle.schedules.specs.Order.{Schedule, less}
-use Rattle.schedules.specs.Orders.{trace}
 use Rattle.schedules.specs.Permutations.{permutationOf}
-use Rattle.machine.specs.State.{State, step, start}
-use Rattle.machine.specs.Trail.{Action, action, trail, who}
-use Rattle.machine.specs.Notes.{notes}
-use Rattle.machine.specs.NoteText.{noteAt, notesAt}
+use Rattle.schedules.proofs.Loops.{all-taken}
+use Rattle.machine.specs.State.{start}
+use Rattle.machine.specs.Trail.{Action, trail, who}
+use Rattle.machine.specs.Notes.{Note, notes}
+use Rattle.machine.specs.NoteText.{noteAt}
 use Rattle.machine.specs.declared.state.Machine.{Machine}
+use Rattle.machine.proofs.Trails.{who-is}
+pub use Rattle.machine.proofs.FreeSteps.{trail-threads}
+use Rattle.machine.proofs.NotesHeld.{notes-each}
 use Rattle.listing.specs.ListOf.{permits}
 use Rattle.listing.specs.Rules.{leastBy, unbeaten}
 use Rattle.listing.specs.ClassGroups.{groupsOf}
@@ -26,34 +29,14 @@ use Rattle.listing.proofs.GoingBack.{noted-steps, actions-held}
 use Rattle.listing.proofs.Loops.{permittedNumbers, unbeaten-numbered}
 use Rattle.listing.proofs.ReachedLate.{notes-counted}
 
--- the threads of a run's steps are its schedule
-pub trail-threads : (σ : State) (s : Schedule) → map who (trail σ s) ≡ s
-unfolding trace action who
-trail-threads σ [] = refl
-trail-threads σ (t ∷ s) = ap (λ (k : List ℕ). t ∷ k) (trail-threads (step σ t) s)
-
 -- the threads that the array notes are those of the actions that it notes
 threads-noted : (array : List ℕ) (n : ℕ) → threadsAt array 0 n ≡ map who (actionsAt array n)
-unfolding threadsAt actionsAt notesAt who
-threads-noted array n = go (upTo 0 n)
+unfolding threadsAt actionsAt
+threads-noted array n = go (upTo 0 n) ∙ ap (λ (ns : List Note). map who (map did ns)) (sym (notes-each array n))
   where
     go : (l : List ℕ) → map (λ i. actionAt array i .thread) l ≡ map who (map did (map (noteAt array) l))
     go [] = refl
-    go (i ∷ l) = ap (λ (k : List ℕ). actionAt array i .thread ∷ k) (go l)
-
--- a test of the first n members, by their places
-pub all-taken : (f : ℕ → Bool) (l : List ℕ) (n : ℕ) → n ≤ length l → all (λ i. f (getD l i 0)) (upTo 0 n) ≡ all f (take n l)
-unfolding all upTo
-all-taken f l n h = go (λ i. getD l i 0) 0 n l h (λ k b. ap (λ (i : ℕ). getD l i 0) (let z : 0 + k ≡ k = omega arith in z))
-  where
-    go : (g : ℕ → ℕ) (a n : ℕ) (l : List ℕ) → n ≤ length l → ((k : ℕ) → k < n → g (a + k) ≡ getD l k 0)
-        → all (λ i. f (g i)) (upTo a n) ≡ all f (take n l)
-    go g a zero l h e = refl
-    go g a (suc n) [] h e = absurd (omega arith)
-    go g a (suc n) (x ∷ l) h e =
-        ap₂ (λ (b c : Bool). elim b [ true ↦ c | false ↦ false ])
-        (ap f (ap g (let z : a ≡ a + 0 = omega arith in z) ∙ e 0 (omega arith)))
-        (go g (suc a) n l (omega arith) (λ k b. ap g (let z : suc a + k ≡ a + suc k = omega arith in z) ∙ e (suc k) (omega arith)))
+    go (i ∷ l) = ap₂ (λ (t : ℕ) (k : List ℕ). t ∷ k) (sym (who-is (actionAt array i))) (go l)
 
 module _ (code lengths class : List ℕ) (threads groups : ℕ) (m : Machine) (array : List ℕ) (steps : ℕ) (p : Program) (v : Schedule)
     (at : Reached code lengths class threads groups m array steps p v) where

@@ -3,35 +3,29 @@ use Prim.Native.Nat.{ℕ, zero, suc, _+_, _-_, _*_, _<_, _≤_}
 use mathlib.Core.Path.{_≡_, refl, sym, ap, ap₂, _∙_}
 use mathlib.Core.Logic.{_≢_}
 use mathlib.Core.Bool.{Bool, cond}
-use mathlib.Core.List.{List, [], _∷_, _++_, map}
+use mathlib.Core.List.{List}
 use native.Mathlib.Omega.{arith}
 use lib.ListN.{length, getD, set, take, length-map, length-take, List·getD-eq-default}
 use lib.Seq.{take-suc, take-all}
 use Rattle.lines.specs.Over.{over}
 use Rattle.lines.proofs.Over.{over-snoc}
-use Rattle.program.specs.Compiled.{tabulate}
 use Rattle.program.proofs.Tabulate.{length-tabulate, getD-tabulate}
 use Rattle.schedules.specs.Lists.{upTo}
 use Rattle.schedules.specs.Order.{Schedule}
 use Rattle.schedules.proofs.Lists.{upTo-length}
-use Rattle.machine.specs.NoteText.{noteAt}
-use Rattle.listing.specs.NotedSteps.{actionAt, did}
+use Rattle.schedules.proofs.Loops.{mapped-at}
+use Rattle.listing.specs.NotedSteps.{actionAt}
 use Rattle.listing.specs.LeftSteps.{threadsAt}
 use Rattle.listing.specs.Rows.{rowBytes}
+use Rattle.listing.proofs.StepBytes.{thread-at}
 
 pub threads-length : (trail : List ℕ) (k n : ℕ) → length (threadsAt trail k n) ≡ n
 unfolding threadsAt
 threads-length trail k n = length-map (upTo k n) (λ i. actionAt trail i .thread) ∙ upTo-length k n
 
-mapped-at : (g : ℕ → ℕ) (a n i : ℕ) → i < n → getD (map g (upTo a n)) i 0 ≡ g (a + i)
-unfolding upTo
-mapped-at g a zero i h = absurd (omega arith)
-mapped-at g a (suc n) zero h = ap g (omega arith)
-mapped-at g a (suc n) (suc i) h = mapped-at g (suc a) n i (omega arith) ∙ ap g (omega arith)
-
 pub threads-getD : (trail : List ℕ) (n i : ℕ) → i < n → getD (threadsAt trail 0 n) i 0 ≡ getD trail (i * 8) 0
-unfolding threadsAt did noteAt
-threads-getD trail n i h = mapped-at (λ k. actionAt trail k .thread) 0 n i h ∙ ap (λ (k : ℕ). actionAt trail k .thread) (omega arith)
+unfolding threadsAt
+threads-getD trail n i h = mapped-at (λ k. actionAt trail k .thread) 0 n i h ∙ ap (λ (k : ℕ). actionAt trail k .thread) (omega arith) ∙ thread-at trail i
 
 pub row-length : (s : Schedule) (f : Bool) → length (rowBytes s f) ≡ 26
 unfolding rowBytes

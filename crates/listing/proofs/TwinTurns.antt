@@ -1,44 +1,34 @@
--- R2 as loops in code meet it, one note, one register, one thread at a time.
-use Prim.Native.Nat.{ℕ, _+_, _-_, _<_, _≤_}
+-- R2 as loops in code meet it, one note, one register at a time.
+use Prim.Native.Nat.{ℕ, suc, _+_, _-_, _<_, _≤_}
 use mathlib.Core.Path.{_≡_, refl, sym, ap, ap₂, _∙_}
 use mathlib.Core.Logic.{_≢_}
-use mathlib.Core.Bool.{Bool, true, false, cond, _&&_, false≢true}
-use mathlib.Core.List.{List, [], _∷_, _++_, map, flatMap}
+use mathlib.Core.Bool.{Bool, true, false, _&&_}
+use mathlib.Core.List.{List, [], _∷_, _++_, map, List·Memᴰ·head}
 use native.Mathlib.Omega.{arith}
 use native.Mathlib.Numerals.{add-one}
 use lib.Dec.{eqb, leb}
 use lib.ListN.{length, getD, drop, drop-of-length-le}
 use lib.Seq.{drop-cons}
-use borrow.Author.Tests.{eq-eqb, ne-eqb, leb-true, leb-false}
+use borrow.Author.Tests.{eq-eqb, ne-eqb, eqb-true, eqb-false, leb-true, leb-false}
 use Rattle.program.proofs.Tests.{both}
-use Rattle.schedules.specs.Lists.{upTo, any}
-use Rattle.schedules.proofs.Loops.{upTo-none, upTo-more}
+use Rattle.schedules.specs.Lists.{upTo}
+use Rattle.schedules.proofs.Lists.{any-of}
+use Rattle.schedules.proofs.Loops.{upTo-none, upTo-more, any-nil, any-skip}
 use Rattle.machine.specs.State.{Event}
 use Rattle.machine.specs.Notes.{Note}
 use Rattle.machine.specs.NoteText.{readIn, readsIn, noteAt, notesAt}
+use Rattle.machine.proofs.NoteGraph.{read-own, read-other, read-not, reads-nil, reads-cons}
+use Rattle.machine.proofs.NotesHeld.{notes-each}
 use Rattle.judge.specs.Judge.{sameRead, sameList}
+use Rattle.judge.proofs.Tests.{same-nil, same-cons, same-shorter, same-longer}
 use Rattle.listing.specs.HeldTwin.{writeOf, wroteIn, notesFrom, readOf, readAt, NextRead, sameReads}
-
--- ---- some of the numbers from d on passes a test
-module _ (f : ℕ → Bool) (d j : ℕ) where
-  pub any-over : j ≡ 0 → any f (upTo d j) ≡ false
-  unfolding any
-  any-over e = ap (any f) (upTo-none d j e)
-
-  pub any-here : 0 < j → f d ≡ true → any f (upTo d j) ≡ true
-  unfolding any
-  any-here h e = ap (any f) (upTo-more d j h) ∙ (rw (e, any))
-
-  pub any-further : 0 < j → f d ≡ false → any f (upTo d j) ≡ any f (upTo (d + 1) (j - 1))
-  unfolding any
-  any-further h e = ap (any f) (upTo-more d j h) ∙ (rw (e, any))
 
 -- ---- two lists of numbers, from place i on
 module _ (a b : List ℕ) (i : ℕ) where
   same-here : i < length a → i < length b → sameList eqb (drop i a) (drop i b) ≡ eqb (getD a i 0) (getD b i 0) && sameList eqb (drop (i + 1) a) (drop (i + 1) b)
-  unfolding sameList
   same-here h k =
       ap₂ (λ (x y : List ℕ). sameList eqb x y) (drop-cons a i 0 h) (drop-cons b i 0 k)
+      ∙ same-cons eqb (getD a i 0) (drop (suc i) a) (getD b i 0) (drop (suc i) b)
       ∙ ap (λ (n : ℕ). eqb (getD a i 0) (getD b i 0) && sameList eqb (drop n a) (drop n b)) (sym (add-one i))
 
   pub registers-differ : i < length a → i < length b → getD a i 0 ≢ getD b i 0 → sameList eqb (drop i a) (drop i b) ≡ false
@@ -48,14 +38,13 @@ module _ (a b : List ℕ) (i : ℕ) where
   registers-further h k q = let e = eq-eqb (getD a i 0) (getD b i 0) q in same-here h k ∙ (rw e)
 
   pub registers-over : length a ≤ i → length b ≤ i → sameList eqb (drop i a) (drop i b) ≡ true
-  unfolding sameList
-  registers-over h k = ap₂ (λ (x y : List ℕ). sameList eqb x y) (drop-of-length-le a {i = i} h) (drop-of-length-le b {i = i} k)
+  registers-over h k = ap₂ (λ (x y : List ℕ). sameList eqb x y) (drop-of-length-le a {i = i} h) (drop-of-length-le b {i = i} k) ∙ same-nil eqb
 
 module _ (trail : List ℕ) (steps : ℕ) where
   -- ---- the notes from a place on
   pub notes-whole : notesAt trail steps ≡ notesFrom trail steps 0
-  unfolding notesAt notesFrom
-  notes-whole = let e : steps ≡ steps - 0 = omega arith in ap (λ (n : ℕ). map (noteAt trail) (upTo 0 n)) e
+  unfolding notesFrom
+  notes-whole = let e : steps ≡ steps - 0 = omega arith in notes-each trail steps ∙ ap (λ (n : ℕ). map (noteAt trail) (upTo 0 n)) e
 
   notes-here : (a : ℕ) → a < steps → notesFrom trail steps a ≡ noteAt trail a ∷ notesFrom trail steps (a + 1)
   unfolding notesFrom
@@ -70,34 +59,34 @@ module _ (trail : List ℕ) (steps : ℕ) where
   -- ---- what a thread wrote
   module _ (u : ℕ) where
     pub wrote-here : (k : ℕ) → k < steps → writeOf u (noteAt trail k) ≡ true → wroteIn u (notesFrom trail steps k) ≡ true
-    unfolding wroteIn any
-    wrote-here k h e = ap (wroteIn u) (notes-here k h) ∙ (rw (e, any))
+    unfolding wroteIn
+    wrote-here k h e = ap (wroteIn u) (notes-here k h) ∙ any-of (writeOf u) (noteAt trail k ∷ notesFrom trail steps (k + 1)) (noteAt trail k) (List·Memᴰ·head refl) e
 
     pub wrote-further : (k : ℕ) → k < steps → writeOf u (noteAt trail k) ≡ false → wroteIn u (notesFrom trail steps k) ≡ wroteIn u (notesFrom trail steps (k + 1))
-    unfolding wroteIn any
-    wrote-further k h e = ap (wroteIn u) (notes-here k h) ∙ (rw (e, any))
+    unfolding wroteIn
+    wrote-further k h e = ap (wroteIn u) (notes-here k h) ∙ any-skip (writeOf u) (noteAt trail k) (notesFrom trail steps (k + 1)) e
 
     pub wrote-over : (k : ℕ) → steps ≤ k → wroteIn u (notesFrom trail steps k) ≡ false
-    unfolding wroteIn any
-    wrote-over k h = ap (wroteIn u) (notes-over k h)
+    unfolding wroteIn
+    wrote-over k h = ap (wroteIn u) (notes-over k h) ∙ any-nil (writeOf u)
 
     -- ---- its reads
     read-none : (n : Note) → readOf u n ≡ false → readIn u n ≡ []
-    unfolding readOf readIn
-    read-none n e = go (eqb (n .thread) u) (n .reads) e
+    unfolding readOf
+    read-none n e = go (eqb (n .thread) u) refl
       where
-        go : (a b : Bool) → a && b ≡ false → cond {A = List (ℕ × Event)} a (cond b ((n .number, n .source) ∷ []) []) [] ≡ []
-        go false b q = refl
-        go true false q = refl
-        go true true q = absurd (false≢true (sym q))
+        go : (b : Bool) → eqb (n .thread) u ≡ b → readIn u n ≡ []
+        go false q = read-other u n (eqb-false (n .thread) u q)
+        go true q = read-not u n (ap (λ (b : Bool). b && n .reads) (sym q) ∙ e)
 
     read-some : (k : ℕ) → readOf u (noteAt trail k) ≡ true → readIn u (noteAt trail k) ≡ readAt trail k ∷ []
-    unfolding readOf readIn readAt
-    read-some k e = let r = both (eqb (noteAt trail k .thread) u) (noteAt trail k .reads) e in rw (r .0, r .1)
+    unfolding readOf readAt
+    read-some k e =
+        let r = both (eqb (noteAt trail k .thread) u) (noteAt trail k .reads) e in
+        read-own u (noteAt trail k) (eqb-true (noteAt trail k .thread) u (r .0)) (r .1)
 
     reads-here : (k : ℕ) → k < steps → readsIn u (notesFrom trail steps k) ≡ readIn u (noteAt trail k) ++ readsIn u (notesFrom trail steps (k + 1))
-    unfolding readsIn flatMap
-    reads-here k h = ap (readsIn u) (notes-here k h)
+    reads-here k h = ap (readsIn u) (notes-here k h) ∙ reads-cons u (noteAt trail k) (notesFrom trail steps (k + 1))
 
     pub reads-further : (k : ℕ) → k < steps → readOf u (noteAt trail k) ≡ false → readsIn u (notesFrom trail steps k) ≡ readsIn u (notesFrom trail steps (k + 1))
     reads-further k h e = reads-here k h ∙ ap (λ (l : List (ℕ × Event)). l ++ readsIn u (notesFrom trail steps (k + 1))) (read-none (noteAt trail k) e)
@@ -111,8 +100,7 @@ module _ (trail : List ℕ) (steps : ℕ) where
         record { behind = omega arith; within = omega arith; left = e ∙ ap (λ (n : ℕ). readsIn u (notesFrom trail steps n)) q; found = λ l. absurd (omega arith) }
 
     reads-none : (a r : ℕ) → NextRead trail steps u a r → steps ≤ r → readsIn u (notesFrom trail steps a) ≡ []
-    unfolding readsIn flatMap
-    reads-none a r n h = n .left ∙ ap (readsIn u) (notes-over r h)
+    reads-none a r n h = n .left ∙ ap (readsIn u) (notes-over r h) ∙ reads-nil u
 
     reads-next : (a r : ℕ) → NextRead trail steps u a r → r < steps → readsIn u (notesFrom trail steps a) ≡ readAt trail r ∷ readsIn u (notesFrom trail steps (r + 1))
     reads-next a r n h = n .left ∙ reads-here r h ∙ ap (λ (l : List (ℕ × Event)). l ++ readsIn u (notesFrom trail steps (r + 1))) (n .found h)
@@ -135,12 +123,14 @@ module _ (trail : List ℕ) (steps : ℕ) where
 
     module _ (i j : ℕ) (s : Beside i j) where
       pub beside-short : i < steps → steps ≤ j → sameReads (notesAt trail steps) u t ≡ false
-      unfolding sameList
-      beside-short h k = s .same ∙ ap₂ (λ (x y : List (ℕ × Event)). sameList sameRead x y) (reads-next u (s .from) i (s .one) h) (reads-none t (s .other) j (s .two) k)
+      beside-short h k =
+          s .same ∙ ap₂ (λ (x y : List (ℕ × Event)). sameList sameRead x y) (reads-next u (s .from) i (s .one) h) (reads-none t (s .other) j (s .two) k)
+          ∙ same-longer sameRead (readAt trail i) (readsIn u (notesFrom trail steps (i + 1)))
 
       heads : i < steps → j < steps → sameReads (notesAt trail steps) u t ≡ sameRead (readAt trail i) (readAt trail j) && left (i + 1) (j + 1)
-      unfolding sameList
-      heads h k = s .same ∙ ap₂ (λ (x y : List (ℕ × Event)). sameList sameRead x y) (reads-next u (s .from) i (s .one) h) (reads-next t (s .other) j (s .two) k)
+      heads h k =
+          s .same ∙ ap₂ (λ (x y : List (ℕ × Event)). sameList sameRead x y) (reads-next u (s .from) i (s .one) h) (reads-next t (s .other) j (s .two) k)
+          ∙ same-cons sameRead (readAt trail i) (readsIn u (notesFrom trail steps (i + 1))) (readAt trail j) (readsIn t (notesFrom trail steps (j + 1)))
 
       pub beside-differ : i < steps → j < steps → sameRead (readAt trail i) (readAt trail j) ≡ false → sameReads (notesAt trail steps) u t ≡ false
       beside-differ h k e = heads h k ∙ ap (λ (b : Bool). b && left (i + 1) (j + 1)) e
@@ -149,9 +139,12 @@ module _ (trail : List ℕ) (steps : ℕ) where
       beside-next x y h k e m n = record { from = i + 1; other = j + 1; same = heads h k ∙ ap (λ (b : Bool). b && left (i + 1) (j + 1)) e; one = m; two = n }
 
       pub beside-over : steps ≤ i → sameReads (notesAt trail steps) u t ≡ leb steps j
-      unfolding sameList
       beside-over h = go (leb steps j) refl
         where
           go : (b : Bool) → leb steps j ≡ b → sameReads (notesAt trail steps) u t ≡ b
-          go true e = s .same ∙ ap₂ (λ (x y : List (ℕ × Event)). sameList sameRead x y) (reads-none u (s .from) i (s .one) h) (reads-none t (s .other) j (s .two) (leb-true steps j e))
-          go false e = s .same ∙ ap₂ (λ (x y : List (ℕ × Event)). sameList sameRead x y) (reads-none u (s .from) i (s .one) h) (reads-next t (s .other) j (s .two) (leb-false steps j e))
+          go true e =
+              s .same ∙ ap₂ (λ (x y : List (ℕ × Event)). sameList sameRead x y) (reads-none u (s .from) i (s .one) h) (reads-none t (s .other) j (s .two) (leb-true steps j e))
+              ∙ same-nil sameRead
+          go false e =
+              s .same ∙ ap₂ (λ (x y : List (ℕ × Event)). sameList sameRead x y) (reads-none u (s .from) i (s .one) h) (reads-next t (s .other) j (s .two) (leb-false steps j e))
+              ∙ same-shorter sameRead (readAt trail j) (readsIn t (notesFrom trail steps (j + 1)))

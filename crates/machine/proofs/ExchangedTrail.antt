@@ -12,6 +12,19 @@ use Rattle.machine.specs.Exchange.{Permutation, movedThread, movedCell, 
 use Rattle.machine.specs.ExchangedTrail.{movedAction}
 use Rattle.machine.proofs.Exchange.{moves-place, moves-cell, moves-step}
 
+-- a step moved to another thread
+pub moved-thread : (π : ℕ → ℕ) (a : Action) → movedAction π a .thread ≡ π (a .thread)
+unfolding movedAction
+moved-thread π a = refl
+
+pub moved-location : (π : ℕ → ℕ) (a : Action) → movedAction π a .location ≡ a .location
+unfolding movedAction
+moved-location π a = refl
+
+pub moved-wrote : (π : ℕ → ℕ) (a : Action) → movedAction π a .wrote ≡ a .wrote
+unfolding movedAction
+moved-wrote π a = refl
+
 module _ (π : ℕ → ℕ) (q : Permutation π) where
   moves-writes : (σ τ : State) → Moves π σ τ → (t : ℕ) → writes τ (π t) ≡ writes σ t
   unfolding writes movedThread movedCell

@@ -2,7 +2,7 @@
 use Prim.Native.Nat.{ℕ, zero, suc, _<_}
 use mathlib.Core.Path.{_≡_, refl, sym, ap, ap₂, _∙_}
 use mathlib.Core.Logic.{⊎-elim}
-use mathlib.Core.List.{List, [], _∷_, map, List·Memᴰ, List·Memᴰ·head, List·Memᴰ·tail, List·Memᴰ·not-nil}
+use mathlib.Core.List.{List, [], _∷_, map, List·Memᴰ, List·Memᴰ·head, List·Memᴰ·tail, List·Memᴰ·cases-cons, List·Memᴰ·not-nil}
 use native.Mathlib.Omega.{arith}
 use lib.ListN.{length, getD}
 use Rattle.machine.specs.State.{Event, initialWrite, Thread, Cell, State, freshCell, threadOf, cellOf}
@@ -22,6 +22,15 @@ write-among (c ∷ cs) (suc l) e m = let r = write-among cs l e m in (r .0, List
 pub write-cell : (σ : State) (l : ℕ) (e : Event) → List·Memᴰ e (cellOf σ l .writes) → (c : Cell) × List·Memᴰ c (σ .cells) × List·Memᴰ e (c .writes)
 unfolding cellOf
 write-cell σ l e m = write-among (σ .cells) l e m
+
+-- each cell is that of a location
+cell-at : (cs : List Cell) (c : Cell) → List·Memᴰ c cs → (l : ℕ) × (getD cs l (freshCell 0) ≡ c)
+cell-at [] c m = absurd (List·Memᴰ·not-nil m)
+cell-at (x ∷ cs) c m = ⊎-elim (λ (q : c ≡ x). (0, sym q)) (λ (k : List·Memᴰ c cs). let r = cell-at cs c k in (suc (r .0), r .1)) (List·Memᴰ·cases-cons m)
+
+pub cell-of : (σ : State) (c : Cell) → List·Memᴰ c (σ .cells) → (l : ℕ) × (cellOf σ l ≡ c)
+unfolding cellOf
+cell-of σ c m = cell-at (σ .cells) c m
 
 module _ (π : ℕ → ℕ) where
   event-fixed : (e : Event) → π (e .0) ≡ e .0 → movedEvent π e ≡ e

@@ -3,18 +3,27 @@
 use Prim.Native.Nat.{ℕ}
 use mathlib.Core.Path.{_≡_, refl, ap, _∙_}
 use mathlib.Core.Logic.{Ne·symm}
-use mathlib.Core.List.{List, [], _∷_, _++_}
+use mathlib.Core.List.{List, [], _∷_, _++_, map}
 use Rattle.schedules.specs.Order.{Schedule}
 use Rattle.schedules.specs.System.{run}
 use Rattle.schedules.specs.Orders.{trace}
 use Rattle.schedules.proofs.Front.{Free}
-use Rattle.machine.specs.State.{State, step, SC}
-use Rattle.machine.specs.Trail.{Action, action, trail}
+use Rattle.machine.specs.State.{State, place, step, SC}
+use Rattle.machine.specs.Trail.{Action, writes, action, trail, who}
 use Rattle.machine.proofs.Swap.{Independent, action-after}
 
+-- what a step does
 pub action-thread : (σ : State) (t : ℕ) → action σ t .thread ≡ t
 unfolding action
 action-thread σ t = refl
+
+pub action-location : (σ : State) (t : ℕ) → action σ t .location ≡ place σ t
+unfolding action
+action-location σ t = refl
+
+pub action-wrote : (σ : State) (t : ℕ) → action σ t .wrote ≡ writes σ t
+unfolding action
+action-wrote σ t = refl
 
 pub free-action : (z : Schedule) (σ : State) (t : ℕ) → Free SC Independent σ z t → action (run SC σ z) t ≡ action σ t
 unfolding run
@@ -29,6 +38,16 @@ free-append (a ∷ x) y σ t f g = (f .0, f .1, free-append x y (step σ a) t (f
 pub trail-nil : (σ : State) → trail σ [] ≡ []
 unfolding trace
 trail-nil σ = refl
+
+pub trail-cons : (σ : State) (t : ℕ) (s : Schedule) → trail σ (t ∷ s) ≡ action σ t ∷ trail (step σ t) s
+unfolding trace
+trail-cons σ t s = refl
+
+-- the threads of a run's steps are its schedule
+pub trail-threads : (σ : State) (s : Schedule) → map who (trail σ s) ≡ s
+unfolding trace action who
+trail-threads σ [] = refl
+trail-threads σ (t ∷ s) = ap (λ (k : List ℕ). t ∷ k) (trail-threads (step σ t) s)
 
 -- one step more
 pub trail-more : (u : Schedule) (a : ℕ) (σ : State) → trail σ (u ++ (a ∷ [])) ≡ trail σ u ++ (action (run SC σ u) a ∷ [])

@@ -17,7 +17,7 @@ use Rattle.machine.specs.declared.state.Machine.{Machine}
 use Rattle.machine.specs.Local.{Local, beginsWithAccess, firstPlace, firstPuts, pending, placeOf, puts}
 use Rattle.machine.specs.State.{Cell, State, freshCell, threadOf, cellOf, place, may}
 use Rattle.machine.specs.Trail.{given, writes}
-use Rattle.machine.specs.Ahead.{firstMayPut, mayPut, couldConflict}
+use Rattle.machine.specs.Ahead.{firstMayPut, mayPut, couldConflict, couldMeet}
 use Rattle.machine.specs.Turns.{accessOf}
 use Rattle.machine.specs.Held.{threadAt, Holds}
 use Rattle.machine.proofs.Steps.{may-small, may-pending, may-range}
@@ -42,6 +42,12 @@ module _ (code : List ℕ) (t n i l : ℕ) (w : Bool) where
   meets-later h e =
       ap (any (couldConflict l w)) (code-at code t n i h) ∙ (rw (e, any))
       ∙ ap (λ (j : ℕ). any (couldConflict l w) (drop j (threadCode code t n))) (let z : suc i ≡ i + 1 = omega arith in z)
+
+-- what thread t could still meet shows in the code behind its counter
+pub meets-held : (code lengths : List ℕ) (m : Machine) (σ : State) → Holds code lengths m σ → (t l : ℕ) (w : Bool) → t < 6
+    → couldMeet l w (threadOf σ t .local) ≡ any (couldConflict l w) (drop (threadAt m t .at) (threadCode code t (getD lengths t 0)))
+unfolding couldMeet
+meets-held code lengths m σ held t l w h = ap (any (couldConflict l w)) (held .threads t h .rest)
 
 -- whether an access could write shows in its instruction
 may-put-first : (x : Instruction) (is : List Instruction) → firstMayPut (x ∷ []) ≡ firstMayPut (x ∷ is)

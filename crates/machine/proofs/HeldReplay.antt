@@ -21,19 +21,13 @@ use Rattle.machine.specs.Held.{threadAt, Holds, ReadyThread, Ready, Hold
 use Rattle.machine.proofs.Steps.{may-range, run-threads}
 use Rattle.machine.proofs.Start.{start-threads}
 use Rattle.machine.proofs.Lawful.{lawful, start-24}
-use Rattle.machine.proofs.NoteGraph.{notes-length}
+use Rattle.machine.proofs.NoteGraph.{notes-length, notes-snoc}
 use Rattle.machine.proofs.Regular.{place-in, regular-run, regular-start}
 use Rattle.machine.proofs.Replay.{nil-full, nil-short, cons-goes, cons-stops}
 use Rattle.machine.proofs.HeldStart.{threads-held, short-held}
 use Rattle.machine.proofs.HeldAsking.{held-may, held-ended, ready-held}
 use Rattle.machine.proofs.HeldStep.{stored-step}
 use Rattle.machine.proofs.HeldNotes.{noted-none}
-
--- the notes of a step more
-notes-snoc : (u : Schedule) (σ : State) (t : ℕ) → notes σ (u ++ (t ∷ [])) ≡ notes σ u ++ (note (run SC σ u) t ∷ [])
-unfolding notes run
-notes-snoc [] σ t = refl
-notes-snoc (b ∷ u) σ t = ap (λ (ns : List Note). note σ b ∷ ns) (notes-snoc u (step σ b) t)
 
 -- behind the first k bytes of s
 pub record Progress (code lengths : List ℕ) (p : Program) (s : Schedule) (m : Machine) (trail : List ℕ) (k : ℕ) : Type 0 where
@@ -99,7 +93,7 @@ module _ (code lengths : List ℕ) (threads : ℕ) (p : Program) (loaded : Loade
             within = omega arith;
             allowed = more-allowed;
             holds = subst (Holds code lengths (r .machine)) (sym state) (held .holds);
-            noted = subst (Noted trail') (sym (ap (notes (start p)) next ∙ notes-snoc (take k s) (start p) t))
+            noted = subst (Noted trail') (sym (ap (notes (start p)) next ∙ notes-snoc (start p) (take k s) t))
                 (note-put (notes (start p) (take k s)) (note σ t) (done .noted) same-length (held .noted));
             left = done .left ∙ ap (replayFrom k σ) (drop-cons s k 0 h) ∙ cons-goes k σ t (drop (suc k) s) ok
                 ∙ ap (λ (τ : State). replayFrom (suc k) τ (drop (suc k) s)) (sym state)

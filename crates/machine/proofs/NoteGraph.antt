@@ -1,13 +1,14 @@
 -- The notes of a run say its graph: what a run adds to the reads of a thread and to the writes of a location are those that its notes state.
 use Prim.Native.Nat.{ℕ, zero, suc, _+_, _-_, _<_, _≤_}
-use mathlib.Core.Path.{_≡_, refl, sym, ap, ap₂, _∙_}
-use mathlib.Core.Logic.{_≢_}
+use mathlib.Core.Path.{_≡_, refl, sym, ap, ap₂, subst, _∙_}
+use mathlib.Core.Logic.{_≢_, ⊎-elim}
 use mathlib.Core.Bool.{Bool, true, false, cond, true≢false}
 use mathlib.Core.Option.{Option, none, some}
-use mathlib.Core.List.{List, [], _∷_, _++_, append-nil, append-assoc, map, reverse, reverse-append, reverse-reverse, flatMap}
+use mathlib.Core.List.{List, [], _∷_, _++_, append-nil, append-assoc, map, reverse, reverse-append, reverse-reverse, flatMap, List·Memᴰ, List·Memᴰ·head, List·Memᴰ·tail, List·Memᴰ·cases-cons, List·Memᴰ·not-nil, List·Memᴰ·append-cases, Memᴰ·append-left, Memᴰ·append-right}
 use native.Mathlib.Omega.{arith}
 use native.Mathlib.Decide.{ℕ-discrete}
 use borrow.Author.Tests.{eq-eqb, ne-eqb}
+use lib.Dec.{eqb}
 use lib.ListN.{length, getD, length-reverse}
 use Rattle.program.specs.Program.{Program}
 use Rattle.program.specs.WellFormed.{WellFormed}
@@ -19,7 +20,7 @@ use Rattle.machine.specs.State.{Event, Cell, State, threadOf, cellOf, pl
 use Rattle.machine.specs.Graph.{graphOf, graph, endOf}
 use Rattle.machine.specs.Text.{readFrame, readFrames, eventBytes, writeFrame, writeFrames, frames, textOf, graphText}
 use Rattle.machine.specs.Trail.{given, writes}
-use Rattle.machine.specs.Notes.{note, notes}
+use Rattle.machine.specs.Notes.{Note, note, notes}
 use Rattle.machine.specs.NoteText.{readIn, writeIn, readsIn, writesIn, threadFrames, orderFrame, readFramesIn, orderFramesIn, noteFrames}
 use Rattle.machine.proofs.Steps.{may-range, cell-own, cell-other, run-threads, run-cells}
 use Rattle.machine.proofs.Change.{thread-cases, addedRead, noted-reads, written-none}
@@ -34,7 +35,93 @@ unfolding notes
 notes-length [] σ = refl
 notes-length (t ∷ s) σ = let ih = notes-length s (step σ t) in omega arith
 
--- ---- one step
+-- the notes of no step, of a first step and those behind it, and of a run that goes on
+pub notes-nil : (σ : State) → notes σ [] ≡ []
+unfolding notes
+notes-nil σ = refl
+
+pub notes-cons : (σ : State) (t : ℕ) (s : Schedule) → notes σ (t ∷ s) ≡ note σ t ∷ notes (step σ t) s
+unfolding notes
+notes-cons σ t s = refl
+
+pub notes-join : (σ : State) (u s : Schedule) → notes σ (u ++ s) ≡ notes σ u ++ notes (run SC σ u) s
+unfolding notes run
+notes-join σ [] s = refl
+notes-join σ (t ∷ u) s = ap (λ (ns : List Note). note σ t ∷ ns) (notes-join (step σ t) u s)
+
+pub notes-snoc : (σ : State) (u : Schedule) (t : ℕ) → notes σ (u ++ (t ∷ [])) ≡ notes σ u ++ (note (run SC σ u) t ∷ [])
+unfolding notes
+notes-snoc σ u t = notes-join σ u (t ∷ [])
+
+-- ---- one step: what its note says
+pub noted-thread : (σ : State) (t : ℕ) → note σ t .thread ≡ t
+unfolding note
+noted-thread σ t = refl
+
+pub noted-location : (σ : State) (t : ℕ) → note σ t .location ≡ place σ t
+unfolding note
+noted-location σ t = refl
+
+pub noted-wrote : (σ : State) (t : ℕ) → note σ t .wrote ≡ writes σ t
+unfolding note
+noted-wrote σ t = refl
+
+-- the read of t that a note states, and those that a list of notes states
+pub read-own : (t : ℕ) (n : Note) → n .thread ≡ t → n .reads ≡ true → readIn t n ≡ (n .number, n .source) ∷ []
+unfolding readIn
+read-own t n e r = rw (eq-eqb (n .thread) t e, r)
+
+pub read-other : (t : ℕ) (n : Note) → n .thread ≢ t → readIn t n ≡ []
+unfolding readIn
+read-other t n ne = rw (ne-eqb (n .thread) t ne)
+
+pub read-not : (t : ℕ) (n : Note) → n .reads ≡ false → readIn t n ≡ []
+unfolding readIn
+read-not t n r = rw r (go (eqb (n .thread) t))
+  where
+    go : (b : Bool) → cond {A = List (ℕ × Event)} b [] [] ≡ []
+    go true = refl
+    go false = refl
+
+pub reads-nil : (t : ℕ) → readsIn t [] ≡ []
+unfolding readsIn flatMap
+reads-nil t = refl
+
+pub reads-cons : (t : ℕ) (n : Note) (ns : List Note) → readsIn t (n ∷ ns) ≡ readIn t n ++ readsIn t ns
+unfolding readsIn flatMap
+reads-cons t n ns = refl
+
+-- a note that states a write states it of its own location; a write stated of a location is that of one of the notes
+write-own : (n : Note) → n .wrote ≡ true → List·Memᴰ (n .thread, n .number) (writeIn (n .location) n)
+unfolding writeIn
+write-own n e = let q = eq-eqb (n .location) (n .location) refl in rw (q, e) (List·Memᴰ·head refl)
+
+pub write-stated : (ns : List Note) (n : Note) → List·Memᴰ n ns → n .wrote ≡ true → List·Memᴰ (n .thread, n .number) (writesIn (n .location) ns)
+unfolding writesIn flatMap
+write-stated [] n m e = absurd (List·Memᴰ·not-nil m)
+write-stated (x ∷ ns) n m e = ⊎-elim
+    (λ (q : n ≡ x). Memᴰ·append-left (writesIn (n .location) ns) (subst (λ (k : Note). List·Memᴰ (n .thread, n .number) (writeIn (n .location) k)) q (write-own n e)))
+    (λ (k : List·Memᴰ n ns). Memᴰ·append-right (writeIn (n .location) x) (write-stated ns n k e))
+    (List·Memᴰ·cases-cons m)
+
+write-of : (l : ℕ) (n : Note) (e : Event) → List·Memᴰ e (writeIn l n) → (n .thread ≡ e .0) × (n .wrote ≡ true)
+unfolding writeIn
+write-of l n e m = go (eqb (n .location) l) (n .wrote) refl m
+  where
+    go : (a b : Bool) → n .wrote ≡ b → List·Memᴰ e (cond a (cond b ((n .thread, n .number) ∷ []) []) []) → (n .thread ≡ e .0) × (n .wrote ≡ true)
+    go false b q i = absurd (List·Memᴰ·not-nil i)
+    go true false q i = absurd (List·Memᴰ·not-nil i)
+    go true true q i = ⊎-elim (λ (k : e ≡ (n .thread, n .number)). (ap (λ (x : Event). x .0) (sym k), q)) (λ (k : List·Memᴰ e []). absurd (List·Memᴰ·not-nil k)) (List·Memᴰ·cases-cons i)
+
+pub stated-write : (l : ℕ) (ns : List Note) (e : Event) → List·Memᴰ e (writesIn l ns) → (n : Note) × List·Memᴰ n ns × (n .thread ≡ e .0) × (n .wrote ≡ true)
+unfolding writesIn flatMap
+stated-write l [] e m = absurd (List·Memᴰ·not-nil m)
+stated-write l (x ∷ ns) e m = ⊎-elim
+    (λ (k : List·Memᴰ e (writeIn l x)). let r = write-of l x e k in (x, List·Memᴰ·head refl, r .0, r .1))
+    (λ (k : List·Memᴰ e (writesIn l ns)). let r = stated-write l ns e k in (r .0, List·Memᴰ·tail (r .1), r .2, r .3))
+    (List·Memᴰ·append-cases (writeIn l x) m)
+
+-- ---- what a step adds
 reversed-read : (b : Bool) (i : ℕ) (e : Event) → addedRead b i e ≡ reverse (cond b ((i, e) ∷ []) [])
 unfolding addedRead
 reversed-read true i e = refl

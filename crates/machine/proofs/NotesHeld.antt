@@ -18,6 +18,41 @@ pub flag : (b : Bool) → eqb (cond b 1 0) 1 ≡ b
 flag true = refl
 flag false = refl
 
+-- the bytes of a note that state a location and a write
+pub byte-location : (n : Note) → getD (noteBytes n) 2 0 ≡ n .location
+unfolding noteBytes
+byte-location n = refl
+
+pub byte-wrote : (n : Note) → eqb (getD (noteBytes n) 6 0) 1 ≡ n .wrote
+unfolding noteBytes
+byte-wrote n = flag (n .wrote)
+
+-- the parts of the note in place k, byte by byte
+module _ (trail : List ℕ) (k : ℕ) where
+  pub note-thread : noteAt trail k .thread ≡ getD trail (k * 8) 0
+  unfolding noteAt
+  note-thread = refl
+
+  pub note-number : noteAt trail k .number ≡ getD trail (k * 8 + 1) 0
+  unfolding noteAt
+  note-number = refl
+
+  pub note-location : noteAt trail k .location ≡ getD trail (k * 8 + 2) 0
+  unfolding noteAt
+  note-location = refl
+
+  pub note-reads : noteAt trail k .reads ≡ eqb (getD trail (k * 8 + 3) 0) 1
+  unfolding noteAt
+  note-reads = refl
+
+  pub note-source : noteAt trail k .source ≡ (getD trail (k * 8 + 4) 0, getD trail (k * 8 + 5) 0)
+  unfolding noteAt
+  note-source = refl
+
+  pub note-wrote : noteAt trail k .wrote ≡ eqb (getD trail (k * 8 + 6) 0) 1
+  unfolding noteAt
+  note-wrote = refl
+
 note-held : (trail : List ℕ) (n : Note) (k : ℕ) → ((j : ℕ) → j < 8 → getD trail (k * 8 + j) 0 ≡ getD (noteBytes n) j 0) → noteAt trail k ≡ n
 unfolding noteAt noteBytes
 note-held trail n k e =
@@ -36,8 +71,17 @@ pub notes-held : (trail : List ℕ) (ns : List Note) → Noted trail ns → note
 unfolding notesAt
 notes-held trail ns held = notes-from trail ns 0 (λ k u q h. let e : u ≡ k = omega arith in ap (noteAt trail) e ∙ note-held trail (getD ns k noNote) k (λ j i. held .bytes k j h i))
 
+-- ---- the first notes, place by place
+pub notes-each : (trail : List ℕ) (n : ℕ) → notesAt trail n ≡ map (noteAt trail) (upTo 0 n)
+unfolding notesAt
+notes-each trail n = refl
+
+pub notes-none : (trail : List ℕ) → notesAt trail 0 ≡ []
+unfolding notesAt upTo
+notes-none trail = refl
+
 -- ---- one note more
-notes-next : (trail : List ℕ) (k : ℕ) → notesAt trail (k + 1) ≡ notesAt trail k ++ (noteAt trail k ∷ [])
+pub notes-next : (trail : List ℕ) (k : ℕ) → notesAt trail (k + 1) ≡ notesAt trail k ++ (noteAt trail k ∷ [])
 unfolding notesAt
 notes-next trail k = ap (map (noteAt trail)) (upTo-next k) ∙ map-append (noteAt trail) (upTo 0 k) (k ∷ [])
 

@@ -5,6 +5,7 @@ use mathlib.Core.Logic.{_≢_}
 use mathlib.Core.Bool.{Bool, true, false, true≢false, false≢true}
 use mathlib.Core.Option.{Option, none, some}
 use mathlib.Core.List.{List, [], _∷_, _++_, List·Memᴰ, List·Memᴰ·head, List·Memᴰ·tail}
+use borrow.Author.Tests.{eq-eqb, ne-eqb}
 use Rattle.schedules.specs.Order.{Schedule}
 use Rattle.schedules.specs.System.{run}
 use Rattle.schedules.specs.Orders.{trace, nextOf, clear}
@@ -42,6 +43,24 @@ still-takes σ t m w = go (takes (threadOf σ t .local)) refl
     go : (b : Bool) → takes (threadOf σ t .local) ≡ b → takes (threadOf σ t .local) ≡ true
     go true e = e
     go false e = absurd (true≢false (sym (blind-writes σ t m e) ∙ w))
+
+-- whose action it is
+pub who-is : (a : Action) → who a ≡ a .thread
+unfolding who
+who-is a = refl
+
+-- when two actions conflict: at one location, and one of them writes
+pub conflict-elsewhere : (a b : Action) → a .location ≢ b .location → conflict a b ≡ false
+unfolding conflict
+conflict-elsewhere a b n = let e = ne-eqb (a .location) (b .location) n in rw (e, conflict)
+
+pub conflict-written : (a b : Action) → a .location ≡ b .location → a .wrote ≡ true → conflict a b ≡ true
+unfolding conflict
+conflict-written a b q w = let e = eq-eqb (a .location) (b .location) q in rw (e, w, conflict)
+
+pub conflict-read : (a b : Action) → a .location ≡ b .location → a .wrote ≡ false → conflict a b ≡ b .wrote
+unfolding conflict
+conflict-read a b q w = let e = eq-eqb (a .location) (b .location) q in rw (e, w, conflict)
 
 -- in a trail: the first step of t, and that nothing before it conflicts with d
 by : (σ : State) (a t : ℕ) → a ≢ t → who (action σ a) ≢ t

@@ -1,15 +1,25 @@
 -- The definitions as a loop in code meets them, one turn at a time: what is left, counted in numbers, equals the whole.
-use mathlib.Core.Path.{_≡_, refl, sym, ap, _∙_}
+use mathlib.Core.Path.{_≡_, refl, sym, ap, ap₂, _∙_}
 use mathlib.Core.Bool.{Bool, true, false}
 use mathlib.Core.Option.{none, some}
-use mathlib.Core.List.{[], _∷_}
-use Prim.Native.Nat.{ℕ, zero, suc, _+_, _-_, _<_}
+use mathlib.Core.List.{List, [], _∷_, map, List·Memᴰ·head}
+use Prim.Native.Nat.{ℕ, zero, suc, _+_, _-_, _<_, _≤_}
 use native.Mathlib.Omega.{arith}
 use native.Mathlib.Numerals.{add-one, sub-one}
-use Rattle.schedules.specs.Lists.{upTo, first}
+use lib.ListN.{length, getD, take}
+use Rattle.schedules.specs.Lists.{upTo, any, all, first}
 use Rattle.schedules.specs.System.{System}
 use Rattle.schedules.specs.Greedy.{greedy}
-use Rattle.schedules.proofs.Lists.{first-yes, first-no}
+use Rattle.schedules.proofs.Lists.{any-of, first-yes, first-no}
+
+-- one turn of `any`
+pub any-nil : {A : Type 0} (f : A → Bool) → any f [] ≡ false
+unfolding any
+any-nil f = refl
+
+pub any-skip : {A : Type 0} (f : A → Bool) (x : A) (l : List A) → f x ≡ false → any f (x ∷ l) ≡ any f l
+unfolding any
+any-skip f x l e = rw (e, any)
 
 -- the numbers from d on, j of them
 pub upTo-none : (d j : ℕ) → j ≡ 0 → upTo d j ≡ []
@@ -31,6 +41,37 @@ first-here f d j h e = ap (first f) (upTo-more d j h) ∙ first-yes f d (upTo (d
 
 pub first-later : (f : ℕ → Bool) (d j : ℕ) → 0 < j → f d ≡ false → first f (upTo d j) ≡ first f (upTo (d + 1) (j - 1))
 first-later f d j h e = ap (first f) (upTo-more d j h) ∙ first-no f d (upTo (d + 1) (j - 1)) e
+
+-- whether some of them passes it
+pub any-over : (f : ℕ → Bool) (d j : ℕ) → j ≡ 0 → any f (upTo d j) ≡ false
+any-over f d j e = ap (any f) (upTo-none d j e) ∙ any-nil f
+
+pub any-here : (f : ℕ → Bool) (d j : ℕ) → 0 < j → f d ≡ true → any f (upTo d j) ≡ true
+any-here f d j h e = ap (any f) (upTo-more d j h) ∙ any-of f (d ∷ upTo (d + 1) (j - 1)) d (List·Memᴰ·head refl) e
+
+pub any-further : (f : ℕ → Bool) (d j : ℕ) → 0 < j → f d ≡ false → any f (upTo d j) ≡ any f (upTo (d + 1) (j - 1))
+any-further f d j h e = ap (any f) (upTo-more d j h) ∙ any-skip f d (upTo (d + 1) (j - 1)) e
+
+-- what a function makes of them, by place
+pub mapped-at : (g : ℕ → ℕ) (a n i : ℕ) → i < n → getD (map g (upTo a n)) i 0 ≡ g (a + i)
+unfolding upTo
+mapped-at g a zero i h = absurd (omega arith)
+mapped-at g a (suc n) zero h = ap g (omega arith)
+mapped-at g a (suc n) (suc i) h = mapped-at g (suc a) n i (omega arith) ∙ ap g (omega arith)
+
+-- a test of the first n members of a list, by their places
+pub all-taken : (f : ℕ → Bool) (l : List ℕ) (n : ℕ) → n ≤ length l → all (λ i. f (getD l i 0)) (upTo 0 n) ≡ all f (take n l)
+unfolding all upTo
+all-taken f l n h = go (λ i. getD l i 0) 0 n l h (λ k b. ap (λ (i : ℕ). getD l i 0) (let z : 0 + k ≡ k = omega arith in z))
+  where
+    go : (g : ℕ → ℕ) (a n : ℕ) (l : List ℕ) → n ≤ length l → ((k : ℕ) → k < n → g (a + k) ≡ getD l k 0)
+        → all (λ i. f (g i)) (upTo a n) ≡ all f (take n l)
+    go g a zero l h e = refl
+    go g a (suc n) [] h e = absurd (omega arith)
+    go g a (suc n) (x ∷ l) h e =
+        ap₂ (λ (b c : Bool). elim b [ true ↦ c | false ↦ false ])
+        (ap f (ap g (let z : a ≡ a + 0 = omega arith in z) ∙ e 0 (omega arith)))
+        (go g (suc a) n l (omega arith) (λ k b. ap g (let z : suc a + k ≡ a + suc k = omega arith in z) ∙ e (suc k) (omega arith)))
 
 -- the greedy walk
 module _ (M : System) (fits : M .State → ℕ → Bool) where

@@ -5,9 +5,8 @@ use mathlib.Core.Path.{_≡_, refl, sym, ap, _∙_}
 use native.Mathlib.Omega.{arith}
 use mathlib.Core.List.{List, reverse}
 use Rattle.machine.specs.Trail.{Action}
-use Rattle.machine.specs.NoteText.{noteAt}
 use Rattle.listing.specs.Rules.{late}
-use Rattle.listing.specs.NotedSteps.{did, doing, actionsAt}
+use Rattle.listing.specs.NotedSteps.{doing, actionsAt}
 use Rattle.listing.proofs.GoingBack.{actions-held, late-own, late-conflict, late-passes-greater, late-further, late-over}
 use Rattle.listing.proofs.lateness.late.Statement.{statement}
 use Rattle.listing.proofs.lateness.late.Tie as tie
@@ -22,7 +21,6 @@ loop-holds : tie.Need-loop-holds Inv-loop μ-loop
 loop-holds c = (search needs, refl)
 
 returns : tie.Need-returns Inv-loop μ-loop
-unfolding did noteAt
 returns c =
     let c3 = c .before .before .before in
     let c4 = c3 .before in
@@ -31,7 +29,6 @@ returns c =
     (c4 .args .wrote)) (c .before .before .loop-test .taken) (c .if1 .taken))
 
 returns-2 : tie.Need-returns-2 Inv-loop μ-loop
-unfolding did noteAt
 returns-2 c =
     let c4 = c .before .before .before .before in
     let c5 = c4 .before in
@@ -41,7 +38,6 @@ returns-2 c =
     .l) (c6 .args .wrote)) (c4 .loop-test .taken) (c .before .before .if1 .left) (sym (c .before .conflicts .ensures) ∙ c .if2 .taken))
 
 returns-3 : tie.Need-returns-3 Inv-loop μ-loop
-unfolding did noteAt
 returns-3 c =
     let c3 = c .before .before .before in
     let c5 = c3 .before .before in
@@ -53,7 +49,6 @@ returns-3 c =
     .taken))
 
 loop-again : tie.Need-loop-again Inv-loop μ-loop
-unfolding did noteAt
 loop-again c =
     let c3 = c .before .before .before in
     let c5 = c3 .before .before in

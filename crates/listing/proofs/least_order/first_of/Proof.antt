@@ -1,12 +1,12 @@
 -- `first_of` goes through the places. The invariant: no step of the thread is left before.
 use borrow.Author.Needs.{needs}
 use Prim.Native.Nat.{ℕ, _<_, _≤_, _-_}
-use mathlib.Core.Path.{_≡_}
+use mathlib.Core.Path.{_≡_, sym, _∙_}
 use native.Mathlib.Omega.{arith}
 use mathlib.Core.Logic.{_≢_, ⊎-elim}
 use lib.ListN.{getD}
-use Rattle.machine.specs.NoteText.{noteAt}
-use Rattle.listing.specs.NotedSteps.{did, actionAt}
+use Rattle.listing.specs.NotedSteps.{actionAt}
+use Rattle.listing.proofs.StepBytes.{thread-at}
 use Rattle.listing.proofs.LeftSteps.{before-more}
 use Rattle.listing.proofs.least_order.first_of.Statement.{statement}
 use Rattle.listing.proofs.least_order.first_of.Tie as tie
@@ -21,18 +21,16 @@ loop-holds : tie.Need-loop-holds Inv-loop μ-loop
 loop-holds c = (search needs, λ k h. absurd (omega arith))
 
 returns : tie.Need-returns Inv-loop μ-loop
-unfolding did noteAt
 returns c =
     let c5 = c .before .before .before .before .before in
-    record { within = c5 .loop .inv .0; before = c5 .loop .inv .1; here = λ h. (c .before .before .if1 .taken, c .if2 .taken) }
+    record { within = c5 .loop .inv .0; before = c5 .loop .inv .1; here = λ h. (c .before .before .if1 .taken, thread-at (c5 .before .args .trail .now) (c5 .loop .j) ∙ c .if2 .taken) }
 
 loop-again : tie.Need-loop-again Inv-loop μ-loop
-unfolding did noteAt
 loop-again c =
     let c3 = c .before .before .before in
     let c4 = c3 .before in (
       search needs,
-      before-more (c4 .args .trail .now) (c4 .args .gone .now) (c4 .args .t) (c3 .loop .j) (c3 .loop .inv .1) (⊎-elim (λ w e. w .2 .left)
+      before-more (c4 .args .trail .now) (c4 .args .gone .now) (c4 .args .t) (c3 .loop .j) (c3 .loop .inv .1) (⊎-elim (λ w e q. w .2 .left (sym (thread-at (c4 .args .trail .now) (c3 .loop .j)) ∙ q))
           (λ w e. absurd (w .left e)) (c .if1 .came)),
     )
 

@@ -1,15 +1,18 @@
 -- `is_clear` goes through the places before. The invariant: those that are left decide.
 use borrow.Author.Needs.{needs}
-use Prim.Native.Nat.{ℕ, _<_, _≤_, _-_, _+_}
+use Prim.Native.Nat.{ℕ, _≤_, _-_, _+_, _*_}
 use mathlib.Core.Path.{_≡_, sym, ap, _∙_}
 use native.Mathlib.Omega.{arith}
 use mathlib.Core.Logic.{⊎-elim}
 use mathlib.Core.Bool.{Bool, true, false, not}
 use mathlib.Core.List.{List}
+use lib.Dec.{eqb}
+use lib.ListN.{getD}
 use Rattle.schedules.specs.Lists.{upTo, all}
 use Rattle.listing.specs.LeftSteps.{waits}
-use Rattle.machine.specs.NoteText.{noteAt}
-use Rattle.listing.specs.NotedSteps.{did}
+use Rattle.machine.specs.Trail.{conflict}
+use Rattle.listing.specs.NotedSteps.{actionAt, doing}
+use Rattle.listing.proofs.StepBytes.{action-at}
 use Rattle.listing.proofs.Numbers.{all-over, all-further, all-fails}
 use Rattle.listing.proofs.LeftSteps.{waits-not, waits-by}
 use Rattle.listing.proofs.least_order.is_clear.Statement.{statement}
@@ -18,6 +21,12 @@ use Rattle.listing.proofs.least_order.is_clear.Tie as tie
 -- the step in place j does not wait for the one in place k
 abbrev clearOf : List ℕ → List ℕ → ℕ → ℕ → Bool
 clearOf trail gone j = λ k. not (waits trail gone j k)
+
+-- the step in place j by its bytes: whether the one in place k conflicts with it, as the code asks it
+asked : (trail : List ℕ) (j k : ℕ) (r v : Bool)
+    → r ≡ conflict (actionAt trail k) (doing (getD trail (j * 8) 0) (getD trail (j * 8 + 2) 0) (eqb (getD trail (j * 8 + 6) 0) 1))
+    → r ≡ v → conflict (actionAt trail k) (actionAt trail j) ≡ v
+asked trail j k r v e q = ap (conflict (actionAt trail k)) (action-at trail j) ∙ sym e ∙ q
 
 abbrev Inv-loop : tie.InvT-loop
 Inv-loop trail gone j row t l wrote k₀ k = (k ≤ j) × (all (clearOf trail gone j) (upTo 0 j) ≡ all (clearOf trail gone j) (upTo k (j - k)))
@@ -35,17 +44,15 @@ loop-holds c =
     )
 
 returns : tie.Need-returns Inv-loop μ-loop
-unfolding did noteAt
 returns c =
     let c4 = c .before .before .before .before in
     let c5 = c4 .before in
     let c9 = c5 .before .before .before .before in
     sym (c5 .loop .inv .1 ∙ all-fails (clearOf (c9 .args .trail .now) (c9 .args .gone .now) (c9 .args .j)) (c5 .loop .k) ((c9 .args .j) - (c5 .loop
     .k)) (omega (arith, c4 .loop-test .taken)) (waits-by (c9 .args .trail .now) (c9 .args .gone .now) (c9 .args .j) (c5 .loop .k) true (c .before
-    .before .if1 .taken) (sym (c .before .conflicts .ensures) ∙ c .if2 .taken)))
+    .before .if1 .taken) (asked (c9 .args .trail .now) (c9 .args .j) (c5 .loop .k) (c .before .conflicts .result) true (c .before .conflicts .ensures) (c .if2 .taken))))
 
 loop-again : tie.Need-loop-again Inv-loop μ-loop
-unfolding did noteAt
 loop-again c =
     let c3 = c .before .before .before in
     let c7 = c3 .before .before .before .before in
@@ -57,7 +64,7 @@ loop-again c =
             c .before
                 .before .loop-test .taken,
           )) (⊎-elim (λ w. waits-by (c7 .args .trail .now) (c7 .args .gone .now) (c7 .args .j) (c3 .loop .k) false (w .0 .taken)
-          (sym (w .1 .ensures) ∙ w .2 .left)) (λ w. waits-not (c7 .args .trail .now) (c7 .args .gone .now) (c7 .args .j) (c3 .loop .k) (w .left)) (c .if1
+          (asked (c7 .args .trail .now) (c7 .args .j) (c3 .loop .k) (w .1 .result) false (w .1 .ensures) (w .2 .left))) (λ w. waits-not (c7 .args .trail .now) (c7 .args .gone .now) (c7 .args .j) (c3 .loop .k) (w .left)) (c .if1
           .came)) ∙ ap (λ (n : ℕ). all (clearOf (c7 .args .trail .now) (c7 .args .gone .now) (c7 .args .j)) (upTo ((c3 .loop .k) + 1) n)) i,
     )
 

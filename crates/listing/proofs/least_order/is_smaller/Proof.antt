@@ -1,16 +1,15 @@
 -- `is_smaller` takes the steps of the least order one after the other. The invariant: what is left of the two orders decides.
 use borrow.Author.Needs.{needs}
-use Prim.Native.Nat.{ℕ, _<_, _≤_, _-_, _+_}
-use mathlib.Core.Path.{_≡_, refl, sym, ap, ap₂, _∙_}
+use Prim.Native.Nat.{ℕ, _≤_, _-_, _+_}
+use mathlib.Core.Path.{_≡_, sym, ap, ap₂, _∙_}
 use native.Mathlib.Omega.{arith}
-use mathlib.Core.Bool.{Bool}
-use mathlib.Core.List.{List}
+use lib.Dec.{ltb}
 use lib.ListN.{length, set}
-use Rattle.schedules.specs.Order.{Schedule, less}
+use Rattle.schedules.specs.Order.{less}
 use Rattle.machine.specs.Trail.{leastOf}
-use Rattle.machine.specs.NoteText.{noteAt}
-use Rattle.listing.specs.NotedSteps.{did, actionsAt}
+use Rattle.listing.specs.NotedSteps.{actionsAt}
 use Rattle.listing.specs.LeftSteps.{threadsAt}
+use Rattle.listing.proofs.StepBytes.{thread-at}
 use Rattle.listing.proofs.NextSteps.{rest, zeros, order-start, order-stuck, order-differ, order-equal, order-over}
 use Rattle.listing.proofs.least_order.is_smaller.Statement.{statement}
 use Rattle.listing.proofs.least_order.is_smaller.Tie as tie
@@ -35,24 +34,27 @@ returns c =
     (arith, c3 .loop-test .taken)) (omega (arith, w, c .if1 .taken)))
 
 returns-2 : tie.Need-returns-2 Inv-loop μ-loop
-unfolding did noteAt
 returns-2 c =
     let c3 = c .before .before .before in
     let c4 = c3 .before in
     let c6 = c4 .before .before in
     let c7 = c6 .before in
     let c8 = c7 .before in
+    let own = thread-at (c8 .args .moved .now) (c4 .next-place .result) in
+    let other = thread-at (c8 .args .trail .now) (c7 .loop .i) in
     sym (c7 .loop .inv .2 ∙ order-differ (c8 .args .moved .now) (c7 .loop .gone) (c8 .args .trail .now) (c8 .args .steps) (c4 .next-place .result) (c7
-    .loop .i) ((c8 .args .steps) - (c7 .loop .i)) (c4 .next-place .ensures) (omega (arith, c6 .loop-test .taken)) (c3 .if1 .left) (c .if2 .taken))
+    .loop .i) ((c8 .args .steps) - (c7 .loop .i)) (c4 .next-place .ensures) (omega (arith, c6 .loop-test .taken)) (c3 .if1 .left)
+    (λ e. c .if2 .taken (sym own ∙ e ∙ other)) ∙ ap₂ ltb own other)
 
 loop-again : tie.Need-loop-again Inv-loop μ-loop
-unfolding did noteAt
 loop-again c =
     let c3 = c .before .before .before in
     let c4 = c3 .before in
     let c6 = c4 .before .before in
     let c7 = c6 .before in
     let c8 = c7 .before in
+    let own = thread-at (c8 .args .moved .now) (c4 .next-place .result) in
+    let other = thread-at (c8 .args .trail .now) (c7 .loop .i) in
     let n : (c8 .args .steps) - (c7 .loop .i) - 1 ≡ (c8 .args .steps) - ((c7 .loop .i) + 1) = omega arith in (
       search needs,
       search needs,
@@ -64,7 +66,7 @@ loop-again c =
             c3
                 .if1 .left,
             c8 .pre,
-          )) (c .if2 .left) ∙ ap (λ (k : ℕ). less (rest (c8 .args .moved .now) (set (c7 .loop .gone) (c4 .next-place .result) 1) (c8
+          )) (own ∙ c .if2 .left ∙ sym other) ∙ ap (λ (k : ℕ). less (rest (c8 .args .moved .now) (set (c7 .loop .gone) (c4 .next-place .result) 1) (c8
           .args .steps) k) (threadsAt (c8 .args .trail .now) ((c7 .loop .i) + 1) k)) n,
     )
 

@@ -1,10 +1,9 @@
 -- `next_place` goes through the threads. The invariant: those that are left decide.
 use borrow.Author.Needs.{needs}
-use Prim.Native.Nat.{ℕ, _<_, _≤_, _-_, _+_}
-use mathlib.Core.Path.{_≡_, refl, sym, ap, _∙_}
+use Prim.Native.Nat.{_≤_, _-_}
+use mathlib.Core.Path.{_≡_, refl, sym, _∙_}
 use native.Mathlib.Omega.{arith}
 use mathlib.Core.Logic.{⊎-elim}
-use mathlib.Core.List.{List}
 use Rattle.schedules.specs.Lists.{upTo, first}
 use Rattle.schedules.specs.Orders.{ready}
 use Rattle.schedules.proofs.Loops.{first-none-left}

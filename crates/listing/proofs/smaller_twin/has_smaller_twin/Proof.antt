@@ -6,6 +6,7 @@ use mathlib.Core.Bool.{Bool, true, false, _&&_}
 use mathlib.Core.List.{List}
 use native.Mathlib.Omega.{arith}
 use Rattle.schedules.specs.Lists.{upTo, any}
+use Rattle.schedules.proofs.Loops.{any-over, any-here, any-further}
 use Rattle.machine.specs.declared.state.Machine.{Machine}
 use Rattle.machine.specs.Held.{threadAt}
 use Rattle.machine.specs.NoteText.{notesAt}
@@ -13,7 +14,6 @@ use Rattle.listing.specs.ListOf.{together}
 use Rattle.listing.specs.ClassGroups.{groupsOf}
 use Rattle.listing.specs.HeldTwin.{twinBy}
 use Rattle.listing.proofs.HeldTwins.{any-twin-held}
-use Rattle.listing.proofs.TwinTurns.{any-over, any-here, any-further}
 use Rattle.listing.proofs.smaller_twin.has_smaller_twin.Statement.{statement}
 use Rattle.listing.proofs.smaller_twin.has_smaller_twin.Tie as tie
 

@@ -1,18 +1,18 @@
 -- `is_write_of` tests the thread, then whether it wrote.
 use borrow.Author.Needs.{needs}
 use borrow.Author.Tests.{eq-eqb, ne-eqb}
-use Rattle.machine.specs.NoteText.{noteAt}
+use Rattle.machine.proofs.NotesHeld.{note-thread, note-wrote}
 use Rattle.listing.specs.HeldTwin.{writeOf}
 use Rattle.listing.proofs.smaller_twin.is_write_of.Statement.{statement}
 use Rattle.listing.proofs.smaller_twin.is_write_of.Tie as tie
 
 returns : tie.Need-returns
-unfolding writeOf noteAt
-returns c = rw (ne-eqb _ _ (c .if1 .taken))
+unfolding writeOf
+returns c = rw (note-thread, ne-eqb _ _ (c .if1 .taken))
 
 returns-2 : tie.Need-returns-2
-unfolding writeOf noteAt
-returns-2 c = rw (eq-eqb _ _ (c .before .if1 .left))
+unfolding writeOf
+returns-2 c = rw (note-thread, note-wrote, eq-eqb _ _ (c .before .if1 .left))
 
 pub is-write-of-spec : {M : Type 1} → statement M
 is-write-of-spec = tie.close (tie.spec (λ c. search needs) (λ c. search needs) returns (λ c. search needs) (λ c. search needs) returns-2)

@@ -1,23 +1,25 @@
 -- `same_read` compares the numbers, then the sources, thread and number.
 use borrow.Author.Needs.{needs}
-use borrow.Author.Tests.{eq-eqb, ne-eqb}
-use Rattle.machine.specs.NoteText.{noteAt}
-use Rattle.judge.specs.Judge.{sameEvent, sameRead}
-use Rattle.listing.specs.HeldTwin.{readAt}
+use mathlib.Core.Path.{sym}
+use Rattle.listing.proofs.StepBytes.{numbers-differ, sources-differ, sources-numbered}
 use Rattle.listing.proofs.smaller_twin.same_read.Statement.{statement}
 use Rattle.listing.proofs.smaller_twin.same_read.Tie as tie
 
 returns : tie.Need-returns
-unfolding sameRead sameEvent readAt noteAt
-returns c = rw (ne-eqb _ _ (c .if1 .taken))
+returns c = let a = c .before .before .before .args in sym (numbers-differ (a .trail .now) (a .i) (a .j) (c .if1 .taken))
 
 returns-2 : tie.Need-returns-2
-unfolding sameRead sameEvent readAt noteAt
-returns-2 c = rw (eq-eqb _ _ (c .before .before .before .if1 .left), ne-eqb _ _ (c .if2 .taken))
+returns-2 c =
+    let c3 = c .before .before .before in
+    let a = c3 .before .before .before .args in
+    sym (sources-differ (a .trail .now) (a .i) (a .j) (c3 .if1 .left) (c .if2 .taken))
 
 returns-3 : tie.Need-returns-3
-unfolding sameRead sameEvent readAt noteAt
-returns-3 c = rw (eq-eqb _ _ (c .before .before .before .before .before .if1 .left), eq-eqb _ _ (c .before .before .if2 .left))
+returns-3 c =
+    let c2 = c .before .before in
+    let c5 = c2 .before .before .before in
+    let a = c5 .before .before .before .args in
+    sym (sources-numbered (a .trail .now) (a .i) (a .j) (c5 .if1 .left) (c2 .if2 .left))
 
 pub same-read-spec : {M : Type 1} → statement M
 same-read-spec = tie.close (tie.spec (λ c. search needs) (λ c. search needs) (λ c. search needs) (λ c. search needs) (λ c. search needs) (λ c. search needs) returns (λ c. search needs) (λ c. search needs) (λ c. search needs) (λ c. search needs) returns-2 (λ c. search needs) (λ c. search needs) (λ c. search needs) (λ c. search needs) returns-3)
