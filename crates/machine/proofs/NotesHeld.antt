@@ -36,6 +36,11 @@ pub notes-held : (trail : List ℕ) (ns : List Note) → Noted trail ns → note
 unfolding notesAt
 notes-held trail ns held = notes-from trail ns 0 (λ k u q h. let e : u ≡ k = omega arith in ap (noteAt trail) e ∙ note-held trail (getD ns k noNote) k (λ j i. held .bytes k j h i))
 
+-- ---- the first notes, place by place
+pub notes-each : (trail : List ℕ) (n : ℕ) → notesAt trail n ≡ map (noteAt trail) (upTo 0 n)
+unfolding notesAt
+notes-each trail n = refl
+
 -- ---- one note more
 notes-next : (trail : List ℕ) (k : ℕ) → notesAt trail (k + 1) ≡ notesAt trail k ++ (noteAt trail k ∷ [])
 unfolding notesAt

@@ -43,6 +43,11 @@ still-takes σ t m w = go (takes (threadOf σ t .local)) refl
     go true e = e
     go false e = absurd (true≢false (sym (blind-writes σ t m e) ∙ w))
 
+-- whose action it is
+pub who-is : (a : Action) → who a ≡ a .thread
+unfolding who
+who-is a = refl
+
 -- in a trail: the first step of t, and that nothing before it conflicts with d
 by : (σ : State) (a t : ℕ) → a ≢ t → who (action σ a) ≢ t
 unfolding who action
