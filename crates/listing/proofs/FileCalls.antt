@@ -1,41 +1,36 @@
 -- The calls that give a schedule, way by way.
 use Prim.Native.Nat.{ℕ, _/_, _<_, _≤_}
-use mathlib.Core.Path.{_≡_, refl, sym, ap, subst, _∙_}
+use mathlib.Core.Path.{_≡_, refl, sym, ap, ap₂, subst, _∙_}
 use mathlib.Core.Bool.{Bool, true, false}
-use mathlib.Core.List.{List, [], _∷_, List·Memᴰ, List·Memᴰ·head}
+use mathlib.Core.List.{List, List·Memᴰ, List·Memᴰ·head}
 use mathlib.Core.Option.{Option, none, some}
-use native.Mathlib.Omega.{arith}
-use lib.Dec.{ltb}
 use lib.ListN.{length, getD, take, drop}
 use borrow.Author.Tests.{lt-ltb, le-ltb}
-use Rattle.lines.specs.Over.{over}
 use Rattle.program.specs.Program.{Program}
 use Rattle.program.specs.WellFormed.{WellFormed}
 use Rattle.program.specs.Decode.{Decoded, accepted, decode}
 use Rattle.program.specs.Decode as File
 use Rattle.schedules.specs.Lists.{keep, first, headOf}
 use Rattle.schedules.specs.Order.{Schedule}
-use Rattle.schedules.specs.System.{run}
-use Rattle.schedules.specs.Calls.{Answer, found, nomore, refused, turn, short, content, offer}
+use Rattle.schedules.specs.Calls.{Answer, found, nomore, refused, turn, short, content, Result}
 use Rattle.schedules.specs.Found.{after}
-use Rattle.schedules.proofs.First.{head-keep}
-use Rattle.schedules.proofs.After.{offer-after}
-use Rattle.machine.specs.State.{SC, start}
-use Rattle.machine.specs.Replay.{Replayed, whole, replay}
-use Rattle.machine.specs.Replay as Replay
-use Rattle.machine.specs.Held.{verdictOf, HoldsRun}
+use Rattle.schedules.proofs.First.{head-cons, head-keep}
+use Rattle.schedules.proofs.After.{after-none, offer-after}
+use Rattle.schedules.proofs.Offered as Offered
+use Rattle.schedules.proofs.Offered.{content-found, content-nomore, content-refused}
+use Rattle.machine.specs.Held.{HoldsRun}
+use Rattle.machine.proofs.Verdicts.{verdict-whole, verdict-refused}
 use Rattle.machine.specs.declared.replaying.Run.{Run}
-use Rattle.machine.specs.declared.replaying.Verdict.{Verdict}
 use Rattle.machine.specs.declared.replaying.Verdict.the-variants.{Whole, Refused}
 use Rattle.listing.specs.declared.calling.ListAnswer.{ListAnswer}
-use Rattle.listing.specs.Answers.{startOf, continued, continueOf, failing, Violation, fails-first, none-fails, refused-by, violationBy, violationContent, violationOf}
+use Rattle.listing.specs.Answers.{startOf, continued, continueOf, failing, Violation, refused-by, violationBy, violationContent, violationOf}
 use Rattle.listing.specs.OnFile.{startOn, startFile, continueOn, continueFile, violationOn, violationFile}
 use Rattle.listing.specs.Said.{said, violationSaid}
 use Rattle.listing.specs.ListOf.{listOf}
 use Rattle.listing.specs.Search.{sought}
 use Rattle.listing.specs.Bounds.{boundAt}
-use Rattle.listing.specs.Rows.{rowBytes, rowOf, Shown}
-use Rattle.listing.proofs.FirstRow.{row-steps, row-count, sought-24, First, first-none, first-some}
+use Rattle.listing.specs.Rows.{rowOf, Shown}
+use Rattle.listing.proofs.FirstRow.{row-steps, row-count, sought-24, First, first-some}
 
 -- an answer is said, and the output is what it leaves
 abbrev pub Says : ListAnswer → List ℕ → Answer → List ℕ → Type 0
@@ -44,16 +39,13 @@ Says r out' a out = (r ≡ said a) × (out' ≡ content a out)
 -- ---- the first one
 module _ (out : List ℕ) (o : Option Schedule) where
   pub turn-short : length out < 24 → turn (short 24 out) o ≡ refused 22 0
-  unfolding turn
-  turn-short h = rw (lt-ltb (length out) 24 h)
+  turn-short h = ap (λ (b : Bool). turn b o) (lt-ltb (length out) 24 h) ∙ Offered.turn-short o
 
   pub turn-none : 24 ≤ length out → o ≡ none → turn (short 24 out) o ≡ nomore
-  unfolding turn
-  turn-none h e = rw (le-ltb (length out) 24 h, e)
+  turn-none h e = ap₂ turn (le-ltb (length out) 24 h) e ∙ Offered.turn-none
 
   pub turn-some : (s : Schedule) → 24 ≤ length out → o ≡ some s → turn (short 24 out) o ≡ found s
-  unfolding turn
-  turn-some s h e = rw (le-ltb (length out) 24 h, e)
+  turn-some s h e = ap₂ turn (le-ltb (length out) 24 h) e ∙ Offered.turn-some s
 
 -- what is read off the row of the first of a list
 module _ (p : Program) (held row : List ℕ) (rows : ℕ) (size : length held ≡ 26) (only : Bool) (o : Option Schedule) (w : WellFormed p)
@@ -65,8 +57,7 @@ module _ (p : Program) (held row : List ℕ) (rows : ℕ) (size : length held �
   first-24 = sought-24 p w only o (here .schedule) (subst (λ (l : List Schedule). List·Memᴰ (here .schedule) l) (sym (here .is)) (List·Memᴰ·head refl))
 
   pub first-head : headOf (after o (sought only p)) ≡ some (here .schedule)
-  unfolding headOf
-  first-head = ap headOf (here .is)
+  first-head = ap headOf (here .is) ∙ head-cons (here .schedule) (here .rest)
 
   pub first-length : (n : ℕ) → n ≡ getD row 0 0 → n ≡ length (here .schedule)
   unfolding rowOf
@@ -85,8 +76,8 @@ module _ (file out : List ℕ) where
   start-refused n k e = ap (λ (d : Decoded). startOn d out .0) e
 
   pub start-refused-out : (n k : ℕ) → decode file ≡ File.refused n k → startFile file out .1 ≡ out
-  unfolding startOn content
-  start-refused-out n k e = ap (λ (d : Decoded). startOn d out .1) e
+  unfolding startOn
+  start-refused-out n k e = ap (λ (d : Decoded). startOn d out .1) e ∙ content-refused n k out
 
   module _ (p : Program) (b : List ℕ) where
     start-turn : turn (short 24 out) (headOf (after (boundAt false b 0) (sought false p))) ≡ startOf p out .0
@@ -104,29 +95,28 @@ module _ (file out : List ℕ) where
     unfolding startOn startOf
     start-output e = ap (λ (a : Answer). content a out) start-turn ∙ ap (λ (d : Decoded). startOn d out .1) (sym e)
 
+-- a refusal changes no byte of the output
+unchanged : (n k : ℕ) (out : List ℕ) → _≡_ {A = Result} (refused n k, content (refused n k) out) (refused n k, out)
+unchanged n k out = ap {B = Result} (λ (l : List ℕ). (refused n k, l)) (content-refused n k out)
+
 -- ---- continue, on a program
 module _ (p : Program) (s : Schedule) (out : List ℕ) where
   pub continue-short : length out < 24 → continueOf p s out ≡ (refused 22 0, out)
-  unfolding continueOf content
-  continue-short h = rw (lt-ltb (length out) 24 h)
+  unfolding continueOf
+  continue-short h = rw (lt-ltb (length out) 24 h) (unchanged 22 0 out)
 
   module _ (code lengths : List ℕ) (r : Run) (held : HoldsRun code lengths p s r) (wide : 24 ≤ length out) where
     -- refused by 20 or 21
     pub continue-refused : (n k : ℕ) → r .verdict ≡ Refused n k → continueOf p s out ≡ (refused n k, out)
-    unfolding continueOf continued content verdictOf
-    continue-refused n k e =
-        let v : replay p s ≡ Replay.refused n k = sym (held .answer) ∙ ap (λ (v : Verdict). verdictOf v (run SC (start p) (take (r .steps) s))) e in
-        rw (le-ltb (length out) 24 wide, v)
+    unfolding continueOf continued
+    continue-refused n k e = rw (le-ltb (length out) 24 wide, verdict-refused code lengths p s r held n k e) (unchanged n k out)
 
     abbrev next : Answer
     next = turn (short 24 out) (headOf (after (boundAt true s 0) (sought false p)))
 
     pub continue-whole : r .verdict ≡ Whole → (turn (short 24 out) (headOf (after (boundAt true s 0) (sought false p)))) ≡ continueOf p s out .0
-    unfolding continueOf continued verdictOf boundAt sought turn
-    continue-whole e =
-        let σ = run SC (start p) (take (r .steps) s) in
-        let v : replay p s ≡ whole σ = sym (held .answer) ∙ ap (λ (v : Verdict). verdictOf v σ) e in
-        rw (le-ltb (length out) 24 wide, v) (ap (turn false) (offer-after (some s) (listOf p)))
+    unfolding continueOf continued boundAt sought
+    continue-whole e = rw (le-ltb (length out) 24 wide, verdict-whole code lengths p s r held e) (ap (turn false) (offer-after (some s) (listOf p)))
 
     pub continue-output : r .verdict ≡ Whole → content (turn (short 24 out) (headOf (after (boundAt true s 0) (sought false p)))) out ≡ continueOf p s out .1
     unfolding continueOf
@@ -139,21 +129,21 @@ module _ (file s out : List ℕ) where
   continue-file p e = ap (λ (d : Decoded). continueOn d s out) (sym e)
 
   pub continue-file-refused : (n k : ℕ) → decode file ≡ File.refused n k → continueFile file s out ≡ (refused n k, out)
-  unfolding continueOn content
-  continue-file-refused n k e = ap (λ (d : Decoded). continueOn d s out) e
+  unfolding continueOn
+  continue-file-refused n k e = ap (λ (d : Decoded). continueOn d s out) e ∙ unchanged n k out
 
 -- ---- violation
 same-said : (b : Bool) (o : Option Schedule) → said (turn b o) ≡ violationSaid (violationBy b o)
-unfolding said violationSaid turn violationBy
-same-said true o = refl
-same-said false none = refl
-same-said false (some s) = refl
+unfolding said violationSaid violationBy
+same-said true o = ap said (Offered.turn-short o)
+same-said false none = ap said Offered.turn-none
+same-said false (some s) = ap said (Offered.turn-some s)
 
 same-content : (b : Bool) (o : Option Schedule) (out : List ℕ) → content (turn b o) out ≡ violationContent (violationBy b o) out
-unfolding content violationContent turn violationBy
-same-content true o out = refl
-same-content false none out = refl
-same-content false (some s) out = refl
+unfolding violationContent violationBy
+same-content true o out = ap (λ (a : Answer). content a out) (Offered.turn-short o) ∙ content-refused 22 0 out
+same-content false none out = ap (λ (a : Answer). content a out) Offered.turn-none ∙ content-nomore out
+same-content false (some s) out = ap (λ (a : Answer). content a out) (Offered.turn-some s) ∙ content-found s out
 
 module _ (file out b : List ℕ) where
   pub violation-refused : (n k : ℕ) → decode file ≡ File.refused n k → violationFile file out ≡ (refused-by n k, out)
@@ -162,8 +152,8 @@ module _ (file out b : List ℕ) where
 
   module _ (p : Program) (e : decode file ≡ accepted p) where
     sought-first : headOf (after (boundAt false b 0) (sought true p)) ≡ first (failing p) (listOf p)
-    unfolding boundAt sought after
-    sought-first = head-keep (failing p) (listOf p)
+    unfolding boundAt sought
+    sought-first = ap headOf (after-none (keep (failing p) (listOf p))) ∙ head-keep (failing p) (listOf p)
 
     violation-on : violationOf p out ≡ violationFile file out
     unfolding violationOn

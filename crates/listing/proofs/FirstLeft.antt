@@ -3,35 +3,43 @@ use Prim.Native.Nat.{ℕ, zero, suc, _+_, _-_, _<_, _≤_}
 use mathlib.Core.Path.{_≡_, refl, sym, ap, _∙_, subst}
 use mathlib.Core.Logic.{_≢_, ⊎-elim}
 use mathlib.Core.Bool.{Bool, true, false, not}
-use mathlib.Core.Option.{Option, none, some}
-use mathlib.Core.List.{List, [], _∷_}
+use mathlib.Core.Option.{none, some}
+use mathlib.Core.List.{List, _∷_}
 use native.Mathlib.Omega.{arith}
 use native.Mathlib.Nat.{eq-or-lt-of-le}
 use native.Mathlib.Numerals.{add-one}
 use lib.Dec.{eqb}
 use lib.ListN.{length, getD, set}
 use lib.Seq.{getD-set-same, getD-set-other}
-use borrow.Author.Tests.{eqb-true, eqb-false, ne-eqb}
+use borrow.Author.Tests.{eqb-true, eqb-false}
 use Rattle.schedules.specs.Lists.{upTo, all}
-use Rattle.schedules.specs.Orders.{nextOf, clear, clearOf, ready, takeOut}
-use Rattle.schedules.proofs.Remaining.{next-same, next-other, out-same, out-other, clear-same}
+use Rattle.schedules.specs.Orders.{nextOf, clear, ready, takeOut}
+use Rattle.schedules.proofs.Remaining.{next-nil, next-same, next-other, out-same, out-other, clear-same, clear-past, clear-not, ready-next}
+use Rattle.schedules.proofs.Remaining as Ordered
 use Rattle.machine.specs.Trail.{Action, conflict, who}
+use Rattle.machine.proofs.Trails.{who-is}
 use Rattle.listing.specs.NotedSteps.{actionAt}
 use Rattle.listing.specs.LeftSteps.{leftAt, FirstOf, waits}
 use Rattle.listing.proofs.Numbers.{all-over, all-further, all-fails}
 use Rattle.listing.proofs.LeftSteps.{left-none, left-here, left-gone, waits-not, waits-by}
 
+-- a step's thread says whose it is
+of-thread : (a : Action) (t : ℕ) → a .thread ≡ t → who a ≡ t
+of-thread a t e = who-is a ∙ e
+
+not-of : (a : Action) (t : ℕ) → a .thread ≢ t → who a ≢ t
+not-of a t n e = n (sym (who-is a) ∙ e)
+
 module _ (trail gone : List ℕ) (t : ℕ) where
   -- no step of the thread is left
   next-none : (k n : ℕ) → ((i : ℕ) → i < k + n → getD gone i 0 ≡ 0 → actionAt trail i .thread ≢ t) → nextOf who conflict (leftAt trail gone k n) t ≡ none
-  unfolding nextOf who
-  next-none k zero h = ap (λ (l : List Action). nextOf who conflict l t) (left-none trail gone k)
+  next-none k zero h = ap (λ (l : List Action). nextOf who conflict l t) (left-none trail gone k) ∙ next-nil who conflict t
   next-none k (suc n) h = go (eqb (getD gone k 0) 0) refl (next-none (suc k) n (λ i l. h i (omega arith)))
     where
       go : (b : Bool) → eqb (getD gone k 0) 0 ≡ b → nextOf who conflict (leftAt trail gone (suc k) n) t ≡ none → nextOf who conflict (leftAt trail gone k (suc n)) t ≡ none
       go true e ih =
           ap (λ (l : List Action). nextOf who conflict l t) (left-here trail gone k n (eqb-true (getD gone k 0) 0 e))
-          ∙ next-other who conflict (actionAt trail k) (leftAt trail gone (suc k) n) t (h k (omega arith) (eqb-true (getD gone k 0) 0 e))
+          ∙ next-other who conflict (actionAt trail k) (leftAt trail gone (suc k) n) t (not-of (actionAt trail k) t (h k (omega arith) (eqb-true (getD gone k 0) 0 e)))
           ∙ ih
       go false e ih = ap (λ (l : List Action). nextOf who conflict l t) (left-gone trail gone k n (eqb-false (getD gone k 0) 0 e)) ∙ ih
 
@@ -55,10 +63,9 @@ module _ (trail gone : List ℕ) (t : ℕ) where
 
     -- it is the thread's next
     next-first : (n : ℕ) → j < n → nextOf who conflict (leftAt trail gone 0 n) t ≡ some (actionAt trail j)
-    unfolding who
     next-first n h = back (λ k m l. nextOf who conflict l t ≡ some (actionAt trail j))
-        (λ m. next-same who conflict (actionAt trail j) (leftAt trail gone (suc j) m) t own)
-        (λ k m l i z ih. next-other who conflict (actionAt trail k) l t (before k i z) ∙ ih)
+        (λ m. next-same who conflict (actionAt trail j) (leftAt trail gone (suc j) m) t (of-thread (actionAt trail j) t own))
+        (λ k m l i z ih. next-other who conflict (actionAt trail k) l t (not-of (actionAt trail k) t (before k i z)) ∙ ih)
         (λ k m l i z ih. ih) 0 n (omega arith) (omega arith)
 
     abbrev free : ℕ → Bool
@@ -69,17 +76,20 @@ module _ (trail gone : List ℕ) (t : ℕ) where
 
     -- it is clear if it waits for none before it
     clear-first : (n : ℕ) → j < n → clear who conflict (leftAt trail gone 0 n) t (actionAt trail j) ≡ all (λ k. not (waits trail gone j k)) (upTo 0 j)
-    unfolding who clear
     clear-first n h = back (λ k m l. clear who conflict l t (actionAt trail j) ≡ all free (upTo k (j - k)))
-        (λ m. clear-same who conflict (actionAt trail j) (leftAt trail gone (suc j) m) t (actionAt trail j) own ∙ sym (all-over free j (j - j) (omega arith)))
+        (λ m. clear-same who conflict (actionAt trail j) (leftAt trail gone (suc j) m) t (actionAt trail j) (of-thread (actionAt trail j) t own) ∙ sym (all-over free j (j - j) (omega arith)))
         (λ k m l i z ih. meets k l i z (conflict (actionAt trail k) (actionAt trail j)) refl ih)
         (λ k m l i z ih. ih ∙ sym (on k i (waits-not trail gone j k z))) 0 n (omega arith) (omega arith)
         ∙ ap (λ (i : ℕ). all free (upTo 0 i)) (let e : j - 0 ≡ j = omega arith in e)
       where
         meets : (k : ℕ) (l : List Action) → k < j → getD gone k 0 ≡ 0 → (b : Bool) → conflict (actionAt trail k) (actionAt trail j) ≡ b → clear who conflict l t (actionAt trail j) ≡ all free (upTo (suc k) (j - suc k))
             → clear who conflict (actionAt trail k ∷ l) t (actionAt trail j) ≡ all free (upTo k (j - k))
-        meets k l i z true e ih = let n = ne-eqb (actionAt trail k .thread) t (before k i z) in rw (n, e, clear) (sym (all-fails free k (j - k) (omega arith) (waits-by trail gone j k true z e)))
-        meets k l i z false e ih = let n = ne-eqb (actionAt trail k .thread) t (before k i z) in rw (n, e, clear) (ih ∙ sym (on k i (waits-by trail gone j k false z e)))
+        meets k l i z true e ih =
+            clear-not who conflict (actionAt trail k) l t (actionAt trail j) (not-of (actionAt trail k) t (before k i z)) e
+            ∙ sym (all-fails free k (j - k) (omega arith) (waits-by trail gone j k true z e))
+        meets k l i z false e ih =
+            clear-past who conflict (actionAt trail k) l t (actionAt trail j) (not-of (actionAt trail k) t (before k i z)) e ∙ ih
+            ∙ sym (on k i (waits-by trail gone j k false z e))
 
     -- what is left when it has gone
     left-later : (k n : ℕ) → j < k → leftAt trail gone k n ≡ leftAt trail (set gone j 1) k n
@@ -91,21 +101,18 @@ module _ (trail gone : List ℕ) (t : ℕ) where
         go false e ih = let z = eqb-false (getD gone k 0) 0 e in let s = getD-set-other gone j k 1 0 (λ q. omega arith) in left-gone trail gone k n z ∙ ih ∙ sym (left-gone trail (set gone j 1) k n (λ q. z (sym s ∙ q)))
 
     pub out-first : (n : ℕ) → j < n → j < length gone → takeOut who conflict (leftAt trail gone 0 n) t ≡ leftAt trail (set gone j 1) 0 n
-    unfolding who
     out-first n h i = back (λ k m l. takeOut who conflict l t ≡ leftAt trail (set gone j 1) k m)
-        (λ m. out-same who conflict (actionAt trail j) (leftAt trail gone (suc j) m) t own ∙ left-later (suc j) m (omega arith)
+        (λ m. out-same who conflict (actionAt trail j) (leftAt trail gone (suc j) m) t (of-thread (actionAt trail j) t own) ∙ left-later (suc j) m (omega arith)
         ∙ sym (left-gone trail (set gone j 1) j m (λ q. let s = getD-set-same gone j 1 0 i in absurd (omega (arith, s, q)))))
         (λ k m l b z ih. let s = getD-set-other gone j k 1 0 (λ q. omega arith) in
-        out-other who conflict (actionAt trail k) l t (before k b z) ∙ ap (λ (r : List Action). actionAt trail k ∷ r) ih ∙ sym (left-here trail (set gone j 1) k m (s ∙ z)))
+        out-other who conflict (actionAt trail k) l t (not-of (actionAt trail k) t (before k b z)) ∙ ap (λ (r : List Action). actionAt trail k ∷ r) ih ∙ sym (left-here trail (set gone j 1) k m (s ∙ z)))
         (λ k m l b z ih. let s = getD-set-other gone j k 1 0 (λ q. omega arith) in ih ∙ sym (left-gone trail (set gone j 1) k m (λ q. z (sym s ∙ q)))) 0 n (omega arith) (omega arith)
 
 -- whether the thread may go next
 pub ready-first : (trail gone : List ℕ) (steps t j : ℕ) → FirstOf trail gone steps t j → j < steps → ready who conflict (leftAt trail gone 0 steps) t ≡ all (λ k. not (waits trail gone j k)) (upTo 0 j)
-unfolding ready clearOf
 ready-first trail gone steps t j f h =
     let z = f .here h in
-    ap (clearOf who conflict (leftAt trail gone 0 steps) t) (next-first trail gone t j (z .0) (z .1) (f .before) steps h) ∙ clear-first trail gone t j (z .0) (z .1) (f .before) steps h
+    ready-next who conflict (leftAt trail gone 0 steps) t (actionAt trail j) (next-first trail gone t j (z .0) (z .1) (f .before) steps h) ∙ clear-first trail gone t j (z .0) (z .1) (f .before) steps h
 
 pub ready-none : (trail gone : List ℕ) (steps t j : ℕ) → FirstOf trail gone steps t j → j ≡ steps → ready who conflict (leftAt trail gone 0 steps) t ≡ false
-unfolding ready clearOf
-ready-none trail gone steps t j f e = ap (clearOf who conflict (leftAt trail gone 0 steps) t) (next-none trail gone t 0 steps (λ i h. f .before i (omega arith)))
+ready-none trail gone steps t j f e = Ordered.ready-none who conflict (leftAt trail gone 0 steps) t (next-none trail gone t 0 steps (λ i h. f .before i (omega arith)))

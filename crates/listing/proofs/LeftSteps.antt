@@ -1,36 +1,38 @@
 -- The first step left of a thread: what it is, whether it is clear, and what stays when it goes.
-use Prim.Native.Nat.{ℕ, zero, suc, _+_, _-_, _<_, _≤_}
+use Prim.Native.Nat.{ℕ, suc, _+_, _-_, _<_}
 use mathlib.Core.Path.{_≡_, refl, sym, ap, _∙_, subst}
 use mathlib.Core.Logic.{_≢_, ⊎-elim}
-use mathlib.Core.Bool.{Bool, true, false, not, _&&_}
-use mathlib.Core.Option.{Option, none, some}
-use mathlib.Core.List.{List, [], _∷_, map}
+use mathlib.Core.Bool.{Bool, true, not}
+use mathlib.Core.List.{List, [], _∷_, map, List·Memᴰ·not-nil}
 use native.Mathlib.Omega.{arith}
 use native.Mathlib.Nat.{eq-or-lt-of-le}
 use lib.Dec.{eqb}
-use lib.ListN.{length, getD, set}
-use lib.Seq.{getD-set-same, getD-set-other}
-use borrow.Author.Tests.{eq-eqb, ne-eqb, eqb-true, eqb-false}
-use Rattle.schedules.specs.Lists.{upTo, keep, all}
-use Rattle.schedules.specs.Orders.{nextOf, clear, takeOut}
-use Rattle.schedules.proofs.Lists.{keep-yes, keep-no}
-use Rattle.schedules.proofs.Remaining.{next-same, next-other, clear-same}
-use Rattle.machine.specs.Trail.{Action, conflict, who}
-use Rattle.listing.specs.NotedSteps.{actionAt, actionsAt}
-use Rattle.listing.specs.LeftSteps.{leftAt, FirstOf, waits}
+use lib.ListN.{getD}
+use borrow.Author.Tests.{eq-eqb, ne-eqb}
+use Rattle.schedules.specs.Lists.{upTo, keep}
+use Rattle.schedules.proofs.Lists.{upTo-suc, keep-yes, keep-no}
+use Rattle.schedules.proofs.Kept.{keep-none}
+use Rattle.schedules.proofs.Loops.{upTo-none}
+use Rattle.machine.specs.Trail.{conflict}
+use Rattle.listing.specs.NotedSteps.{actionAt}
+use Rattle.listing.specs.LeftSteps.{leftAt, waits}
 
 -- ---- one place
+-- whether the step in place i is left
+abbrev isLeft : List ℕ → ℕ → Bool
+isLeft gone i = eqb (getD gone i 0) 0
+
 pub left-none : (trail gone : List ℕ) (k : ℕ) → leftAt trail gone k 0 ≡ []
-unfolding leftAt upTo keep
-left-none trail gone k = refl
+unfolding leftAt
+left-none trail gone k = ap (map (actionAt trail)) (ap (keep (isLeft gone)) (upTo-none k 0 refl) ∙ keep-none (isLeft gone) [] (λ x m. absurd (List·Memᴰ·not-nil m)))
 
 pub left-here : (trail gone : List ℕ) (k n : ℕ) → getD gone k 0 ≡ 0 → leftAt trail gone k (suc n) ≡ actionAt trail k ∷ leftAt trail gone (suc k) n
-unfolding leftAt upTo
-left-here trail gone k n e = ap (map (actionAt trail)) (keep-yes (λ i. eqb (getD gone i 0) 0) k (upTo (suc k) n) (eq-eqb (getD gone k 0) 0 e))
+unfolding leftAt
+left-here trail gone k n e = ap (map (actionAt trail)) (ap (keep (isLeft gone)) (upTo-suc k n) ∙ keep-yes (isLeft gone) k (upTo (suc k) n) (eq-eqb (getD gone k 0) 0 e))
 
 pub left-gone : (trail gone : List ℕ) (k n : ℕ) → getD gone k 0 ≢ 0 → leftAt trail gone k (suc n) ≡ leftAt trail gone (suc k) n
-unfolding leftAt upTo
-left-gone trail gone k n e = ap (map (actionAt trail)) (keep-no (λ i. eqb (getD gone i 0) 0) k (upTo (suc k) n) (ne-eqb (getD gone k 0) 0 e))
+unfolding leftAt
+left-gone trail gone k n e = ap (map (actionAt trail)) (ap (keep (isLeft gone)) (upTo-suc k n) ∙ keep-no (isLeft gone) k (upTo (suc k) n) (ne-eqb (getD gone k 0) 0 e))
 
 -- ---- looking for the first step of a thread, and for one that it waits for
 pub before-more : (trail gone : List ℕ) (t j : ℕ) → ((k : ℕ) → k < j → getD gone k 0 ≡ 0 → actionAt trail k .thread ≢ t) → (getD gone j 0 ≡ 0 → actionAt trail j .thread ≢ t)

@@ -1,26 +1,29 @@
 -- The least order of a run's steps as a loop in code meets it, beside another order: the place that goes next, then what is left decides.
-use Prim.Native.Nat.{ℕ, zero, suc, _+_, _-_, _<_, _≤_}
+use Prim.Native.Nat.{ℕ, zero, suc, _+_, _-_, _<_}
 use mathlib.Core.Path.{_≡_, refl, sym, ap, ap₂, _∙_, subst}
 use mathlib.Core.Logic.{_≢_}
 use mathlib.Core.Bool.{Bool, true, false, not}
-use mathlib.Core.Option.{Option, none, some}
+use mathlib.Core.Option.{some}
 use mathlib.Core.List.{List, [], _∷_, map}
 use native.Mathlib.Omega.{arith}
-use lib.Dec.{eqb, ltb}
+use lib.Dec.{ltb}
 use lib.ListN.{length, getD, set, replicate, length-map}
-use borrow.Author.Tests.{eq-eqb, ne-eqb}
 use Rattle.schedules.specs.Lists.{upTo, all, first}
 use Rattle.schedules.specs.Order.{Schedule, less}
 use Rattle.schedules.specs.Greedy.{greedy}
-use Rattle.schedules.specs.Orders.{ready, takeOut, Remaining, leastOrder}
+use Rattle.schedules.specs.Orders.{ready, takeOut, Remaining}
+use Rattle.schedules.proofs.Order.{less-front, nil-less, less-nil}
+use Rattle.schedules.proofs.Lists.{upTo-suc, upTo-length}
 use Rattle.schedules.proofs.Loops.{upTo-none, upTo-more, first-here, first-later, greedy-over, greedy-stuck, greedy-step}
+use Rattle.schedules.proofs.LeastOrder.{least-walk}
+use Rattle.schedules.proofs.Comparing.{heads-differ}
 use Rattle.machine.specs.Trail.{Action, conflict, who, leastOf}
-use Rattle.machine.specs.NoteText.{noteAt, notesAt}
-use Rattle.schedules.proofs.Lists.{upTo-length}
+use Rattle.machine.specs.NoteText.{noteAt}
+use Rattle.machine.proofs.NotesHeld.{notes-each}
 use Rattle.listing.specs.NotedSteps.{did, actionAt, actionsAt}
 use Rattle.listing.specs.LeftSteps.{leftAt, FirstOf, waits, NextPlace, threadsAt}
 use Rattle.listing.proofs.LeftSteps.{left-none, left-here}
-use Rattle.listing.proofs.FirstLeft.{ready-first, ready-none, out-first}
+use Rattle.listing.proofs.FirstLeft.{ready-first, out-first}
 
 -- ---- the thread that goes next
 module _ (trail gone : List ℕ) (steps t j : ℕ) where
@@ -52,8 +55,7 @@ unfolding threadsAt
 threads-none trail k n e = ap (map (λ i. actionAt trail i .thread)) (upTo-none k n e)
 
 same-front : (x y : ℕ) (a b : Schedule) → x ≡ y → less (x ∷ a) (y ∷ b) ≡ less a b
-unfolding less
-same-front x y a b e = let q = eq-eqb x y e in rw (q, less)
+same-front x y a b e = ap (λ (z : ℕ). less (z ∷ a) (y ∷ b)) e ∙ less-front y a b
 
 -- the least order of the steps left, at most n of them
 unfoldable pub rest : List ℕ → List ℕ → ℕ → ℕ → Schedule
@@ -61,8 +63,10 @@ rest moved gone steps n = greedy (Remaining who conflict (upTo 0 6)) (ready who 
 
 module _ (moved gone trail : List ℕ) (steps j i n : ℕ) (next : NextPlace moved gone steps j) (more : 0 < n) where
   pub order-stuck : j ≡ steps → less (rest moved gone steps n) (threadsAt trail i n) ≡ true
-  unfolding rest less
-  order-stuck e = ap₂ less (greedy-stuck (Remaining who conflict (upTo 0 6)) (ready who conflict) n (leftAt moved gone 0 steps) (next .over e)) (threads-more trail i n more)
+  unfolding rest
+  order-stuck e =
+      ap₂ less (greedy-stuck (Remaining who conflict (upTo 0 6)) (ready who conflict) n (leftAt moved gone 0 steps) (next .over e)) (threads-more trail i n more)
+      ∙ nil-less (actionAt trail i .thread) (threadsAt trail (i + 1) (n - 1))
 
   abbrev there : ℕ
   there = actionAt moved j .thread
@@ -72,11 +76,10 @@ module _ (moved gone trail : List ℕ) (steps j i n : ℕ) (next : NextPlace mov
   rest-more h = greedy-step (Remaining who conflict (upTo 0 6)) (ready who conflict) n (leftAt moved gone 0 steps) there more (next .least h)
 
   pub order-differ : j < steps → actionAt moved j .thread ≢ actionAt trail i .thread → less (rest moved gone steps n) (threadsAt trail i n) ≡ ltb (actionAt moved j .thread) (actionAt trail i .thread)
-  unfolding less
-  order-differ h d = let e = ne-eqb there (actionAt trail i .thread) d in ap₂ less (rest-more h) (threads-more trail i n more) ∙ (rw (e, less))
+  order-differ h d = ap₂ less (rest-more h) (threads-more trail i n more) ∙ heads-differ there (actionAt trail i .thread) _ (threadsAt trail (i + 1) (n - 1)) d
 
   pub order-equal : j < steps → j < length gone → actionAt moved j .thread ≡ actionAt trail i .thread → less (rest moved gone steps n) (threadsAt trail i n) ≡ less (rest moved (set gone j 1) steps (n - 1)) (threadsAt trail (i + 1) (n - 1))
-  unfolding less rest
+  unfolding rest
   order-equal h l q =
       let f = next .place h in
       let z = f .here h in
@@ -85,8 +88,8 @@ module _ (moved gone trail : List ℕ) (steps j i n : ℕ) (next : NextPlace mov
       ∙ (ap (λ (k : List Action). less (greedy (Remaining who conflict (upTo 0 6)) (ready who conflict) (n - 1) k) (threadsAt trail (i + 1) (n - 1))) (out-first moved gone there j (z .0) (z .1) (f .before) steps h l))
 
 pub order-over : (moved gone trail : List ℕ) (steps i n : ℕ) → n ≡ 0 → less (rest moved gone steps n) (threadsAt trail i n) ≡ false
-unfolding rest less
-order-over moved gone trail steps i n e = ap₂ less (greedy-over (Remaining who conflict (upTo 0 6)) (ready who conflict) n (leftAt moved gone 0 steps) e) (threads-none trail i n e)
+unfolding rest
+order-over moved gone trail steps i n e = ap₂ less (greedy-over (Remaining who conflict (upTo 0 6)) (ready who conflict) n (leftAt moved gone 0 steps) e) (threads-none trail i n e) ∙ less-nil []
 
 -- ---- before the first step all are left
 pub zeros : (n k : ℕ) → getD {A = ℕ} (replicate n 0) k 0 ≡ 0
@@ -95,17 +98,19 @@ zeros (suc n) zero = refl
 zeros (suc n) (suc k) = zeros n k
 
 left-all : (trail gone : List ℕ) (k n : ℕ) → ((i : ℕ) → getD gone i 0 ≡ 0) → leftAt trail gone k n ≡ map (actionAt trail) (upTo k n)
-unfolding upTo
-left-all trail gone k zero z = left-none trail gone k
-left-all trail gone k (suc n) z = left-here trail gone k n (z k) ∙ ap (λ (l : List Action). actionAt trail k ∷ l) (left-all trail gone (suc k) n z)
+left-all trail gone k zero z = left-none trail gone k ∙ sym (ap (map (actionAt trail)) (upTo-none k 0 refl))
+left-all trail gone k (suc n) z =
+    left-here trail gone k n (z k) ∙ ap (λ (l : List Action). actionAt trail k ∷ l) (left-all trail gone (suc k) n z)
+    ∙ sym (ap (map (actionAt trail)) (upTo-suc k n))
 
 actions-mapped : (trail : List ℕ) (l : List ℕ) → map did (map (noteAt trail) l) ≡ map (actionAt trail) l
 actions-mapped trail [] = refl
 actions-mapped trail (k ∷ l) = ap (λ (r : List Action). actionAt trail k ∷ r) (actions-mapped trail l)
 
 pub order-start : (moved gone : List ℕ) (steps : ℕ) → ((k : ℕ) → getD gone k 0 ≡ 0) → leastOf (actionsAt moved steps) ≡ rest moved gone steps steps
-unfolding rest leastOrder actionsAt notesAt
+unfolding rest actionsAt
 order-start moved gone steps z =
-    let e : actionsAt moved steps ≡ leftAt moved gone 0 steps = actions-mapped moved (upTo 0 steps) ∙ sym (left-all moved gone 0 steps z) in
-    let n : length (actionsAt moved steps) ≡ steps = length-map (map (noteAt moved) (upTo 0 steps)) did ∙ length-map (upTo 0 steps) (noteAt moved) ∙ upTo-length 0 steps in
-    ap₂ (λ (k : ℕ) (l : List Action). greedy (Remaining who conflict (upTo 0 6)) (ready who conflict) k l) n e
+    let e : actionsAt moved steps ≡ map (actionAt moved) (upTo 0 steps) = ap (map did) (notes-each moved steps) ∙ actions-mapped moved (upTo 0 steps) in
+    let n : length (actionsAt moved steps) ≡ steps = ap length e ∙ length-map (upTo 0 steps) (actionAt moved) ∙ upTo-length 0 steps in
+    least-walk who conflict (upTo 0 6) (actionsAt moved steps) steps n
+    ∙ ap (λ (l : List Action). greedy (Remaining who conflict (upTo 0 6)) (ready who conflict) steps l) (e ∙ sym (left-all moved gone 0 steps z))

@@ -1,11 +1,11 @@
 -- A run none of whose steps comes late is in its least order (the lexicographic normal form of Anisimov and Knuth), so the test at a full
 -- schedule passes at the identity.
-use Prim.Native.Nat.{ℕ, zero, suc, _-_, _<_}
+use Prim.Native.Nat.{ℕ, zero, suc, _+_, _-_, _<_}
 use mathlib.Core.Path.{_≡_, refl, sym, ap, ap₂, subst, _∙_}
-use mathlib.Core.Logic.{_≢_, ⊎-elim}
+use mathlib.Core.Logic.{_≢_}
 use mathlib.Core.Bool.{Bool, true, false, not, _||_, true≢false, false≢true}
-use mathlib.Core.Option.{Option, none, some}
-use mathlib.Core.List.{List, [], _∷_, _++_, map, append-assoc, reverse, reverse-cons, List·Memᴰ, List·Memᴰ·head, List·Memᴰ·tail, List·Memᴰ·cases-cons, List·Memᴰ·not-nil}
+use mathlib.Core.Option.{Option, some, Option·none-ne-some}
+use mathlib.Core.List.{List, [], _∷_, _++_, map, append-assoc, reverse, reverse-cons, List·Memᴰ, List·Memᴰ·head, List·Memᴰ·tail}
 use native.Mathlib.Omega.{arith}
 use native.Mathlib.Decide.{ℕ-discrete}
 use lib.Dec.{eqb, ltb}
@@ -15,18 +15,20 @@ use Rattle.program.specs.Program.{Program}
 use Rattle.schedules.specs.Lists.{upTo, first, all, keep}
 use Rattle.schedules.specs.Order.{Schedule, less}
 use Rattle.schedules.specs.System.{Allowed}
-use Rattle.schedules.specs.Greedy.{greedy}
-use Rattle.schedules.specs.Orders.{trace, nextOf, clear, ready, Remaining, leastOrder}
-use Rattle.schedules.specs.Permutations.{factorial, arranged, dropAt, permutationOf, moved}
-use Rattle.schedules.proofs.Lists.{in-upTo, of-upTo, upTo-ascends, all-of}
+use Rattle.schedules.specs.Orders.{nextOf, clear, ready}
+use Rattle.schedules.specs.Permutations.{permutationOf, moved}
+use Rattle.schedules.proofs.Lists.{in-upTo, upTo-ascends, all-of, keep-yes}
 use Rattle.schedules.proofs.Order.{Compared, below, same, above, compared, less-irreflexive}
 use Rattle.schedules.proofs.Greedy.{FirstIs, found-at, nowhere, first-is}
-use Rattle.schedules.proofs.Group.{identity-moved}
-use Rattle.schedules.proofs.Remaining.{out-same, next-same, next-other, clear-same, clear-other, ready-at, at-ready}
-use Rattle.machine.specs.State.{State, step, SC, start}
-use Rattle.machine.specs.Trail.{Action, action, trail, who, conflict, leastOf}
+use Rattle.schedules.proofs.Group.{identity-moved, number-none}
+use Rattle.schedules.proofs.Loops.{upTo-more}
+use Rattle.schedules.proofs.Remaining.{next-nil, next-same, next-other, next-who, clear-same, clear-other, ready-at, at-ready}
+use Rattle.schedules.proofs.LeastOrder.{least-nil, least-cons}
+use Rattle.machine.specs.State.{SC, start}
+use Rattle.machine.specs.Trail.{Action, trail, who, conflict, leastOf}
 use Rattle.machine.specs.ExchangedTrail.{movedAction}
-use Rattle.machine.proofs.Lawful.{lawful}
+use Rattle.machine.proofs.Actions.{trail-below, actions-still}
+use Rattle.machine.proofs.Trails.{who-is}
 use Rattle.machine.specs.declared.state.Machine.{Machine}
 use Rattle.listing.specs.ListOf.{together, permits}
 use Rattle.listing.specs.Rules.{late, Timely, leastBy, unbeaten}
@@ -53,8 +55,8 @@ late-longer (a ∷ xs) ys b e = go (eqb (a .thread) (b .thread)) refl (conflict 
     go false q false m false o k ih = rw (q, m, o, late) (ih (rw (q, m, o, late) at k))
 
 -- one step further back that it may pass
-late-more : (a : Action) (xs : List Action) (b : Action) → who a ≢ who b → conflict a b ≡ false → late xs b ≡ true → late (a ∷ xs) b ≡ true
-unfolding late who
+late-more : (a : Action) (xs : List Action) (b : Action) → a .thread ≢ b .thread → conflict a b ≡ false → late xs b ≡ true → late (a ∷ xs) b ≡ true
+unfolding late
 late-more a xs b n c e = go (ltb (b .thread) (a .thread)) refl
   where
     go : (l : Bool) → ltb (b .thread) (a .thread) ≡ l → late (a ∷ xs) b ≡ true
@@ -62,8 +64,8 @@ late-more a xs b n c e = go (ltb (b .thread) (a .thread)) refl
     go false o = let q = ne-eqb (a .thread) (b .thread) n in rw (q, c, o, late) e
 
 -- a greater thread's step that it may pass
-late-behind : (a : Action) (b : Action) → who b < who a → conflict a b ≡ false → late (a ∷ []) b ≡ true
-unfolding late who
+late-behind : (a : Action) (b : Action) → b .thread < a .thread → conflict a b ≡ false → late (a ∷ []) b ≡ true
+unfolding late
 late-behind a b h c =
     let n : a .thread ≢ b .thread = λ e. absurd (omega (arith, e)) in
     let q = ne-eqb (a .thread) (b .thread) n in
@@ -71,20 +73,10 @@ late-behind a b h c =
     rw (q, c, o, late)
 
 -- ---- the first step of a thread
-next-who : (ds : List Action) (t : ℕ) (b : Action) → nextOf who conflict ds t ≡ some b → who b ≡ t
-unfolding nextOf
-next-who [] t b e = absurd (let z : _≡_ {A = ℕ} 0 1 = cc in omega arith)
-next-who (d ∷ ds) t b e = go (ℕ-discrete (who d) t) (next-who ds t b)
-  where
-    go : Dec (who d ≡ t) → (nextOf who conflict ds t ≡ some b → who b ≡ t) → who b ≡ t
-    go (yes q) ih = let z : some d ≡ some b = sym (next-same who conflict d ds t q) ∙ e in let i : d ≡ b = cc in ap who (sym i) ∙ q
-    go (no q) ih = ih (sym (next-other who conflict d ds t q) ∙ e)
-
 -- the first step of a thread, if it waits for none and is late behind an earlier past, is late behind all before it
 late-at : (ds : List Action) (t : ℕ) (b : Action) (past : List Action) → nextOf who conflict ds t ≡ some b → clear who conflict ds t b ≡ true → late past b ≡ true →
     (u : List Action) × (z : List Action) × (ds ≡ u ++ (b ∷ z)) × (late (reverse u ++ past) b ≡ true)
-unfolding nextOf
-late-at [] t b past e c l = absurd (let z : _≡_ {A = ℕ} 0 1 = cc in omega arith)
+late-at [] t b past e c l = absurd (Option·none-ne-some b (sym (next-nil who conflict t) ∙ e))
 late-at (d ∷ ds) t b past e c l = go (ℕ-discrete (who d) t) (late-at ds t b (d ∷ past))
   where
     go : Dec (who d ≡ t) →
@@ -96,9 +88,10 @@ late-at (d ∷ ds) t b past e c l = go (ℕ-discrete (who d) t) (late-at ds t b 
         let i : d ≡ b = cc in
         ([], ds, ap (λ (x : Action). x ∷ ds) i, l)
     go (no q) ih =
-        let own = next-who (d ∷ ds) t b e in
+        let own = next-who who conflict (d ∷ ds) t b e in
+        let ne : d .thread ≢ b .thread = λ i. q (who-is d ∙ i ∙ sym (who-is b) ∙ own) in
         let k = clear-other who conflict d ds t b q c in
-        let r = ih (sym (next-other who conflict d ds t q) ∙ e) (k .1) (late-more d past b (λ i. q (i ∙ own)) (k .0) l) in
+        let r = ih (sym (next-other who conflict d ds t q) ∙ e) (k .1) (late-more d past b ne (k .0) l) in
         let w : reverse (d ∷ r .0) ++ past ≡ reverse (r .0) ++ (d ∷ past) = ap (λ (x : List Action). x ++ past) (reverse-cons d (r .0)) ∙ append-assoc (reverse (r .0)) (d ∷ []) past in
         (d ∷ r .0, r .1, ap (λ (x : List Action). d ∷ x) (r .2), subst (λ (x : List Action). late x b ≡ true) (sym w) (r .3))
 
@@ -111,12 +104,13 @@ smaller-waits : (a : Action) (rest : List Action) → Timely (a ∷ rest) → (t
 smaller-waits a rest on t h r =
     let k = ready-at who conflict (a ∷ rest) t r in
     let b = k .0 in
-    let own : who b ≡ t = next-who (a ∷ rest) t b (k .1) in
+    let own : b .thread ≡ t = sym (who-is b) ∙ next-who who conflict (a ∷ rest) t b (k .1) in
+    let o : b .thread < a .thread = omega (arith, h, own, who-is a) in
     let n : who a ≢ t = λ e. absurd (omega (arith, e)) in
     let c = clear-other who conflict a rest t b n (k .2) in
-    let m = late-at rest t b (a ∷ []) (sym (next-other who conflict a rest t n) ∙ k .1) (c .1) (late-behind a b (subst (λ (x : ℕ). x < who a) (sym own) h) (c .0)) in
-    let o = on (a ∷ m .0) b (m .1) (ap (λ (x : List Action). a ∷ x) (m .2)) in
-    false≢true (sym o ∙ ap (λ (x : List Action). late x b) (reverse-cons a (m .0)) ∙ m .3)
+    let m = late-at rest t b (a ∷ []) (sym (next-other who conflict a rest t n) ∙ k .1) (c .1) (late-behind a b o (c .0)) in
+    let timely = on (a ∷ m .0) b (m .1) (ap (λ (x : List Action). a ∷ x) (m .2)) in
+    false≢true (sym timely ∙ ap (λ (x : List Action). late x b) (reverse-cons a (m .0)) ∙ m .3)
 
 goes-first : (a : Action) (rest : List Action) → Timely (a ∷ rest) → who a < 6 → first (ready who conflict (a ∷ rest)) (upTo 0 6) ≡ some (who a)
 goes-first a rest on h = go (first (ready who conflict (a ∷ rest)) (upTo 0 6)) (first-is (ready who conflict (a ∷ rest)) (upTo 0 6) (upTo-ascends 0 6))
@@ -143,56 +137,28 @@ timely-rest a rest on u b z e = go (late (reverse u) b) refl
         let o = on (a ∷ u) b z (ap (λ (x : List Action). a ∷ x) e) in
         absurd (false≢true (sym o ∙ ap (λ (x : List Action). late x b) (reverse-cons a u) ∙ late-longer (reverse u) (a ∷ []) b q))
 
-least-cons : (a : Action) (rest : List Action) → first (ready who conflict (a ∷ rest)) (upTo 0 6) ≡ some (who a) → leastOf (a ∷ rest) ≡ who a ∷ leastOf rest
-unfolding leastOrder greedy
-least-cons a rest e =
-    rw (e, greedy) (ap (λ (ds : List Action). who a ∷ greedy (Remaining who conflict (upTo 0 6)) (ready who conflict) (length rest) ds) (out-same who conflict a rest (who a) refl))
-
-least-nil : leastOf [] ≡ []
-unfolding leastOrder greedy
-least-nil = refl
-
 -- A RUN WITHOUT LATE STEPS IS IN ITS LEAST ORDER
 pub timely-least : (acts : List Action) → Timely acts → ((b : Action) → List·Memᴰ b acts → b .thread < 6) → leastOf acts ≡ map who acts
-unfolding who
-timely-least [] on h = least-nil
+timely-least [] on h = least-nil who conflict (upTo 0 6)
 timely-least (a ∷ rest) on h =
-    least-cons a rest (goes-first a rest on (h a (List·Memᴰ·head refl)))
+    least-cons who conflict (upTo 0 6) a rest (goes-first a rest on (subst (λ (t : ℕ). t < 6) (sym (who-is a)) (h a (List·Memᴰ·head refl))))
     ∙ ap (λ (s : Schedule). who a ∷ s) (timely-least rest (timely-rest a rest on) (λ b m. h b (List·Memᴰ·tail m)))
 
 -- ---- the test at a full schedule, by the identity
--- the steps of a run are of six threads
-pub trail-below : (w : Schedule) (σ : State) → Allowed SC σ w → (b : Action) → List·Memᴰ b (trail σ w) → b .thread < 6
-unfolding trace action
-trail-below [] σ f b m = absurd (List·Memᴰ·not-nil m)
-trail-below (t ∷ w) σ f b m = ⊎-elim (λ (e : b ≡ action σ t). subst (λ (x : ℕ). x < 6) (sym (ap (λ (x : Action). x .thread) e)) (of-upTo 0 6 t (lawful .named σ t (f .0)) .1))
-    (λ (k : List·Memᴰ b (trail (step σ t) w)). trail-below w (step σ t) (f .1) b k) (List·Memᴰ·cases-cons m)
-
-number-none : permutationOf 0 ≡ upTo 0 6
-unfolding permutationOf arranged factorial dropAt upTo
-number-none = refl
-
-none-moved : (a : Action) → movedAction (moved (permutationOf 0)) a ≡ a
-unfolding movedAction
-none-moved a = ap (λ (x : ℕ). let r : Action = record { thread = x; location = a .location; wrote = a .wrote } in r) (ap (λ (π : List ℕ). moved π (a .thread)) number-none ∙ identity-moved (a .thread))
-
-all-stay : (acts : List Action) → map (movedAction (moved (permutationOf 0))) acts ≡ acts
-all-stay [] = refl
-all-stay (a ∷ acts) = ap₂ (λ (x : Action) (xs : List Action). x ∷ xs) (none-moved a) (all-stay acts)
+none-moved : (t : ℕ) → moved (permutationOf 0) t ≡ t
+none-moved t = ap (λ (π : List ℕ). moved π t) number-none ∙ identity-moved t
 
 -- no step of the run comes late: the identity gives no smaller schedule
 pub timely-unbeaten : (p : Program) (w : Schedule) → Timely (trail (start p) w) → Allowed SC (start p) w → not (less (leastBy (permutationOf 0) (trail (start p) w)) w) ≡ true
 unfolding leastBy
 timely-unbeaten p w on f =
     let e : leastOf (map (movedAction (moved (permutationOf 0))) (trail (start p) w)) ≡ w =
-    ap leastOf (all-stay (trail (start p) w)) ∙ timely-least (trail (start p) w) on (trail-below w (start p) f) ∙ trail-threads (start p) w in
+    ap leastOf (actions-still (moved (permutationOf 0)) none-moved (trail (start p) w)) ∙ timely-least (trail (start p) w) on (trail-below w (start p) f) ∙ trail-threads (start p) w in
     ap (λ (s : Schedule). not (less s w)) e ∙ ap not (less-irreflexive w)
 
 -- ---- the test of a prefix as the arrays hold it, by the numbers behind the first, which is the identity's
 first-kept : (f : ℕ → Bool) (n : ℕ) → 0 < n → f 0 ≡ true → (l : List ℕ) × (keep f (upTo 0 n) ≡ 0 ∷ l)
-unfolding upTo keep
-first-kept f zero h e = absurd (omega arith)
-first-kept f (suc n) h e = (keep f (upTo 1 n), rw (e, keep) refl)
+first-kept f n h e = (keep f (upTo (0 + 1) (n - 1)), ap (keep f) (upTo-more 0 n h) ∙ keep-yes f 0 (upTo (0 + 1) (n - 1)) e)
 
 identity-permits : (groups : List (List ℕ)) → permits groups (permutationOf 0) ≡ true
 unfolding permits

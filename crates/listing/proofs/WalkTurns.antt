@@ -1,5 +1,5 @@
 -- The search as its code meets it: at a full schedule, with one next step, and over the next steps in turn.
-use Prim.Native.Nat.{ℕ, _+_, _-_, _*_, _<_, _≤_}
+use Prim.Native.Nat.{ℕ, _+_, _-_, _<_, _≤_}
 use mathlib.Core.Path.{_≡_, refl, sym, ap, subst, _∙_}
 use mathlib.Core.Bool.{Bool, true, false, not, _||_, true≢false}
 use mathlib.Core.List.{List, [], _∷_, _++_, map, reverse}
@@ -13,9 +13,9 @@ use Rattle.schedules.specs.Order.{Schedule}
 use Rattle.schedules.specs.System.{run, ended}
 use Rattle.schedules.specs.Search.{low, past}
 use Rattle.schedules.specs.Found.{inTurn, foundAt, foundFrom}
-use Rattle.schedules.proofs.Lists.{both-false}
+use Rattle.schedules.proofs.Lists.{true-both, false-both, both-false}
 use Rattle.schedules.proofs.Runs.{run-snoc}
-use Rattle.schedules.proofs.Found.{in-turn-more, in-turn-over, by-not, by-cut, by-live, found-ended, found-stuck, found-turns}
+use Rattle.schedules.proofs.Found.{in-turn-more, in-turn-over, at-bound, at-listed, at-unlisted, by-not, by-cut, by-live, found-ended, found-stuck, found-turns}
 use Rattle.machine.specs.State.{State, SC, start, may, place, step}
 use Rattle.machine.specs.Trail.{action}
 use Rattle.machine.specs.Notes.{Note, note, noteBytes, notes, Noted}
@@ -30,21 +30,20 @@ use Rattle.listing.specs.Bounds.{boundAt}
 use Rattle.listing.specs.Reached.{Reached}
 use Rattle.listing.specs.Walked.{Numbered, Adds, foundBehind, foundWith}
 use Rattle.listing.proofs.Tests.{or-left, or-right}
-use Rattle.listing.proofs.ReachedStep.{reached-trail, reached-may-yes, reached-may-not, reached-place, reached-next}
+use Rattle.listing.proofs.ReachedStep.{reached-trail, reached-may-not, reached-place, reached-next}
 use Rattle.listing.proofs.ReachedLate.{notes-counted, late-answered, action-noted}
 use Rattle.listing.proofs.AddedRows.{adds-none, adds-full, adds-more, adds-same}
 
 -- ---- at a full schedule v
 module _ (only : Bool) (p : Program) (v : Schedule) where
   unmeant : (o f : Bool) → (not o || f) ≡ false → failing p v ≡ f → wanted o p v ≡ false
-  unfolding wanted both
-  unmeant true f e q = ap (λ b. both b (unbeaten p v)) (q ∙ e)
+  unfolding wanted
+  unmeant true f e q = ap (λ b. both b (unbeaten p v)) (q ∙ e) ∙ false-both (unbeaten p v)
   unmeant false f e q = absurd (true≢false e)
 
   -- it passes where only failing ones are wanted
   pub at-unmeant : (f : Bool) → (not only || f) ≡ false → failing p v ≡ f → foundAt SC 6 (cut p) (wanted only p) none v ≡ []
-  unfolding foundAt
-  at-unmeant f e q = rw (unmeant only f e q, foundAt)
+  at-unmeant f e q = at-unlisted SC 6 (cut p) (wanted only p) v (unmeant only f e q)
 
   beaten : (o : Bool) → unbeaten p v ≡ false → wanted o p v ≡ false
   unfolding wanted
@@ -53,18 +52,16 @@ module _ (only : Bool) (p : Program) (v : Schedule) where
 
   -- the test refuses it
   pub at-beaten : unbeaten p v ≡ false → foundAt SC 6 (cut p) (wanted only p) none v ≡ []
-  unfolding foundAt
-  at-beaten e = rw (beaten only e, foundAt)
+  at-beaten e = at-unlisted SC 6 (cut p) (wanted only p) v (beaten only e)
 
   meant : (o f : Bool) → (not o || f) ≡ true → failing p v ≡ f → unbeaten p v ≡ true → wanted o p v ≡ true
-  unfolding wanted both
-  meant true f e q u = ap (λ b. both b (unbeaten p v)) (q ∙ e) ∙ u
+  unfolding wanted
+  meant true f e q u = ap (λ b. both b (unbeaten p v)) (q ∙ e) ∙ true-both (unbeaten p v) ∙ u
   meant false f e q u = u
 
   -- it is wanted
   pub at-wanted : (f : Bool) → (not only || f) ≡ true → failing p v ≡ f → unbeaten p v ≡ true → foundAt SC 6 (cut p) (wanted only p) none v ≡ v ∷ []
-  unfolding foundAt
-  at-wanted f e q u = rw (meant only f e q u, foundAt)
+  at-wanted f e q u = at-listed SC 6 (cut p) (wanted only p) v (meant only f e q u)
 
 -- ---- with one next step
 module _ (code lengths class : List ℕ) (threads groups : ℕ) (m : Machine) (trail : List ℕ) (steps : ℕ) (p : Program) (v : Schedule)
@@ -136,8 +133,8 @@ module _ (code lengths class : List ℕ) (threads groups : ℕ) (m : Machine) (t
 module _ (only : Bool) (p : Program) (steps : ℕ) (v : Schedule) where
   -- the run has ended, along the bound
   pub behind-bound : (b : List ℕ) → ended SC (run SC (start p) v) ≡ true → foundBehind only p steps (boundAt true b steps) v ≡ []
-  unfolding boundAt foundAt
-  behind-bound b e = found-ended SC 6 (cut p) (wanted only p) (24 - steps) (some (drop steps b)) v (run SC (start p) v) e
+  unfolding boundAt
+  behind-bound b e = found-ended SC 6 (cut p) (wanted only p) (24 - steps) (some (drop steps b)) v (run SC (start p) v) e ∙ at-bound SC 6 (cut p) (wanted only p) (drop steps b) v
 
   -- apart from it
   pub behind-end : (b : List ℕ) → ended SC (run SC (start p) v) ≡ true

@@ -21,7 +21,6 @@ use Rattle.schedules.specs.System.{Allowed, run}
 use Rattle.machine.specs.declared.graph_call.GraphAnswer.{GraphAnswer}
 use Rattle.machine.specs.declared.graph_call.GraphAnswer.the-variants.{Written}
 use Rattle.machine.specs.declared.replaying.Run.{Run}
-use Rattle.machine.specs.declared.replaying.Verdict.{Verdict}
 use Rattle.machine.specs.declared.replaying.Verdict.the-variants.{Whole, Refused}
 use Rattle.machine.specs.State.{State, SC, start}
 use Rattle.machine.specs.Graph.{graphOf, graph}
@@ -31,8 +30,9 @@ use Rattle.machine.specs.Notes.{Note, notes, Noted}
 use Rattle.machine.specs.NoteText.{noteFrames}
 use Rattle.machine.specs.GraphCall.{GraphSaid, texted, refusing, texting, graphAnswer, graphOn, graphFile, graphOutput}
 use Rattle.machine.specs.GraphWord.{saidOf}
-use Rattle.machine.specs.Held.{verdictOf, HoldsRun}
+use Rattle.machine.specs.Held.{HoldsRun}
 use Rattle.machine.proofs.NoteGraph.{notes-length}
+use Rattle.machine.proofs.Verdicts.{verdict-whole, verdict-refused}
 use Rattle.machine.proofs.GraphWritten.{graph-written}
 
 -- too short an output
@@ -47,9 +47,8 @@ module _ (code lengths : List ℕ) (p : Program) (s : Schedule) (r : Run) (held 
 
   -- refused by 20 or 21
   pub graph-refused : (n k : ℕ) → r .verdict ≡ Refused n k → graphAnswer p s room ≡ refusing n k
-  unfolding verdictOf texting
-  graph-refused n k e =
-      answered ∙ ap texting (sym (held .answer) ∙ ap (λ (v : Verdict). verdictOf v (run SC (start p) (take (r .steps) s))) e)
+  unfolding texting
+  graph-refused n k e = answered ∙ ap texting (verdict-refused code lengths p s r held n k e)
 
   module _ (whole : r .verdict ≡ Whole) where
     pub graph-steps : length s ≡ r .steps
@@ -60,10 +59,10 @@ module _ (code lengths : List ℕ) (p : Program) (s : Schedule) (r : Run) (held 
         omega (arith, held .noted .most, notes-length (take (r .steps) s) (start p), length-take-le (r .steps) s (held .counted))
 
     graph-whole : graphAnswer p s room ≡ texted (graphText (graph p s))
-    unfolding verdictOf texting graph
+    unfolding texting graph
     graph-whole =
         answered
-        ∙ ap texting (sym (held .answer) ∙ ap (λ (v : Verdict). verdictOf v (run SC (start p) (take (r .steps) s))) whole)
+        ∙ ap texting (verdict-whole code lengths p s r held whole)
         ∙ ap (λ (z : Schedule). texted (graphText (graphOf (run SC (start p) z)))) (held .all whole)
 
     -- the text stands in front of the output

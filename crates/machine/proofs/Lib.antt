@@ -12,6 +12,8 @@ pub mod Change
 pub mod Start
 -- sequential consistency is a lawful step system; T0: at most 24 steps, at most 6^24 full schedules
 pub mod Lawful
+-- the actions of a run: of six threads, and as they are where no thread moves
+pub mod Actions
 -- T1: independent steps commute; the orders of a run's steps
 pub mod Swap
 pub mod Orders
@@ -76,5 +78,7 @@ pub mod HeldStart
 pub mod HeldNotes
 -- a schedule carried out
 pub mod HeldReplay
+-- what its verdict says of its replay
+pub mod Verdicts
 -- what the graph call answers
 pub mod GraphCalled

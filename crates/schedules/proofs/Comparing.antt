@@ -23,7 +23,7 @@ compare-equal a b i h k e =
     ∙ ap (λ (j : ℕ). less (drop j a) (drop j b)) (sym (add-one i))
 
 -- they differ: they decide
-heads-differ : (x y : ℕ) (a b : Schedule) → x ≢ y → less (x ∷ a) (y ∷ b) ≡ ltb x y
+pub heads-differ : (x y : ℕ) (a b : Schedule) → x ≢ y → less (x ∷ a) (y ∷ b) ≡ ltb x y
 unfolding less
 heads-differ x y a b ne = rw (ne-eqb x y ne, less)
 

@@ -1,4 +1,4 @@
--- The first member that passes a test.
+-- The first member of a list, and the first that passes a test.
 use mathlib.Core.Path.{_≡_, refl, sym, ap, _∙_}
 use mathlib.Core.Bool.{Bool, true, false}
 use mathlib.Core.Option.{none, some, Option·none-ne-some}
@@ -7,6 +7,10 @@ use Rattle.schedules.specs.Lists.{keep, first, headOf}
 use Rattle.schedules.specs.Order.{Schedule, less}
 use Rattle.schedules.specs.Calls.{next}
 use Rattle.schedules.proofs.Lists.{first-yes, first-no}
+
+pub head-cons : {A : Type 0} (x : A) (l : List A) → headOf (x ∷ l) ≡ some x
+unfolding headOf
+head-cons x l = refl
 
 pub first-none : {A : Type 0} (f : A → Bool) (l : List A) → ((x : A) → List·Memᴰ x l → f x ≡ false) → first f l ≡ none
 unfolding first

@@ -1,15 +1,47 @@
--- All that the search finds, one turn at a time, for code that loops over the next bytes.
-use mathlib.Core.Path.{_≡_, sym, ap, _∙_}
+-- The bound behind one byte more, and all that the search finds, one turn at a time, for code that loops over the next bytes.
+use mathlib.Core.Path.{_≡_, refl, sym, ap, _∙_}
+use mathlib.Core.Logic.{_≢_}
 use mathlib.Core.Bool.{Bool, true, false}
-use mathlib.Core.Option.{Option}
+use mathlib.Core.Option.{Option, none, some}
 use mathlib.Core.List.{List, [], _∷_, _++_}
 use Prim.Native.Nat.{ℕ, zero, suc, _+_, _-_, _<_, _≤_}
 use native.Mathlib.Omega.{arith}
 use native.Mathlib.Numerals.{sub-one}
+use borrow.Author.Tests.{eq-eqb, ne-eqb}
 use Rattle.schedules.specs.Order.{Schedule}
 use Rattle.schedules.specs.System.{System, ended}
 use Rattle.schedules.specs.Search.{low, past}
 use Rattle.schedules.specs.Found.{inTurn, foundAt, foundBy, foundFrom}
+
+-- the first byte to try
+pub low-none : low none ≡ 0
+unfolding low
+low-none = refl
+
+pub low-nil : low (some []) ≡ 0
+unfolding low
+low-nil = refl
+
+pub low-cons : (b : ℕ) (bs : Schedule) → low (some (b ∷ bs)) ≡ b
+unfolding low
+low-cons b bs = refl
+
+-- the bound behind a byte
+pub past-none : (t : ℕ) → past none t ≡ none
+unfolding past
+past-none t = refl
+
+pub past-nil : (t : ℕ) → past (some []) t ≡ none
+unfolding past
+past-nil t = refl
+
+pub past-same : (b : ℕ) (bs : Schedule) (t : ℕ) → b ≡ t → past (some (b ∷ bs)) t ≡ some bs
+unfolding past
+past-same b bs t e = rw (eq-eqb b t e, past)
+
+pub past-other : (b : ℕ) (bs : Schedule) (t : ℕ) → b ≢ t → past (some (b ∷ bs)) t ≡ none
+unfolding past
+past-other b bs t ne = rw (ne-eqb b t ne, past)
 
 -- one behind the other, one at a time
 turn-more : {A : Type 0} (f : ℕ → List A) (j i d : ℕ) → j ≡ suc i → inTurn f j d ≡ f d ++ inTurn f i (d + 1)
@@ -29,6 +61,19 @@ in-turn-over f top t h = none-left f (top - t) t (omega arith)
 module _ (M : System) (top : ℕ) (cut : Schedule → M .State → ℕ → Bool) (listed : Schedule → Bool) where
   abbrev Finder : Type 0
   Finder = Option Schedule → Schedule → M .State → List Schedule
+
+  -- at a full schedule: along the bound, listed, not listed
+  pub at-bound : (b v : Schedule) → foundAt M top cut listed (some b) v ≡ []
+  unfolding foundAt
+  at-bound b v = refl
+
+  pub at-listed : (v : Schedule) → listed v ≡ true → foundAt M top cut listed none v ≡ v ∷ []
+  unfolding foundAt
+  at-listed v e = rw (e, foundAt)
+
+  pub at-unlisted : (v : Schedule) → listed v ≡ false → foundAt M top cut listed none v ≡ []
+  unfolding foundAt
+  at-unlisted v e = rw (e, foundAt)
 
   -- behind one next byte
   pub by-not : (f : Finder) (o : Option Schedule) (v : Schedule) (σ : M .State) (t : ℕ) → M .may σ t ≡ false → foundBy M top cut listed f o v σ t ≡ []

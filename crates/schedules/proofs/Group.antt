@@ -178,5 +178,10 @@ pub number-rest : (k : ℕ) → permutationOf k ≡ permutationOf (k % 720)
 unfolding permutationOf
 number-rest k = arranged-same 5 k (k % 720) (λ i h. digit-rest k i h) (upTo 0 6)
 
+-- the first number is the identity's
+pub number-none : permutationOf 0 ≡ upTo 0 6
+unfolding permutationOf arranged factorial dropAt upTo
+number-none = refl
+
 pub numbered-member : (k : ℕ) → List·Memᴰ (permutationOf k) permutations
 numbered-member k = rw (number-rest k) (subst (List·Memᴰ (permutationOf (k % 720))) numbered (Memᴰ·map permutationOf (in-upTo 0 720 (k % 720) (omega arith) (omega arith))))

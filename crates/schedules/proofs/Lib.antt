@@ -13,9 +13,9 @@ pub mod Fulls
 pub mod Classes
 -- the claim about a list of calls over any ascending list
 pub mod Calls
--- what a call offers, and what it answers
+-- what a call offers, what it answers, and its output
 pub mod Offered
--- the first member that passes a test
+-- the first member, and the first that passes a test
 pub mod First
 -- what a test keeps of a list; lists one behind the other
 pub mod Kept
@@ -47,6 +47,8 @@ pub mod Numbered
 pub mod Group
 -- the definitions as a loop in code meets them, one turn at a time
 pub mod Loops
+-- the least order of a run's actions, one action at a time
+pub mod LeastOrder
 -- comparing two schedules place by place, as the code does
 pub mod Comparing
 -- a permutation worked out in place, as the code does

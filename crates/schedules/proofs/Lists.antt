@@ -13,6 +13,10 @@ use borrow.Author.Tests.{lt-ltb}
 use Rattle.schedules.specs.Lists.{upTo, both, any, all, keep, first, Ascends}
 
 -- the numbers from one on
+pub upTo-suc : (a n : ℕ) → upTo a (suc n) ≡ a ∷ upTo (suc a) n
+unfolding upTo
+upTo-suc a n = refl
+
 pub in-upTo : (a n k : ℕ) → a ≤ k → k < a + n → List·Memᴰ k (upTo a n)
 unfolding upTo
 in-upTo a zero k l h = absurd (omega arith)
@@ -29,6 +33,14 @@ upTo-ascends a zero = tt
 upTo-ascends a (suc n) = ((λ k m. lt-ltb a k (of-upTo (suc a) n k m .0)), upTo-ascends (suc a) n)
 
 -- two tests
+pub true-both : (b : Bool) → both true b ≡ b
+unfolding both
+true-both b = refl
+
+pub false-both : (b : Bool) → both false b ≡ false
+unfolding both
+false-both b = refl
+
 pub both-left : (a b : Bool) → both a b ≡ true → a ≡ true
 unfolding both
 both-left true b e = refl
@@ -96,7 +108,15 @@ all-not {A} f (x ∷ xs) e = go (f x) refl (λ k. all-not f xs k)
     go true q ih = let r = ih (rw (q, all) at e) in (r .0, List·Memᴰ·tail (r .1), r .2)
     go false q ih = (x, List·Memᴰ·head refl, q)
 
--- one turn of `keep` and of `first`
+-- one turn of `all`, of `keep` and of `first`
+pub all-yes : {A : Type 0} (f : A → Bool) (x : A) (l : List A) → f x ≡ true → all f (x ∷ l) ≡ all f l
+unfolding all
+all-yes f x l e = rw (e, all)
+
+pub all-no : {A : Type 0} (f : A → Bool) (x : A) (l : List A) → f x ≡ false → all f (x ∷ l) ≡ false
+unfolding all
+all-no f x l e = rw (e, all)
+
 pub keep-yes : {A : Type 0} (f : A → Bool) (x : A) (l : List A) → f x ≡ true → keep f (x ∷ l) ≡ x ∷ keep f l
 unfolding keep
 keep-yes f x l e = rw (e, keep)

@@ -1,13 +1,14 @@
--- What a call offers is a member of its list; what a refused call answers; what was answered last behind a call.
+-- What a call offers is a member of its list; what a call answers, and its output behind each answer; what was answered last behind a call.
 use Prim.Native.Nat.{ℕ}
 use mathlib.Core.Path.{_≡_, refl, sym}
 use mathlib.Core.Bool.{Bool, true, false}
 use mathlib.Core.Option.{Option, none, some}
 use mathlib.Core.List.{List, [], _∷_, List·Memᴰ, List·Memᴰ·head, List·Memᴰ·tail}
 use native.Mathlib.Omega.{arith}
+use Rattle.lines.specs.Over.{over}
 use Rattle.schedules.specs.Lists.{headOf}
 use Rattle.schedules.specs.Order.{Schedule, less}
-use Rattle.schedules.specs.Calls.{refused, next, offer, turn, last}
+use Rattle.schedules.specs.Calls.{found, nomore, refused, next, offer, turn, content, last}
 
 head-in : (l : List Schedule) (s : Schedule) → headOf l ≡ some s → List·Memᴰ s l
 unfolding headOf
@@ -32,9 +33,31 @@ pub offer-next : (l : List Schedule) (s : Schedule) → offer l (some s) ≡ nex
 unfolding offer
 offer-next l s = refl
 
+-- what a call answers
 pub turn-short : (o : Option Schedule) → turn true o ≡ refused 22 0
 unfolding turn
 turn-short o = refl
+
+pub turn-none : turn false none ≡ nomore
+unfolding turn
+turn-none = refl
+
+pub turn-some : (s : Schedule) → turn false (some s) ≡ found s
+unfolding turn
+turn-some s = refl
+
+-- the output behind an answer
+pub content-found : (s : Schedule) (out : List ℕ) → content (found s) out ≡ over s out
+unfolding content
+content-found s out = refl
+
+pub content-nomore : (out : List ℕ) → content nomore out ≡ out
+unfolding content
+content-nomore out = refl
+
+pub content-refused : (n k : ℕ) (out : List ℕ) → content (refused n k) out ≡ out
+unfolding content
+content-refused n k out = refl
 
 -- a property of what was answered last, behind an answer
 pub last-turn : (P : Schedule → Type 0) (Q : Option Schedule → Type 0) → ((s : Schedule) → P s → Q (some s)) → (b : Bool) (x o : Option Schedule) → Q o → ((s : Schedule) → x ≡ some s → P s) → Q (last o (turn b x))

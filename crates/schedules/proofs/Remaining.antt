@@ -2,7 +2,7 @@
 use mathlib.Core.Path.{_≡_, refl, sym, ap, subst, _∙_}
 use mathlib.Core.Logic.{_≢_, ⊎-elim}
 use mathlib.Core.Bool.{Bool, true, false, false≢true}
-use mathlib.Core.Option.{Option, none, some}
+use mathlib.Core.Option.{Option, none, some, Option·none-ne-some}
 use mathlib.Core.List.{List, [], _∷_, List·Memᴰ, List·Memᴰ·head, List·Memᴰ·tail, List·Memᴰ·cases-cons}
 use Prim.Native.Nat.{ℕ}
 use native.Mathlib.Omega.{arith}
@@ -40,6 +40,10 @@ module _ {D : Type 0} (who : D → ℕ) (dependent : D → D → Bool) where
           ∙ sym (ap (λ (k : List D). Out k a) (out-other d ds b q) ∙ out-other d (Out ds b) a p)
 
   -- the first action of a byte, one action at a time
+  pub next-nil : (t : ℕ) → nextOf who dependent [] t ≡ none
+  unfolding nextOf
+  next-nil t = refl
+
   pub next-same : (d : D) (ds : List D) (t : ℕ) → who d ≡ t → nextOf who dependent (d ∷ ds) t ≡ some d
   unfolding nextOf
   next-same d ds t q = rw (eq-eqb (who d) t q, nextOf)
@@ -47,6 +51,15 @@ module _ {D : Type 0} (who : D → ℕ) (dependent : D → D → Bool) where
   pub next-other : (d : D) (ds : List D) (t : ℕ) → who d ≢ t → nextOf who dependent (d ∷ ds) t ≡ nextOf who dependent ds t
   unfolding nextOf
   next-other d ds t q = rw (ne-eqb (who d) t q, nextOf)
+
+  -- it is one of that byte
+  pub next-who : (ds : List D) (t : ℕ) (d : D) → nextOf who dependent ds t ≡ some d → who d ≡ t
+  next-who [] t d e = absurd (Option·none-ne-some d (sym (next-nil t) ∙ e))
+  next-who (c ∷ ds) t d e = go (ℕ-discrete (who c) t) (next-who ds t d)
+    where
+      go : Dec (who c ≡ t) → (nextOf who dependent ds t ≡ some d → who d ≡ t) → who d ≡ t
+      go (yes q) ih = let z : some c ≡ some d = sym (next-same c ds t q) ∙ e in let i : c ≡ d = cc in ap who (sym i) ∙ q
+      go (no q) ih = ih (sym (next-other c ds t q) ∙ e)
 
   next-stays : (ds : List D) (a b : ℕ) → a ≢ b → nextOf who dependent (Out ds a) b ≡ nextOf who dependent ds b
   unfolding nextOf takeOut
@@ -75,9 +88,16 @@ module _ {D : Type 0} (who : D → ℕ) (dependent : D → D → Bool) where
       go true m = absurd (false≢true (rw (ne-eqb (who e) t q, m, clear) at c))
       go false m = (m, rw (ne-eqb (who e) t q, m, clear) at c)
 
-  pub clear-more : (e : D) (ds : List D) (t : ℕ) (d : D) → who e ≢ t → dependent e d ≡ false → clear who dependent ds t d ≡ true → clear who dependent (e ∷ ds) t d ≡ true
+  pub clear-past : (e : D) (ds : List D) (t : ℕ) (d : D) → who e ≢ t → dependent e d ≡ false → clear who dependent (e ∷ ds) t d ≡ clear who dependent ds t d
   unfolding clear
-  clear-more e ds t d q m c = rw (ne-eqb (who e) t q, m, clear) c
+  clear-past e ds t d q m = rw (ne-eqb (who e) t q, m, clear)
+
+  pub clear-not : (e : D) (ds : List D) (t : ℕ) (d : D) → who e ≢ t → dependent e d ≡ true → clear who dependent (e ∷ ds) t d ≡ false
+  unfolding clear
+  clear-not e ds t d q m = rw (ne-eqb (who e) t q, m, clear)
+
+  pub clear-more : (e : D) (ds : List D) (t : ℕ) (d : D) → who e ≢ t → dependent e d ≡ false → clear who dependent ds t d ≡ true → clear who dependent (e ∷ ds) t d ≡ true
+  clear-more e ds t d q m c = clear-past e ds t d q m ∙ c
 
   clear-stays : (ds : List D) (a b : ℕ) (d : D) → a ≢ b → clear who dependent ds b d ≡ true → clear who dependent (Out ds a) b d ≡ true
   unfolding takeOut
@@ -94,6 +114,14 @@ module _ {D : Type 0} (who : D → ℕ) (dependent : D → D → Bool) where
       go (no p) (no q) ih = let k = clear-other e ds b d q c in subst C (sym (out-other e ds a p)) (clear-more e (Out ds a) b d q (k .0) (ih (k .1)))
 
   -- readiness
+  pub ready-next : (ds : List D) (t : ℕ) (d : D) → nextOf who dependent ds t ≡ some d → ready who dependent ds t ≡ clear who dependent ds t d
+  unfolding ready clearOf
+  ready-next ds t d q = ap (clearOf who dependent ds t) q
+
+  pub ready-none : (ds : List D) (t : ℕ) → nextOf who dependent ds t ≡ none → ready who dependent ds t ≡ false
+  unfolding ready clearOf
+  ready-none ds t q = ap (clearOf who dependent ds t) q
+
   pub ready-at : (ds : List D) (t : ℕ) → ready who dependent ds t ≡ true → (d : D) × (nextOf who dependent ds t ≡ some d) × (clear who dependent ds t d ≡ true)
   unfolding ready clearOf
   ready-at ds t e = go (nextOf who dependent ds t) refl
@@ -103,8 +131,7 @@ module _ {D : Type 0} (who : D → ℕ) (dependent : D → D → Bool) where
       go (some d) q = (d, q, rw (q, clearOf) at e)
 
   pub at-ready : (ds : List D) (t : ℕ) (d : D) → nextOf who dependent ds t ≡ some d → clear who dependent ds t d ≡ true → ready who dependent ds t ≡ true
-  unfolding ready clearOf
-  at-ready ds t d q c = rw (q, clearOf) c
+  at-ready ds t d q c = ready-next ds t d q ∙ c
 
   ready-stays : (ds : List D) (a b : ℕ) → a ≢ b → ready who dependent ds b ≡ true → ready who dependent (Out ds a) b ≡ true
   ready-stays ds a b ne e =
@@ -112,8 +139,7 @@ module _ {D : Type 0} (who : D → ℕ) (dependent : D → D → Bool) where
       at-ready (Out ds a) b (r .0) (next-stays ds a b ne ∙ r .1) (clear-stays ds a b (r .0) ne (r .2))
 
   ready-nil : (t : ℕ) → ready who dependent [] t ≡ false
-  unfolding ready nextOf clearOf
-  ready-nil t = refl
+  ready-nil t = ready-none [] t (next-nil t)
 
   -- the system of what is left to take
   module _ (names : List ℕ) (asc : Ascends ltb names) where

@@ -1,6 +1,6 @@
 -- `next_listed` asks for one row and reads it back.
 use borrow.Author.Needs.{needs}
-use mathlib.Core.Path.{_≡_, refl, sym, ap, _∙_}
+use mathlib.Core.Path.{refl, sym, ap, _∙_}
 use native.Mathlib.Omega.{arith}
 use Rattle.lines.specs.Over.{over}
 use Rattle.program.specs.Compiled.{programOf}
@@ -8,6 +8,7 @@ use Rattle.schedules.specs.Calls.{Answer, content}
 use Rattle.listing.specs.Bounds.{boundAt}
 use Rattle.listing.specs.Search.{sought}
 use Rattle.schedules.specs.Found.{after}
+use Rattle.schedules.proofs.Offered.{content-found, content-nomore, content-refused}
 use Rattle.listing.specs.Said.{said}
 use Rattle.listing.specs.declared.calling.ListAnswer.{ListAnswer}
 use Rattle.listing.specs.declared.calling.ListAnswer.the-variants.{Found}
@@ -17,20 +18,20 @@ use Rattle.listing.proofs.calling.next_listed.Statement.{statement}
 use Rattle.listing.proofs.calling.next_listed.Tie as tie
 
 returns : tie.Need-returns
-unfolding said content
+unfolding said
 returns c =
     let out = c .before .before .before .args .out .now in
     let e = turn-short out _ (c .if1 .taken) in
-    (ap said (sym e), ap (λ (a : Answer). content a out) (sym e))
+    (ap said (sym e), sym (content-refused 22 0 out) ∙ ap (λ (a : Answer). content a out) (sym e))
 
 returns-2 : tie.Need-returns-2
-unfolding said content
+unfolding said
 returns-2 c =
     let out = c .before .before .before .before .before .before .before .before .before .args .out .now in
     let p = programOf (c .before .before .before .before .before .before .before .before .before .args .program) in
     let l = after (boundAt (c .before .before .before .before .before .before .before .before .before .args .along) (c .before .before .before .before .before .before .before .before .before .args .bound .now) 0) (sought (c .before .before .before .before .before .before .before .before .before .args .only) p) in
     let e = turn-none out _ (c .before .before .before .before .before .before .if1 .left) (first-none p _ (c .before .before .listed-rows .last .1 .1 .1 .1 .1 .0) (c .before .before .listed-rows .result) refl l (c .if2 .taken) (c .before .before .listed-rows .ensures)) in
-    (ap said (sym e), ap (λ (a : Answer). content a out) (sym e))
+    (ap said (sym e), sym (content-nomore out) ∙ ap (λ (a : Answer). content a out) (sym e))
 
 put-schedule-requires : tie.Need-put-schedule-requires
 put-schedule-requires c κs =
@@ -42,7 +43,7 @@ put-schedule-requires c κs =
     (omega (arith, h, n), c .before .before .before .before .before .before .before .before .before .if1 .left, search needs)
 
 returns-3 : tie.Need-returns-3
-unfolding said content
+unfolding said
 returns-3 c =
     let out = c .before .before .before .before .before .before .before .before .before .before .before .before .before .before .before .args .out .now in
     let p = programOf (c .before .before .before .before .before .before .before .before .before .before .before .before .before .before .before .args .program) in
@@ -51,7 +52,7 @@ returns-3 c =
     let n = first-length p _ row (c .before .before .before .before .before .before .before .before .listed-rows .result) refl (c .before .before .before .before .before .before .before .before .before .before .before .before .before .before .before .args .only) o (c .before .before .before .before .before .before .before .before .before .before .before .before .before .before .before .pre) (c .before .before .before .before .before .before .if2 .left) (c .before .before .before .before .before .before .before .before .listed-rows .ensures) (c .before .before .before .before .before .wide .result) (c .before .before .before .before .before .wide .ensures) in
     let s = first-steps p _ row (c .before .before .before .before .before .before .before .before .listed-rows .result) refl (c .before .before .before .before .before .before .before .before .before .before .before .before .before .before .before .args .only) o (c .before .before .before .before .before .before .before .before .before .before .before .before .before .before .before .pre) (c .before .before .before .before .before .before .if2 .left) (c .before .before .before .before .before .before .before .before .listed-rows .ensures) (c .before .before .before .before .before .wide .result) (c .before .before .before .before .before .wide .ensures) in
     let e = turn-some out _ _ (c .before .before .before .before .before .before .before .before .before .before .before .before .if1 .left) (first-head p _ row (c .before .before .before .before .before .before .before .before .listed-rows .result) refl (c .before .before .before .before .before .before .before .before .before .before .before .before .before .before .before .args .only) o (c .before .before .before .before .before .before .before .before .before .before .before .before .before .before .before .pre) (c .before .before .before .before .before .before .if2 .left) (c .before .before .before .before .before .before .before .before .listed-rows .ensures)) in
-    (ap {B = ListAnswer} (λ k. Found k) n ∙ ap said (sym e), c .before .before .put-schedule .ensures ∙ ap (λ t. over t out) s ∙ ap (λ (a : Answer). content a out) (sym e))
+    (ap {B = ListAnswer} (λ k. Found k) n ∙ ap said (sym e), c .before .before .put-schedule .ensures ∙ ap (λ t. over t out) s ∙ sym (content-found _ out) ∙ ap (λ (a : Answer). content a out) (sym e))
 
 pub next-listed-spec : {M : Type 1} → statement M
 next-listed-spec = tie.close (tie.spec returns (λ c κs. search needs) (λ c. search needs) (λ c κs. search needs) returns-2 (λ c. search needs) (λ c κs. search needs) put-schedule-requires (λ c. search needs) returns-3)

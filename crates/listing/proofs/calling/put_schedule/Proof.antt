@@ -5,6 +5,7 @@ use mathlib.Core.Path.{_≡_, refl, sym, ap, _∙_}
 use native.Mathlib.Omega.{arith}
 use lib.ListN.{length, take, drop}
 use Rattle.lines.specs.Over.{over}
+use Rattle.lines.proofs.Over.{over-nil}
 use Rattle.listing.proofs.FirstRow.{schedule-more}
 use Rattle.listing.proofs.calling.put_schedule.Statement.{statement}
 use Rattle.listing.proofs.calling.put_schedule.Tie as tie
@@ -16,8 +17,7 @@ abbrev μ-loop : tie.MeasureT-loop
 μ-loop out₀ row n k₀ out k = n - k
 
 loop-holds : tie.Need-loop-holds Inv-loop μ-loop
-unfolding over
-loop-holds c = (omega arith, refl, refl)
+loop-holds c = (omega arith, refl, sym (over-nil _))
 
 loop-again : tie.Need-loop-again Inv-loop μ-loop
 loop-again c =
