@@ -4,7 +4,7 @@ use Prim.Native.Nat.{ℕ, suc, _+_, _-_, _≤_, _<_}
 use native.Mathlib.Omega.{arith}
 use mathlib.Core.Path.{_≡_, refl, sym, _∙_, ap, ap₂}
 use mathlib.Core.List.{List, [], _∷_, _++_, append-assoc, append-nil}
-use lib.ListN.{length, getD, set, take, drop, length-append, length-drop, drop-of-length-le, List·getD-append}
+use lib.ListN.{length, getD, set, take, drop, length-append, length-drop, drop-of-length-le}
 use lib.Seq.{drop-cons, set-at, drop-at, take-at, take-all, take-suc, drop-drop, take-append-le, drop-append-le, length-take-le}
 use borrow.Rule.Slice.PartMut.{midOf, putMid}
 use Rattle.lines.specs.Over.{over}
@@ -19,11 +19,7 @@ pub take-over : (t l : List ℕ) → take (length t) (over t l) ≡ t
 unfolding over
 take-over t l = take-at t (drop (length t) l) (length t) refl
 
--- one byte of it, and a part of it
-pub getD-over : (t l : List ℕ) (i d : ℕ) → i < length t → getD (over t l) i d ≡ getD t i d
-unfolding over
-getD-over t l i d h = List·getD-append t (drop (length t) l) d i h
-
+-- so is a part of it
 pub part-over : (t l : List ℕ) (a n : ℕ) → a + n ≤ length t → take n (drop a (over t l)) ≡ take n (drop a t)
 unfolding over
 part-over t l a n h =
@@ -49,12 +45,12 @@ over-snoc t l i v e h =
     ∙ sym (ap (λ (j : ℕ). (t ++ (v ∷ [])) ++ drop j l) n ∙ append-assoc t (v ∷ []) (drop (suc (length t)) l))
 
 -- one byte more of a text that is copied
-pub over-more : (t l out : List ℕ) (i v : ℕ) → i < length t → length t ≤ length l → out ≡ over (take i t) l → v ≡ getD t i 0 → set out i v ≡ over (take (i + 1) t) l
+pub over-more : (t l out : List ℕ) (i v : ℕ) → i < length t → i < length l → out ≡ over (take i t) l → v ≡ getD t i 0 → set out i v ≡ over (take (i + 1) t) l
 over-more t l out i v h room e q =
     let c : length (take i t) ≡ i = length-take-le i t (omega arith) in
     let j : suc i ≡ i + 1 = omega arith in
     ap₂ (λ (o : List ℕ) (x : ℕ). set o i x) e q
-    ∙ over-snoc (take i t) l i (getD t i 0) c (omega arith)
+    ∙ over-snoc (take i t) l i (getD t i 0) c room
     ∙ ap (λ (u : List ℕ). over u l) (sym (take-suc t i 0 h) ∙ ap (λ (k : ℕ). take k t) j)
 
 -- what a callee wrote into `&mut xs[a..]`, said of the whole buffer
