@@ -24,7 +24,7 @@ use Rattle.listing.specs.ClassGroups.{groupsOf}
 use Rattle.listing.specs.Bounds.{boundAt}
 use Rattle.listing.specs.Printed.{scheduleFrame, countFrame, printedFrames, printed}
 use Rattle.listing.proofs.TheList.{list-length}
-use Rattle.listing.proofs.Decoded.{decoded-refused, decoded-accepted, decoded-well-formed}
+use Rattle.program.proofs.Decoded.{decoded-refused, decoded-accepted, decoded-well-formed}
 use Rattle.explorer.specs.declared.pieces.Stage.{Stage}
 use Rattle.explorer.specs.declared.pieces.Stage.the-variants.{Refused, Walking}
 use Rattle.explorer.specs.declared.pieces.Listing.{Listing}

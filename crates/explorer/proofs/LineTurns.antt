@@ -16,7 +16,6 @@ use Rattle.program.specs.Decode.{refused}
 use Rattle.program.proofs.Everywhere.{everywhere-getD}
 use Rattle.schedules.specs.Lists.{keep}
 use Rattle.schedules.specs.Order.{Schedule}
-use Rattle.schedules.specs.Found.{after}
 use Rattle.schedules.proofs.Kept.{keep-append}
 use Rattle.machine.specs.Text.{textOf}
 use Rattle.machine.specs.NoteText.{Wrote}
@@ -25,7 +24,8 @@ use Rattle.listing.specs.Answers.{failing, Counts}
 use Rattle.listing.specs.Rows.{rowBytes, rowOf, Shown}
 use Rattle.listing.specs.Printed.{bytesOf, scheduleFrame, countFrame, printedFrames}
 use Rattle.explorer.specs.Pieces.{Short}
-use Rattle.explorer.proofs.RowText.{row-shown, row-failed, frame-is}
+use Rattle.listing.proofs.CountedRows.{row-shown}
+use Rattle.explorer.proofs.RowText.{row-failed, frame-is}
 
 -- ---- one line
 pub frame-wrote : (f g out xs : List ℕ) (n : ℕ) → f ≡ g → n ≡ length (written f (length out)) → xs ≡ over (written f (length out)) out → Wrote (g ∷ []) out xs n
@@ -60,7 +60,7 @@ module _ (p : Program) (ss : List Schedule) where
   lines-more held rows out xs ys row n k at m failed w short h so e line =
       let s : Schedule = getD ss k [] in
       let b : k < length ss = omega (arith, w .counted) in
-      let r : row ≡ rowBytes s (failing p s) = e ∙ row-shown p ss held rows n k w h in
+      let r : row ≡ rowBytes s (failing p s) = e ∙ row-shown p ss held rows n w k h in
       let wrote = line s (failing p s) r (everywhere-getD (λ s. length s ≤ 24) ss k [] short (omega arith)) in (
         wrote-more (map (scheduleFrame p) (take k ss)) (scheduleFrame p s ∷ []) (map (scheduleFrame p) (take (k + 1) ss)) out xs ys at m (next-frames k b) (so .0)
             (subst (λ (f : List ℕ). Wrote (f ∷ []) (midOf at (length xs - at) xs) ys m) (frame-is p s) wrote),

@@ -8,7 +8,6 @@ use native.Mathlib.Omega.{arith}
 use lib.ListN.{length, getD, take, drop, length-append, length-take, take-append-drop}
 use lib.Seq.{take-all, take-suc}
 use borrow.Rule.Slice.PartMut.{midOf, putMid}
-use Rattle.lines.specs.Over.{over}
 use Rattle.lines.proofs.Over.{take-over, length-over}
 use Rattle.program.specs.Program.{Program}
 use Rattle.program.specs.WellFormed.{WellFormed, Everywhere}
@@ -19,7 +18,7 @@ use Rattle.program.proofs.Everywhere.{everywhere-all, everywhere-getD}
 use Rattle.schedules.specs.Lists.{keep}
 use Rattle.schedules.specs.Order.{Schedule}
 use Rattle.schedules.specs.Found.{after}
-use Rattle.schedules.proofs.Kept.{keep-append}
+use Rattle.schedules.proofs.Kept.{keep-length, keep-append}
 use Rattle.machine.specs.Text.{textOf}
 use Rattle.machine.specs.NoteText.{Wrote}
 use Rattle.machine.proofs.WrittenLines.{wrote-whole, wrote-more}
@@ -33,12 +32,12 @@ use Rattle.listing.specs.Rows.{rowBytes, rowOf, Shown}
 use Rattle.listing.specs.Printed.{scheduleFrame, countFrame, printedFrames}
 use Rattle.listing.proofs.Walk.{sought-on}
 use Rattle.listing.proofs.FirstRow.{sought-24}
-use Rattle.listing.proofs.CountedRows.{keep-length}
+use Rattle.listing.proofs.CountedRows.{row-shown}
 use Rattle.explorer.specs.declared.pieces.Stage.{Stage}
 use Rattle.explorer.specs.declared.pieces.Stage.the-variants.{Refused, Walking, Ended}
 use Rattle.explorer.specs.declared.pieces.Listing.{Listing}
 use Rattle.explorer.specs.Pieces.{Short, left, counts, framesLeft, rest, Ready, Sound, Next}
-use Rattle.explorer.proofs.RowText.{row-shown, row-bound}
+use Rattle.explorer.proofs.RowText.{row-bound}
 use Rattle.explorer.proofs.LineTurns.{lines-length, text-append, lines-some, count-length, refusal-length}
 
 -- ---- what stands in front of the buffer
@@ -177,7 +176,7 @@ module _ (s : Listing) (r : Ready s) (held rows : List ℕ) (n : ℕ) (w : Shown
         (listed : s' .listed ≡ s .listed + n) (fails : s' .failed ≡ s .failed + failed) where
       newest-row : s' .last ≡ rowBytes newest (failing p newest)
       unfolding rowOf
-      newest-row = last ∙ row-shown p next256 held rows n 255 w (omega (arith, full))
+      newest-row = last ∙ row-shown p next256 held rows n w 255 (omega (arith, full))
 
       newest-short : length newest ≤ 24
       newest-short = everywhere-getD (λ x. length x ≤ 24) next256 255 [] (short-left s r) (omega arith)

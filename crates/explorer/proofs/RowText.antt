@@ -1,40 +1,19 @@
 -- Rows of listed schedules, and the frames that are printed of them.
-use Prim.Native.Nat.{ℕ, zero, suc, _+_, _*_, _<_, _≤_}
+use Prim.Native.Nat.{ℕ, suc, _+_, _*_, _<_, _≤_}
 use mathlib.Core.Path.{_≡_, refl, sym, ap, ap₂, _∙_}
 use mathlib.Core.Bool.{Bool, true, false, cond}
-use mathlib.Core.List.{List, [], _∷_, _++_, flatMap, append-assoc, append-nil}
-use native.Mathlib.Numerals.{add-one}
+use mathlib.Core.List.{List, _∷_}
 use native.Mathlib.Omega.{arith}
-use lib.ListN.{length, getD, set, take, drop, length-drop, drop-of-length-le}
-use lib.Seq.{take-at, drop-at, drop-drop, take-suc, take-all, length-take-le, getD-take, getD-drop}
+use lib.ListN.{length, getD, set, take, drop, length-drop}
+use lib.Seq.{take-all, length-take-le, getD-take, getD-drop}
 use Rattle.lines.specs.Over.{over}
-use Rattle.lines.proofs.Over.{over-snoc}
+use Rattle.lines.proofs.Over.{over-whole}
 use Rattle.program.specs.Program.{Program}
 use Rattle.schedules.specs.Order.{Schedule}
 use Rattle.listing.specs.Answers.{failing}
-use Rattle.listing.specs.Rows.{rowBytes, rowOf, rowsOf, Shown}
+use Rattle.listing.specs.Rows.{rowBytes}
 use Rattle.listing.specs.Printed.{flag, scheduleFrame}
-use Rattle.listing.proofs.RowBytes.{row-length}
 use Rattle.listing.proofs.FirstRow.{row-steps}
-
--- row k of rows that stand in front of other bytes
-row-in : (p : Program) (ss : List Schedule) (behind : List ℕ) (k : ℕ) → k < length ss → take 26 (drop (k * 26) (rowsOf p ss ++ behind)) ≡ rowOf p (getD ss k [])
-unfolding rowsOf flatMap rowOf
-row-in p [] behind k h = absurd (omega arith)
-row-in p (s ∷ ss) behind zero h =
-    ap (take 26) (append-assoc (rowOf p s) (rowsOf p ss) behind) ∙ take-at (rowOf p s) (rowsOf p ss ++ behind) 26 (row-length s (failing p s))
-row-in p (s ∷ ss) behind (suc k) h =
-    let e : suc k * 26 ≡ 26 + k * 26 = omega arith in
-    ap (λ (j : ℕ). take 26 (drop j ((rowOf p s ++ rowsOf p ss) ++ behind))) e
-    ∙ ap (take 26) (sym (drop-drop (k * 26) 26 ((rowOf p s ++ rowsOf p ss) ++ behind)))
-    ∙ ap (λ (l : List ℕ). take 26 (drop (k * 26) l)) (ap (drop 26) (append-assoc (rowOf p s) (rowsOf p ss) behind) ∙ drop-at (rowOf p s) (rowsOf p ss ++ behind) 26 (row-length s (failing p s)))
-    ∙ row-in p ss behind k (omega arith)
-
--- row k in a buffer
-pub row-shown : (p : Program) (ss : List Schedule) (held rows : List ℕ) (n k : ℕ) → Shown p ss held rows n → k < n → take 26 (drop (k * 26) rows) ≡ rowOf p (getD ss k [])
-unfolding over
-row-shown p ss held rows n k w h =
-    ap (λ (l : List ℕ). take 26 (drop (k * 26) l)) (w .text) ∙ row-in p ss (drop (length (rowsOf p ss)) held) k (omega (arith, w .counted))
 
 -- ---- one row
 -- the steps behind the first two bytes
@@ -65,18 +44,9 @@ unfolding scheduleFrame
 frame-is p s = ap (λ (b : ℕ). 0x50 ∷ b ∷ s) (sym (flagged (failing p s)))
 
 -- ---- a row copied byte by byte
-pub copy-more : (part held row : List ℕ) (i b : ℕ) → i < length part → length part ≤ length held → row ≡ over (take i part) held → b ≡ getD part i 0
-    → set row i b ≡ over (take (i + 1) part) held
-copy-more part held row i b h room e v =
-    let c : length (take i part) ≡ i = length-take-le i part (omega arith) in
-    ap₂ (λ (o : List ℕ) (x : ℕ). set o i x) e v
-    ∙ over-snoc (take i part) held i (getD part i 0) c (omega arith)
-    ∙ ap (λ (t : List ℕ). over t held) (sym (take-suc part i 0 h) ∙ ap (λ (j : ℕ). take j part) (sym (add-one i)))
-
+-- all of it
 pub copy-all : (part held row : List ℕ) (i : ℕ) → length part ≤ i → length held ≤ length part → row ≡ over (take i part) held → row ≡ part
-unfolding over
-copy-all part held row i h room e =
-    e ∙ ap (λ (t : List ℕ). t ++ drop (length t) held) (take-all i part h) ∙ ap (λ (t : List ℕ). part ++ t) (drop-of-length-le held room) ∙ append-nil part
+copy-all part held row i h room e = e ∙ ap (λ (t : List ℕ). over t held) (take-all i part h) ∙ over-whole part held room
 
 -- the part that is copied, where there are so many rows
 pub part-length : (rows : List ℕ) (k : ℕ) → k < 256 → length rows ≡ 6656 → length (take 26 (drop (k * 26) rows)) ≡ 26

@@ -33,7 +33,3 @@ mod answering;
 
 pub use answering::Outcome;
 pub use answering::judge;
-pub use table::Table;
-pub use text::Reply;
-pub use text::Verdict;
-pub use text::read_graph;

@@ -1,10 +1,11 @@
--- A buffer with a text over its front: its length, one more byte at the text's end, and what a writer wrote into the part behind the text.
+-- A buffer with a text over its front: its length, what is read back of the text, one more byte at the text's end, and what a writer wrote into the
+-- part behind the text.
 use Prim.Native.Nat.{ℕ, suc, _+_, _-_, _≤_, _<_}
 use native.Mathlib.Omega.{arith}
-use mathlib.Core.Path.{_≡_, refl, sym, _∙_, ap}
+use mathlib.Core.Path.{_≡_, refl, sym, _∙_, ap, ap₂}
 use mathlib.Core.List.{List, [], _∷_, _++_, append-assoc, append-nil}
 use lib.ListN.{length, getD, set, take, drop, length-append, length-drop, drop-of-length-le}
-use lib.Seq.{drop-cons, set-at, drop-at, take-at, take-all, drop-drop}
+use lib.Seq.{drop-cons, set-at, drop-at, take-at, take-all, take-suc, drop-drop, take-append-le, drop-append-le, length-take-le}
 use borrow.Rule.Slice.PartMut.{midOf, putMid}
 use Rattle.lines.specs.Over.{over}
 
@@ -17,6 +18,17 @@ over-nil l = refl
 pub take-over : (t l : List ℕ) → take (length t) (over t l) ≡ t
 unfolding over
 take-over t l = take-at t (drop (length t) l) (length t) refl
+
+-- so is a part of it
+pub part-over : (t l : List ℕ) (a n : ℕ) → a + n ≤ length t → take n (drop a (over t l)) ≡ take n (drop a t)
+unfolding over
+part-over t l a n h =
+    ap (take n) (drop-append-le a t (drop (length t) l) (omega arith)) ∙ take-append-le n (drop a t) (drop (length t) l) (omega (arith, length-drop a t))
+
+-- a text that is no shorter than the buffer fills it
+pub over-whole : (t l : List ℕ) → length l ≤ length t → over t l ≡ t
+unfolding over
+over-whole t l h = ap (λ (d : List ℕ). t ++ d) (drop-of-length-le l h) ∙ append-nil t
 
 pub length-over : (t l : List ℕ) → length t ≤ length l → length (over t l) ≡ length l
 unfolding over
@@ -31,6 +43,15 @@ over-snoc t l i v e h =
     ap (λ (d : List ℕ). set (t ++ d) i v) (drop-cons l (length t) 0 k)
     ∙ set-at t (getD l (length t) 0) (drop (suc (length t)) l) v i e
     ∙ sym (ap (λ (j : ℕ). (t ++ (v ∷ [])) ++ drop j l) n ∙ append-assoc t (v ∷ []) (drop (suc (length t)) l))
+
+-- one byte more of a text that is copied
+pub over-more : (t l out : List ℕ) (i v : ℕ) → i < length t → i < length l → out ≡ over (take i t) l → v ≡ getD t i 0 → set out i v ≡ over (take (i + 1) t) l
+over-more t l out i v h room e q =
+    let c : length (take i t) ≡ i = length-take-le i t (omega arith) in
+    let j : suc i ≡ i + 1 = omega arith in
+    ap₂ (λ (o : List ℕ) (x : ℕ). set o i x) e q
+    ∙ over-snoc (take i t) l i (getD t i 0) c room
+    ∙ ap (λ (u : List ℕ). over u l) (sym (take-suc t i 0 h) ∙ ap (λ (k : ℕ). take k t) j)
 
 -- what a callee wrote into `&mut xs[a..]`, said of the whole buffer
 pub over-part : (t u l xs ys : List ℕ) (a : ℕ) → xs ≡ over t l → length t ≡ a → length t ≤ length l

@@ -4,7 +4,7 @@ use mathlib.Core.Path.{_≡_, refl, sym, ap, subst, _∙_}
 use mathlib.Core.List.{List, [], _∷_, _++_, flatMap, append-assoc, append-nil}
 use native.Mathlib.Omega.{arith}
 use lib.ListN.{length, take, length-append, length-take}
-use lib.Seq.{take-all}
+use lib.Seq.{take-at, take-all}
 use borrow.Rule.Slice.PartMut.{midOf, putMid}
 use Rattle.lines.specs.Over.{over}
 use Rattle.lines.proofs.Over.{over-part}
@@ -30,16 +30,8 @@ unfolding rowsOf flatMap
 rows-append p [] rs = refl
 rows-append p (s ∷ ss) rs = ap (λ (t : List ℕ). rowOf p s ++ t) (rows-append p ss rs) ∙ sym (append-assoc (rowOf p s) (rowsOf p ss) (rowsOf p rs))
 
--- the first so many of a list that goes on, when it was cut off there before
-take-front : {A : Type 0} (n : ℕ) (xs ys : List A) → length xs ≡ n → take n (xs ++ ys) ≡ xs
-unfolding take
-take-front zero [] ys e = refl
-take-front zero (x ∷ xs) ys e = absurd (omega arith)
-take-front (suc n) [] ys e = absurd (omega arith)
-take-front {A} (suc n) (x ∷ xs) ys e = ap (λ (l : List A). x ∷ l) (take-front n xs ys (omega arith))
-
+-- the first so many, of the first so many with more behind them
 pub take-again : {A : Type 0} (n : ℕ) (xs ys : List A) → take n (take n xs ++ ys) ≡ take n (xs ++ ys)
-unfolding take
 take-again zero xs ys = refl
 take-again (suc n) [] ys = refl
 take-again {A} (suc n) (x ∷ xs) ys = ap (λ (l : List A). x ∷ l) (take-again n xs ys)
@@ -57,7 +49,7 @@ module _ (p : Program) (room : ℕ) where
   -- there is no room
   pub adds-full : (found : List Schedule) (out : List ℕ) (n : ℕ) → room ≤ n → Adds p room found out n out n
   adds-full found out n e = record {
-    shown = λ ss held r h s. shown-same ss (take room (ss ++ found)) held out n (sym (take-front room ss found (omega (arith, h, s .counted, e)))) s;
+    shown = λ ss held r h s. shown-same ss (take room (ss ++ found)) held out n (sym (take-at ss found room (omega (arith, h, s .counted, e)))) s;
   }
 
   -- some, and then others

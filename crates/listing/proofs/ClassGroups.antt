@@ -1,60 +1,26 @@
 -- Two threads stand in one `02` line exactly if they have its number as their class.
-use Prim.Native.Nat.{ℕ, zero, suc, _+_, _-_, _<_, _≤_}
-use mathlib.Core.Path.{_≡_, refl, sym, ap, _∙_, subst}
-use mathlib.Core.Logic.{_≢_, ⊎-elim}
+use Prim.Native.Nat.{ℕ, _+_, _-_, _<_, _≤_}
+use mathlib.Core.Path.{_≡_, refl, sym, _∙_, subst}
 use mathlib.Core.Bool.{Bool, true, false}
-use mathlib.Core.List.{List, [], _∷_, List·Memᴰ, List·Memᴰ·head, List·Memᴰ·tail, List·Memᴰ·cases-cons, List·Memᴰ·not-nil}
+use mathlib.Core.List.{List, [], List·Memᴰ}
 use native.Mathlib.Omega.{arith}
 use lib.Dec.{eqb}
 use lib.ListN.{getD}
-use borrow.Author.Tests.{eqb-true, eqb-false, eq-eqb}
+use borrow.Author.Tests.{eqb-true, eqb-false}
 use Rattle.program.specs.declared.file.Compiled.{Compiled}
 use Rattle.program.specs.Program.{Program}
-use Rattle.program.specs.Compiled.{tabulate, select, membersOf, programOf}
-use Rattle.schedules.specs.Lists.{upTo, keep}
-use Rattle.schedules.proofs.Lists.{in-upTo, of-upTo, keep-yes, keep-no, in-keep, of-keep}
-use Rattle.machine.specs.Exchange.{Together}
+use Rattle.program.specs.Compiled.{membersOf, programOf}
+use Rattle.program.proofs.Tabulate.{in-tabulate, of-tabulate}
+use Rattle.program.proofs.Classes.{in-members, of-members}
+use Rattle.program.proofs.Decoded.{decoded-groups}
 use Rattle.listing.specs.ListOf.{together}
 use Rattle.listing.specs.ClassGroups.{groupsOf}
 use Rattle.listing.proofs.Tests.{together-true, true-together}
 
 -- the groups of a decoded program
 pub program-groups : (c : Compiled) → programOf c .groups ≡ groupsOf (c .class) (c .groups)
-unfolding programOf groupsOf
-program-groups c = refl
-
--- ---- members
-in-tabulate : {A : Type 0} (f : ℕ → A) (n k : ℕ) → k < n → List·Memᴰ (f k) (tabulate f n)
-unfolding tabulate
-in-tabulate f zero k h = absurd (omega arith)
-in-tabulate f (suc n) zero h = List·Memᴰ·head refl
-in-tabulate f (suc n) (suc k) h = List·Memᴰ·tail (in-tabulate (λ i. f (suc i)) n k (omega arith))
-
-of-tabulate : {A : Type 0} (f : ℕ → A) (n : ℕ) (x : A) → List·Memᴰ x (tabulate f n) → (k : ℕ) × (k < n) × (x ≡ f k)
-unfolding tabulate
-of-tabulate f zero x m = absurd (List·Memᴰ·not-nil m)
-of-tabulate {A} f (suc n) x m = ⊎-elim (λ (e : x ≡ f 0). (0, omega arith, e)) (λ (j : List·Memᴰ x (tabulate (λ i. f (suc i)) n)). let r = of-tabulate (λ i. f (suc i)) n x j in (suc (r .0), omega (arith, r .1), r .2)) (List·Memᴰ·cases-cons m)
-
-select-keep : (f : ℕ → Bool) (k n : ℕ) → select f k n ≡ keep f (upTo k n)
-unfolding select upTo keep
-select-keep f k zero = refl
-select-keep f k (suc n) = go (f k) refl (select-keep f (suc k) n)
-  where
-    go : (b : Bool) → f k ≡ b → select f (suc k) n ≡ keep f (upTo (suc k) n) → select f k (suc n) ≡ keep f (upTo k (suc n))
-    go true e ih = rw (e, select, keep) (ap (λ (l : List ℕ). k ∷ l) ih)
-    go false e ih = rw (e, select, keep) ih
-
-in-members : (class : List ℕ) (g t : ℕ) → t < 6 → getD class t 0 ≡ g → List·Memᴰ t (membersOf class g)
-unfolding membersOf
-in-members class g t h e =
-    subst (λ (l : List ℕ). List·Memᴰ t l) (sym (select-keep (λ t. eqb (getD class t 0) g) 0 6))
-    (in-keep (λ t. eqb (getD class t 0) g) (upTo 0 6) t (in-upTo 0 6 t (omega arith) (omega arith)) (eq-eqb (getD class t 0) g e))
-
-of-members : (class : List ℕ) (g t : ℕ) → List·Memᴰ t (membersOf class g) → (t < 6) × (getD class t 0 ≡ g)
-unfolding membersOf
-of-members class g t m =
-    let r = of-keep (λ t. eqb (getD class t 0) g) (upTo 0 6) t (subst (λ (l : List ℕ). List·Memᴰ t l) (select-keep (λ t. eqb (getD class t 0) g) 0 6) m) in
-    (omega (arith, of-upTo 0 6 t (r .0) .1), eqb-true (getD class t 0) g (r .1))
+unfolding groupsOf
+program-groups c = decoded-groups c
 
 -- ---- one line
 module _ (class : List ℕ) (n t u : ℕ) where

@@ -4,142 +4,113 @@ use mathlib.Core.Path.{_≡_, refl, sym, ap, subst, _∙_}
 use mathlib.Core.Logic.{_≢_}
 use mathlib.Core.Bool.{Bool, true, false, cond}
 use mathlib.Core.Option.{Option, none, some}
-use mathlib.Core.List.{List, [], _∷_, _++_, flatMap, append-assoc, append-nil, List·Memᴰ, List·Memᴰ·head, Memᴰ·append-right}
+use mathlib.Core.List.{List, [], _∷_, _++_, flatMap, append-assoc, List·Memᴰ, List·Memᴰ·head, Memᴰ·append-right}
 use native.Mathlib.Omega.{arith}
-use lib.ListN.{length, getD, take, drop, length-append, length-take, take-append-drop, drop-of-length-le, List·getD-append}
-use lib.Seq.{take-suc, take-all, take-append-le, drop-append-add, getD-append-add, split-at, ext-getD, getD-take, length-take-le}
-use Rattle.lines.specs.Over.{over}
-use Rattle.lines.proofs.Over.{length-over}
+use lib.ListN.{length, getD, take, drop, length-append, length-take, take-append-drop, drop-of-length-le}
+use lib.Seq.{take-at, take-suc, take-take, take-all, drop-drop, drop-append-add, split-at, getD-take, getD-drop}
+use Rattle.lines.proofs.Over.{part-over, length-over}
 use Rattle.program.specs.Program.{Program}
 use Rattle.program.specs.WellFormed.{WellFormed}
-use Rattle.program.specs.Compiled.{tabulate}
-use Rattle.program.proofs.Tabulate.{length-tabulate, getD-tabulate}
 use Rattle.schedules.specs.Lists.{keep}
-use Rattle.schedules.specs.Order.{Schedule, less}
+use Rattle.schedules.specs.Order.{Schedule}
 use Rattle.schedules.specs.Found.{after}
-use Rattle.schedules.proofs.Lists.{keep-yes, keep-no, of-keep}
-use Rattle.schedules.proofs.Kept.{keep-append}
+use Rattle.schedules.proofs.Lists.{keep-yes, keep-no}
+use Rattle.schedules.proofs.Kept.{keep-length, keep-append}
 use Rattle.schedules.proofs.After.{after-none}
-use Rattle.machine.proofs.Lawful.{at-most-24}
 use Rattle.listing.specs.ListOf.{listOf}
 use Rattle.listing.specs.Answers.{failing, countOf}
 use Rattle.listing.specs.Search.{sought}
 use Rattle.listing.specs.Bounds.{boundAt}
 use Rattle.listing.specs.Rows.{rowOf, rowBytes, rowsOf, Shown}
-use Rattle.listing.proofs.TheList.{list-exact}
 use Rattle.listing.proofs.Walk.{sought-on}
 use Rattle.listing.proofs.RowBytes.{row-length}
-use Rattle.listing.proofs.AddedRows.{rows-length, rows-append}
+use Rattle.listing.proofs.AddedRows.{rows-length}
+use Rattle.listing.proofs.FirstRow.{row-steps, row-count, sought-24}
 
 -- ---- rows read back
-module _ (p : Program) where
-  -- byte j of row k
-  row-at : (ss : List Schedule) (k j : ℕ) → k < length ss → j < 26 → getD (rowsOf p ss) (k * 26 + j) 0 ≡ getD (rowOf p (getD ss k [])) j 0
-  unfolding rowsOf flatMap rowOf
-  row-at [] k j h l = absurd (omega arith)
-  row-at (s ∷ ss) zero j h l =
-      let e : 0 * 26 + j ≡ j = omega arith in
-      ap (λ (i : ℕ). getD (rowOf p s ++ rowsOf p ss) i 0) e ∙ List·getD-append (rowOf p s) (rowsOf p ss) 0 j (omega (arith, l, row-length s (failing p s)))
-  row-at (s ∷ ss) (suc k) j h l =
-      let e : suc k * 26 + j ≡ length (rowOf p s) + (k * 26 + j) = omega (arith, row-length s (failing p s)) in
-      ap (λ (i : ℕ). getD (rowOf p s ++ rowsOf p ss) i 0) e ∙ getD-append-add (rowOf p s) (rowsOf p ss) (k * 26 + j) 0 ∙ row-at ss k j (omega (arith, h)) l
+-- row k
+rows-at : (p : Program) (ss : List Schedule) (k : ℕ) → k < length ss → take 26 (drop (k * 26) (rowsOf p ss)) ≡ rowOf p (getD ss k [])
+unfolding rowsOf flatMap rowOf
+rows-at p [] k h = absurd (omega arith)
+rows-at p (s ∷ ss) zero h = take-at (rowOf p s) (rowsOf p ss) 26 (row-length s (failing p s))
+rows-at p (s ∷ ss) (suc k) h =
+    let e : suc k * 26 ≡ length (rowOf p s) + k * 26 = omega (arith, row-length s (failing p s)) in
+    ap (λ (i : ℕ). take 26 (drop i (rowOf p s ++ rowsOf p ss))) e ∙ ap (take 26) (drop-append-add (rowOf p s) (rowsOf p ss) (k * 26)) ∙ rows-at p ss k (omega (arith, h))
 
-  module _ (ss : List Schedule) (held rows : List ℕ) (n : ℕ) (shown : Shown p ss held rows n) where
-    shown-at : (k j : ℕ) → k < n → j < 26 → getD rows (k * 26 + j) 0 ≡ getD (rowOf p (getD ss k [])) j 0
-    unfolding over
-    shown-at k j h l =
-        ap (λ (t : List ℕ). getD t (k * 26 + j) 0) (shown .text)
-        ∙ List·getD-append (rowsOf p ss) (drop (length (rowsOf p ss)) held) 0 (k * 26 + j) (omega (arith, h, l, shown .counted, rows-length p ss))
-        ∙ row-at ss k j (omega (arith, h, shown .counted)) l
+-- steps read from the first row of some bytes, or from the bytes themselves
+steps-in : (l : List ℕ) (n : ℕ) → n ≤ 24 → take n (drop 2 (take 26 l)) ≡ take n (drop 2 l)
+steps-in [] n h = refl
+steps-in (x ∷ []) n h = refl
+steps-in (x ∷ y ∷ l) n h = take-take n 24 l h
 
-    -- the second byte says whether the schedule fails
-    shown-fails : (k : ℕ) → k < n → getD rows (k * 26 + 1) 0 ≡ 1 → failing p (getD ss k []) ≡ true
-    unfolding rowOf rowBytes
-    shown-fails k h e = go (failing p (getD ss k [])) refl
-      where
-        go : (b : Bool) → failing p (getD ss k []) ≡ b → failing p (getD ss k []) ≡ true
-        go true q = q
-        go false q = let z : _≡_ {A = ℕ} 1 0 = sym e ∙ shown-at k 1 h (omega arith) ∙ ap (λ (b : Bool). cond b 1 0) q in absurd (omega (arith, z))
+module _ (p : Program) (ss : List Schedule) (held rows : List ℕ) (n : ℕ) (shown : Shown p ss held rows n) where
+  -- row k in a buffer
+  pub row-shown : (k : ℕ) → k < n → take 26 (drop (k * 26) rows) ≡ rowOf p (getD ss k [])
+  row-shown k h =
+      ap (λ (l : List ℕ). take 26 (drop (k * 26) l)) (shown .text) ∙ part-over (rowsOf p ss) held (k * 26) 26 (omega (arith, h, shown .counted, rows-length p ss))
+      ∙ rows-at p ss k (omega (arith, h, shown .counted))
 
-    shown-holds : (k : ℕ) → k < n → getD rows (k * 26 + 1) 0 ≢ 1 → failing p (getD ss k []) ≡ false
-    unfolding rowOf rowBytes
-    shown-holds k h e = go (failing p (getD ss k [])) refl
-      where
-        go : (b : Bool) → failing p (getD ss k []) ≡ b → failing p (getD ss k []) ≡ false
-        go true q = absurd (e (shown-at k 1 h (omega arith) ∙ ap (λ (b : Bool). cond b 1 0) q))
-        go false q = q
+  -- its bytes
+  shown-at : (k j : ℕ) → k < n → j < 26 → getD rows (k * 26 + j) 0 ≡ getD (rowOf p (getD ss k [])) j 0
+  shown-at k j h l =
+      sym (getD-take 26 (drop (k * 26) rows) j 0 l ∙ getD-drop (k * 26) rows j 0) ∙ ap (λ (r : List ℕ). getD r j 0) (row-shown k h)
 
-    one-more : (k : ℕ) → k < n → keep (failing p) (take (k + 1) ss) ≡ keep (failing p) (take k ss) ++ keep (failing p) (getD ss k [] ∷ [])
-    one-more k h =
-        let e : k + 1 ≡ suc k = omega arith in
-        ap (λ (i : ℕ). keep (failing p) (take i ss)) e ∙ ap (keep (failing p)) (take-suc ss k [] (omega (arith, h, shown .counted)))
-        ∙ keep-append (failing p) (take k ss) (getD ss k [] ∷ [])
+  -- the first says how many steps there are, and they stand behind two bytes
+  shown-length : (k : ℕ) → k < n → getD rows (k * 26) 0 ≡ length (getD ss k [])
+  unfolding rowOf
+  shown-length k h =
+      let e : k * 26 ≡ k * 26 + 0 = omega arith in
+      ap (λ (i : ℕ). getD rows i 0) e ∙ shown-at k 0 h (omega arith) ∙ row-count (getD ss k []) (failing p (getD ss k []))
 
-    -- one row more that fails
-    pub fails-more : (k f : ℕ) → k < n → getD rows (k * 26 + 1) 0 ≡ 1 → f ≡ length (keep (failing p) (take k ss))
-        → f + 1 ≡ length (keep (failing p) (take (k + 1) ss))
-    unfolding keep
-    fails-more k f h e q =
-        let y = keep-yes (failing p) (getD ss k []) [] (shown-fails k h e) in
-        sym
-        (ap length (one-more k h ∙ ap (λ (l : List Schedule). keep (failing p) (take k ss) ++ l) y)
-        ∙ length-append (keep (failing p) (take k ss)) (getD ss k [] ∷ []) ∙ omega (arith, q))
+  shown-steps : (k : ℕ) → k < n → length (getD ss k []) ≤ 24 → take (length (getD ss k [])) (drop (k * 26 + 2) rows) ≡ getD ss k []
+  unfolding rowOf
+  shown-steps k h l =
+      let s : Schedule = getD ss k [] in
+      ap (take (length s)) (sym (drop-drop 2 (k * 26) rows)) ∙ sym (steps-in (drop (k * 26) rows) (length s) l)
+      ∙ ap (λ (r : List ℕ). take (length s) (drop 2 r)) (row-shown k h) ∙ row-steps s (failing p s) l
 
-    -- one that does not
-    pub fails-same : (k f : ℕ) → k < n → getD rows (k * 26 + 1) 0 ≢ 1 → f ≡ length (keep (failing p) (take k ss))
-        → f ≡ length (keep (failing p) (take (k + 1) ss))
-    unfolding keep
-    fails-same k f h e q =
-        let y = keep-no (failing p) (getD ss k []) [] (shown-holds k h e) in
-        q ∙ sym (ap length (one-more k h ∙ ap (λ (l : List Schedule). keep (failing p) (take k ss) ++ l) y ∙ append-nil (keep (failing p) (take k ss))))
+  -- the second byte says whether the schedule fails
+  shown-fails : (k : ℕ) → k < n → getD rows (k * 26 + 1) 0 ≡ 1 → failing p (getD ss k []) ≡ true
+  unfolding rowOf rowBytes
+  shown-fails k h e = go (failing p (getD ss k [])) refl
+    where
+      go : (b : Bool) → failing p (getD ss k []) ≡ b → failing p (getD ss k []) ≡ true
+      go true q = q
+      go false q = let z : _≡_ {A = ℕ} 1 0 = sym e ∙ shown-at k 1 h (omega arith) ∙ ap (λ (b : Bool). cond b 1 0) q in absurd (omega (arith, z))
 
-    -- all rows
-    pub fails-all : (k f : ℕ) → n ≤ k → f ≡ length (keep (failing p) (take k ss)) → f ≡ length (keep (failing p) ss)
-    fails-all k f h q = q ∙ ap (λ (l : List Schedule). length (keep (failing p) l)) (take-all k ss (omega (arith, h, shown .counted)))
+  shown-holds : (k : ℕ) → k < n → getD rows (k * 26 + 1) 0 ≢ 1 → failing p (getD ss k []) ≡ false
+  unfolding rowOf rowBytes
+  shown-holds k h e = go (failing p (getD ss k [])) refl
+    where
+      go : (b : Bool) → failing p (getD ss k []) ≡ b → failing p (getD ss k []) ≡ false
+      go true q = absurd (e (shown-at k 1 h (omega arith) ∙ ap (λ (b : Bool). cond b 1 0) q))
+      go false q = q
 
--- a schedule of at most 24 steps stands in front of its row's steps
-row-front : (s : Schedule) → length s ≤ 24 → take (length s) (tabulate (λ k. getD s k 0) 24) ≡ s
-row-front s h =
-    let e = length-tabulate (λ k. getD s k 0) 24 in
-    let n : length (take (length s) (tabulate (λ k. getD s k 0) 24)) ≡ length s = length-take-le (length s) (tabulate (λ k. getD s k 0) 24) (omega (arith, h, e)) in
-    ext-getD 0 (take (length s) (tabulate (λ k. getD s k 0) 24)) s n
-    (λ i l. getD-take (length s) (tabulate (λ k. getD s k 0) 24) i 0 (omega (arith, l, n)) ∙ getD-tabulate (λ k. getD s k 0) 24 i 0 (omega (arith, l, n, h)))
+  one-more : (k : ℕ) → k < n
+      → length (keep (failing p) (take (k + 1) ss)) ≡ length (keep (failing p) (take k ss)) + length (keep (failing p) (getD ss k [] ∷ []))
+  one-more k h =
+      let e : k + 1 ≡ suc k = omega arith in
+      ap (λ (i : ℕ). length (keep (failing p) (take i ss))) e ∙ ap (λ (l : List Schedule). length (keep (failing p) l)) (take-suc ss k [] (omega (arith, h, shown .counted)))
+      ∙ ap length (keep-append (failing p) (take k ss) (getD ss k [] ∷ []))
+      ∙ length-append (keep (failing p) (take k ss)) (keep (failing p) (getD ss k [] ∷ []))
 
--- the last of so many rows, read back
-module _ (p : Program) (xs : List Schedule) (s : Schedule) (held rows : List ℕ) (n : ℕ) (shown : Shown p (xs ++ (s ∷ [])) held rows n) where
-  count-last : n ≡ length xs + 1
-  count-last = shown .counted ∙ length-append xs (s ∷ []) ∙ omega arith
+  -- one row more that fails
+  pub fails-more : (k f : ℕ) → k < n → getD rows (k * 26 + 1) 0 ≡ 1 → f ≡ length (keep (failing p) (take k ss))
+      → f + 1 ≡ length (keep (failing p) (take (k + 1) ss))
+  fails-more k f h e q =
+      let y = ap length (keep-yes (failing p) (getD ss k []) [] (shown-fails k h e)) in
+      omega (arith, q, one-more k h, y, keep-length (failing p) [])
 
-  abbrev behind : List ℕ
-  behind = drop (length (rowsOf p (xs ++ (s ∷ [])))) held
+  -- one that does not
+  pub fails-same : (k f : ℕ) → k < n → getD rows (k * 26 + 1) 0 ≢ 1 → f ≡ length (keep (failing p) (take k ss))
+      → f ≡ length (keep (failing p) (take (k + 1) ss))
+  fails-same k f h e q =
+      let y = ap length (keep-no (failing p) (getD ss k []) [] (shown-holds k h e)) in
+      omega (arith, q, one-more k h, y, keep-length (failing p) [])
 
-  -- the rows before it, its two bytes, its steps, and what is behind
-  row-split : rows ≡ rowsOf p xs ++ (length s ∷ cond (failing p s) 1 0 ∷ (tabulate (λ k. getD s k 0) 24 ++ drop (length (rowsOf p (xs ++ (s ∷ [])))) held))
-  unfolding over rowsOf flatMap rowOf rowBytes
-  row-split =
-      shown .text
-      ∙ ap (λ (t : List ℕ). t ++ behind)
-      (rows-append p xs (s ∷ []) ∙ ap (λ (t : List ℕ). rowsOf p xs ++ t) (append-nil (rowOf p s)))
-      ∙ append-assoc (rowsOf p xs) (rowOf p s) (drop (length (rowsOf p (xs ++ (s ∷ [])))) held)
-
-  -- its first byte is its length
-  pub last-length : getD rows ((n - 1) * 26) 0 ≡ length s
-  last-length =
-      let e : (n - 1) * 26 ≡ length (rowsOf p xs) + 0 = omega (arith, count-last, rows-length p xs) in
-      ap (λ (t : List ℕ). getD t ((n - 1) * 26) 0) row-split
-      ∙ ap (λ (i : ℕ). getD (rowsOf p xs ++ (length s ∷ cond (failing p s) 1 0 ∷ (tabulate (λ k. getD s k 0) 24 ++ behind))) i 0) e
-      ∙ getD-append-add (rowsOf p xs) (length s ∷ cond (failing p s) 1 0 ∷ (tabulate (λ k. getD s k 0) 24 ++ behind)) 0 0
-
-  -- its steps stand behind its two bytes
-  pub last-steps : length s ≤ 24 → take (length s) (drop ((n - 1) * 26 + 2) rows) ≡ s
-  last-steps h =
-      let e : (n - 1) * 26 + 2 ≡ length (rowsOf p xs) + 2 = omega (arith, count-last, rows-length p xs) in
-      let k = length-tabulate (λ k. getD s k 0) 24 in
-      ap (λ (t : List ℕ). take (length s) (drop ((n - 1) * 26 + 2) t)) row-split
-      ∙ ap (λ (i : ℕ). take (length s) (drop i (rowsOf p xs ++ (length s ∷ cond (failing p s) 1 0 ∷ (tabulate (λ k. getD s k 0) 24 ++ behind))))) e
-      ∙ ap (take (length s)) (drop-append-add (rowsOf p xs) (length s ∷ cond (failing p s) 1 0 ∷ (tabulate (λ k. getD s k 0) 24 ++ behind)) 2)
-      ∙ take-append-le (length s) (tabulate (λ k. getD s k 0) 24) behind (omega (arith, h, k))
-      ∙ row-front s h
+  -- all rows
+  pub fails-all : (k f : ℕ) → n ≤ k → f ≡ length (keep (failing p) (take k ss)) → f ≡ length (keep (failing p) ss)
+  fails-all k f h q = q ∙ ap (λ (l : List Schedule). length (keep (failing p) l)) (take-all k ss (omega (arith, h, shown .counted)))
 
 -- ---- counting
 -- counted so far: the rows shown are the next ones, up to 64, and what is counted with what is left is the whole
@@ -172,20 +143,6 @@ counting-start p b held rows n e s = record {
   all = ap (λ (l : List Schedule). 0 + length l) (after-none (listOf p)) ∙ omega arith;
   fail = ap (λ (l : List Schedule). 0 + length (keep (failing p) l)) (after-none (listOf p)) ∙ omega arith;
 }
-
-after-in : (o : Option Schedule) (l : List Schedule) (s : Schedule) → List·Memᴰ s (after o l) → List·Memᴰ s l
-unfolding after
-after-in none l s m = m
-after-in (some b) l s m = of-keep (less b) l s m .0
-
-pub keep-length : {A : Type 0} (f : A → Bool) (l : List A) → length (keep f l) ≤ length l
-unfolding keep
-keep-length f [] = omega arith
-keep-length f (x ∷ l) = go (keep-length f l) (f x) refl
-  where
-    go : length (keep f l) ≤ length l → (b : Bool) → f x ≡ b → length (keep f (x ∷ l)) ≤ length (x ∷ l)
-    go h true e = let y = ap length (keep-yes f x l e) in omega (arith, y, h)
-    go h false e = let y = ap length (keep-no f x l e) in omega (arith, y, h)
 
 module _ (p : Program) (rows : List ℕ) (n listed failed : ℕ) (c : Counting p rows n listed failed) where
   abbrev rest : List Schedule
@@ -251,18 +208,18 @@ module _ (p : Program) (rows : List ℕ) (n listed failed : ℕ) (c : Counting p
     unfolding sought
     last-behind = sought-on p false (c .bound) before last (drop 64 rest) rest-split
 
-    last-shown : Shown p (before ++ (last ∷ [])) (c .held) rows n
-    last-shown = subst (λ (l : List Schedule). Shown p l (c .held) rows n) last-split (c .shown)
+    -- its row has its length
+    last-length : getD rows ((n - 1) * 26) 0 ≡ length last
+    last-length = shown-length p (take 64 rest) (c .held) rows n (c .shown) (n - 1) (omega (arith, some-left))
 
     module _ (w : WellFormed p) where
       last-24 : length last ≤ 24
-      last-24 =
-          let m : List·Memᴰ last rest = subst (List·Memᴰ last) (sym rest-split) (Memᴰ·append-right before (List·Memᴰ·head refl)) in
-          at-most-24 p w last (list-exact p last .0 (after-in (c .bound) (listOf p) last m) .0)
+      unfolding sought
+      last-24 = sought-24 p w false (c .bound) last (subst (List·Memᴰ last) (sym rest-split) (Memᴰ·append-right before (List·Memᴰ·head refl)))
 
       -- the last row's schedule lies within the buffer
       pub counting-part : (m : ℕ) → m ≡ getD rows ((n - 1) * 26) 0 → m ≤ 24
-      counting-part m e = let l = last-length p before last (c .held) rows n last-shown in omega (arith, e, l, last-24)
+      counting-part m e = omega (arith, e, last-length, last-24)
 
       -- the rows behind the last one
       pub counting-next : (f m : ℕ) (b rows' : List ℕ) (n' : ℕ)
@@ -272,10 +229,9 @@ module _ (p : Program) (rows : List ℕ) (n listed failed : ℕ) (c : Counting p
           → Counting p rows' n' (listed + n) (failed + f)
       unfolding boundAt
       counting-next f m b rows' n' fs e eb s =
-          let l = last-length p before last (c .held) rows n last-shown in
-          let width : (n - 1) * 26 + 2 + m - ((n - 1) * 26 + 2) ≡ length last = omega (arith, e, l) in
+          let width : (n - 1) * 26 + 2 + m - ((n - 1) * 26 + 2) ≡ length last = omega (arith, e, last-length) in
           let bytes : b ≡ last = eb ∙ ap (λ (i : ℕ). take i (drop ((n - 1) * 26 + 2) rows)) width
-          ∙ last-steps p before last (c .held) rows n last-shown last-24 in
+          ∙ shown-steps p (take 64 rest) (c .held) rows n (c .shown) (n - 1) (omega (arith, some-left)) last-24 in
           let q = fs p (take 64 rest) (c .held) (c .shown) in
           record {
             bound = some last;

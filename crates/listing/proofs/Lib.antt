@@ -74,8 +74,6 @@ pub mod HeldAsleep
 pub mod ListedRows
 -- the first row behind a bound, read back
 pub mod FirstRow
--- what the decoder's answer says of the file
-pub mod Decoded
 -- the calls that give a schedule, way by way
 pub mod FileCalls
 -- the list counted by pieces

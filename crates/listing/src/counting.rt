@@ -46,7 +46,7 @@ fn failing_in(rows: &[u8; 1664], n: usize) -> usize
 }
 
 // Of an accepted program: 64 rows at a time, each time behind the last row of the time before.
-pub fn counts(program: Compiled) -> Tally
+fn counts(program: Compiled) -> Tally
     requires { ⌜ WellFormed (programOf program) ⌝ }
     ensures { λ r. ⌜ (r .listed ≡ countOf (programOf program) .listed) × (r .failing ≡ countOf (programOf program) .failed) ⌝ }
 {

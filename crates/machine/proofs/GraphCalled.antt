@@ -1,7 +1,7 @@
 -- What the graph call answers, by what carrying out the schedule left.
 use Prim.Native.Nat.{ℕ, _≤_, _<_}
 use native.Mathlib.Omega.{arith}
-use mathlib.Core.Path.{_≡_, refl, _∙_, sym, ap, subst}
+use mathlib.Core.Path.{_≡_, _∙_, sym, ap, subst}
 use mathlib.Core.List.{List}
 use lib.ListN.{length, take}
 use lib.Seq.{length-take-le}
@@ -10,22 +10,19 @@ use Rattle.lines.specs.Over.{over}
 use Rattle.program.specs.Program.{Program}
 use Rattle.program.specs.WellFormed.{WellFormed}
 use Rattle.program.specs.declared.file.Answer.{Answer}
-use Rattle.program.specs.declared.file.Verdict as FileVerdict
 use Rattle.program.specs.declared.file.Verdict.the-variants as File
-use Rattle.program.specs.Decode.{Decoded, accepted, decode}
+use Rattle.program.specs.Decode.{Decoded, decode}
 use Rattle.program.specs.Compiled.{programOf, answerOf}
-use Rattle.program.specs.Compiled as Reading
-use Rattle.program.proofs.AcceptedWellFormed.{accepted-well-formed}
+use Rattle.program.proofs.Decoded.{decoded-refused, decoded-accepted, decoded-well-formed}
 use Rattle.schedules.specs.Order.{Schedule}
 use Rattle.schedules.specs.System.{Allowed, run}
-use Rattle.machine.specs.declared.graph_call.GraphAnswer.{GraphAnswer}
 use Rattle.machine.specs.declared.graph_call.GraphAnswer.the-variants.{Written}
 use Rattle.machine.specs.declared.replaying.Run.{Run}
 use Rattle.machine.specs.declared.replaying.Verdict.the-variants.{Whole, Refused}
-use Rattle.machine.specs.State.{State, SC, start}
+use Rattle.machine.specs.State.{SC, start}
 use Rattle.machine.specs.Graph.{graphOf, graph}
 use Rattle.machine.specs.Text.{graphText, textOf}
-use Rattle.machine.specs.Replay.{Replayed, replay}
+use Rattle.machine.specs.Replay.{replay}
 use Rattle.machine.specs.Notes.{Note, notes, Noted}
 use Rattle.machine.specs.NoteText.{noteFrames}
 use Rattle.machine.specs.GraphCall.{GraphSaid, texted, refusing, texting, graphAnswer, graphOn, graphFile, graphOutput}
@@ -79,16 +76,12 @@ module _ (code lengths : List ℕ) (p : Program) (s : Schedule) (r : Run) (held 
 -- ---- of a program file
 module _ (a : Answer) (file : List ℕ) (s : Schedule) (room : ℕ) (e : answerOf a ≡ decode file) where
   pub file-refused : (n k : ℕ) → a .verdict ≡ File.Refused n k → graphFile file s room ≡ refusing n k
-  unfolding answerOf Reading.verdictOf graphFile graphOn
-  file-refused n k v = ap (λ (d : Decoded). graphOn d s room) (sym e) ∙ rw v
-
-  file-accepted : a .verdict ≡ File.Accepted → accepted (programOf (a .program)) ≡ decode file
-  unfolding answerOf Reading.verdictOf
-  file-accepted v = ap (λ (x : FileVerdict.Verdict). Reading.verdictOf x (programOf (a .program))) (sym v) ∙ e
+  unfolding graphFile graphOn
+  file-refused n k v = ap (λ (d : Decoded). graphOn d s room) (decoded-refused a file e n k v)
 
   pub file-well-formed : a .verdict ≡ File.Accepted → WellFormed (programOf (a .program))
-  file-well-formed v = accepted-well-formed file (programOf (a .program)) (sym (file-accepted v))
+  file-well-formed v = decoded-well-formed a file e v
 
   pub file-answered : a .verdict ≡ File.Accepted → graphAnswer (programOf (a .program)) s room ≡ graphFile file s room
   unfolding graphFile graphOn
-  file-answered v = ap (λ (d : Decoded). graphOn d s room) (file-accepted v)
+  file-answered v = ap (λ (d : Decoded). graphOn d s room) (sym (decoded-accepted a file e v))

@@ -1,16 +1,17 @@
--- The number that each thread has as its class gives the groups back: `select` finds the members of each.
+-- The number that each thread has as its class gives the groups back: `select` finds the members of each, which are the threads with its number.
 use Prim.Native.Nat.{ℕ, zero, suc, _+_, _≤_, _<_}
 use native.Mathlib.Omega.{arith}
-use mathlib.Core.Path.{_≡_, refl, sym, ap, _∙_}
-use mathlib.Core.Logic.{_⊎_, inl, inr}
-use mathlib.Core.Bool.{Bool, true, false, cond, _||_}
-use mathlib.Core.List.{List, [], _∷_, List·Memᴰ, List·Memᴰ·not-nil}
+use native.Mathlib.Nat.{eq-or-lt-of-le}
+use mathlib.Core.Path.{_≡_, refl, sym, ap, subst, _∙_}
+use mathlib.Core.Logic.{_⊎_, inl, inr, ⊎-elim}
+use mathlib.Core.Bool.{Bool, true, false, cond, _||_, false≢true}
+use mathlib.Core.List.{List, [], _∷_, List·Memᴰ, List·Memᴰ·head, List·Memᴰ·tail, List·Memᴰ·cases-cons, List·Memᴰ·not-nil}
 use borrow.Author.Tests.{eqb-true, eqb-false, eq-eqb, ne-eqb}
 use lib.Dec.{eqb}
 use lib.ListN.{getD}
 use Rattle.program.specs.WellFormed.{Everywhere, Ascending, Apart}
 use Rattle.program.specs.Decode.{among}
-use Rattle.program.specs.Compiled.{select}
+use Rattle.program.specs.Compiled.{select, membersOf}
 use Rattle.program.specs.Held.{classFrom}
 use Rattle.program.proofs.Everywhere.{everywhere-weaken, everywhere-getD}
 use Rattle.program.proofs.InstructionFrames.{among-member}
@@ -62,6 +63,40 @@ select-members f k (suc n) [] a low high h =
     select-without f k n (h k (omega arith) (omega arith))
     ∙ select-members f (suc k) n [] tt tt tt (λ t b c. h t (omega arith) (omega arith))
 select-members f k (suc n) (t ∷ ts) a low high h = finds-more f k n t ts (select-members f (suc k) n) (eqb k t) refl a low high h
+
+-- the numbers found are those that pass
+pub in-select : (f : ℕ → Bool) (k n t : ℕ) → k ≤ t → t < k + n → f t ≡ true → List·Memᴰ t (select f k n)
+in-select f k zero t l h e = absurd (omega arith)
+in-select f k (suc n) t l h e = go (f k) refl (eq-or-lt-of-le l) (λ g. in-select f (suc k) n t g (omega arith) e)
+  where
+    go : (b : Bool) → f k ≡ b → (k ≡ t) ⊎ (suc k ≤ t) → (suc k ≤ t → List·Memᴰ t (select f (suc k) n)) → List·Memᴰ t (select f k (suc n))
+    go true q (inl i) ih = rw (select-with f k n q) (List·Memᴰ·head (sym i))
+    go true q (inr g) ih = rw (select-with f k n q) (List·Memᴰ·tail (ih g))
+    go false q (inl i) ih = absurd (false≢true (sym q ∙ ap f i ∙ e))
+    go false q (inr g) ih = rw (select-without f k n q) (ih g)
+
+pub of-select : (f : ℕ → Bool) (k n t : ℕ) → List·Memᴰ t (select f k n) → (k ≤ t) × (t < k + n) × (f t ≡ true)
+unfolding select
+of-select f k zero t m = absurd (List·Memᴰ·not-nil m)
+of-select f k (suc n) t m = go (f k) refl (λ j. of-select f (suc k) n t j)
+  where
+    further : (suc k ≤ t) × (t < suc k + n) × (f t ≡ true) → (k ≤ t) × (t < k + suc n) × (f t ≡ true)
+    further r = (omega (arith, r .0), omega (arith, r .1), r .2)
+
+    go : (b : Bool) → f k ≡ b → (List·Memᴰ t (select f (suc k) n) → (suc k ≤ t) × (t < suc k + n) × (f t ≡ true)) → (k ≤ t) × (t < k + suc n) × (f t ≡ true)
+    go true q ih =
+        ⊎-elim (λ (i : t ≡ k). (omega arith, omega arith, ap f i ∙ q)) (λ (j : List·Memᴰ t (select f (suc k) n)). further (ih j))
+        (List·Memᴰ·cases-cons (subst (List·Memᴰ t) (select-with f k n q) m))
+    go false q ih = further (ih (subst (List·Memᴰ t) (select-without f k n q) m))
+
+-- the members of a group are the threads that have its number as their class
+pub in-members : (class : List ℕ) (g t : ℕ) → t < 6 → getD class t 0 ≡ g → List·Memᴰ t (membersOf class g)
+unfolding membersOf
+in-members class g t h e = in-select (λ t. eqb (getD class t 0) g) 0 6 t (omega arith) h (eq-eqb (getD class t 0) g e)
+
+pub of-members : (class : List ℕ) (g t : ℕ) → List·Memᴰ t (membersOf class g) → (t < 6) × (getD class t 0 ≡ g)
+unfolding membersOf
+of-members class g t m = let r = of-select (λ t. eqb (getD class t 0) g) 0 6 t m in (r .1, eqb-true (getD class t 0) g (r .2))
 
 -- ---- the class of a thread
 -- 0, or the number of a group

@@ -1,10 +1,10 @@
 -- Threads have the same code exactly when the rows that hold it agree.
-use Prim.Native.Nat.{ℕ, zero, suc, _+_, _*_, _/_, _%_, _≤_, _<_}
+use Prim.Native.Nat.{ℕ, _+_, _*_, _/_, _%_, _≤_, _<_}
 use native.Mathlib.Omega.{arith}
 use native.Mathlib.Nat.{div-add-mod'}
 use mathlib.Core.Path.{_≡_, refl, _∙_, ap, sym}
-use mathlib.Core.Bool.{Bool, true, false, _&&_, false≢true}
-use mathlib.Core.List.{List, [], _∷_, map}
+use mathlib.Core.Bool.{Bool, true, false}
+use mathlib.Core.List.{List, [], _∷_}
 use lib.Dec.{eqb}
 use lib.ListN.{length, getD, length-map, List·getD-map}
 use lib.Seq.{ext-getD}
@@ -12,7 +12,7 @@ use borrow.Author.Tests.{eq-eqb, eqb-true}
 use Rattle.program.specs.declared.counts.Counts.{Counts}
 use Rattle.program.specs.Frames.{Frame, byte}
 use Rattle.program.specs.Decode.{Placed, Reading, threadAt, same, sameCode}
-use Rattle.program.specs.Held.{agree, codeAgrees, noInstruction, frameAt, Bounded, Holds}
+use Rattle.program.specs.Held.{codeAgrees, noInstruction, frameAt, Bounded, Holds}
 use Rattle.program.proofs.Tests.{both}
 use Rattle.program.proofs.GroupLines.{framesOf, same-frames}
 use Rattle.program.proofs.FrameBytes.{sizes-same}

@@ -1,23 +1,21 @@
 -- The lines of a file, read one after the other: what has been read and what is left make the whole file's answer.
 use Prim.Native.Nat.{ℕ, _+_, _-_, _≤_, _<_}
 use native.Mathlib.Omega.{arith}
-use mathlib.Core.Path.{_≡_, _∙_, sym, ap, refl}
-use mathlib.Core.Bool.{Bool, true, false}
+use mathlib.Core.Path.{_≡_, _∙_, sym, ap}
 use mathlib.Core.List.{List, [], _∷_}
-use mathlib.Core.Option.{none, some}
+use mathlib.Core.Option.{some}
 use lib.ListN.{length, getD, take, drop, replicate, drop-of-length-le}
 use borrow.Author.Tests.{eq-eqb, ne-eqb, le-ltb, lt-ltb}
 use Rattle.lines.specs.Frame.{frame, pairs}
 use Rattle.lines.specs.Split.{lineLength}
 use Rattle.lines.specs.TextLines.{TextLine, split}
 use Rattle.lines.proofs.Frame.{frame-bytes}
-use Rattle.lines.proofs.TextLines.{whole, unended, split-at, split-end}
+use Rattle.lines.proofs.TextLines.{whole, split-at, split-end}
 use Rattle.program.specs.declared.counts.Counts.{Counts}
-use Rattle.program.specs.Frames.{Frame}
-use Rattle.program.specs.Decode.{Reading, fresh, threadAt, frameRefusal, frameOf, after, Decoded, refused, finish, readLines, decode}
+use Rattle.program.specs.Decode.{Reading, fresh, threadAt, frameRefusal, frameOf, after, refused, finish, readLines, decode}
 use Rattle.program.specs.Compiled.{frameLength}
 use Rattle.program.specs.WellFormed.{Everywhere, Ascending}
-use Rattle.program.specs.Held.{nothing, Bounded, Holds, Lined, Grouped, Passes, Taken}
+use Rattle.program.specs.Held.{nothing, Bounded, Holds, Lined, Grouped, Taken}
 use Rattle.program.proofs.Everywhere.{everywhere-getD, everywhere-weaken}
 use Rattle.program.proofs.Lengths.{length-none, length-some}
 use Rattle.program.proofs.Sound.{Alike, Sound, sound-fresh, sound-after}

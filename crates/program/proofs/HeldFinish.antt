@@ -1,12 +1,12 @@
 -- After the last line: no thread, a skip too far, or the program.
-use Prim.Native.Nat.{ℕ, _≤_}
+use Prim.Native.Nat.{ℕ}
 use native.Mathlib.Omega.{arith}
-use mathlib.Core.Path.{_≡_, _∙_, sym, ap}
-use mathlib.Core.List.{List, []}
-use lib.ListN.{length, getD}
+use mathlib.Core.Path.{_≡_, _∙_, sym}
+use mathlib.Core.List.{List}
+use lib.ListN.{length}
 use borrow.Author.Tests.{eq-eqb, ne-eqb}
 use Rattle.program.specs.declared.counts.Counts.{Counts}
-use Rattle.program.specs.Decode.{Reading, threadAt, firstFarSkip, programIn, Decoded, accepted, refused, finish}
+use Rattle.program.specs.Decode.{Reading, threadAt, firstFarSkip, programIn, accepted, refused, finish}
 use Rattle.program.specs.Held.{frameAt, lineAt, Bounded, Holds, Lined, HeldThreads}
 use Rattle.program.proofs.HeldCode.{held-short}
 

@@ -1,22 +1,21 @@
 -- The first skip beyond its thread's end, found in the rows.
-use Prim.Native.Nat.{ℕ, zero, suc, _+_, _*_, _-_, _≤_, _<_}
+use Prim.Native.Nat.{ℕ, suc, _+_, _*_, _-_, _≤_, _<_}
 use native.Mathlib.Numerals.{add-one}
 use native.Mathlib.Omega.{arith}
 use mathlib.Core.Path.{_≡_, refl, _∙_, ap, sym}
 use mathlib.Core.Bool.{Bool, true, false, cond, _||_, or-false}
-use mathlib.Core.List.{List, [], _∷_}
+use mathlib.Core.List.{List, []}
 use lib.Dec.{eqb, ltb, lit<}
 use lib.ListN.{length, getD, drop, length-drop, drop-of-length-le}
 use lib.Seq.{drop-cons}
-use borrow.Author.Tests.{eq-eqb, ne-eqb, lt-ltb, le-ltb, eqb-true}
+use borrow.Author.Tests.{eq-eqb, ne-eqb, lt-ltb, le-ltb}
 use Rattle.program.specs.declared.kind.Kind.{Kind}
-use Rattle.program.specs.Kinds.{row, kinds, find, kindOf}
+use Rattle.program.specs.Kinds.{kinds, find, kindOf}
 use Rattle.program.specs.Frames.{Frame, byte, kind, skipOf}
 use Rattle.program.specs.Compiled.{rowAt}
-use Rattle.program.specs.Decode.{Placed, Reading, threadAt, farSkip, firstFarSkip}
+use Rattle.program.specs.Decode.{Placed, farSkip, firstFarSkip}
 use Rattle.program.specs.Held.{noInstruction, HeldThread}
 use Rattle.program.proofs.KindTable.{everyRow, kind-rule, kind-bounds, kind-byte}
-use Rattle.program.proofs.FrameBytes.{kind-same}
 use Rattle.program.proofs.Rows.{row-byte}
 
 -- only `22` skips

@@ -1,5 +1,5 @@
 -- What a line that passes leaves, in each of the three ways.
-use Prim.Native.Nat.{ℕ, _+_, _*_, _-_, _≤_}
+use Prim.Native.Nat.{ℕ, _+_, _*_, _-_}
 use native.Mathlib.Omega.{arith}
 use mathlib.Core.Path.{_≡_, sym, ap, subst}
 use mathlib.Core.List.{List}
@@ -7,8 +7,8 @@ use lib.ListN.{length, getD, set, drop}
 use Rattle.lines.specs.Frame.{pairs}
 use Rattle.program.specs.declared.counts.Counts.{Counts}
 use Rattle.program.specs.Frames.{byte}
-use Rattle.program.specs.Decode.{Reading, after}
-use Rattle.program.specs.Held.{openedCounts, groupedCounts, extendedCounts, Bounded, Written, Holds, Lined, Taken}
+use Rattle.program.specs.Decode.{after}
+use Rattle.program.specs.Held.{openedCounts, groupedCounts, extendedCounts, Bounded, Written, Holds, Taken}
 use Rattle.program.proofs.HeldAfter.{held-opened, lined-opened}
 use Rattle.program.proofs.HeldAfterGroup.{held-grouped, lined-grouped}
 use Rattle.program.proofs.HeldAfterInstruction.{held-extended, lined-extended}

@@ -8,7 +8,7 @@ use borrow.Author.Tests.{eqb-true, leb-true, ltb-true, ne-eqb}
 use Rattle.lines.specs.Frame.{Bytes}
 use Rattle.program.specs.declared.instruction.Operand.the-variants.{Constant, Register}
 use Rattle.program.specs.declared.kind.Kind.{Kind}
-use Rattle.program.specs.Kinds.{row, kinds, find, kindOf}
+use Rattle.program.specs.Kinds.{kinds, find, kindOf}
 use Rattle.program.specs.Frames.{Frame, byte, word, kind, registerFits, locationFits, skipFits, operandFits, inRange, operand, build, instruction}
 use Rattle.program.specs.WellFormed.{InRange, OperandInRange}
 use Rattle.program.proofs.Tests.{both, second}

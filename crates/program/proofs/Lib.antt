@@ -1,6 +1,8 @@
 -- Laws about the definitions, each file named after what it says. First what the crates above cite.
 -- every accepted program is well formed
 pub mod AcceptedWellFormed
+-- what the decoder's answer says of the file
+pub mod Decoded
 -- the table of kinds, as rules for every first byte
 pub mod KindTable
 -- frames that agree on their first bytes

@@ -1,15 +1,15 @@
 -- The number by which a frame is refused, worked out from the counts.
 use Prim.Native.Nat.{ℕ, _-_, _≤_, _<_}
 use native.Mathlib.Omega.{arith}
-use mathlib.Core.Path.{_≡_, refl, _∙_, sym, ap}
+use mathlib.Core.Path.{_≡_, refl}
 use mathlib.Core.Bool.{Bool, true, false, not, cond, _&&_, _||_, and-false}
 use mathlib.Core.List.{List}
 use lib.Dec.{eqb, ltb, leb}
 use lib.ListN.{length, getD, drop}
-use borrow.Author.Tests.{eq-eqb, ne-eqb, lt-leb, le-leb, le-ltb, lt-ltb, eqb-true, eqb-false, leb-true, leb-false}
+use borrow.Author.Tests.{ne-eqb, lt-leb, le-leb, le-ltb, lt-ltb, eqb-true, eqb-false, leb-true, leb-false}
 use Rattle.program.specs.declared.counts.Counts.{Counts}
 use Rattle.program.specs.Frames.{Frame, byte, kind, known, inRange, opens, declares, isAccess}
-use Rattle.program.specs.Decode.{Reading, threadAt, lastThread, inPlace, allAccessesIn, withinLimits, membersFit, alikeFits, frameRefusal}
+use Rattle.program.specs.Decode.{Reading, lastThread, inPlace, withinLimits, membersFit, alikeFits, frameRefusal}
 use Rattle.program.specs.Held.{openingRefusal, instructionRefusal, Holds}
 
 -- ---- the length

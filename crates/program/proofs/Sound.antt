@@ -8,7 +8,7 @@ use lib.ListN.{length, getD, set, drop, length-append, length-drop, length-set}
 use lib.Dec.{eqb, ltb}
 use borrow.Author.Tests.{eqb-true, ltb-true, ne-eqb}
 use Rattle.lines.specs.Frame.{Bytes}
-use Rattle.program.specs.Kinds.{row, kinds, find, kindOf}
+use Rattle.program.specs.Kinds.{kinds, find, kindOf}
 use Rattle.program.specs.Frames.{Frame, byte, kind, known, inRange, opens, declares, isAccess}
 use Rattle.program.specs.Decode.{Placed, Reading, fresh, threadAt, lastThread, inPlace, allAccessesIn, withinLimits, memberFits, membersFit, alikeFits, frameRefusal, after}
 use Rattle.program.specs.WellFormed.{Everywhere, Ascending, Apart}

@@ -17,6 +17,17 @@ pub after-none : (l : List Schedule) → after none l ≡ l
 unfolding after
 after-none l = refl
 
+-- its members are of the list
+pub of-after : (o : Option Schedule) (l : List Schedule) (s : Schedule) → List·Memᴰ s (after o l) → List·Memᴰ s l
+unfolding after
+of-after none l s m = m
+of-after (some b) l s m = of-keep (less b) l s m .0
+
+-- an empty list has no first member
+pub head-nil : {A : Type 0} → headOf {A = A} [] ≡ none
+unfolding headOf
+head-nil = refl
+
 -- the first of it is what a call offers
 pub offer-after : (o : Option Schedule) (l : List Schedule) → headOf (after o l) ≡ offer l o
 unfolding after offer

@@ -1,17 +1,31 @@
--- What a test keeps of a list, and lists one behind the other, one for each number.
+-- What a test keeps of a list, also of a mapped one, and lists one behind the other, one for each number.
 use mathlib.Core.Path.{_≡_, refl, sym, ap, ap₂, _∙_}
 use mathlib.Core.Bool.{Bool, true, false, false≢true}
-use mathlib.Core.List.{List, [], _∷_, _++_, flatMap, List·Memᴰ, List·Memᴰ·head, List·Memᴰ·tail}
-use Prim.Native.Nat.{ℕ, zero, suc, _+_}
+use mathlib.Core.List.{List, [], _∷_, _++_, map, flatMap, List·Memᴰ, List·Memᴰ·head, List·Memᴰ·tail}
+use Prim.Native.Nat.{ℕ, zero, suc, _+_, _≤_}
 use native.Mathlib.Omega.{arith}
 use native.Mathlib.Numerals.{add-one}
 use lib.Dec.{ltb}
+use lib.ListN.{length}
 use borrow.Author.Tests.{ltb-true, le-ltb}
-use Rattle.schedules.specs.Lists.{upTo, both, keep, Ascends}
+use Rattle.schedules.specs.Lists.{upTo, both, all, keep, Ascends}
 use Rattle.schedules.specs.Found.{inTurn}
 use Rattle.schedules.proofs.Lists.{keep-yes, keep-no, in-keep, of-keep, ascends-keep, ascends-unique}
 
 module _ {A : Type 0} where
+  -- nothing of nothing, and no more than there is
+  pub keep-nil : (f : A → Bool) → keep f [] ≡ []
+  unfolding keep
+  keep-nil f = refl
+
+  pub keep-length : (f : A → Bool) (l : List A) → length (keep f l) ≤ length l
+  keep-length f [] = let y = ap length (keep-nil f) in omega (arith, y)
+  keep-length f (x ∷ l) = go (keep-length f l) (f x) refl
+    where
+      go : length (keep f l) ≤ length l → (b : Bool) → f x ≡ b → length (keep f (x ∷ l)) ≤ length (x ∷ l)
+      go h true e = let y = ap length (keep-yes f x l e) in omega (arith, y, h)
+      go h false e = let y = ap length (keep-no f x l e) in omega (arith, y, h)
+
   pub keep-append : (f : A → Bool) (a b : List A) → keep f (a ++ b) ≡ keep f a ++ keep f b
   unfolding keep
   keep-append f [] b = refl
@@ -95,6 +109,24 @@ module _ {A : Type 0} where
       same = ascends-unique ltb (λ n. le-ltb n n (omega arith)) (λ m n e. le-ltb n m (omega (arith, ltb-true m n e))) (keep test ts) (keep test us) (ascends-keep ltb test ts a) (ascends-keep ltb test us b)
           (λ t m. let r = of-keep test ts t m in in-keep test us t (in-both t (r .1) .1) (r .1))
           (λ t m. let r = of-keep test us t m in in-keep test ts t (in-both t (r .1) .0) (r .1))
+
+-- a mapped list
+pub keep-map : {A B : Type 0} (f : B → Bool) (g : A → B) (l : List A) → keep f (map g l) ≡ map g (keep (λ x. f (g x)) l)
+keep-map f g [] = keep-nil f ∙ sym (ap (map g) (keep-nil (λ x. f (g x))))
+keep-map {A} {B} f g (x ∷ l) = go (f (g x)) refl (keep-map f g l)
+  where
+    go : (b : Bool) → f (g x) ≡ b → keep f (map g l) ≡ map g (keep (λ x. f (g x)) l) → keep f (g x ∷ map g l) ≡ map g (keep (λ x. f (g x)) (x ∷ l))
+    go true e ih = keep-yes f (g x) (map g l) e ∙ ap {B = List B} (λ k. g x ∷ k) ih ∙ sym (ap (map g) (keep-yes (λ x. f (g x)) x l e))
+    go false e ih = keep-no f (g x) (map g l) e ∙ ih ∙ sym (ap (map g) (keep-no (λ x. f (g x)) x l e))
+
+pub all-map : {A B : Type 0} (f : B → Bool) (g : A → B) (l : List A) → all f (map g l) ≡ all (λ x. f (g x)) l
+unfolding all
+all-map f g [] = refl
+all-map f g (x ∷ l) = go (f (g x)) refl (all-map f g l)
+  where
+    go : (b : Bool) → f (g x) ≡ b → all f (map g l) ≡ all (λ x. f (g x)) l → all f (g x ∷ map g l) ≡ all (λ x. f (g x)) (x ∷ l)
+    go true e ih = rw (e, all) ih
+    go false e ih = rw (e, all)
 
 -- what goes through lists one behind the other goes through all of them
 pub flat-through : {A B : Type 0} (φ : List A → List B) → φ [] ≡ [] → ((a b : List A) → φ (a ++ b) ≡ φ a ++ φ b) → (f : ℕ → List A) (ts : List ℕ) → φ (flatMap f ts) ≡ flatMap (λ t. φ (f t)) ts

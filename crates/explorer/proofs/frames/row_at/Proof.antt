@@ -5,7 +5,8 @@ use mathlib.Core.Path.{_≡_, refl}
 use native.Mathlib.Omega.{arith}
 use lib.ListN.{length, take, drop}
 use Rattle.lines.specs.Over.{over}
-use Rattle.explorer.proofs.RowText.{copy-more, copy-all, part-length, part-byte}
+use Rattle.lines.proofs.Over.{over-more}
+use Rattle.explorer.proofs.RowText.{copy-all, part-length, part-byte}
 use Rattle.explorer.proofs.frames.row_at.Statement.{statement}
 use Rattle.explorer.proofs.frames.row_at.Tie as tie
 
@@ -28,7 +29,7 @@ loop-again c =
       search needs,
       search needs,
       search needs,
-      copy-more (take 26 (drop (a .k * 26) (a .rows .now))) _ (l .row) (l .i) _ (omega (arith, n)) (omega (arith, n, l .inv .2)) (l .inv .4) (part-byte (a .rows .now) (a .k * 26) (l .i) (c .before .loop-test .taken)),
+      over-more (take 26 (drop (a .k * 26) (a .rows .now))) _ (l .row) (l .i) _ (omega (arith, n)) (omega (arith, n, l .inv .2)) (l .inv .4) (part-byte (a .rows .now) (a .k * 26) (l .i) (c .before .loop-test .taken)),
     )
 
 returns : tie.Need-returns Inv-loop μ-loop

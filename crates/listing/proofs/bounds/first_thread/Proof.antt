@@ -1,6 +1,6 @@
 -- `first_thread` reads the bound's next byte while the steps are its own.
 use borrow.Author.Needs.{needs}
-use mathlib.Core.Path.{_≡_, sym}
+use mathlib.Core.Path.{sym}
 use Rattle.listing.proofs.BoundSteps.{low-along, low-end, low-apart}
 use Rattle.listing.proofs.bounds.first_thread.Statement.{statement}
 use Rattle.listing.proofs.bounds.first_thread.Tie as tie

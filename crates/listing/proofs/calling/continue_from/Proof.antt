@@ -4,7 +4,7 @@ use mathlib.Core.Path.{_≡_, sym, ap, _∙_}
 use Rattle.program.specs.Compiled.{programOf}
 use Rattle.schedules.specs.Calls.{Result}
 use Rattle.listing.specs.Said.{said}
-use Rattle.listing.proofs.Decoded.{decoded-refused, decoded-accepted, decoded-well-formed}
+use Rattle.program.proofs.Decoded.{decoded-refused, decoded-accepted, decoded-well-formed}
 use Rattle.listing.proofs.FileCalls.{continue-file, continue-file-refused}
 use Rattle.listing.proofs.calling.continue_from.Statement.{statement}
 use Rattle.listing.proofs.calling.continue_from.Tie as tie

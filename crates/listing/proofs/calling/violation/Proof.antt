@@ -6,7 +6,7 @@ use Prim.Native.Nat.{ℕ}
 use Rattle.program.specs.Compiled.{programOf}
 use Rattle.listing.specs.Answers.{Violation}
 use Rattle.listing.specs.Said.{violationSaid}
-use Rattle.listing.proofs.Decoded.{decoded-refused, decoded-accepted, decoded-well-formed}
+use Rattle.program.proofs.Decoded.{decoded-refused, decoded-accepted, decoded-well-formed}
 use Rattle.listing.proofs.FileCalls.{violation-refused, violation-said, violation-output}
 use Rattle.listing.proofs.calling.violation.Statement.{statement}
 use Rattle.listing.proofs.calling.violation.Tie as tie

@@ -1,14 +1,15 @@
 -- `failing_in` reads one row's second byte after another. The invariant: so many of the rows read fail.
 use borrow.Author.Needs.{needs}
 use Prim.Native.Nat.{ℕ, _+_, _-_, _*_, _<_, _≤_}
-use mathlib.Core.Path.{_≡_, refl, _∙_}
+use mathlib.Core.Path.{_≡_, _∙_}
 use mathlib.Core.Logic.{_≢_, ⊎-elim}
-use mathlib.Core.List.{List}
+use mathlib.Core.List.{List, []}
 use native.Mathlib.Omega.{arith}
 use lib.ListN.{length, getD, take}
 use Rattle.program.specs.Program.{Program}
 use Rattle.schedules.specs.Lists.{keep}
 use Rattle.schedules.specs.Order.{Schedule}
+use Rattle.schedules.proofs.Kept.{keep-length}
 use Rattle.listing.specs.Answers.{failing}
 use Rattle.listing.specs.Rows.{Shown}
 use Rattle.listing.proofs.CountedRows.{fails-more, fails-same, fails-all}
@@ -33,8 +34,7 @@ abbrev μ-loop : tie.MeasureT-loop
 μ-loop rows n failing₀ k₀ f k = n - k
 
 loop-holds : tie.Need-loop-holds Inv-loop μ-loop
-unfolding keep
-loop-holds c = (omega arith, omega arith, λ p ss held s. refl)
+loop-holds c = (omega arith, omega arith, λ p ss held s. omega (arith, keep-length (failing p) []))
 
 loop-again : tie.Need-loop-again Inv-loop μ-loop
 loop-again c =

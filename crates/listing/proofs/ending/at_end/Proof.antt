@@ -1,13 +1,9 @@
 -- `at_end` tests the schedule and writes its row.
 use borrow.Author.Needs.{needs}
 use borrow.Author.Tests.{not-true, not-false}
-use Prim.Native.Nat.{_+_}
-use mathlib.Core.Path.{_≡_, sym, ap, _∙_}
-use native.Mathlib.Omega.{arith}
-use Rattle.lines.specs.Over.{over}
-use Rattle.schedules.specs.Order.{Schedule}
+use mathlib.Core.Path.{_≡_, sym, _∙_}
 use Rattle.listing.specs.Answers.{failing}
-use Rattle.listing.specs.Rows.{rowBytes, rowOf}
+use Rattle.listing.specs.Rows.{rowOf}
 use Rattle.listing.proofs.ReachedTest.{threads-reached}
 use Rattle.listing.proofs.NormalForm.{unbeaten-on}
 use Rattle.listing.proofs.AddedRows.{adds-none, adds-full, adds-one}

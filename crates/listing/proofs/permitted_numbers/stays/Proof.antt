@@ -1,7 +1,5 @@
 -- `stays` compares the two threads, then their classes.
 use borrow.Author.Needs.{needs}
-use Prim.Native.Nat.{_<_}
-use mathlib.Core.Path.{_≡_}
 use native.Mathlib.Omega.{arith}
 use borrow.Author.Tests.{eq-eqb, ne-eqb}
 use Rattle.listing.proofs.ClassGroups.{together-class, not-together, together-test}

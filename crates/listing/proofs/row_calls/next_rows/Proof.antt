@@ -3,7 +3,7 @@ use borrow.Author.Needs.{needs}
 use mathlib.Core.Option.{some}
 use Rattle.program.specs.Compiled.{programOf}
 use Rattle.listing.specs.Bounds.{boundAt}
-use Rattle.listing.proofs.Decoded.{decoded-refused, decoded-accepted, decoded-well-formed}
+use Rattle.program.proofs.Decoded.{decoded-refused, decoded-accepted, decoded-well-formed}
 use Rattle.listing.proofs.RowsSaid.{rows-refused, rows-written}
 use Rattle.listing.proofs.row_calls.next_rows.Statement.{statement}
 use Rattle.listing.proofs.row_calls.next_rows.Tie as tie

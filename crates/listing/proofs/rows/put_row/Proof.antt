@@ -1,10 +1,10 @@
 -- `put_row` writes byte after byte. The invariant: the row's first k bytes stand over the front.
 use borrow.Author.Needs.{needs}
-use Prim.Native.Nat.{_≤_, _-_}
-use mathlib.Core.Path.{_≡_, refl}
-use native.Mathlib.Omega.{arith}
+use Prim.Native.Nat.{_-_}
+use mathlib.Core.Path.{_≡_, refl, sym}
 use lib.ListN.{length, take}
 use Rattle.lines.specs.Over.{over}
+use Rattle.lines.proofs.Over.{over-nil}
 use Rattle.listing.specs.LeftSteps.{threadsAt}
 use Rattle.listing.specs.Rows.{rowBytes}
 use Rattle.listing.proofs.RowBytes.{row-more, row-whole}
@@ -18,8 +18,7 @@ abbrev μ-loop : tie.MeasureT-loop
 μ-loop out₀ trail steps fails k₀ out k = 26 - k
 
 loop-holds : tie.Need-loop-holds Inv-loop μ-loop
-unfolding over
-loop-holds c = (refl, refl)
+loop-holds c = (refl, sym (over-nil _))
 
 loop-again : tie.Need-loop-again Inv-loop μ-loop
 loop-again c =

@@ -1,6 +1,6 @@
 -- `is_free` says whether a thread exists and has no group.
 use borrow.Author.Needs.{needs}
-use borrow.Author.Tests.{lt-ltb, le-ltb, eq-eqb}
+use borrow.Author.Tests.{lt-ltb, le-ltb}
 use Rattle.program.proofs.counts.is_free.Statement.{statement}
 use Rattle.program.proofs.counts.is_free.Tie as tie
 

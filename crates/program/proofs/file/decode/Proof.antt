@@ -1,13 +1,12 @@
 -- `decode` reads the lines in order. The invariant: what has been read and what is left make the answer.
 use borrow.Author.Needs.{needs}
 use Prim.Native.Nat.{ℕ, _≤_, _<_, _-_, _+_}
-use mathlib.Core.Path.{_≡_, _∙_, sym, ap, refl}
+use mathlib.Core.Path.{_≡_, _∙_, sym, refl}
 use native.Mathlib.Omega.{arith}
 use mathlib.Core.List.{List}
-use lib.ListN.{length, drop, take}
+use lib.ListN.{length, drop}
 use Rattle.lines.specs.Split.{lineLength}
 use Rattle.lines.proofs.Split.{line-within}
-use Rattle.lines.specs.Frame.{pairs}
 use Rattle.program.proofs.HeldFile.{Progress, too-large, progress-start, progress-bounded, progress-grouped, read-unended, read-broken, read-frame, read-refused, read-more, read-done}
 use Rattle.program.proofs.file.decode.Statement.{statement}
 use Rattle.program.proofs.file.decode.Tie as tie

@@ -1,10 +1,8 @@
 -- `finished` answers 9, 7 or the program.
 use borrow.Author.Needs.{needs}
-use Prim.Native.Nat.{_≤_}
-use mathlib.Core.Path.{_≡_, _∙_, sym, ap}
+use mathlib.Core.Path.{_∙_, sym, ap}
 use native.Mathlib.Omega.{arith}
-use lib.ListN.{length}
-use Rattle.program.specs.Decode.{Reading, accepted}
+use Rattle.program.specs.Decode.{accepted}
 use Rattle.program.specs.Compiled.{answerOf, verdictOf}
 use Rattle.program.proofs.HeldCode.{held-short}
 use Rattle.program.proofs.HeldFinish.{held-threads, finish-none, finish-far, finish-program}

@@ -1,5 +1,4 @@
 -- `refused` answers its number and place.
-use borrow.Author.Needs.{needs}
 use mathlib.Core.Path.{refl}
 use Rattle.program.specs.Compiled.{answerOf, verdictOf}
 use Rattle.program.proofs.file.refused.Statement.{statement}

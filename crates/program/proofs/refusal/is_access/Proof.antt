@@ -1,5 +1,4 @@
 -- `is_access` tests a first byte against the four accesses.
-use borrow.Author.Needs.{needs}
 use borrow.Author.Tests.{lt-leb, le-leb}
 use Rattle.program.proofs.refusal.is_access.Statement.{statement}
 use Rattle.program.proofs.refusal.is_access.Tie as tie

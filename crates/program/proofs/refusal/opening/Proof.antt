@@ -1,5 +1,4 @@
 -- `opening` goes by the counts of groups and threads.
-use borrow.Author.Needs.{needs}
 use borrow.Author.Tests.{eq-eqb, ne-eqb, lt-ltb, le-ltb}
 use Rattle.program.proofs.refusal.opening.Statement.{statement}
 use Rattle.program.proofs.refusal.opening.Tie as tie

@@ -1,16 +1,15 @@
 -- `refusal` makes the checks in their order.
 use borrow.Author.Needs.{needs}
-use Prim.Native.Nat.{ℕ, _≤_}
+use Prim.Native.Nat.{ℕ}
 use mathlib.Core.Path.{_≡_, _∙_, sym, ap}
 use native.Mathlib.Omega.{arith}
-use mathlib.Core.Bool.{cond}
 use Rattle.lines.specs.Frame.{pairs}
 use Rattle.program.specs.declared.kind.Kind.{Kind}
 use Rattle.program.specs.Kinds.{kindOf, find, kinds}
 use Rattle.program.specs.Frames.{kind}
 use Rattle.program.specs.Held.{instructionRefusal}
 use Rattle.program.proofs.RefusalByCounts.{too-short, too-long, length-fits, refused-3, refused-4, opening-refused, alike-refused, instruction-refused}
-use borrow.Author.Tests.{not-true, not-false, eqb-true}
+use borrow.Author.Tests.{not-true, not-false}
 use Rattle.program.proofs.refusal.refusal.Statement.{statement}
 use Rattle.program.proofs.refusal.refusal.Tie as tie
 

@@ -1,13 +1,11 @@
 -- `in_thread` looks at one instruction after the other. The invariant: what is left decides.
 use borrow.Author.Needs.{needs}
-use Prim.Native.Nat.{_≤_, _-_, _*_, _+_}
+use Prim.Native.Nat.{_≤_, _-_}
 use mathlib.Core.Path.{_≡_, _∙_, sym, refl}
 use native.Mathlib.Omega.{arith}
 use mathlib.Core.List.{List}
-use lib.ListN.{length, drop, getD}
+use lib.ListN.{length, drop}
 use Rattle.program.specs.Decode.{Placed, farSkip}
-use Rattle.program.specs.Frames.{skipOf}
-use Rattle.program.specs.Compiled.{rowAt}
 use Rattle.program.specs.Held.{HeldThread}
 use Rattle.program.proofs.HeldSkips.{far-found, far-next, far-none}
 use Rattle.program.proofs.skip.in_thread.Statement.{statement}

@@ -1,6 +1,6 @@
 -- `extended` adds one to the last length, and to the accesses where the instruction is one.
 use borrow.Author.Needs.{needs}
-use Prim.Native.Nat.{_+_, _-_}
+use Prim.Native.Nat.{_-_}
 use native.Mathlib.Nat.{add-zero}
 use mathlib.Core.Path.{_∙_, sym}
 use native.Mathlib.Omega.{arith}

@@ -1,11 +1,10 @@
 -- `mark` takes the members one after the other. The invariant: what is left is still to be marked.
 use borrow.Author.Needs.{needs}
-use Prim.Native.Nat.{_≤_, _-_}
-use mathlib.Core.Path.{_≡_, refl, _∙_, sym, ap}
+use Prim.Native.Nat.{_-_}
+use mathlib.Core.Path.{_≡_, refl, _∙_, sym}
 use native.Mathlib.Omega.{arith}
 use mathlib.Core.Logic.{⊎-elim}
-use mathlib.Core.List.{List}
-use lib.ListN.{length, drop, set, length-set}
+use lib.ListN.{length, drop}
 use lib.Seq.{set-out}
 use Rattle.lines.specs.Frame.{pairs}
 use Rattle.program.specs.Held.{marked}

@@ -1,7 +1,6 @@
 -- `taken` adds the frame in one of three ways, and the arrays go on holding what has been read.
 use borrow.Author.Needs.{needs}
-use Prim.Native.Nat.{_<_, _≤_}
-use mathlib.Core.Path.{_≡_, _∙_, sym, ap}
+use mathlib.Core.Path.{_≡_, _∙_, sym}
 use native.Mathlib.Omega.{arith}
 use lib.ListN.{length}
 use Rattle.lines.specs.Frame.{pairs}
