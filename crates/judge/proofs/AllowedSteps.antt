@@ -1,13 +1,12 @@
 -- Whether a step fits, read off its note and the tables.
-use Prim.Native.Nat.{ℕ, zero, suc, _+_, _*_, _<_, _≤_}
+use Prim.Native.Nat.{ℕ, zero, suc, _+_, _*_, _<_}
 use mathlib.Core.Path.{_≡_, refl, sym, ap, ap₂, subst, _∙_}
-use mathlib.Core.Logic.{_≢_}
-use mathlib.Core.Bool.{Bool, true, false, cond, not, _&&_}
+use mathlib.Core.Bool.{Bool, true, false, cond, _&&_}
 use mathlib.Core.Option.{Option, none, some}
 use mathlib.Core.List.{List, [], _∷_, reverse}
 use native.Mathlib.Omega.{arith}
 use borrow.Author.Tests.{ne-eqb}
-use lib.Dec.{eqb, ltb}
+use lib.Dec.{eqb}
 use lib.ListN.{length, getD}
 use Rattle.schedules.specs.Lists.{any}
 use Rattle.machine.specs.declared.state.Machine.{Machine}
@@ -15,10 +14,10 @@ use Rattle.machine.specs.Local.{placeOf, takes, puts}
 use Rattle.machine.specs.State.{Event, initialWrite, Cell, State, threadOf, cellOf, latest, place, may}
 use Rattle.machine.specs.Graph.{Graph}
 use Rattle.machine.specs.Trail.{given, writes}
-use Rattle.machine.specs.Notes.{Note, note, noteBytes}
+use Rattle.machine.specs.Notes.{note, noteBytes}
 use Rattle.judge.specs.Consistent.{rowOf, orderOf, Values}
 use Rattle.judge.specs.Judge.{sameEvent, sameRead, noneWaits, turnOf, readFits, writeFits, fits}
-use Rattle.judge.specs.Held.{noLine, lineIn}
+use Rattle.judge.specs.Held.{noLine}
 use Rattle.judge.specs.HeldWalk.{Drawn, Ordering, Ranged, NoteOf, readAllowed, turnAllowed}
 use Rattle.judge.proofs.TabledGraph.{read-test}
 

@@ -1,9 +1,8 @@
 -- The call's answer, way by way.
 use Prim.Native.Nat.{ℕ, suc, _+_, _<_, _≤_}
-use mathlib.Core.Path.{_≡_, refl, sym, ap, ap₂, subst, _∙_}
+use mathlib.Core.Path.{_≡_, refl, sym, ap, subst, _∙_}
 use mathlib.Core.Bool.{Bool, true, false, true≢false}
-use mathlib.Core.Option.{Option, none, some}
-use mathlib.Core.List.{List, _∷_, [], _++_}
+use mathlib.Core.List.{List}
 use native.Mathlib.Omega.{arith}
 use native.Mathlib.Decide.{ℕ-discrete}
 use borrow.Author.Tests.{lt-ltb, le-ltb}
@@ -14,10 +13,9 @@ use Rattle.lines.proofs.Over.{over-snoc}
 use Rattle.program.specs.declared.file.Answer as program-answer
 use Rattle.program.specs.declared.file.Verdict.the-variants as program-verdict
 use Rattle.program.specs.Program.{Program}
-use Rattle.program.specs.Decode.{Decoded, accepted, refused, decode}
+use Rattle.program.specs.Decode.{Decoded, accepted, decode}
 use Rattle.program.specs.Compiled.{programOf, verdictOf, answerOf}
 use Rattle.program.proofs.AcceptedWellFormed.{accepted-well-formed}
-use Rattle.schedules.specs.Order.{Schedule}
 use Rattle.machine.specs.Graph.{Graph}
 use Rattle.machine.specs.Held.{Loaded}
 use Rattle.machine.proofs.HeldStart.{threads-held}

@@ -1,9 +1,9 @@
 -- No read waits exactly if none of the table's entries does.
-use Prim.Native.Nat.{ℕ, _+_, _*_, _/_, _%_, _<_, _≤_}
-use mathlib.Core.Path.{_≡_, refl, sym, ap, ap₂, subst, _∙_}
+use Prim.Native.Nat.{ℕ, _+_, _*_, _/_, _%_, _<_}
+use mathlib.Core.Path.{_≡_, refl, sym, ap, _∙_}
 use mathlib.Core.Logic.{_≢_}
 use mathlib.Core.Bool.{Bool, true, false, not, _&&_, true≢false}
-use mathlib.Core.List.{List, List·Memᴰ}
+use mathlib.Core.List.{List}
 use native.Mathlib.Omega.{arith}
 use native.Mathlib.Decide.{ℕ-discrete}
 use borrow.Author.Tests.{eqb-true, not-true}
@@ -15,7 +15,6 @@ use Rattle.schedules.proofs.Lists.{in-upTo, of-upTo, all-at, all-of}
 use Rattle.machine.specs.declared.state.Machine.{Machine}
 use Rattle.machine.specs.State.{Event, State, threadOf}
 use Rattle.machine.specs.Graph.{Graph}
-use Rattle.machine.specs.Held.{threadAt}
 use Rattle.judge.specs.Consistent.{rowOf, Values}
 use Rattle.judge.specs.Judge.{sameEvent, waits, noneWaits}
 use Rattle.judge.specs.Held.{noLine, lineIn}

@@ -1,31 +1,27 @@
 -- The table holds what has been read: before the first line, and with a line more that passes.
-use Prim.Native.Nat.{ℕ, _+_, _*_, _-_, _/_, _%_, _<_, _≤_}
-use mathlib.Core.Path.{_≡_, refl, sym, ap, ap₂, subst, _∙_}
-use mathlib.Core.Logic.{_≢_, _⊎_, inl, inr}
-use mathlib.Core.Bool.{Bool, true, false, cond, not, _&&_}
-use mathlib.Core.List.{List, [], _∷_, reverse, reverse-reverse, List·Memᴰ}
+use Prim.Native.Nat.{ℕ, _+_, _*_, _-_, _<_, _≤_}
+use mathlib.Core.Path.{_≡_, refl, sym, ap, subst, _∙_}
+use mathlib.Core.Logic.{_≢_}
+use mathlib.Core.Bool.{Bool, true, false, cond}
+use mathlib.Core.List.{List, [], _∷_}
 use native.Mathlib.Omega.{arith}
 use native.Mathlib.Decide.{ℕ-discrete}
 use borrow.Author.Tests.{eq-eqb, ne-eqb, ltb-true, lt-ltb}
 use lib.Dec.{eqb, ltb}
-use lib.ListN.{length, getD, set, replicate, length-set, length-replicate, getD-replicate, length-reverse}
+use lib.ListN.{length, getD, set, replicate, length-set, length-replicate, getD-replicate}
 use lib.Seq.{getD-set-same, getD-set-other}
 use Rattle.program.proofs.Tests.{both}
-use Rattle.schedules.specs.Lists.{any, all}
+use Rattle.schedules.specs.Lists.{any}
 use Rattle.schedules.specs.Order.{less}
-use Rattle.schedules.proofs.Lists.{all-at}
 use Rattle.schedules.proofs.Order.{nil-less}
 use Rattle.machine.specs.State.{Event}
 use Rattle.machine.specs.Graph.{Graph}
 use Rattle.judge.specs.declared.table.Table.{Table}
-use Rattle.judge.specs.Consistent.{rowOf, orderOf}
+use Rattle.judge.specs.Consistent.{rowOf}
 use Rattle.judge.specs.Reading.{Frame, byteAt, isRead, writesIn, known, inRange, key, Reading, written, allNew, inOrder, refusal, withLine, after, fresh}
-use Rattle.judge.specs.Held.{noLine, lineIn, Entry, put, Tabled, Seen, rankOf, Holds, emptyTable, markedBy, Ordered, readTable}
-use Rattle.judge.proofs.Readable.{event-is}
+use Rattle.judge.specs.Held.{noLine, lineIn, Entry, put, rankOf, Holds, emptyTable, readTable}
 use Rattle.judge.proofs.Parsed.{passed, empty-row}
-use Rattle.judge.proofs.LineWrites.{writes-length}
-use Rattle.judge.proofs.Marks.{seen-line}
-use Rattle.judge.proofs.Ranks.{read-range, write-range, write-shape, events-six, rank-less}
+use Rattle.judge.proofs.Ranks.{read-range, rank-less}
 use Rattle.judge.proofs.Entries.{entry-put, entry-kept}
 
 -- before the first line

@@ -3,7 +3,7 @@ use Prim.Native.Nat.{ℕ, _+_, _*_, _-_, _/_, _<_, _≤_}
 use mathlib.Core.Path.{_≡_, refl, sym, ap, subst, _∙_}
 use mathlib.Core.Logic.{_≢_, _⊎_, inl, inr}
 use mathlib.Core.Bool.{Bool, true, false}
-use mathlib.Core.List.{List, [], _∷_, reverse, reverse-reverse, List·Memᴰ}
+use mathlib.Core.List.{List, [], reverse, reverse-reverse}
 use native.Mathlib.Omega.{arith}
 use native.Mathlib.Decide.{ℕ-discrete}
 use borrow.Author.Tests.{ltb-true, ltb-false}
@@ -15,10 +15,10 @@ use Rattle.schedules.proofs.Lists.{all-at}
 use Rattle.machine.specs.State.{Event}
 use Rattle.machine.specs.Graph.{Graph}
 use Rattle.judge.specs.declared.table.Table.{Table}
-use Rattle.judge.specs.Consistent.{rowOf, orderOf}
+use Rattle.judge.specs.Consistent.{orderOf}
 use Rattle.judge.specs.Reading.{Frame, byteAt, isRead, writesIn, isEvent, Reading, refusal, withLine, after}
-use Rattle.judge.specs.Held.{noLine, lineIn, Entry, rankOf, Holds, markedBy, Ordered}
-use Rattle.judge.proofs.Readable.{Named, event-is}
+use Rattle.judge.specs.Held.{noLine, Entry, rankOf, Holds, markedBy, Ordered}
+use Rattle.judge.proofs.Readable.{event-is}
 use Rattle.judge.proofs.LineWrites.{writes-length}
 use Rattle.judge.proofs.Marks.{seen-line}
 use Rattle.judge.proofs.Ranks.{write-range, write-shape, events-six, rank-less}

@@ -1,27 +1,25 @@
 -- A thread by itself on the machine: its next access on finding x.
-use Prim.Native.Nat.{ℕ, _+_, _%_, _<_, _≤_}
+use Prim.Native.Nat.{ℕ, _%_, _<_}
 use mathlib.Core.Path.{_≡_, refl, sym, ap, ap₂, subst, _∙_}
-use mathlib.Core.Bool.{Bool, true, false, cond, true≢false}
+use mathlib.Core.Bool.{Bool, true, false, cond}
 use mathlib.Core.Option.{Option, none, some}
-use mathlib.Core.List.{List, [], _∷_}
+use mathlib.Core.List.{List, []}
 use native.Mathlib.Omega.{arith}
 use borrow.Author.Tests.{ltb-false}
-use lib.ListN.{length, getD, drop, replicate, length-replicate, getD-replicate}
-use Rattle.machine.specs.declared.state.LastWrite.{LastWrite}
+use lib.ListN.{length, getD, drop, getD-replicate}
 use Rattle.machine.specs.declared.state.Machine.{Machine}
 use Rattle.machine.specs.declared.stepping.Stepped.{Stepped}
 use Rattle.program.specs.declared.instruction.Instruction.{Instruction}
 use Rattle.program.specs.Compiled.{threadCode}
-use Rattle.machine.specs.Local.{Local, pending, placeOf, puts, next, firstPlace, firstPuts, firstNext}
-use Rattle.machine.specs.State.{Event, Thread, Cell, State, freshCell, threadOf, cellOf, latest, initialWrite, place, step, may, met, written, advanced}
+use Rattle.machine.specs.Local.{Local, placeOf, puts, next, firstPlace, firstPuts, firstNext}
+use Rattle.machine.specs.State.{Thread, Cell, State, freshCell, threadOf, cellOf, latest, initialWrite, place, step, may, met, advanced}
 use Rattle.machine.specs.Trail.{given, writes}
 use Rattle.machine.specs.Notes.{note, noteBytes}
-use Rattle.machine.specs.Held.{idle, unwritten, threadAt, lastAt, eventOf, HoldsThread, Holds, Ready, HoldsStep}
-use Rattle.machine.proofs.Steps.{may-same, may-range, may-small, thread-own, cell-own, may-of}
+use Rattle.machine.specs.Held.{unwritten, threadAt, eventOf, Holds, HoldsStep}
+use Rattle.machine.proofs.Steps.{may-same, may-range, thread-own, cell-own}
 use Rattle.machine.proofs.Change.{written-some}
-use Rattle.machine.proofs.HeldTurns.{length-code, code-end}
-use Rattle.machine.proofs.HeldAsking.{held-may, may-held, ready-held}
-use Rattle.judge.specs.declared.by_itself.Lone.{Lone}
+use Rattle.machine.proofs.HeldTurns.{code-end}
+use Rattle.machine.proofs.HeldAsking.{may-held}
 use Rattle.judge.specs.Judge.{orZero}
 use Rattle.judge.specs.HeldRounds.{faced, facedMachine, MetAlone}
 

@@ -2,7 +2,7 @@
 use Prim.Native.Nat.{ℕ, zero, suc, _+_, _*_, _/_, _%_, _<_, _≤_}
 use mathlib.Core.Path.{_≡_, refl, sym, ap, ap₂, subst, _∙_}
 use mathlib.Core.Logic.{_≢_}
-use mathlib.Core.Bool.{Bool, true, false, cond}
+use mathlib.Core.Bool.{cond}
 use mathlib.Core.List.{List, [], _∷_}
 use native.Mathlib.Omega.{arith}
 use native.Mathlib.Decide.{ℕ-discrete}
@@ -10,19 +10,17 @@ use borrow.Author.Tests.{eq-eqb, ne-eqb}
 use lib.Dec.{eqb}
 use lib.ListN.{length, getD, set, drop}
 use lib.Seq.{getD-set-same, getD-set-other}
-use Rattle.program.specs.declared.instruction.Instruction.{Instruction}
 use Rattle.program.specs.Program.{Program, codeOf}
 use Rattle.program.specs.WellFormed.{Everywhere, InRange}
-use Rattle.program.specs.Compiled.{threadCode}
 use Rattle.program.proofs.Everywhere.{everywhere-getD}
 use Rattle.machine.specs.declared.state.Machine.{Machine}
-use Rattle.machine.specs.Local.{Local, placeOf, puts, next}
+use Rattle.machine.specs.Local.{placeOf, puts, next}
 use Rattle.machine.specs.State.{State, threadOf, place, start}
 use Rattle.machine.specs.Held.{threadAt, Holds, Loaded}
 use Rattle.machine.proofs.Access.{place-below}
-use Rattle.machine.proofs.HeldStart.{threads-held, code-held, short-held}
+use Rattle.machine.proofs.HeldStart.{threads-held, code-held}
 use Rattle.judge.specs.declared.by_itself.Lone.{Lone}
-use Rattle.judge.specs.Consistent.{Values, alone, localAt, locationOf, outOf}
+use Rattle.judge.specs.Consistent.{Values, alone, locationOf, outOf}
 use Rattle.judge.specs.Judge.{orZero}
 use Rattle.judge.specs.HeldRounds.{MetAlone, valuesIn, RoundHeld}
 

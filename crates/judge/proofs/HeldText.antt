@@ -13,7 +13,7 @@ use Rattle.program.specs.Compiled.{frameLength}
 use Rattle.program.proofs.Lengths.{length-none, length-some}
 use Rattle.judge.specs.declared.table.Table.{Table}
 use Rattle.judge.specs.declared.text.Verdict.the-variants.{Passed, Refused}
-use Rattle.judge.specs.Reading.{Reading, refusal, after, fresh, refusedAt, readLines, readGraph}
+use Rattle.judge.specs.Reading.{Reading, refusal, after, fresh, readLines, readGraph}
 use Rattle.judge.specs.Held.{Holds, emptyTable, Passes, Taken, ReadAs}
 use Rattle.judge.proofs.LineTurns.{text-over, line-unended, line-broken, line-refused, line-passes}
 use Rattle.judge.proofs.Parsed.{passed}

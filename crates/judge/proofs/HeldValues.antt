@@ -1,6 +1,6 @@
 -- The table of values: after each round it holds the values of that round, for every access that a text can name.
 use Prim.Native.Nat.{ℕ, zero, suc, _+_, _*_, _<_, _≤_}
-use mathlib.Core.Path.{_≡_, refl, sym, ap, ap₂, subst, _∙_}
+use mathlib.Core.Path.{_≡_, refl, sym, ap, ap₂, _∙_}
 use mathlib.Core.Logic.{_⊎_, inl, inr}
 use mathlib.Core.Bool.{Bool, true, false, cond}
 use mathlib.Core.List.{List, [], _∷_}
@@ -13,8 +13,8 @@ use lib.Seq.{getD-set-same, getD-set-other}
 use Rattle.program.specs.Program.{Program, initial}
 use Rattle.machine.specs.State.{Event, initialWrite}
 use Rattle.machine.specs.Graph.{Graph}
-use Rattle.judge.specs.Consistent.{rowOf, Values, locationOf, outOf}
-use Rattle.judge.specs.Judge.{sameEvent, sourceIn, orZero, leftBy, nextRound, values}
+use Rattle.judge.specs.Consistent.{rowOf, locationOf}
+use Rattle.judge.specs.Judge.{sameEvent, sourceIn, leftBy, nextRound, values}
 use Rattle.judge.specs.Held.{noLine, lineIn, Tabled}
 use Rattle.judge.specs.HeldRounds.{valuesIn, RoundHeld, sourced}
 use Rattle.judge.proofs.Readable.{Named, Source, Readable}

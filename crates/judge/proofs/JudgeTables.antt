@@ -1,9 +1,8 @@
 -- The judge's answer by the tables: yes exactly if all threads have ended and the graph made has the table of the graph given.
 use Prim.Native.Nat.{ℕ, _+_, _*_, _-_, _/_, _%_, _<_, _≤_}
-use mathlib.Core.Path.{_≡_, refl, sym, ap, ap₂, subst, _∙_}
-use mathlib.Core.Logic.{_⊎_, inl, inr}
+use mathlib.Core.Path.{_≡_, refl, sym, ap, subst, _∙_}
 use mathlib.Core.Bool.{Bool, true, false, _&&_, true≢false}
-use mathlib.Core.Option.{Option, none, some}
+use mathlib.Core.Option.{none, some}
 use mathlib.Core.List.{List, reverse}
 use native.Mathlib.Omega.{arith}
 use native.Mathlib.Decide.{ℕ-discrete}
@@ -14,7 +13,7 @@ use lib.Seq.{ext-getD, length-take-le, getD-take}
 use Rattle.program.specs.Program.{Program}
 use Rattle.program.specs.WellFormed.{WellFormed}
 use Rattle.schedules.specs.Order.{Schedule}
-use Rattle.schedules.specs.System.{Allowed, ended}
+use Rattle.schedules.specs.System.{ended}
 use Rattle.schedules.proofs.Runs.{allowed-full}
 use Rattle.machine.specs.State.{Event, State, SC, start}
 use Rattle.machine.specs.Graph.{Graph, graphOf, graph, endOf, Full}

@@ -1,7 +1,7 @@
 -- The table of the graph made so far: a step adds its read and its write.
-use Prim.Native.Nat.{ℕ, zero, suc, _+_, _*_, _<_, _≤_}
-use mathlib.Core.Path.{_≡_, refl, sym, ap, ap₂, subst, _∙_}
-use mathlib.Core.Logic.{_≢_, _⊎_, inl, inr}
+use Prim.Native.Nat.{ℕ, zero, suc, _+_, _*_, _<_}
+use mathlib.Core.Path.{_≡_, refl, sym, ap, subst, _∙_}
+use mathlib.Core.Logic.{_≢_}
 use mathlib.Core.Bool.{Bool, true, false, cond}
 use mathlib.Core.Option.{Option, none, some}
 use mathlib.Core.List.{List, [], _∷_, _++_, reverse, reverse-cons}
@@ -9,19 +9,19 @@ use native.Mathlib.Omega.{arith}
 use native.Mathlib.Decide.{ℕ-discrete}
 use borrow.Author.Tests.{eq-eqb, ne-eqb}
 use lib.Dec.{eqb}
-use lib.ListN.{length, getD, set, replicate, getD-replicate, length-reverse}
+use lib.ListN.{length, getD, set, length-reverse}
 use lib.Seq.{getD-set-same, getD-set-other}
 use Rattle.machine.specs.Local.{takes, puts}
 use Rattle.machine.specs.State.{Event, Thread, Cell, State, noted, advanced, threadOf, cellOf, latest, place, step}
-use Rattle.machine.specs.Graph.{Graph, graphOf}
+use Rattle.machine.specs.Graph.{graphOf}
 use Rattle.machine.specs.Trail.{given, writes}
 use Rattle.machine.specs.Notes.{note, noteBytes}
-use Rattle.machine.proofs.Steps.{thread-own, thread-other, cell-own, cell-other}
+use Rattle.machine.proofs.Steps.{thread-own, thread-other, cell-other}
 use Rattle.machine.proofs.Change.{Change, kept, wrote, change, wrote-own}
 use Rattle.machine.proofs.Rows.{row-at, order-at}
-use Rattle.judge.specs.Consistent.{rowOf, orderOf}
+use Rattle.judge.specs.Consistent.{rowOf}
 use Rattle.judge.specs.Held.{noLine, lineIn, Entry, put, Tabled}
-use Rattle.judge.specs.HeldWalk.{NoteOf, Ranged, sourceAdded, eventAdded, countAdded}
+use Rattle.judge.specs.HeldWalk.{NoteOf, sourceAdded, eventAdded, countAdded}
 use Rattle.judge.proofs.Entries.{length-put, entry-put, entry-kept}
 
 -- one write more stands behind the others

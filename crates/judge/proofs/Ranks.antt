@@ -1,16 +1,16 @@
 -- Lines come one after the other exactly if their places do.
 use Prim.Native.Nat.{ℕ, _+_, _*_, _%_, _<_, _≤_}
-use mathlib.Core.Path.{_≡_, refl, sym, ap, ap₂, _∙_}
-use mathlib.Core.Bool.{Bool, true, false, not, _&&_, cond}
+use mathlib.Core.Path.{_≡_, refl, sym, _∙_}
+use mathlib.Core.Bool.{Bool, true, false, _&&_}
 use mathlib.Core.List.{List, [], _∷_}
 use native.Mathlib.Omega.{arith}
-use borrow.Author.Tests.{ltb-true, lt-ltb, ltb-false, le-ltb, leb-true, eqb-true, eqb-false, eq-eqb, ne-eqb}
+use borrow.Author.Tests.{lt-ltb, le-ltb, leb-true, eqb-true, eqb-false, eq-eqb, ne-eqb}
 use lib.Dec.{eqb, ltb, leb}
 use lib.ListN.{length}
 use Rattle.program.proofs.Tests.{both}
 use Rattle.schedules.specs.Lists.{all}
 use Rattle.schedules.specs.Order.{less}
-use Rattle.schedules.proofs.Order.{Compared, compared, less-front, less-heads, more-heads, nil-less}
+use Rattle.schedules.proofs.Order.{less-front, less-heads, more-heads}
 use Rattle.schedules.proofs.Lists.{all-at, all-of}
 use Rattle.machine.specs.State.{Event}
 use Rattle.judge.specs.Reading.{Frame, byteAt, isRead, writesIn, known, isEvent, isSource, inRange, key}

@@ -1,31 +1,30 @@
 -- The next step of the walk: what the tables and the machine say of each thread.
-use Prim.Native.Nat.{ℕ, zero, suc, _+_, _*_, _<_, _≤_}
-use mathlib.Core.Path.{_≡_, refl, sym, ap, ap₂, subst, _∙_}
-use mathlib.Core.Logic.{_≢_, _⊎_, inl, inr}
-use mathlib.Core.Bool.{Bool, true, false, cond, _&&_}
-use mathlib.Core.Option.{Option, none, some}
+use Prim.Native.Nat.{ℕ, zero, suc, _+_, _<_, _≤_}
+use mathlib.Core.Path.{_≡_, refl, sym, ap, subst, _∙_}
+use mathlib.Core.Logic.{_≢_}
+use mathlib.Core.Bool.{Bool, true, false}
+use mathlib.Core.Option.{none, some}
 use mathlib.Core.List.{List, [], _∷_, List·Memᴰ, List·Memᴰ·head}
 use native.Mathlib.Omega.{arith}
 use native.Mathlib.Decide.{ℕ-discrete}
-use borrow.Author.Tests.{lt-ltb, le-ltb}
-use lib.Dec.{ltb}
+use borrow.Author.Tests.{lt-ltb}
 use lib.ListN.{length, getD}
 use Rattle.program.specs.Program.{Program}
 use Rattle.schedules.specs.Lists.{first, upTo}
 use Rattle.schedules.specs.Order.{Schedule}
-use Rattle.schedules.specs.System.{run, Allowed}
+use Rattle.schedules.specs.System.{run}
 use Rattle.schedules.proofs.Lists.{first-yes, first-no}
 use Rattle.machine.specs.declared.state.Machine.{Machine}
 use Rattle.machine.specs.State.{Event, initialWrite, Thread, State, noThread, threadOf, cellOf, latest, place, may, SC, start}
 use Rattle.machine.specs.Graph.{Graph}
 use Rattle.machine.specs.Notes.{note, noteBytes}
-use Rattle.machine.specs.Held.{threadAt, Holds, Loaded, Ready}
+use Rattle.machine.specs.Held.{Ready}
 use Rattle.machine.proofs.Steps.{missing, may-small, may-range, run-threads}
 use Rattle.machine.proofs.Start.{start-threads}
 use Rattle.machine.proofs.Regular.{Regular, regular-run, regular-start}
 use Rattle.machine.proofs.HeldAsking.{ready-held}
 use Rattle.machine.proofs.HeldStart.{threads-held, short-held}
-use Rattle.judge.specs.Consistent.{rowOf, locationOf}
+use Rattle.judge.specs.Consistent.{locationOf}
 use Rattle.judge.specs.Judge.{values, fits}
 use Rattle.judge.specs.HeldWalk.{Drawn, Ordering, Ranged, NoteOf, Walking, threadOr, nextOf}
 use Rattle.judge.proofs.Readable.{Readable}

@@ -1,15 +1,15 @@
 -- The walk, step after step: what has been walked and what is left make the whole walk.
 use Prim.Native.Nat.{ℕ, zero, suc, _+_, _*_, _-_, _<_, _≤_}
-use mathlib.Core.Path.{_≡_, refl, sym, ap, ap₂, subst, _∙_}
-use mathlib.Core.Logic.{_≢_, _⊎_, inl, inr}
+use mathlib.Core.Path.{_≡_, refl, sym, ap, subst, _∙_}
+use mathlib.Core.Logic.{_≢_}
 use mathlib.Core.Bool.{Bool, true, false, cond, true≢false}
 use mathlib.Core.Option.{Option, none, some}
 use mathlib.Core.List.{List, [], _∷_, _++_, append-nil, append-assoc, reverse}
 use native.Mathlib.Omega.{arith}
 use native.Mathlib.Decide.{ℕ-discrete}
 use borrow.Author.Tests.{lt-ltb, le-ltb}
-use lib.Dec.{ltb, eqb}
-use lib.ListN.{length, getD, set, replicate, length-set, getD-replicate, length-append}
+use lib.Dec.{eqb}
+use lib.ListN.{length, getD, set, replicate, getD-replicate, length-append}
 use lib.Seq.{getD-set-same, getD-set-other, getD-append-seam}
 use Rattle.program.specs.Program.{Program}
 use Rattle.schedules.specs.Lists.{first, upTo}
@@ -21,18 +21,17 @@ use Rattle.schedules.proofs.Lists.{upTo-ascends}
 use Rattle.schedules.proofs.Greedy.{FirstIs, found-at, nowhere, first-is}
 use Rattle.machine.specs.declared.state.Machine.{Machine}
 use Rattle.machine.specs.declared.stepping.Stepped.{Stepped}
-use Rattle.machine.specs.State.{Event, State, threadOf, cellOf, place, step, may, SC, start}
-use Rattle.machine.specs.Graph.{Graph, graphOf, endOf}
-use Rattle.machine.specs.Held.{Holds, Loaded, HoldsStep}
+use Rattle.machine.specs.State.{Event, State, step, may, SC, start}
+use Rattle.machine.specs.Graph.{Graph, graphOf}
+use Rattle.machine.specs.Held.{Holds, HoldsStep}
 use Rattle.machine.proofs.Steps.{may-range, may-small}
 use Rattle.machine.proofs.Start.{start-writes, start-history}
 use Rattle.machine.proofs.Regular.{Regular}
 use Rattle.machine.proofs.Rows.{row-at, order-at}
-use Rattle.judge.specs.declared.walking.Walk.{Walk}
-use Rattle.judge.specs.Consistent.{locationOf, rowOf, orderOf}
+use Rattle.judge.specs.Consistent.{locationOf}
 use Rattle.judge.specs.Judge.{values, fits, walk}
 use Rattle.judge.specs.Held.{noLine, lineIn, Entry, Tabled}
-use Rattle.judge.specs.HeldWalk.{NoteOf, Ranged, Walking, threadOr, nextOf, sourceAdded, eventAdded, countAdded}
+use Rattle.judge.specs.HeldWalk.{Ranged, Walking, threadOr, nextOf, sourceAdded, eventAdded, countAdded}
 use Rattle.judge.specs.HeldYes.{Given, Walked}
 use Rattle.judge.proofs.MadeTables.{made-step}
 use Rattle.judge.proofs.WalkChoice.{walk-regular, walk-near, walk-ranged, walk-ready}

@@ -21,7 +21,7 @@ use Rattle.machine.specs.Trail.{Action, writes, action, trail, who, conf
 use Rattle.machine.proofs.Regular.{Regular, regular-step, regular-run}
 use Rattle.machine.proofs.Rows.{same-reads, same-writes}
 use Rattle.machine.proofs.Growth.{Grown, grown, same-latest, no-growth}
-use Rattle.machine.proofs.Reading.{before-end, Turn, first-turn, same-place, source, same-source}
+use Rattle.machine.proofs.Reading.{before-end, Turn, first-turn, same-place, same-source}
 use Rattle.machine.proofs.Determined.{determined}
 use Rattle.machine.proofs.Trails.{writes-own, blind-writes, still-takes, first-at, clear-at, same-action}
 

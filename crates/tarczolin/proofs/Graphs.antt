@@ -1,8 +1,7 @@
 -- What the machine's answer to a graph call says.
 use Prim.Native.Nat.{ℕ}
 use native.Mathlib.Omega.{arith}
-use mathlib.Core.Path.{_≡_, _∙_, sym, ap}
-use mathlib.Core.List.{List}
+use mathlib.Core.Path.{_≡_, ap}
 use lib.ListN.{length}
 use Rattle.machine.specs.declared.graph_call.GraphAnswer.{GraphAnswer}
 use Rattle.machine.specs.declared.graph_call.GraphAnswer.the-variants.{Written, Refused}

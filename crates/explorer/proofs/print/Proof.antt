@@ -25,7 +25,9 @@ slice-aggregate-next : tie.Need-slice-aggregate-next Inv-loop μ-loop
 slice-aggregate-next c = sym (c .before .loop .inv .1)
 
 next-requires : tie.Need-next-requires Inv-loop μ-loop
-next-requires c κs = let n : 13568 ≤ length (c .before .loop .out) = omega (arith, c .before .loop .inv .1) in (c .before .loop .inv .0, n)
+next-requires c κs =
+    let loop = c .before .loop in
+    let n : 13568 ≤ length (loop .out) = omega (arith, loop .inv .1) in (loop .inv .0, n)
 
 -- the piece lies within the buffer
 piece : (c : tie.After-next Inv-loop μ-loop) → c .next .result .length ≤ length (c .next .last .1 .0)

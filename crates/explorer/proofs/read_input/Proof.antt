@@ -18,7 +18,9 @@ abbrev μ-loop : tie.MeasureT-loop
 
 -- the buffer behind a read is as long as before
 abbrev read : (c : tie.After-read Inv-loop μ-loop) → List ℕ
-read c = putMid (c .before .before .before .loop .at) (length (c .before .before .before .loop .file) - c .before .before .before .loop .at) (c .before .before .before .loop .file) (c .read .last .1 .0)
+read c =
+    let loop = c .before .before .before .loop in
+    putMid (loop .at) (length (loop .file) - loop .at) (loop .file) (c .read .last .1 .0)
 
 kept : (c : tie.After-file Inv-loop μ-loop) → length (read (c .before)) ≡ length (c .before .before .before .before .loop .file)
 kept c = c .file .given .1

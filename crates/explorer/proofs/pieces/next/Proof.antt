@@ -23,11 +23,14 @@ walk-on-requires c κs =
 
 returns : tie.Need-returns
 returns c =
-    let a = c .before .before .before .before .before .before .before .before .before .args in
+    let entry = c .before .before .before .before .before .before .before .before .before in
+    let pre = entry .pre in
+    let a = entry .args in
+    let stage = c .before .before .before .before .before .before .stage in
     let w = c .before .before .before .refusal-line in
     let l = c .last-piece in
     as-many (a .s) (l .result .listing) (w .last .0) (l .result .length) (w .result) (l .ensures .0)
-    (next-refusal (a .s) (l .result .listing) (a .out .now) (w .last .0) _ _ (w .result) (c .before .before .before .before .before .before .stage .given .1) (l .ensures .1) (c .before .before .before .before .before .before .before .before .before .pre .1) (w .ensures))
+    (next-refusal (a .s) (l .result .listing) (a .out .now) (w .last .0) _ _ (w .result) (stage .given .1) (l .ensures .1) (pre .1) (w .ensures))
 
 returns-3 : tie.Need-returns-3
 returns-3 c =

@@ -81,26 +81,29 @@ part-count-line-start c = room (c .before .before .before)
 add-last-piece : tie.Need-add-last-piece
 add-last-piece c =
     let d = c .before .before .before .before .before .before .before in
+    let count-line = c .before .before .count-line in
     let xs : List ℕ = d .before .before .schedule-lines .last .0 in
     let at : ℕ = d .before .before .schedule-lines .result .length in
-    let h : c .before .before .count-line .result ≤ length (midOf at (length xs - at) xs) = wrote-within _ _ _ _ (c .before .before .count-line .ensures) .0 in
+    let h : count-line .result ≤ length (midOf at (length xs - at) xs) = wrote-within _ _ _ _ (count-line .ensures) .0 in
     let k : length xs ≡ length (d .before .before .before .before .before .before .before .before .before .before .before .before .before .before .before .args .out .now) = wrote-within _ _ _ _ (wrote d .0) .1 in
-    let z : at + c .before .before .count-line .result < 2 ^ 64 = omega (arith, h, k, room d, mid-len at (length xs) xs (omega arith), d .before .before .before .before .before .before .before .before .before .before .before .before .before .before .before .good .1 .0 .0) in
+    let z : at + count-line .result < 2 ^ 64 = omega (arith, h, k, room d, mid-len at (length xs) xs (omega arith), d .before .before .before .before .before .before .before .before .before .before .before .before .before .before .before .good .1 .0 .0) in
     record { fits = z }
 
 returns : tie.Need-returns
 returns c =
     let d = c .before .before .before .before .before .before .before .before in
+    let if1 = c .before .before .before .before .before .if1 in
+    let count-line = c .before .before .before .count-line in
     let r = rowed d in
     let s : Listing = state r in
     let xs : List ℕ = d .before .before .schedule-lines .last .0 in
-    let ys : List ℕ = c .before .before .before .count-line .last .0 in
+    let ys : List ℕ = count-line .last .0 in
     let at : ℕ = d .before .before .schedule-lines .result .length in
-    let m : ℕ = c .before .before .before .count-line .result in
+    let m : ℕ = count-line .result in
     let q = d .before .before .before .before .before .before .before .before .before .before .before .before .before .before .before .pre in
     subst (λ (k : ℕ). (k ≤ length (putMid at (length xs - at) xs ys)) × Next s (take k (putMid at (length xs - at) xs ys)) (c .last-piece .result .listing)) (sym (c .last-piece .ensures .0))
     (next-counts s (q .1) empty (rows r) (r .listed-rows .result) (shown r) (c .last-piece .result .listing) (d .before .before .before .before .before .before .before .before .before .before .before .before .before .before .before .args .out .now) xs ys at m (d .before .before .schedule-lines .result .failed)
-    (q .0) (c .last-piece .ensures .1) (q .2) (c .before .before .before .before .before .if1 .taken) (wrote d .0) (wrote d .1) (c .before .before .before .count-line .ensures))
+    (q .0) (c .last-piece .ensures .1) (q .2) (if1 .taken) (wrote d .0) (wrote d .1) (count-line .ensures))
 
 returns-2 : tie.Need-returns-2
 returns-2 c =

@@ -12,28 +12,81 @@ use Rattle.judge.proofs.answering.judge.Statement.{statement}
 use Rattle.judge.proofs.answering.judge.Tie as tie
 
 returns : tie.Need-returns
-returns c = says-refused _ 22 0 (c .before .before .before .before .before .before .before .args .out .now) (call-short (c .before .before .before .before .before .before .before .args .file .now) (c .before .before .before .before .before .before .before .args .text .now) (c .before .before .before .decode .result) (c .before .before .before .decode .ensures) (length (c .before .before .before .before .before .before .before .args .out .now)) (c .before .enum-told .given .1) (c .if1 .taken))
+returns c =
+    let args = c .before .before .before .before .before .before .before .args in
+    let decode = c .before .before .before .decode in
+    let enum-told = c .before .enum-told in
+    says-refused _ 22 0 (args .out .now) (call-short (args .file .now) (args .text .now) (decode .result) (decode .ensures) (length (args .out .now)) (enum-told .given .1) (c .if1 .taken))
 
 read-graph-requires : tie.Need-read-graph-requires
-read-graph-requires c κs = call-few (c .before .before .before .before .before .before .before .before .before .before .args .file .now) (c .before .before .before .before .before .before .before .before .before .before .args .text .now) (c .before .before .before .before .before .before .decode .result) (c .before .before .before .before .before .before .decode .ensures) (length (c .before .before .before .before .before .before .before .before .before .before .args .out .now)) (c .before .before .before .before .enum-told .given .1)
+read-graph-requires c κs =
+    let args = c .before .before .before .before .before .before .before .before .before .before .args in
+    let decode = c .before .before .before .before .before .before .decode in
+    let enum-told = c .before .before .before .before .enum-told in
+    call-few (args .file .now) (args .text .now) (decode .result) (decode .ensures) (length (args .out .now)) (enum-told .given .1)
 
 judged-requires : tie.Need-judged-requires
-judged-requires c κs = let v = (call-read (c .before .before .before .before .before .before .before .before .before .before .before .before .before .before .before .before .before .before .args .file .now) (c .before .before .before .before .before .before .before .before .before .before .before .before .before .before .before .before .before .before .args .text .now) (c .before .before .before .before .before .before .before .before .before .before .before .before .before .before .decode .result) (c .before .before .before .before .before .before .before .before .before .before .before .before .before .before .decode .ensures) (length (c .before .before .before .before .before .before .before .before .before .before .before .before .before .before .before .before .before .before .args .out .now)) (c .before .before .before .before .before .before .before .before .before .before .before .before .enum-told .given .1) (c .before .before .before .before .before .before .before .before .before .before .before .if1 .left) (c .before .before .before .before .before .before .before .read-graph .result .verdict) (c .before .before .before .before .before .before .before .read-graph .result .table) (c .before .before .before .before .before .before .before .read-graph .ensures) (c .before .before .before .before .before .enum-told2 .given .1)) in (programOf (c .before .before .before .before .before .before .before .before .before .before .before .before .before .before .decode .result .program), c .before .before .before .before .before .before .before .before .before .before .before .before .before .before .before .before .before .before .args .text .now, v .0, call-loaded (c .before .before .before .before .before .before .before .before .before .before .before .before .before .before .before .before .before .before .args .file .now) (c .before .before .before .before .before .before .before .before .before .before .before .before .before .before .before .before .before .before .args .text .now) (c .before .before .before .before .before .before .before .before .before .before .before .before .before .before .decode .result) (c .before .before .before .before .before .before .before .before .before .before .before .before .before .before .decode .ensures) (length (c .before .before .before .before .before .before .before .before .before .before .before .before .before .before .before .before .before .before .args .out .now)) (c .before .before .before .before .before .before .before .before .before .before .before .before .enum-told .given .1), v .1, v .2)
+judged-requires c κs =
+    let args = c .before .before .before .before .before .before .before .before .before .before .before .before .before .before .before .before .before .before .args in
+    let decode = c .before .before .before .before .before .before .before .before .before .before .before .before .before .before .decode in
+    let enum-told = c .before .before .before .before .before .before .before .before .before .before .before .before .enum-told in
+    let if1 = c .before .before .before .before .before .before .before .before .before .before .before .if1 in
+    let read-graph = c .before .before .before .before .before .before .before .read-graph in
+    let enum-told2 = c .before .before .before .before .before .enum-told2 in
+    let v = (call-read (args .file .now) (args .text .now) (decode .result) (decode .ensures) (length (args .out .now)) (enum-told .given .1) (if1 .left) (read-graph .result .verdict) (read-graph .result .table) (read-graph .ensures) (enum-told2 .given .1)) in (programOf (decode .result .program), args .text .now, v .0, call-loaded (args .file .now) (args .text .now) (decode .result) (decode .ensures) (length (args .out .now)) (enum-told .given .1), v .1, v .2)
 
 returns-2 : tie.Need-returns-2
-returns-2 c = let v = (call-read (c .before .before .before .before .before .before .before .before .before .before .before .before .before .before .before .before .before .before .before .before .before .args .file .now) (c .before .before .before .before .before .before .before .before .before .before .before .before .before .before .before .before .before .before .before .before .before .args .text .now) (c .before .before .before .before .before .before .before .before .before .before .before .before .before .before .before .before .before .decode .result) (c .before .before .before .before .before .before .before .before .before .before .before .before .before .before .before .before .before .decode .ensures) (length (c .before .before .before .before .before .before .before .before .before .before .before .before .before .before .before .before .before .before .before .before .before .args .out .now)) (c .before .before .before .before .before .before .before .before .before .before .before .before .before .before .before .enum-told .given .1) (c .before .before .before .before .before .before .before .before .before .before .before .before .before .before .if1 .left) (c .before .before .before .before .before .before .before .before .before .before .read-graph .result .verdict) (c .before .before .before .before .before .before .before .before .before .before .read-graph .result .table) (c .before .before .before .before .before .before .before .before .before .before .read-graph .ensures) (c .before .before .before .before .before .before .before .before .enum-told2 .given .1)) in says-no _ (c .before .before .before .before .before .before .before .before .before .before .before .before .before .before .before .before .before .before .before .before .before .args .out .now) (call-no (c .before .before .before .before .before .before .before .before .before .before .before .before .before .before .before .before .before .before .before .before .before .args .file .now) (c .before .before .before .before .before .before .before .before .before .before .before .before .before .before .before .before .before .before .before .before .before .args .text .now) (c .before .before .before .before .before .before .before .before .before .before .before .before .before .before .before .before .before .decode .result) (c .before .before .before .before .before .before .before .before .before .before .before .before .before .before .before .before .before .decode .ensures) (length (c .before .before .before .before .before .before .before .before .before .before .before .before .before .before .before .before .before .before .before .before .before .args .out .now)) (c .before .before .before .before .before .before .before .before .before .before .before .before .before .before .before .enum-told .given .1) (c .before .before .before .before .before .before .before .before .before .before .before .before .before .before .if1 .left) (v .0) (v .1) (c .before .before .judged .result .yes) (c .before .before .judged .result .schedule) (c .before .before .judged .result .steps) (c .before .before .judged .ensures (programOf (c .before .before .before .before .before .before .before .before .before .before .before .before .before .before .before .before .before .decode .result .program)) (c .before .before .before .before .before .before .before .before .before .before .before .before .before .before .before .before .before .before .before .before .before .args .text .now) (v .0) (call-loaded (c .before .before .before .before .before .before .before .before .before .before .before .before .before .before .before .before .before .before .before .before .before .args .file .now) (c .before .before .before .before .before .before .before .before .before .before .before .before .before .before .before .before .before .before .before .before .before .args .text .now) (c .before .before .before .before .before .before .before .before .before .before .before .before .before .before .before .before .before .decode .result) (c .before .before .before .before .before .before .before .before .before .before .before .before .before .before .before .before .before .decode .ensures) (length (c .before .before .before .before .before .before .before .before .before .before .before .before .before .before .before .before .before .before .before .before .before .args .out .now)) (c .before .before .before .before .before .before .before .before .before .before .before .before .before .before .before .enum-told .given .1)) (v .1) (v .2)) (not-true _ (c .if2 .taken)))
+returns-2 c =
+    let args = c .before .before .before .before .before .before .before .before .before .before .before .before .before .before .before .before .before .before .before .before .before .args in
+    let decode = c .before .before .before .before .before .before .before .before .before .before .before .before .before .before .before .before .before .decode in
+    let enum-told = c .before .before .before .before .before .before .before .before .before .before .before .before .before .before .before .enum-told in
+    let if1 = c .before .before .before .before .before .before .before .before .before .before .before .before .before .before .if1 in
+    let read-graph = c .before .before .before .before .before .before .before .before .before .before .read-graph in
+    let enum-told2 = c .before .before .before .before .before .before .before .before .enum-told2 in
+    let judged = c .before .before .judged in
+    let v = (call-read (args .file .now) (args .text .now) (decode .result) (decode .ensures) (length (args .out .now)) (enum-told .given .1) (if1 .left) (read-graph .result .verdict) (read-graph .result .table) (read-graph .ensures) (enum-told2 .given .1)) in says-no _ (args .out .now) (call-no (args .file .now) (args .text .now) (decode .result) (decode .ensures) (length (args .out .now)) (enum-told .given .1) (if1 .left) (v .0) (v .1) (judged .result .yes) (judged .result .schedule) (judged .result .steps) (judged .ensures (programOf (decode .result .program)) (args .text .now) (v .0) (call-loaded (args .file .now) (args .text .now) (decode .result) (decode .ensures) (length (args .out .now)) (enum-told .given .1)) (v .1) (v .2)) (not-true _ (c .if2 .taken)))
 
 put-requires : tie.Need-put-requires
-put-requires c κs = let v = (call-read (c .before .before .before .before .before .before .before .before .before .before .before .before .before .before .before .before .before .before .before .before .before .before .before .args .file .now) (c .before .before .before .before .before .before .before .before .before .before .before .before .before .before .before .before .before .before .before .before .before .before .before .args .text .now) (c .before .before .before .before .before .before .before .before .before .before .before .before .before .before .before .before .before .before .before .decode .result) (c .before .before .before .before .before .before .before .before .before .before .before .before .before .before .before .before .before .before .before .decode .ensures) (length (c .before .before .before .before .before .before .before .before .before .before .before .before .before .before .before .before .before .before .before .before .before .before .before .args .out .now)) (c .before .before .before .before .before .before .before .before .before .before .before .before .before .before .before .before .before .enum-told .given .1) (c .before .before .before .before .before .before .before .before .before .before .before .before .before .before .before .before .if1 .left) (c .before .before .before .before .before .before .before .before .before .before .before .before .read-graph .result .verdict) (c .before .before .before .before .before .before .before .before .before .before .before .before .read-graph .result .table) (c .before .before .before .before .before .before .before .before .before .before .before .before .read-graph .ensures) (c .before .before .before .before .before .before .before .before .before .before .enum-told2 .given .1)) in ((call-yes (c .before .before .before .before .before .before .before .before .before .before .before .before .before .before .before .before .before .before .before .before .before .before .before .args .file .now) (c .before .before .before .before .before .before .before .before .before .before .before .before .before .before .before .before .before .before .before .before .before .before .before .args .text .now) (c .before .before .before .before .before .before .before .before .before .before .before .before .before .before .before .before .before .before .before .decode .result) (c .before .before .before .before .before .before .before .before .before .before .before .before .before .before .before .before .before .before .before .decode .ensures) (length (c .before .before .before .before .before .before .before .before .before .before .before .before .before .before .before .before .before .before .before .before .before .before .before .args .out .now)) (c .before .before .before .before .before .before .before .before .before .before .before .before .before .before .before .before .before .enum-told .given .1) (c .before .before .before .before .before .before .before .before .before .before .before .before .before .before .before .before .if1 .left) (v .0) (v .1) (c .before .before .before .before .judged .result .yes) (c .before .before .before .before .judged .result .schedule) (c .before .before .before .before .judged .result .steps) (c .before .before .before .before .judged .ensures (programOf (c .before .before .before .before .before .before .before .before .before .before .before .before .before .before .before .before .before .before .before .decode .result .program)) (c .before .before .before .before .before .before .before .before .before .before .before .before .before .before .before .before .before .before .before .before .before .before .before .args .text .now) (v .0) (call-loaded (c .before .before .before .before .before .before .before .before .before .before .before .before .before .before .before .before .before .before .before .before .before .before .before .args .file .now) (c .before .before .before .before .before .before .before .before .before .before .before .before .before .before .before .before .before .before .before .before .before .before .before .args .text .now) (c .before .before .before .before .before .before .before .before .before .before .before .before .before .before .before .before .before .before .before .decode .result) (c .before .before .before .before .before .before .before .before .before .before .before .before .before .before .before .before .before .before .before .decode .ensures) (length (c .before .before .before .before .before .before .before .before .before .before .before .before .before .before .before .before .before .before .before .before .before .before .before .args .out .now)) (c .before .before .before .before .before .before .before .before .before .before .before .before .before .before .before .before .before .enum-told .given .1)) (v .1) (v .2)) (not-false _ (c .before .before .if2 .left))) .1, c .before .before .before .before .before .before .before .before .before .before .before .before .before .before .before .before .if1 .left)
+put-requires c κs =
+    let args = c .before .before .before .before .before .before .before .before .before .before .before .before .before .before .before .before .before .before .before .before .before .before .before .args in
+    let decode = c .before .before .before .before .before .before .before .before .before .before .before .before .before .before .before .before .before .before .before .decode in
+    let enum-told = c .before .before .before .before .before .before .before .before .before .before .before .before .before .before .before .before .before .enum-told in
+    let if1 = c .before .before .before .before .before .before .before .before .before .before .before .before .before .before .before .before .if1 in
+    let read-graph = c .before .before .before .before .before .before .before .before .before .before .before .before .read-graph in
+    let enum-told2 = c .before .before .before .before .before .before .before .before .before .before .enum-told2 in
+    let judged = c .before .before .before .before .judged in
+    let if2 = c .before .before .if2 in
+    let v = (call-read (args .file .now) (args .text .now) (decode .result) (decode .ensures) (length (args .out .now)) (enum-told .given .1) (if1 .left) (read-graph .result .verdict) (read-graph .result .table) (read-graph .ensures) (enum-told2 .given .1)) in ((call-yes (args .file .now) (args .text .now) (decode .result) (decode .ensures) (length (args .out .now)) (enum-told .given .1) (if1 .left) (v .0) (v .1) (judged .result .yes) (judged .result .schedule) (judged .result .steps) (judged .ensures (programOf (decode .result .program)) (args .text .now) (v .0) (call-loaded (args .file .now) (args .text .now) (decode .result) (decode .ensures) (length (args .out .now)) (enum-told .given .1)) (v .1) (v .2)) (not-false _ (if2 .left))) .1, if1 .left)
 
 returns-3 : tie.Need-returns-3
-returns-3 c = says-refused _ _ _ (c .before .before .before .before .before .before .before .args .out .now) (call-refused (c .before .before .before .before .before .before .before .args .file .now) (c .before .before .before .before .before .before .before .args .text .now) (c .before .before .before .decode .result) (c .before .before .before .decode .ensures) (length (c .before .before .before .before .before .before .before .args .out .now)) _ _ (c .before .v .given .1))
+returns-3 c =
+    let args = c .before .before .before .before .before .before .before .args in
+    let decode = c .before .before .before .decode in
+    let v = c .before .v in
+    says-refused _ _ _ (args .out .now) (call-refused (args .file .now) (args .text .now) (decode .result) (decode .ensures) (length (args .out .now)) _ _ (v .given .1))
 
 returns-4 : tie.Need-returns-4
-returns-4 c = says-refused _ _ _ (c .before .before .before .before .before .before .before .before .before .before .before .before .before .before .args .out .now) (call-line (c .before .before .before .before .before .before .before .before .before .before .before .before .before .before .args .file .now) (c .before .before .before .before .before .before .before .before .before .before .before .before .before .before .args .text .now) (c .before .before .before .before .before .before .before .before .before .before .decode .result) (c .before .before .before .before .before .before .before .before .before .before .decode .ensures) (length (c .before .before .before .before .before .before .before .before .before .before .before .before .before .before .args .out .now)) (c .before .before .before .before .before .before .before .before .enum-told .given .1) (c .before .before .before .before .before .before .before .if1 .left) (c .before .before .before .read-graph .result .verdict) (c .before .before .before .read-graph .result .table) _ _ (c .before .before .before .read-graph .ensures) (c .before .u .given .1))
+returns-4 c =
+    let args = c .before .before .before .before .before .before .before .before .before .before .before .before .before .before .args in
+    let decode = c .before .before .before .before .before .before .before .before .before .before .decode in
+    let enum-told = c .before .before .before .before .before .before .before .before .enum-told in
+    let if1 = c .before .before .before .before .before .before .before .if1 in
+    let read-graph = c .before .before .before .read-graph in
+    let u = c .before .u in
+    says-refused _ _ _ (args .out .now) (call-line (args .file .now) (args .text .now) (decode .result) (decode .ensures) (length (args .out .now)) (enum-told .given .1) (if1 .left) (read-graph .result .verdict) (read-graph .result .table) _ _ (read-graph .ensures) (u .given .1))
 
 returns-5 : tie.Need-returns-5
-returns-5 c = let v = (call-read (c .before .before .before .before .before .before .before .before .before .before .before .before .before .before .before .before .before .before .before .before .before .before .before .before .before .before .args .file .now) (c .before .before .before .before .before .before .before .before .before .before .before .before .before .before .before .before .before .before .before .before .before .before .before .before .before .before .args .text .now) (c .before .before .before .before .before .before .before .before .before .before .before .before .before .before .before .before .before .before .before .before .before .before .decode .result) (c .before .before .before .before .before .before .before .before .before .before .before .before .before .before .before .before .before .before .before .before .before .before .decode .ensures) (length (c .before .before .before .before .before .before .before .before .before .before .before .before .before .before .before .before .before .before .before .before .before .before .before .before .before .before .args .out .now)) (c .before .before .before .before .before .before .before .before .before .before .before .before .before .before .before .before .before .before .before .before .enum-told .given .1) (c .before .before .before .before .before .before .before .before .before .before .before .before .before .before .before .before .before .before .before .if1 .left) (c .before .before .before .before .before .before .before .before .before .before .before .before .before .before .before .read-graph .result .verdict) (c .before .before .before .before .before .before .before .before .before .before .before .before .before .before .before .read-graph .result .table) (c .before .before .before .before .before .before .before .before .before .before .before .before .before .before .before .read-graph .ensures) (c .before .before .before .before .before .before .before .before .before .before .before .before .before .enum-told2 .given .1)) in let y = (call-yes (c .before .before .before .before .before .before .before .before .before .before .before .before .before .before .before .before .before .before .before .before .before .before .before .before .before .before .args .file .now) (c .before .before .before .before .before .before .before .before .before .before .before .before .before .before .before .before .before .before .before .before .before .before .before .before .before .before .args .text .now) (c .before .before .before .before .before .before .before .before .before .before .before .before .before .before .before .before .before .before .before .before .before .before .decode .result) (c .before .before .before .before .before .before .before .before .before .before .before .before .before .before .before .before .before .before .before .before .before .before .decode .ensures) (length (c .before .before .before .before .before .before .before .before .before .before .before .before .before .before .before .before .before .before .before .before .before .before .before .before .before .before .args .out .now)) (c .before .before .before .before .before .before .before .before .before .before .before .before .before .before .before .before .before .before .before .before .enum-told .given .1) (c .before .before .before .before .before .before .before .before .before .before .before .before .before .before .before .before .before .before .before .if1 .left) (v .0) (v .1) (c .before .before .before .before .before .before .before .judged .result .yes) (c .before .before .before .before .before .before .before .judged .result .schedule) (c .before .before .before .before .before .before .before .judged .result .steps) (c .before .before .before .before .before .before .before .judged .ensures (programOf (c .before .before .before .before .before .before .before .before .before .before .before .before .before .before .before .before .before .before .before .before .before .before .decode .result .program)) (c .before .before .before .before .before .before .before .before .before .before .before .before .before .before .before .before .before .before .before .before .before .before .before .before .before .before .args .text .now) (v .0) (call-loaded (c .before .before .before .before .before .before .before .before .before .before .before .before .before .before .before .before .before .before .before .before .before .before .before .before .before .before .args .file .now) (c .before .before .before .before .before .before .before .before .before .before .before .before .before .before .before .before .before .before .before .before .before .before .before .before .before .before .args .text .now) (c .before .before .before .before .before .before .before .before .before .before .before .before .before .before .before .before .before .before .before .before .before .before .decode .result) (c .before .before .before .before .before .before .before .before .before .before .before .before .before .before .before .before .before .before .before .before .before .before .decode .ensures) (length (c .before .before .before .before .before .before .before .before .before .before .before .before .before .before .before .before .before .before .before .before .before .before .before .before .before .before .args .out .now)) (c .before .before .before .before .before .before .before .before .before .before .before .before .before .before .before .before .before .before .before .before .enum-told .given .1)) (v .1) (v .2)) (not-false _ (c .before .before .before .before .before .if2 .left))) in let z : length (c .before .before .before .before .before .before .before .judged .result .schedule) ≡ 24 = search needs in says-yes _ (c .before .before .before .before .before .before .before .judged .result .steps) (c .before .before .before .before .before .before .before .judged .result .schedule) (c .before .before .before .before .before .before .before .before .before .before .before .before .before .before .before .before .before .before .before .before .before .before .before .before .before .before .args .out .now) _ (y .0) (y .1) z (c .before .before .put .ensures)
+returns-5 c =
+    let args = c .before .before .before .before .before .before .before .before .before .before .before .before .before .before .before .before .before .before .before .before .before .before .before .before .before .before .args in
+    let decode = c .before .before .before .before .before .before .before .before .before .before .before .before .before .before .before .before .before .before .before .before .before .before .decode in
+    let enum-told = c .before .before .before .before .before .before .before .before .before .before .before .before .before .before .before .before .before .before .before .before .enum-told in
+    let if1 = c .before .before .before .before .before .before .before .before .before .before .before .before .before .before .before .before .before .before .before .if1 in
+    let read-graph = c .before .before .before .before .before .before .before .before .before .before .before .before .before .before .before .read-graph in
+    let enum-told2 = c .before .before .before .before .before .before .before .before .before .before .before .before .before .enum-told2 in
+    let judged = c .before .before .before .before .before .before .before .judged in
+    let if2 = c .before .before .before .before .before .if2 in
+    let put = c .before .before .put in
+    let v = (call-read (args .file .now) (args .text .now) (decode .result) (decode .ensures) (length (args .out .now)) (enum-told .given .1) (if1 .left) (read-graph .result .verdict) (read-graph .result .table) (read-graph .ensures) (enum-told2 .given .1)) in let y = (call-yes (args .file .now) (args .text .now) (decode .result) (decode .ensures) (length (args .out .now)) (enum-told .given .1) (if1 .left) (v .0) (v .1) (judged .result .yes) (judged .result .schedule) (judged .result .steps) (judged .ensures (programOf (decode .result .program)) (args .text .now) (v .0) (call-loaded (args .file .now) (args .text .now) (decode .result) (decode .ensures) (length (args .out .now)) (enum-told .given .1)) (v .1) (v .2)) (not-false _ (if2 .left))) in let z : length (judged .result .schedule) ≡ 24 = search needs in says-yes _ (judged .result .steps) (judged .result .schedule) (args .out .now) _ (y .0) (y .1) z (put .ensures)
 
 pub judge-spec : {M : Type 1} → statement M
 judge-spec = tie.close (tie.spec (λ c κs. search needs) (λ c. search needs) (λ c. search needs) returns read-graph-requires (λ c. search needs) (λ c. search needs) judged-requires returns-2 put-requires returns-3 returns-4 (λ c. search needs) returns-5)

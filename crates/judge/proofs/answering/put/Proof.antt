@@ -23,7 +23,12 @@ slice-write-out : tie.Need-slice-write-out Inv-loop μ-loop
 slice-write-out c = omega (arith, c .before .loop .inv .1, c .before .before .pre .0, c .before .before .pre .1)
 
 loop-again : tie.Need-loop-again Inv-loop μ-loop
-loop-again c = let z : length (c .before .before .args .t2) ≡ 24 = search needs in (search needs, length-set (c .before .loop .out) (c .before .loop .k) _ ∙ c .before .loop .inv .1, put-more (c .before .loop .out) (c .before .before .args .out .now) (c .before .before .args .t2) (c .before .loop .k) z (omega (arith, c .before .before .pre .0, c .loop-test .taken)) (c .before .before .pre .1) (c .before .loop .inv .2))
+loop-again c =
+    let entry = c .before .before in
+    let pre = entry .pre in
+    let args = entry .args in
+    let loop = c .before .loop in
+    let z : length (args .t2) ≡ 24 = search needs in (search needs, length-set (loop .out) (loop .k) _ ∙ loop .inv .1, put-more (loop .out) (args .out .now) (args .t2) (loop .k) z (omega (arith, pre .0, c .loop-test .taken)) (pre .1) (loop .inv .2))
 
 same-length : tie.Need-same-length Inv-loop μ-loop
 same-length c = c .before .loop .inv .1

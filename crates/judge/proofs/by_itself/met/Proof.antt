@@ -12,16 +12,42 @@ use Rattle.judge.proofs.by_itself.met.Statement.{statement}
 use Rattle.judge.proofs.by_itself.met.Tie as tie
 
 returns : tie.Need-returns
-returns c = λ σ H near. met-ended (c .before .before .before .args .code .now) (c .before .before .before .args .lengths .now) (c .before .before .before .args .m) σ (c .before .before .before .args .x) H (c .before .before .before .args .t) (c .before .before .before .pre .0) (sym (c .before .may .ensures (c .before .before .before .args .code .now) (faced σ (c .before .before .before .args .x)) (faced-held (c .before .before .before .args .code .now) (c .before .before .before .args .lengths .now) (c .before .before .before .args .m) σ (c .before .before .before .args .x) H (c .before .before .facing .result) (c .before .before .facing .ensures))) ∙ not-true _ (c .if1 .taken))
+returns c =
+    let entry = c .before .before .before in
+    let pre = entry .pre in
+    let args = entry .args in
+    let facing = c .before .before .facing in
+    let may = c .before .may in
+    λ σ H near. met-ended (args .code .now) (args .lengths .now) (args .m) σ (args .x) H (args .t) (pre .0) (sym (may .ensures (args .code .now) (faced σ (args .x)) (faced-held (args .code .now) (args .lengths .now) (args .m) σ (args .x) H (facing .result) (facing .ensures))) ∙ not-true _ (c .if1 .taken))
 
 step-requires : tie.Need-step-requires
-step-requires c κs = let σ = c .before .before .before .pre .2 .0 in let H = c .before .before .before .pre .2 .1 in ready-held (c .before .before .before .args .code .now) (c .before .before .before .args .lengths .now) (c .before .before .facing .result) (faced σ (c .before .before .before .args .x)) (faced-held (c .before .before .before .args .code .now) (c .before .before .before .args .lengths .now) (c .before .before .before .args .m) σ (c .before .before .before .args .x) H (c .before .before .facing .result) (c .before .before .facing .ensures)) (c .before .before .before .args .t) (c .before .before .before .pre .1) (sym (c .before .may .ensures (c .before .before .before .args .code .now) (faced σ (c .before .before .before .args .x)) (faced-held (c .before .before .before .args .code .now) (c .before .before .before .args .lengths .now) (c .before .before .before .args .m) σ (c .before .before .before .args .x) H (c .before .before .facing .result) (c .before .before .facing .ensures))) ∙ not-false _ (c .if1 .left))
+step-requires c κs =
+    let entry = c .before .before .before in
+    let pre = entry .pre in
+    let args = entry .args in
+    let facing = c .before .before .facing in
+    let may = c .before .may in
+    let σ = pre .2 .0 in let H = pre .2 .1 in ready-held (args .code .now) (args .lengths .now) (facing .result) (faced σ (args .x)) (faced-held (args .code .now) (args .lengths .now) (args .m) σ (args .x) H (facing .result) (facing .ensures)) (args .t) (pre .1) (sym (may .ensures (args .code .now) (faced σ (args .x)) (faced-held (args .code .now) (args .lengths .now) (args .m) σ (args .x) H (facing .result) (facing .ensures))) ∙ not-false _ (c .if1 .left))
 
 returns-2 : tie.Need-returns-2
-returns-2 c = λ σ H near. met-still (c .before .before .before .before .before .before .before .args .code .now) (c .before .before .before .before .before .before .before .args .lengths .now) (c .before .before .before .before .before .before .before .args .m) σ (c .before .before .before .before .before .before .before .args .x) H (c .before .before .before .before .before .before .before .args .t) near (sym (c .before .before .before .before .before .may .ensures (c .before .before .before .before .before .before .before .args .code .now) (faced σ (c .before .before .before .before .before .before .before .args .x)) (faced-held (c .before .before .before .before .before .before .before .args .code .now) (c .before .before .before .before .before .before .before .args .lengths .now) (c .before .before .before .before .before .before .before .args .m) σ (c .before .before .before .before .before .before .before .args .x) H (c .before .before .before .before .before .before .facing .result) (c .before .before .before .before .before .before .facing .ensures))) ∙ not-false _ (c .before .before .before .before .if1 .left)) (c .before .before .before .step .result) (c .before .before .before .step .ensures (faced σ (c .before .before .before .before .before .before .before .args .x)) (faced-held (c .before .before .before .before .before .before .before .args .code .now) (c .before .before .before .before .before .before .before .args .lengths .now) (c .before .before .before .before .before .before .before .args .m) σ (c .before .before .before .before .before .before .before .args .x) H (c .before .before .before .before .before .before .facing .result) (c .before .before .before .before .before .before .facing .ensures)) (sym (c .before .before .before .before .before .may .ensures (c .before .before .before .before .before .before .before .args .code .now) (faced σ (c .before .before .before .before .before .before .before .args .x)) (faced-held (c .before .before .before .before .before .before .before .args .code .now) (c .before .before .before .before .before .before .before .args .lengths .now) (c .before .before .before .before .before .before .before .args .m) σ (c .before .before .before .before .before .before .before .args .x) H (c .before .before .before .before .before .before .facing .result) (c .before .before .before .before .before .before .facing .ensures))) ∙ not-false _ (c .before .before .before .before .if1 .left)) (faced-near (c .before .before .before .before .before .before .before .args .code .now) (c .before .before .before .before .before .before .before .args .lengths .now) (c .before .before .before .before .before .before .before .args .m) σ (c .before .before .before .before .before .before .before .args .x) H (c .before .before .before .before .before .before .before .args .t) near (sym (c .before .before .before .before .before .may .ensures (c .before .before .before .before .before .before .before .args .code .now) (faced σ (c .before .before .before .before .before .before .before .args .x)) (faced-held (c .before .before .before .before .before .before .before .args .code .now) (c .before .before .before .before .before .before .before .args .lengths .now) (c .before .before .before .before .before .before .before .args .m) σ (c .before .before .before .before .before .before .before .args .x) H (c .before .before .before .before .before .before .facing .result) (c .before .before .before .before .before .before .facing .ensures))) ∙ not-false _ (c .before .before .before .before .if1 .left)))) (c .if2 .taken)
+returns-2 c =
+    let args = c .before .before .before .before .before .before .before .args in
+    let facing = c .before .before .before .before .before .before .facing in
+    let may = c .before .before .before .before .before .may in
+    let if1 = c .before .before .before .before .if1 in
+    let step = c .before .before .before .step in
+    λ σ H near. met-still (args .code .now) (args .lengths .now) (args .m) σ (args .x) H (args .t) near (sym (may .ensures (args .code .now) (faced σ (args .x)) (faced-held (args .code .now) (args .lengths .now) (args .m) σ (args .x) H (facing .result) (facing .ensures))) ∙ not-false _ (if1 .left)) (step .result) (step .ensures (faced σ (args .x)) (faced-held (args .code .now) (args .lengths .now) (args .m) σ (args .x) H (facing .result) (facing .ensures)) (sym (may .ensures (args .code .now) (faced σ (args .x)) (faced-held (args .code .now) (args .lengths .now) (args .m) σ (args .x) H (facing .result) (facing .ensures))) ∙ not-false _ (if1 .left)) (faced-near (args .code .now) (args .lengths .now) (args .m) σ (args .x) H (args .t) near (sym (may .ensures (args .code .now) (faced σ (args .x)) (faced-held (args .code .now) (args .lengths .now) (args .m) σ (args .x) H (facing .result) (facing .ensures))) ∙ not-false _ (if1 .left)))) (c .if2 .taken)
 
 returns-3 : tie.Need-returns-3
-returns-3 c = λ σ H near. met-writes (c .before .before .before .before .before .before .before .before .before .args .code .now) (c .before .before .before .before .before .before .before .before .before .args .lengths .now) (c .before .before .before .before .before .before .before .before .before .args .m) σ (c .before .before .before .before .before .before .before .before .before .args .x) H (c .before .before .before .before .before .before .before .before .before .args .t) near (sym (c .before .before .before .before .before .before .before .may .ensures (c .before .before .before .before .before .before .before .before .before .args .code .now) (faced σ (c .before .before .before .before .before .before .before .before .before .args .x)) (faced-held (c .before .before .before .before .before .before .before .before .before .args .code .now) (c .before .before .before .before .before .before .before .before .before .args .lengths .now) (c .before .before .before .before .before .before .before .before .before .args .m) σ (c .before .before .before .before .before .before .before .before .before .args .x) H (c .before .before .before .before .before .before .before .before .facing .result) (c .before .before .before .before .before .before .before .before .facing .ensures))) ∙ not-false _ (c .before .before .before .before .before .before .if1 .left)) (c .before .before .before .before .before .step .result) (c .before .before .before .before .before .step .ensures (faced σ (c .before .before .before .before .before .before .before .before .before .args .x)) (faced-held (c .before .before .before .before .before .before .before .before .before .args .code .now) (c .before .before .before .before .before .before .before .before .before .args .lengths .now) (c .before .before .before .before .before .before .before .before .before .args .m) σ (c .before .before .before .before .before .before .before .before .before .args .x) H (c .before .before .before .before .before .before .before .before .facing .result) (c .before .before .before .before .before .before .before .before .facing .ensures)) (sym (c .before .before .before .before .before .before .before .may .ensures (c .before .before .before .before .before .before .before .before .before .args .code .now) (faced σ (c .before .before .before .before .before .before .before .before .before .args .x)) (faced-held (c .before .before .before .before .before .before .before .before .before .args .code .now) (c .before .before .before .before .before .before .before .before .before .args .lengths .now) (c .before .before .before .before .before .before .before .before .before .args .m) σ (c .before .before .before .before .before .before .before .before .before .args .x) H (c .before .before .before .before .before .before .before .before .facing .result) (c .before .before .before .before .before .before .before .before .facing .ensures))) ∙ not-false _ (c .before .before .before .before .before .before .if1 .left)) (faced-near (c .before .before .before .before .before .before .before .before .before .args .code .now) (c .before .before .before .before .before .before .before .before .before .args .lengths .now) (c .before .before .before .before .before .before .before .before .before .args .m) σ (c .before .before .before .before .before .before .before .before .before .args .x) H (c .before .before .before .before .before .before .before .before .before .args .t) near (sym (c .before .before .before .before .before .before .before .may .ensures (c .before .before .before .before .before .before .before .before .before .args .code .now) (faced σ (c .before .before .before .before .before .before .before .before .before .args .x)) (faced-held (c .before .before .before .before .before .before .before .before .before .args .code .now) (c .before .before .before .before .before .before .before .before .before .args .lengths .now) (c .before .before .before .before .before .before .before .before .before .args .m) σ (c .before .before .before .before .before .before .before .before .before .args .x) H (c .before .before .before .before .before .before .before .before .facing .result) (c .before .before .before .before .before .before .before .before .facing .ensures))) ∙ not-false _ (c .before .before .before .before .before .before .if1 .left)))) _ (ap (λ (k : ℕ). k % 8) (c .before .wide .ensures)) (c .before .before .if2 .left)
+returns-3 c =
+    let args = c .before .before .before .before .before .before .before .before .before .args in
+    let facing = c .before .before .before .before .before .before .before .before .facing in
+    let may = c .before .before .before .before .before .before .before .may in
+    let if1 = c .before .before .before .before .before .before .if1 in
+    let step = c .before .before .before .before .before .step in
+    let if2 = c .before .before .if2 in
+    let wide = c .before .wide in
+    λ σ H near. met-writes (args .code .now) (args .lengths .now) (args .m) σ (args .x) H (args .t) near (sym (may .ensures (args .code .now) (faced σ (args .x)) (faced-held (args .code .now) (args .lengths .now) (args .m) σ (args .x) H (facing .result) (facing .ensures))) ∙ not-false _ (if1 .left)) (step .result) (step .ensures (faced σ (args .x)) (faced-held (args .code .now) (args .lengths .now) (args .m) σ (args .x) H (facing .result) (facing .ensures)) (sym (may .ensures (args .code .now) (faced σ (args .x)) (faced-held (args .code .now) (args .lengths .now) (args .m) σ (args .x) H (facing .result) (facing .ensures))) ∙ not-false _ (if1 .left)) (faced-near (args .code .now) (args .lengths .now) (args .m) σ (args .x) H (args .t) near (sym (may .ensures (args .code .now) (faced σ (args .x)) (faced-held (args .code .now) (args .lengths .now) (args .m) σ (args .x) H (facing .result) (facing .ensures))) ∙ not-false _ (if1 .left)))) _ (ap (λ (k : ℕ). k % 8) (wide .ensures)) (if2 .left)
 
 pub met-spec : {M : Type 1} → statement M
 met-spec = tie.close (tie.spec (λ c κs. search needs) (λ c κs. search needs) returns step-requires (λ c. search needs) (λ c. search needs) returns-2 (λ c κs. search needs) (λ c. search needs) (λ c. search needs) returns-3)

@@ -31,13 +31,25 @@ may-go-requires : tie.Need-may-go-requires Inv-loop μ-loop
 may-go-requires c κs = c .before .before .pre
 
 returns : tie.Need-returns Inv-loop μ-loop
-returns c = (search needs, λ p g s W. chosen-one (c .before .before .before .before .args .code .now) (c .before .before .before .before .args .lengths .now) (c .before .before .before .before .args .threads) (c .before .before .before .before .args .pairs) (c .before .before .before .before .args .places) p g (c .before .before .before .before .args .m) (c .before .before .before .before .args .counts) s W (c .before .before .before .loop .t) (c .before .before .loop-test .taken) (c .before .before .before .loop .inv .1 p g s W) (sym (c .before .may-go .ensures p g s W) ∙ c .if1 .taken))
+returns c =
+    let args = c .before .before .before .before .args in
+    let loop = c .before .before .before .loop in
+    let loop-test = c .before .before .loop-test in
+    let may-go = c .before .may-go in
+    (search needs, λ p g s W. chosen-one (args .code .now) (args .lengths .now) (args .threads) (args .pairs) (args .places) p g (args .m) (args .counts) s W (loop .t) (loop-test .taken) (loop .inv .1 p g s W) (sym (may-go .ensures p g s W) ∙ c .if1 .taken))
 
 loop-again : tie.Need-loop-again Inv-loop μ-loop
-loop-again c = (search needs, λ p g s W. passed-over (c .before .before .before .before .args .code .now) (c .before .before .before .before .args .lengths .now) (c .before .before .before .before .args .threads) (c .before .before .before .before .args .pairs) (c .before .before .before .before .args .places) p g (c .before .before .before .before .args .m) (c .before .before .before .before .args .counts) s W (c .before .before .before .loop .t) (c .before .before .before .loop .inv .1 p g s W) (sym (c .before .may-go .ensures p g s W) ∙ c .if1 .left))
+loop-again c =
+    let args = c .before .before .before .before .args in
+    let loop = c .before .before .before .loop in
+    let may-go = c .before .may-go in
+    (search needs, λ p g s W. passed-over (args .code .now) (args .lengths .now) (args .threads) (args .pairs) (args .places) p g (args .m) (args .counts) s W (loop .t) (loop .inv .1 p g s W) (sym (may-go .ensures p g s W) ∙ c .if1 .left))
 
 returns-2 : tie.Need-returns-2 Inv-loop μ-loop
-returns-2 c = (search needs, λ p g s W. chosen-none (c .before .before .args .code .now) (c .before .before .args .lengths .now) (c .before .before .args .threads) (c .before .before .args .pairs) (c .before .before .args .places) p g (c .before .before .args .m) (c .before .before .args .counts) s W (c .before .loop .t) (c .loop-test .left) (c .before .loop .inv .1 p g s W))
+returns-2 c =
+    let args = c .before .before .args in
+    let loop = c .before .loop in
+    (search needs, λ p g s W. chosen-none (args .code .now) (args .lengths .now) (args .threads) (args .pairs) (args .places) p g (args .m) (args .counts) s W (loop .t) (c .loop-test .left) (loop .inv .1 p g s W))
 
 pub chosen-spec : {M : Type 1} → statement M
 chosen-spec = tie.close (tie.spec Inv-loop μ-loop loop-holds may-go-requires returns (λ c. search needs) (λ c. search needs) loop-again returns-2)

@@ -21,10 +21,16 @@ returns : tie.Need-returns Inv-loop μ-loop
 returns c = let d = differ (c .before .before .before .args .t1) (c .before .before .before .args .t2) (c .before .before .loop .k) (c .if1 .taken) in (search needs, search needs, d .0, d .1)
 
 loop-again : tie.Need-loop-again Inv-loop μ-loop
-loop-again c = (search needs, agree-more (c .before .before .before .args .t1) (c .before .before .before .args .t2) (c .before .before .loop .k) (c .before .before .loop .inv .1) (c .if1 .left))
+loop-again c =
+    let args = c .before .before .before .args in
+    let loop = c .before .before .loop in
+    (search needs, agree-more (args .t1) (args .t2) (loop .k) (loop .inv .1) (c .if1 .left))
 
 returns-2 : tie.Need-returns-2 Inv-loop μ-loop
-returns-2 c = let p : length (c .before .before .args .t1) ≡ 8 = search needs in let q : length (c .before .before .args .t2) ≡ 8 = search needs in let d = agree (c .before .before .args .t1) (c .before .before .args .t2) 8 (c .before .loop .k) p q (c .loop-test .left) (c .before .loop .inv .1) in (p, q, d .0, d .1)
+returns-2 c =
+    let args = c .before .before .args in
+    let loop = c .before .loop in
+    let p : length (args .t1) ≡ 8 = search needs in let q : length (args .t2) ≡ 8 = search needs in let d = agree (args .t1) (args .t2) 8 (loop .k) p q (c .loop-test .left) (loop .inv .1) in (p, q, d .0, d .1)
 
 pub same-counts-spec : {M : Type 1} → statement M
 same-counts-spec = tie.close (tie.spec Inv-loop μ-loop loop-holds (λ c. search needs) (λ c. search needs) (λ c. search needs) (λ c. search needs) returns (λ c. search needs) (λ c. search needs) loop-again returns-2)

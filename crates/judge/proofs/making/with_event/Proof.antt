@@ -10,40 +10,64 @@ returns : tie.Need-returns
 returns c = (rw (eq-eqb _ _ (c .if1 .taken)), rw (eq-eqb _ _ (c .if1 .taken)))
 
 mul-c : tie.Need-mul-c
-mul-c c = omega (arith, c .before .before .pre .0 .location, c .wide .ensures, c .before .before .pre .1 (c .wide .result))
+mul-c c =
+    let pre = c .before .before .pre in
+    omega (arith, pre .0 .location, c .wide .ensures, pre .1 (c .wide .result))
 
 array-read-c : tie.Need-array-read-c
-array-read-c c = omega (arith, c .before .before .pre .0 .location, c .wide .ensures, c .before .before .pre .1 (c .wide .result))
+array-read-c c =
+    let pre = c .before .before .pre in
+    omega (arith, pre .0 .location, c .wide .ensures, pre .1 (c .wide .result))
 
 mul-at : tie.Need-mul-at
-mul-at c = omega (arith, c .before .before .pre .0 .location, c .wide .ensures, c .before .before .pre .1 (c .wide .result))
+mul-at c =
+    let pre = c .before .before .pre in
+    omega (arith, pre .0 .location, c .wide .ensures, pre .1 (c .wide .result))
 
 add-at : tie.Need-add-at
-add-at c = omega (arith, c .before .before .pre .0 .location, c .wide .ensures, c .before .before .pre .1 (c .wide .result))
+add-at c =
+    let pre = c .before .before .pre in
+    omega (arith, pre .0 .location, c .wide .ensures, pre .1 (c .wide .result))
 
 add-at-2 : tie.Need-add-at-2
-add-at-2 c = omega (arith, c .before .before .pre .0 .location, c .wide .ensures, c .before .before .pre .1 (c .wide .result))
+add-at-2 c =
+    let pre = c .before .before .pre in
+    omega (arith, pre .0 .location, c .wide .ensures, pre .1 (c .wide .result))
 
 mul-at-2 : tie.Need-mul-at-2
-mul-at-2 c = omega (arith, c .before .before .pre .0 .location, c .wide .ensures, c .before .before .pre .1 (c .wide .result))
+mul-at-2 c =
+    let pre = c .before .before .pre in
+    omega (arith, pre .0 .location, c .wide .ensures, pre .1 (c .wide .result))
 
 array-write-p : tie.Need-array-write-p
-array-write-p c = omega (arith, c .before .before .pre .0 .location, c .wide .ensures, c .before .before .pre .1 (c .wide .result))
+array-write-p c =
+    let pre = c .before .before .pre in
+    omega (arith, pre .0 .location, c .wide .ensures, pre .1 (c .wide .result))
 
 add-p : tie.Need-add-p
-add-p c = omega (arith, c .before .before .pre .0 .location, c .wide .ensures, c .before .before .pre .1 (c .wide .result))
+add-p c =
+    let pre = c .before .before .pre in
+    omega (arith, pre .0 .location, c .wide .ensures, pre .1 (c .wide .result))
 
 array-write-p-2 : tie.Need-array-write-p-2
-array-write-p-2 c = omega (arith, c .before .before .pre .0 .location, c .wide .ensures, c .before .before .pre .1 (c .wide .result))
+array-write-p-2 c =
+    let pre = c .before .before .pre in
+    omega (arith, pre .0 .location, c .wide .ensures, pre .1 (c .wide .result))
 
 add-n : tie.Need-add-n
-add-n c = omega (arith, c .before .before .pre .0 .location, c .wide .ensures, c .before .before .pre .1 (c .wide .result))
+add-n c =
+    let pre = c .before .before .pre in
+    omega (arith, pre .0 .location, c .wide .ensures, pre .1 (c .wide .result))
 
 mul-n : tie.Need-mul-n
-mul-n c = omega (arith, c .before .before .pre .0 .location, c .wide .ensures, c .before .before .pre .1 (c .wide .result))
+mul-n c =
+    let pre = c .before .before .pre in
+    omega (arith, pre .0 .location, c .wide .ensures, pre .1 (c .wide .result))
 
 array-write-n : tie.Need-array-write-n
-array-write-n c = omega (arith, c .before .before .pre .0 .location, c .wide .ensures, c .before .before .pre .1 (c .wide .result))
+array-write-n c =
+    let pre = c .before .before .pre in
+    omega (arith, pre .0 .location, c .wide .ensures, pre .1 (c .wide .result))
 
 returns-2 : tie.Need-returns-2
 returns-2 c = (rw (ne-eqb _ _ (c .before .if1 .left), ← c .wide .ensures), rw (ne-eqb _ _ (c .before .if1 .left), ← c .wide .ensures))

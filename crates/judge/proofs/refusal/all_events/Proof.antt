@@ -26,7 +26,15 @@ add-field : tie.Need-add-field Inv-loop μ-loop
 add-field c = omega (arith, c .before .before .loop .inv .0, c .before .before .before .before .pre .1)
 
 returns : tie.Need-returns Inv-loop μ-loop
-returns c = sym (c .before .before .before .before .before .loop .inv .1 ∙ rw ((event-here (pairs (c .before .before .before .before .before .before .before .args .line .now)) (c .before .before .before .before .before .loop .k) (omega (arith, c .before .before .before .before .before .loop .inv .0, c .before .before .before .before .before .before .before .pre .0, c .before .before .before .before .before .before .before .pre .1))), all-cons, ← c .before .before .before .field .ensures .0, ← c .before .before .field2 .ensures .0, sym (c .before .is-event .ensures) ∙ not-true _ (c .if1 .taken)))
+returns c =
+    let entry = c .before .before .before .before .before .before .before in
+    let pre = entry .pre in
+    let args = entry .args in
+    let loop = c .before .before .before .before .before .loop in
+    let field = c .before .before .before .field in
+    let field2 = c .before .before .field2 in
+    let is-event = c .before .is-event in
+    sym (loop .inv .1 ∙ rw ((event-here (pairs (args .line .now)) (loop .k) (omega (arith, loop .inv .0, pre .0, pre .1))), all-cons, ← field .ensures .0, ← field2 .ensures .0, sym (is-event .ensures) ∙ not-true _ (c .if1 .taken)))
 
 add-k : tie.Need-add-k Inv-loop μ-loop
 add-k c = omega (arith, c .before .before .before .before .before .loop .inv .0, c .before .before .before .before .before .before .before .pre .1)
@@ -35,7 +43,15 @@ loop-less : tie.Need-loop-less Inv-loop μ-loop
 loop-less c = omega (arith, c .before .before .before .before .before .loop .inv .0, c .before .before .before .before .before .before .before .pre .1)
 
 loop-again : tie.Need-loop-again Inv-loop μ-loop
-loop-again c = (search needs, c .before .before .before .before .before .loop .inv .1 ∙ rw ((event-here (pairs (c .before .before .before .before .before .before .before .args .line .now)) (c .before .before .before .before .before .loop .k) (omega (arith, c .before .before .before .before .before .loop .inv .0, c .before .before .before .before .before .before .before .pre .0, c .before .before .before .before .before .before .before .pre .1))), all-cons, ← c .before .before .before .field .ensures .0, ← c .before .before .field2 .ensures .0, sym (c .before .is-event .ensures) ∙ not-false _ (c .if1 .left)))
+loop-again c =
+    let entry = c .before .before .before .before .before .before .before in
+    let pre = entry .pre in
+    let args = entry .args in
+    let loop = c .before .before .before .before .before .loop in
+    let field = c .before .before .before .field in
+    let field2 = c .before .before .field2 in
+    let is-event = c .before .is-event in
+    (search needs, loop .inv .1 ∙ rw ((event-here (pairs (args .line .now)) (loop .k) (omega (arith, loop .inv .0, pre .0, pre .1))), all-cons, ← field .ensures .0, ← field2 .ensures .0, sym (is-event .ensures) ∙ not-false _ (c .if1 .left)))
 
 returns-2 : tie.Need-returns-2 Inv-loop μ-loop
 unfolding all

@@ -39,13 +39,33 @@ add-e : tie.Need-add-e Inv-loop μ-loop
 add-e c = omega (arith, c .before .field .ensures .1, c .field2 .ensures .1)
 
 array-read-if1 : tie.Need-array-read-if1 Inv-loop μ-loop
-array-read-if1 c = let n = turn-named (pairs (c .before .before .before .before .before .args .line .now)) (c .before .before .before .loop .k) (c .before .field .result) (c .field2 .result) (omega (arith, c .before .before .before .loop .inv .0, c .before .before .before .before .before .pre .0, c .before .before .before .before .before .pre .1)) (c .before .field .ensures .0) (c .field2 .ensures .0) (c .before .before .before .loop .inv .2) in omega (arith, n .0 .0, n .0 .1, c .before .before .before .loop .inv .1)
+array-read-if1 c =
+    let entry = c .before .before .before .before .before in
+    let pre = entry .pre in
+    let args = entry .args in
+    let loop = c .before .before .before .loop in
+    let field = c .before .field in
+    let n = turn-named (pairs (args .line .now)) (loop .k) (field .result) (c .field2 .result) (omega (arith, loop .inv .0, pre .0, pre .1)) (field .ensures .0) (c .field2 .ensures .0) (loop .inv .2) in omega (arith, n .0 .0, n .0 .1, loop .inv .1)
 
 returns : tie.Need-returns Inv-loop μ-loop
-returns c = λ rows S. let v = c .before .before .before .before .loop .inv .3 rows S in sym (v .2 ∙ turn-found (pairs (c .before .before .before .before .before .before .args .line .now)) (c .before .before .before .before .loop .k) (c .before .before .field .result) (c .before .field2 .result) (omega (arith, c .before .before .before .before .loop .inv .0, c .before .before .before .before .before .before .pre .0, c .before .before .before .before .before .before .pre .1)) (c .before .before .field .ensures .0) (c .before .field2 .ensures .0) (c .before .before .before .before .loop .s) (v .0) (turn-named (pairs (c .before .before .before .before .before .before .args .line .now)) (c .before .before .before .before .loop .k) (c .before .before .field .result) (c .before .field2 .result) (omega (arith, c .before .before .before .before .loop .inv .0, c .before .before .before .before .before .before .pre .0, c .before .before .before .before .before .before .pre .1)) (c .before .before .field .ensures .0) (c .before .field2 .ensures .0) (c .before .before .before .before .loop .inv .2) .0) (v .1) (c .if1 .taken))
+returns c =
+    let entry = c .before .before .before .before .before .before in
+    let pre = entry .pre in
+    let args = entry .args in
+    let loop = c .before .before .before .before .loop in
+    let field = c .before .before .field in
+    let field2 = c .before .field2 in
+    λ rows S. let v = loop .inv .3 rows S in sym (v .2 ∙ turn-found (pairs (args .line .now)) (loop .k) (field .result) (field2 .result) (omega (arith, loop .inv .0, pre .0, pre .1)) (field .ensures .0) (field2 .ensures .0) (loop .s) (v .0) (turn-named (pairs (args .line .now)) (loop .k) (field .result) (field2 .result) (omega (arith, loop .inv .0, pre .0, pre .1)) (field .ensures .0) (field2 .ensures .0) (loop .inv .2) .0) (v .1) (c .if1 .taken))
 
 array-write-s : tie.Need-array-write-s Inv-loop μ-loop
-array-write-s c = let n = turn-named (pairs (c .before .before .before .before .before .before .args .line .now)) (c .before .before .before .before .loop .k) (c .before .before .field .result) (c .before .field2 .result) (omega (arith, c .before .before .before .before .loop .inv .0, c .before .before .before .before .before .before .pre .0, c .before .before .before .before .before .before .pre .1)) (c .before .before .field .ensures .0) (c .before .field2 .ensures .0) (c .before .before .before .before .loop .inv .2) in omega (arith, n .0 .0, n .0 .1, c .before .before .before .before .loop .inv .1)
+array-write-s c =
+    let entry = c .before .before .before .before .before .before in
+    let pre = entry .pre in
+    let args = entry .args in
+    let loop = c .before .before .before .before .loop in
+    let field = c .before .before .field in
+    let field2 = c .before .field2 in
+    let n = turn-named (pairs (args .line .now)) (loop .k) (field .result) (field2 .result) (omega (arith, loop .inv .0, pre .0, pre .1)) (field .ensures .0) (field2 .ensures .0) (loop .inv .2) in omega (arith, n .0 .0, n .0 .1, loop .inv .1)
 
 add-k : tie.Need-add-k Inv-loop μ-loop
 add-k c = omega (arith, c .before .before .before .before .loop .inv .0, c .before .before .before .before .before .before .pre .1)
@@ -54,7 +74,14 @@ loop-less : tie.Need-loop-less Inv-loop μ-loop
 loop-less c = omega (arith, c .before .before .before .before .loop .inv .0, c .before .before .before .before .before .before .pre .1)
 
 loop-again : tie.Need-loop-again Inv-loop μ-loop
-loop-again c = (search needs, length-set (c .before .before .before .before .loop .s) (c .before .before .field .result * 16 + c .before .field2 .result) 1 ∙ c .before .before .before .before .loop .inv .1, turn-named (pairs (c .before .before .before .before .before .before .args .line .now)) (c .before .before .before .before .loop .k) (c .before .before .field .result) (c .before .field2 .result) (omega (arith, c .before .before .before .before .loop .inv .0, c .before .before .before .before .before .before .pre .0, c .before .before .before .before .before .before .pre .1)) (c .before .before .field .ensures .0) (c .before .field2 .ensures .0) (c .before .before .before .before .loop .inv .2) .1, λ rows S. let v = c .before .before .before .before .loop .inv .3 rows S in (((c .before .before .field .result, c .before .field2 .result) ∷ []) ∷ v .0, seen-more (c .before .before .before .before .loop .s) (v .0) (c .before .before .before .before .loop .inv .1) (v .1) (c .before .before .field .result, c .before .field2 .result) (turn-named (pairs (c .before .before .before .before .before .before .args .line .now)) (c .before .before .before .before .loop .k) (c .before .before .field .result) (c .before .field2 .result) (omega (arith, c .before .before .before .before .loop .inv .0, c .before .before .before .before .before .before .pre .0, c .before .before .before .before .before .before .pre .1)) (c .before .before .field .ensures .0) (c .before .field2 .ensures .0) (c .before .before .before .before .loop .inv .2) .0), v .2 ∙ turn-next (pairs (c .before .before .before .before .before .before .args .line .now)) (c .before .before .before .before .loop .k) (c .before .before .field .result) (c .before .field2 .result) (omega (arith, c .before .before .before .before .loop .inv .0, c .before .before .before .before .before .before .pre .0, c .before .before .before .before .before .before .pre .1)) (c .before .before .field .ensures .0) (c .before .field2 .ensures .0) (c .before .before .before .before .loop .s) (v .0) (turn-named (pairs (c .before .before .before .before .before .before .args .line .now)) (c .before .before .before .before .loop .k) (c .before .before .field .result) (c .before .field2 .result) (omega (arith, c .before .before .before .before .loop .inv .0, c .before .before .before .before .before .before .pre .0, c .before .before .before .before .before .before .pre .1)) (c .before .before .field .ensures .0) (c .before .field2 .ensures .0) (c .before .before .before .before .loop .inv .2) .0) (v .1) (c .if1 .left)))
+loop-again c =
+    let entry = c .before .before .before .before .before .before in
+    let pre = entry .pre in
+    let args = entry .args in
+    let loop = c .before .before .before .before .loop in
+    let field = c .before .before .field in
+    let field2 = c .before .field2 in
+    (search needs, length-set (loop .s) (field .result * 16 + field2 .result) 1 ∙ loop .inv .1, turn-named (pairs (args .line .now)) (loop .k) (field .result) (field2 .result) (omega (arith, loop .inv .0, pre .0, pre .1)) (field .ensures .0) (field2 .ensures .0) (loop .inv .2) .1, λ rows S. let v = loop .inv .3 rows S in (((field .result, field2 .result) ∷ []) ∷ v .0, seen-more (loop .s) (v .0) (loop .inv .1) (v .1) (field .result, field2 .result) (turn-named (pairs (args .line .now)) (loop .k) (field .result) (field2 .result) (omega (arith, loop .inv .0, pre .0, pre .1)) (field .ensures .0) (field2 .ensures .0) (loop .inv .2) .0), v .2 ∙ turn-next (pairs (args .line .now)) (loop .k) (field .result) (field2 .result) (omega (arith, loop .inv .0, pre .0, pre .1)) (field .ensures .0) (field2 .ensures .0) (loop .s) (v .0) (turn-named (pairs (args .line .now)) (loop .k) (field .result) (field2 .result) (omega (arith, loop .inv .0, pre .0, pre .1)) (field .ensures .0) (field2 .ensures .0) (loop .inv .2) .0) (v .1) (c .if1 .left)))
 
 returns-2 : tie.Need-returns-2 Inv-loop μ-loop
 unfolding allNew

@@ -22,7 +22,13 @@ unfolding inRange isRead
 returns-3 c = rw (← c .before .before .before .field .ensures .0, ne-eqb _ _ (c .before .if1 .left), ← c .before .before .field2 .ensures .0, lt-leb _ _ (c .if3 .taken))
 
 all-events-requires : tie.Need-all-events-requires
-all-events-requires c κs = (c .before .before .before .before .before .pre .0, omega (arith, c .before .before .before .before .before .pre .0, write-shape (pairs (c .before .before .before .before .before .args .line .now)) (c .before .before .before .before .before .pre .1) (not-read (pairs (c .before .before .before .before .before .args .line .now)) (c .before .before .before .field .result) (c .before .before .before .field .ensures .0) (c .before .if1 .left)) .2))
+all-events-requires c κs =
+    let entry = c .before .before .before .before .before in
+    let pre = entry .pre in
+    let args = entry .args in
+    let field = c .before .before .before .field in
+    let if1 = c .before .if1 in
+    (pre .0, omega (arith, pre .0, write-shape (pairs (args .line .now)) (pre .1) (not-read (pairs (args .line .now)) (field .result) (field .ensures .0) (if1 .left)) .2))
 
 returns-4 : tie.Need-returns-4
 unfolding inRange isRead

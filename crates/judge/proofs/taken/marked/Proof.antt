@@ -36,7 +36,13 @@ add-e : tie.Need-add-e Inv-loop μ-loop
 add-e c = omega (arith, c .before .field .ensures .1, c .field2 .ensures .1)
 
 array-write-s : tie.Need-array-write-s Inv-loop μ-loop
-array-write-s c = let n = turn-named (pairs (c .before .before .before .before .before .args .line .now)) (c .before .before .before .loop .k) (c .before .field .result) (c .field2 .result) (omega (arith, c .before .before .before .loop .inv .0, c .before .before .before .before .before .pre .0, c .before .before .before .before .before .pre .1)) (c .before .field .ensures .0) (c .field2 .ensures .0) (c .before .before .before .loop .inv .2) in omega (arith, n .0 .0, n .0 .1, c .before .before .before .loop .inv .1)
+array-write-s c =
+    let entry = c .before .before .before .before .before in
+    let pre = entry .pre in
+    let args = entry .args in
+    let loop = c .before .before .before .loop in
+    let field = c .before .field in
+    let n = turn-named (pairs (args .line .now)) (loop .k) (field .result) (c .field2 .result) (omega (arith, loop .inv .0, pre .0, pre .1)) (field .ensures .0) (c .field2 .ensures .0) (loop .inv .2) in omega (arith, n .0 .0, n .0 .1, loop .inv .1)
 
 add-k : tie.Need-add-k Inv-loop μ-loop
 add-k c = omega (arith, c .before .before .before .loop .inv .0, c .before .before .before .before .before .pre .1)
@@ -45,7 +51,13 @@ loop-less : tie.Need-loop-less Inv-loop μ-loop
 loop-less c = omega (arith, c .before .before .before .loop .inv .0, c .before .before .before .before .before .pre .1)
 
 loop-again : tie.Need-loop-again Inv-loop μ-loop
-loop-again c = (search needs, length-set (c .before .before .before .loop .s) (c .before .field .result * 16 + c .field2 .result) 1 ∙ c .before .before .before .loop .inv .1, turn-named (pairs (c .before .before .before .before .before .args .line .now)) (c .before .before .before .loop .k) (c .before .field .result) (c .field2 .result) (omega (arith, c .before .before .before .loop .inv .0, c .before .before .before .before .before .pre .0, c .before .before .before .before .before .pre .1)) (c .before .field .ensures .0) (c .field2 .ensures .0) (c .before .before .before .loop .inv .2) .1, c .before .before .before .loop .inv .3 ∙ turn-marked (pairs (c .before .before .before .before .before .args .line .now)) (c .before .before .before .loop .k) (c .before .field .result) (c .field2 .result) (omega (arith, c .before .before .before .loop .inv .0, c .before .before .before .before .before .pre .0, c .before .before .before .before .before .pre .1)) (c .before .field .ensures .0) (c .field2 .ensures .0) (c .before .before .before .loop .s))
+loop-again c =
+    let entry = c .before .before .before .before .before in
+    let pre = entry .pre in
+    let args = entry .args in
+    let loop = c .before .before .before .loop in
+    let field = c .before .field in
+    (search needs, length-set (loop .s) (field .result * 16 + c .field2 .result) 1 ∙ loop .inv .1, turn-named (pairs (args .line .now)) (loop .k) (field .result) (c .field2 .result) (omega (arith, loop .inv .0, pre .0, pre .1)) (field .ensures .0) (c .field2 .ensures .0) (loop .inv .2) .1, loop .inv .3 ∙ turn-marked (pairs (args .line .now)) (loop .k) (field .result) (c .field2 .result) (omega (arith, loop .inv .0, pre .0, pre .1)) (field .ensures .0) (c .field2 .ensures .0) (loop .s))
 
 returns : tie.Need-returns Inv-loop μ-loop
 unfolding markedBy

@@ -29,10 +29,19 @@ array-write-p-2 : tie.Need-array-write-p-2 Inv-loop μ-loop
 array-write-p-2 c = omega (arith, c .before .before .before .loop .inv .1, c .before .before .before .before .before .pre .3)
 
 loop-again : tie.Need-loop-again Inv-loop μ-loop
-loop-again c = (search needs, length-put (c .before .before .before .loop .p) (96 + (c .before .before .before .before .before .args .l * 24 + c .before .before .before .loop .q)) (c .before .byte-or .result) (c .byte-or2 .result) ∙ c .before .before .before .loop .inv .1, ordered-more _ _ _ (c .before .before .before .loop .q) (c .before .byte-or .result) (c .byte-or2 .result) (c .before .before .before .loop .p) (c .before .before .before .loop .inv .2) (c .before .before .loop-test .taken) (c .before .before .before .before .before .pre .3) (write-at (pairs (c .before .before .before .before .before .args .line .now)) (c .before .before .before .loop .q) (omega (arith, c .before .before .before .before .before .pre .0, c .before .before .before .before .before .pre .2)) (omega (arith, c .before .before .before .before .before .pre .0, c .before .before .before .before .before .pre .1)) ∙ ap₂ (λ (x y : ℕ). let z : Event = (x, y) in z) (sym (c .before .byte-or .ensures)) (sym (c .byte-or2 .ensures))))
+loop-again c =
+    let entry = c .before .before .before .before .before in
+    let pre = entry .pre in
+    let args = entry .args in
+    let loop = c .before .before .before .loop in
+    let loop-test = c .before .before .loop-test in
+    let byte-or = c .before .byte-or in
+    (search needs, length-put (loop .p) (96 + (args .l * 24 + loop .q)) (byte-or .result) (c .byte-or2 .result) ∙ loop .inv .1, ordered-more _ _ _ (loop .q) (byte-or .result) (c .byte-or2 .result) (loop .p) (loop .inv .2) (loop-test .taken) (pre .3) (write-at (pairs (args .line .now)) (loop .q) (omega (arith, pre .0, pre .2)) (omega (arith, pre .0, pre .1)) ∙ ap₂ (λ (x y : ℕ). let z : Event = (x, y) in z) (sym (byte-or .ensures)) (sym (c .byte-or2 .ensures))))
 
 returns : tie.Need-returns Inv-loop μ-loop
-returns c = let e : c .before .loop .q ≡ 24 = omega (arith, c .before .loop .inv .0) in rw (← e) (c .before .loop .inv .2)
+returns c =
+    let loop = c .before .loop in
+    let e : loop .q ≡ 24 = omega (arith, loop .inv .0) in rw (← e) (loop .inv .2)
 
 pub ordered-spec : {M : Type 1} → statement M
 ordered-spec = tie.close (tie.spec Inv-loop μ-loop loop-holds (λ c. search needs) (λ c. search needs) (λ c. search needs) (λ c. search needs) (λ c. search needs) (λ c. search needs) (λ c κs. search needs) array-write-p (λ c. search needs) (λ c κs. search needs) (λ c. search needs) array-write-p-2 (λ c. search needs) (λ c. search needs) loop-again returns)

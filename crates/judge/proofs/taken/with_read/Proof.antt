@@ -23,7 +23,11 @@ add-pairs : tie.Need-add-pairs
 add-pairs c = omega (arith, c .before .before .before .before .before .before .field .ensures .1, c .before .before .before .before .before .field2 .ensures .1)
 
 array-write-pairs-2 : tie.Need-array-write-pairs-2
-array-write-pairs-2 c = omega (arith, c .before .before .before .before .before .before .field .ensures .0, c .before .before .before .before .before .field2 .ensures .0, c .before .before .before .before .before .before .before .before .pre .0, c .before .before .before .before .before .before .before .before .pre .1)
+array-write-pairs-2 c =
+    let pre = c .before .before .before .before .before .before .before .before .pre in
+    let field = c .before .before .before .before .before .before .field in
+    let field2 = c .before .before .before .before .before .field2 in
+    omega (arith, field .ensures .0, field2 .ensures .0, pre .0, pre .1)
 
 returns : tie.Need-returns
 returns c = rw (c .rank .ensures, c .before .before .byte-at .ensures, c .before .byte-at2 .ensures, c .before .before .before .before .before .before .before .field .ensures .0, c .before .before .before .before .before .before .field2 .ensures .0)

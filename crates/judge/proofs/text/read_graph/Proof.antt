@@ -18,7 +18,12 @@ loop-holds : tie.Need-loop-holds Inv-loop μ-loop
 loop-holds c = (progress-start _ _ _ (c .empty .ensures), search needs)
 
 returns : tie.Need-returns Inv-loop μ-loop
-returns c = read-unended (c .before .before .before .before .before .before .args .n) (c .before .before .before .before .before .before .args .text .now) (c .before .before .before .loop .s) (c .before .before .before .loop .at) (c .before .before .before .loop .number) (c .before .before .before .loop .inv .0) (c .before .line-end .result) (c .before .before .loop-test .taken) (c .before .line-end .ensures) (c .if1 .taken)
+returns c =
+    let args = c .before .before .before .before .before .before .args in
+    let loop = c .before .before .before .loop in
+    let loop-test = c .before .before .loop-test in
+    let line-end = c .before .line-end in
+    read-unended (args .n) (args .text .now) (loop .s) (loop .at) (loop .number) (loop .inv .0) (line-end .result) (loop-test .taken) (line-end .ensures) (c .if1 .taken)
 
 sub-frame-length : tie.Need-sub-frame-length Inv-loop μ-loop
 sub-frame-length c = omega (arith, before-end (c .before .before .before .before .before .before .args .text .now) (c .before .before .before .loop .at) (c .before .line-end .result) (c .before .before .loop-test .taken) (c .before .line-end .ensures) (c .if1 .left), c .before .line-end .ensures)
@@ -30,7 +35,14 @@ part-frame-length-end : tie.Need-part-frame-length-end Inv-loop μ-loop
 part-frame-length-end c = omega (arith, before-end (c .before .before .before .before .before .before .args .text .now) (c .before .before .before .loop .at) (c .before .line-end .result) (c .before .before .loop-test .taken) (c .before .line-end .ensures) (c .if1 .left), c .before .line-end .ensures)
 
 returns-2 : tie.Need-returns-2 Inv-loop μ-loop
-returns-2 c = read-broken (c .before .before .before .before .before .before .before .before .before .args .n) (c .before .before .before .before .before .before .before .before .before .args .text .now) (c .before .before .before .before .before .before .loop .s) (c .before .before .before .before .before .before .loop .at) (c .before .before .before .before .before .before .loop .number) (c .before .before .before .before .before .before .loop .inv .0) (c .before .before .before .before .line-end .result) (c .before .before .before .before .before .loop-test .taken) (c .before .before .before .before .line-end .ensures) (c .before .before .before .if1 .left) (c .before .frame-length .result) (c .before .frame-length .ensures) (c .if2 .taken)
+returns-2 c =
+    let args = c .before .before .before .before .before .before .before .before .before .args in
+    let loop = c .before .before .before .before .before .before .loop in
+    let loop-test = c .before .before .before .before .before .loop-test in
+    let line-end = c .before .before .before .before .line-end in
+    let if1 = c .before .before .before .if1 in
+    let frame-length = c .before .frame-length in
+    read-broken (args .n) (args .text .now) (loop .s) (loop .at) (loop .number) (loop .inv .0) (line-end .result) (loop-test .taken) (line-end .ensures) (if1 .left) (frame-length .result) (frame-length .ensures) (c .if2 .taken)
 
 sub-refusal : tie.Need-sub-refusal Inv-loop μ-loop
 sub-refusal c = omega (arith, before-end (c .before .before .before .before .before .before .before .before .before .args .text .now) (c .before .before .before .before .before .before .loop .at) (c .before .before .before .before .line-end .result) (c .before .before .before .before .before .loop-test .taken) (c .before .before .before .before .line-end .ensures) (c .before .before .before .if1 .left), c .before .before .before .before .line-end .ensures)
@@ -42,37 +54,113 @@ part-refusal-end : tie.Need-part-refusal-end Inv-loop μ-loop
 part-refusal-end c = omega (arith, before-end (c .before .before .before .before .before .before .before .before .before .args .text .now) (c .before .before .before .before .before .before .loop .at) (c .before .before .before .before .line-end .result) (c .before .before .before .before .before .loop-test .taken) (c .before .before .before .before .line-end .ensures) (c .before .before .before .if1 .left), c .before .before .before .before .line-end .ensures)
 
 refusal-requires : tie.Need-refusal-requires Inv-loop μ-loop
-refusal-requires c κs = (read-size (c .before .before .before .before .before .before .before .before .before .before .args .n) (c .before .before .before .before .before .before .before .before .before .before .args .text .now) (c .before .before .before .before .before .before .before .loop .s) (c .before .before .before .before .before .before .before .loop .at) (c .before .before .before .before .before .before .before .loop .number) (c .before .before .before .before .before .before .before .loop .inv .0) (c .before .before .before .before .before .line-end .result) (c .before .before .before .before .before .before .loop-test .taken) (c .before .before .before .before .before .line-end .ensures) (c .before .before .before .before .if1 .left) (c .before .before .frame-length .result) (c .before .before .frame-length .ensures) (c .before .if2 .left), c .before .before .before .before .before .before .before .before .before .before .pre)
+refusal-requires c κs =
+    let entry = c .before .before .before .before .before .before .before .before .before .before in
+    let pre = entry .pre in
+    let args = entry .args in
+    let loop = c .before .before .before .before .before .before .before .loop in
+    let loop-test = c .before .before .before .before .before .before .loop-test in
+    let line-end = c .before .before .before .before .before .line-end in
+    let if1 = c .before .before .before .before .if1 in
+    let frame-length = c .before .before .frame-length in
+    let if2 = c .before .if2 in
+    (read-size (args .n) (args .text .now) (loop .s) (loop .at) (loop .number) (loop .inv .0) (line-end .result) (loop-test .taken) (line-end .ensures) (if1 .left) (frame-length .result) (frame-length .ensures) (if2 .left), pre)
 
 returns-3 : tie.Need-returns-3 Inv-loop μ-loop
-returns-3 c = read-refused (c .before .before .before .before .before .before .before .before .before .before .before .before .args .n) (c .before .before .before .before .before .before .before .before .before .before .before .before .args .text .now) (c .before .before .before .before .before .before .before .before .before .loop .s) (c .before .before .before .before .before .before .before .before .before .loop .at) (c .before .before .before .before .before .before .before .before .before .loop .number) (c .before .before .before .before .before .before .before .before .before .loop .inv .0) (c .before .before .before .before .before .before .before .line-end .result) (c .before .before .before .before .before .before .before .before .loop-test .taken) (c .before .before .before .before .before .before .before .line-end .ensures) (c .before .before .before .before .before .before .if1 .left) (c .before .before .before .before .frame-length .result) (c .before .before .before .before .frame-length .ensures) (c .before .before .before .if2 .left) (c .before .refusal .result) (c .before .refusal .ensures (c .before .before .before .before .before .before .before .before .before .loop .inv .0 .read) (c .before .before .before .before .before .before .before .before .before .loop .inv .0 .holds)) (c .if3 .taken)
+returns-3 c =
+    let args = c .before .before .before .before .before .before .before .before .before .before .before .before .args in
+    let loop = c .before .before .before .before .before .before .before .before .before .loop in
+    let loop-test = c .before .before .before .before .before .before .before .before .loop-test in
+    let line-end = c .before .before .before .before .before .before .before .line-end in
+    let if1 = c .before .before .before .before .before .before .if1 in
+    let frame-length = c .before .before .before .before .frame-length in
+    let if2 = c .before .before .before .if2 in
+    let refusal = c .before .refusal in
+    read-refused (args .n) (args .text .now) (loop .s) (loop .at) (loop .number) (loop .inv .0) (line-end .result) (loop-test .taken) (line-end .ensures) (if1 .left) (frame-length .result) (frame-length .ensures) (if2 .left) (refusal .result) (refusal .ensures (loop .inv .0 .read) (loop .inv .0 .holds)) (c .if3 .taken)
 
 sub-taken : tie.Need-sub-taken Inv-loop μ-loop
-sub-taken c = omega (arith, before-end (c .before .before .before .before .before .before .before .before .before .before .before .before .args .text .now) (c .before .before .before .before .before .before .before .before .before .loop .at) (c .before .before .before .before .before .before .before .line-end .result) (c .before .before .before .before .before .before .before .before .loop-test .taken) (c .before .before .before .before .before .before .before .line-end .ensures) (c .before .before .before .before .before .before .if1 .left), c .before .before .before .before .before .before .before .line-end .ensures)
+sub-taken c =
+    let args = c .before .before .before .before .before .before .before .before .before .before .before .before .args in
+    let loop = c .before .before .before .before .before .before .before .before .before .loop in
+    let loop-test = c .before .before .before .before .before .before .before .before .loop-test in
+    let line-end = c .before .before .before .before .before .before .before .line-end in
+    let if1 = c .before .before .before .before .before .before .if1 in
+    omega (arith, before-end (args .text .now) (loop .at) (line-end .result) (loop-test .taken) (line-end .ensures) (if1 .left), line-end .ensures)
 
 part-taken-start : tie.Need-part-taken-start Inv-loop μ-loop
-part-taken-start c = omega (arith, before-end (c .before .before .before .before .before .before .before .before .before .before .before .before .args .text .now) (c .before .before .before .before .before .before .before .before .before .loop .at) (c .before .before .before .before .before .before .before .line-end .result) (c .before .before .before .before .before .before .before .before .loop-test .taken) (c .before .before .before .before .before .before .before .line-end .ensures) (c .before .before .before .before .before .before .if1 .left), c .before .before .before .before .before .before .before .line-end .ensures)
+part-taken-start c =
+    let args = c .before .before .before .before .before .before .before .before .before .before .before .before .args in
+    let loop = c .before .before .before .before .before .before .before .before .before .loop in
+    let loop-test = c .before .before .before .before .before .before .before .before .loop-test in
+    let line-end = c .before .before .before .before .before .before .before .line-end in
+    let if1 = c .before .before .before .before .before .before .if1 in
+    omega (arith, before-end (args .text .now) (loop .at) (line-end .result) (loop-test .taken) (line-end .ensures) (if1 .left), line-end .ensures)
 
 part-taken-end : tie.Need-part-taken-end Inv-loop μ-loop
-part-taken-end c = omega (arith, before-end (c .before .before .before .before .before .before .before .before .before .before .before .before .args .text .now) (c .before .before .before .before .before .before .before .before .before .loop .at) (c .before .before .before .before .before .before .before .line-end .result) (c .before .before .before .before .before .before .before .before .loop-test .taken) (c .before .before .before .before .before .before .before .line-end .ensures) (c .before .before .before .before .before .before .if1 .left), c .before .before .before .before .before .before .before .line-end .ensures)
+part-taken-end c =
+    let args = c .before .before .before .before .before .before .before .before .before .before .before .before .args in
+    let loop = c .before .before .before .before .before .before .before .before .before .loop in
+    let loop-test = c .before .before .before .before .before .before .before .before .loop-test in
+    let line-end = c .before .before .before .before .before .before .before .line-end in
+    let if1 = c .before .before .before .before .before .before .if1 in
+    omega (arith, before-end (args .text .now) (loop .at) (line-end .result) (loop-test .taken) (line-end .ensures) (if1 .left), line-end .ensures)
 
 taken-requires : tie.Need-taken-requires Inv-loop μ-loop
-taken-requires c κs = read-passes (c .before .before .before .before .before .before .before .before .before .before .before .before .before .args .n) (c .before .before .before .before .before .before .before .before .before .before .before .before .before .args .text .now) (c .before .before .before .before .before .before .before .before .before .before .loop .s) (c .before .before .before .before .before .before .before .before .before .before .loop .at) (c .before .before .before .before .before .before .before .before .before .before .loop .number) (c .before .before .before .before .before .before .before .before .before .before .loop .inv .0) (c .before .before .before .before .before .before .before .before .line-end .result) (c .before .before .before .before .before .before .before .before .before .loop-test .taken) (c .before .before .before .before .before .before .before .before .line-end .ensures) (c .before .before .before .before .before .before .before .if1 .left) (c .before .before .before .before .before .frame-length .result) (c .before .before .before .before .before .frame-length .ensures) (c .before .before .before .before .if2 .left) (c .before .before .refusal .result) (c .before .before .refusal .ensures (c .before .before .before .before .before .before .before .before .before .before .loop .inv .0 .read) (c .before .before .before .before .before .before .before .before .before .before .loop .inv .0 .holds)) (c .before .if3 .left) (c .before .before .before .before .before .before .before .before .before .before .before .before .before .pre)
+taken-requires c κs =
+    let entry = c .before .before .before .before .before .before .before .before .before .before .before .before .before in
+    let pre = entry .pre in
+    let args = entry .args in
+    let loop = c .before .before .before .before .before .before .before .before .before .before .loop in
+    let loop-test = c .before .before .before .before .before .before .before .before .before .loop-test in
+    let line-end = c .before .before .before .before .before .before .before .before .line-end in
+    let if1 = c .before .before .before .before .before .before .before .if1 in
+    let frame-length = c .before .before .before .before .before .frame-length in
+    let if2 = c .before .before .before .before .if2 in
+    let refusal = c .before .before .refusal in
+    let if3 = c .before .if3 in
+    read-passes (args .n) (args .text .now) (loop .s) (loop .at) (loop .number) (loop .inv .0) (line-end .result) (loop-test .taken) (line-end .ensures) (if1 .left) (frame-length .result) (frame-length .ensures) (if2 .left) (refusal .result) (refusal .ensures (loop .inv .0 .read) (loop .inv .0 .holds)) (if3 .left) (pre)
 
 add-at : tie.Need-add-at Inv-loop μ-loop
-add-at c = omega (arith, before-end (c .before .before .before .before .before .before .before .before .before .before .before .before .before .before .args .text .now) (c .before .before .before .before .before .before .before .before .before .before .before .loop .at) (c .before .before .before .before .before .before .before .before .before .line-end .result) (c .before .before .before .before .before .before .before .before .before .before .loop-test .taken) (c .before .before .before .before .before .before .before .before .before .line-end .ensures) (c .before .before .before .before .before .before .before .before .if1 .left), c .before .before .before .before .before .before .before .before .before .line-end .ensures)
+add-at c =
+    let args = c .before .before .before .before .before .before .before .before .before .before .before .before .before .before .args in
+    let loop = c .before .before .before .before .before .before .before .before .before .before .before .loop in
+    let loop-test = c .before .before .before .before .before .before .before .before .before .before .loop-test in
+    let line-end = c .before .before .before .before .before .before .before .before .before .line-end in
+    let if1 = c .before .before .before .before .before .before .before .before .if1 in
+    omega (arith, before-end (args .text .now) (loop .at) (line-end .result) (loop-test .taken) (line-end .ensures) (if1 .left), line-end .ensures)
 
 add-number : tie.Need-add-number Inv-loop μ-loop
-add-number c = omega (arith, c .before .before .before .before .before .before .before .before .before .before .before .loop .inv .0 .counted, c .before .before .before .before .before .before .before .before .before .before .before .loop .inv .0 .within)
+add-number c =
+    let loop = c .before .before .before .before .before .before .before .before .before .before .before .loop in
+    omega (arith, loop .inv .0 .counted, loop .inv .0 .within)
 
 loop-less : tie.Need-loop-less Inv-loop μ-loop
-loop-less c = omega (arith, before-end (c .before .before .before .before .before .before .before .before .before .before .before .before .before .before .args .text .now) (c .before .before .before .before .before .before .before .before .before .before .before .loop .at) (c .before .before .before .before .before .before .before .before .before .line-end .result) (c .before .before .before .before .before .before .before .before .before .before .loop-test .taken) (c .before .before .before .before .before .before .before .before .before .line-end .ensures) (c .before .before .before .before .before .before .before .before .if1 .left), c .before .before .before .before .before .before .before .before .before .line-end .ensures)
+loop-less c =
+    let args = c .before .before .before .before .before .before .before .before .before .before .before .before .before .before .args in
+    let loop = c .before .before .before .before .before .before .before .before .before .before .before .loop in
+    let loop-test = c .before .before .before .before .before .before .before .before .before .before .loop-test in
+    let line-end = c .before .before .before .before .before .before .before .before .before .line-end in
+    let if1 = c .before .before .before .before .before .before .before .before .if1 in
+    omega (arith, before-end (args .text .now) (loop .at) (line-end .result) (loop-test .taken) (line-end .ensures) (if1 .left), line-end .ensures)
 
 loop-again : tie.Need-loop-again Inv-loop μ-loop
-loop-again c = (read-more (c .before .before .before .before .before .before .before .before .before .before .before .before .before .before .args .n) (c .before .before .before .before .before .before .before .before .before .before .before .before .before .before .args .text .now) (c .before .before .before .before .before .before .before .before .before .before .before .loop .s) (c .before .before .before .before .before .before .before .before .before .before .before .loop .at) (c .before .before .before .before .before .before .before .before .before .before .before .loop .number) (c .before .before .before .before .before .before .before .before .before .before .before .loop .inv .0) (c .before .before .before .before .before .before .before .before .before .line-end .result) (c .before .before .before .before .before .before .before .before .before .before .loop-test .taken) (c .before .before .before .before .before .before .before .before .before .line-end .ensures) (c .before .before .before .before .before .before .before .before .if1 .left) (c .before .before .before .before .before .before .frame-length .result) (c .before .before .before .before .before .before .frame-length .ensures) (c .before .before .before .before .before .if2 .left) (c .before .before .before .refusal .result) (c .before .before .before .refusal .ensures (c .before .before .before .before .before .before .before .before .before .before .before .loop .inv .0 .read) (c .before .before .before .before .before .before .before .before .before .before .before .loop .inv .0 .holds)) (c .before .before .if3 .left) _ (c .taken .ensures), search needs)
+loop-again c =
+    let args = c .before .before .before .before .before .before .before .before .before .before .before .before .before .before .args in
+    let loop = c .before .before .before .before .before .before .before .before .before .before .before .loop in
+    let loop-test = c .before .before .before .before .before .before .before .before .before .before .loop-test in
+    let line-end = c .before .before .before .before .before .before .before .before .before .line-end in
+    let if1 = c .before .before .before .before .before .before .before .before .if1 in
+    let frame-length = c .before .before .before .before .before .before .frame-length in
+    let if2 = c .before .before .before .before .before .if2 in
+    let refusal = c .before .before .before .refusal in
+    let if3 = c .before .before .if3 in
+    (read-more (args .n) (args .text .now) (loop .s) (loop .at) (loop .number) (loop .inv .0) (line-end .result) (loop-test .taken) (line-end .ensures) (if1 .left) (frame-length .result) (frame-length .ensures) (if2 .left) (refusal .result) (refusal .ensures (loop .inv .0 .read) (loop .inv .0 .holds)) (if3 .left) _ (c .taken .ensures), search needs)
 
 returns-4 : tie.Need-returns-4 Inv-loop μ-loop
-returns-4 c = read-done (c .before .before .before .before .args .n) (c .before .before .before .before .args .text .now) (c .before .loop .s) (c .before .loop .at) (c .before .loop .number) (c .before .loop .inv .0) (c .loop-test .left)
+returns-4 c =
+    let args = c .before .before .before .before .args in
+    let loop = c .before .loop in
+    read-done (args .n) (args .text .now) (loop .s) (loop .at) (loop .number) (loop .inv .0) (c .loop-test .left)
 
 pub read-graph-spec : {M : Type 1} → statement M
 read-graph-spec = tie.close (tie.spec Inv-loop μ-loop (λ c κs. search needs) loop-holds (λ c κs. search needs) returns sub-frame-length part-frame-length-start part-frame-length-end (λ c κs. search needs) returns-2 sub-refusal part-refusal-start part-refusal-end refusal-requires returns-3 sub-taken part-taken-start part-taken-end taken-requires add-at add-number loop-less loop-again returns-4)

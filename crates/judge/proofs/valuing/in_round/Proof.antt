@@ -22,40 +22,94 @@ started-requires : tie.Need-started-requires Inv-loop μ-loop
 started-requires c κs = c .pre
 
 loop-holds : tie.Need-loop-holds Inv-loop μ-loop
-loop-holds c = (search needs, search needs, λ p loaded. turns-start (c .before .args .code .now) (c .before .args .lengths .now) p (c .before .args .t4) (c .started .result) _ _ (c .started .ensures p loaded))
+loop-holds c =
+    let args = c .before .args in
+    (search needs, search needs, λ p loaded. turns-start (args .code .now) (args .lengths .now) p (args .t4) (c .started .result) _ _ (c .started .ensures p loaded))
 
 mul-loop : tie.Need-mul-loop Inv-loop μ-loop
-mul-loop c = omega (arith, six-held (c .before .before .args .code .now) (c .before .before .args .lengths .now) (c .before .before .args .threads) (c .before .before .pre .0) (c .before .before .pre .1))
+mul-loop c =
+    let entry = c .before .before in
+    let pre = entry .pre in
+    let args = entry .args in
+    omega (arith, six-held (args .code .now) (args .lengths .now) (args .threads) (pre .0) (pre .1))
 
 cast-met : tie.Need-cast-met Inv-loop μ-loop
-cast-met c = omega (arith, six-held (c .before .before .before .before .args .code .now) (c .before .before .before .before .args .lengths .now) (c .before .before .before .before .args .threads) (c .before .before .before .before .pre .0) (c .before .before .before .before .pre .1))
+cast-met c =
+    let entry = c .before .before .before .before in
+    let pre = entry .pre in
+    let args = entry .args in
+    omega (arith, six-held (args .code .now) (args .lengths .now) (args .threads) (pre .0) (pre .1))
 
 mul-met : tie.Need-mul-met Inv-loop μ-loop
-mul-met c = omega (arith, six-held (c .before .before .before .before .args .code .now) (c .before .before .before .before .args .lengths .now) (c .before .before .before .before .args .threads) (c .before .before .before .before .pre .0) (c .before .before .before .before .pre .1))
+mul-met c =
+    let entry = c .before .before .before .before in
+    let pre = entry .pre in
+    let args = entry .args in
+    omega (arith, six-held (args .code .now) (args .lengths .now) (args .threads) (pre .0) (pre .1))
 
 array-read-met : tie.Need-array-read-met Inv-loop μ-loop
-array-read-met c = omega (arith, six-held (c .before .before .before .before .args .code .now) (c .before .before .before .before .args .lengths .now) (c .before .before .before .before .args .threads) (c .before .before .before .before .pre .0) (c .before .before .before .before .pre .1))
+array-read-met c =
+    let entry = c .before .before .before .before in
+    let pre = entry .pre in
+    let args = entry .args in
+    omega (arith, six-held (args .code .now) (args .lengths .now) (args .threads) (pre .0) (pre .1))
 
 met-requires : tie.Need-met-requires Inv-loop μ-loop
-met-requires c κs = let S = (turn-standing (c .before .before .before .before .args .code .now) (c .before .before .before .before .args .lengths .now) (c .before .before .before .before .args .threads) (c .before .before .before .before .pre .0) (c .before .before .before .before .pre .1) (c .before .before .before .before .args .t4) (c .before .before .before .started .result) (c .before .before .loop .m) (c .before .before .loop .k) (c .before .before .loop .places) (c .before .before .loop .left) (c .before .before .before .started .ensures (c .before .before .before .before .pre .0) (c .before .before .before .before .pre .1)) (c .before .before .loop .inv .2 (c .before .before .before .before .pre .0) (c .before .before .before .before .pre .1)) (c .standing .result) (c .standing .ensures)) in (omega (arith, six-held (c .before .before .before .before .args .code .now) (c .before .before .before .before .args .lengths .now) (c .before .before .before .before .args .threads) (c .before .before .before .before .pre .0) (c .before .before .before .before .pre .1)), short-held (c .before .before .before .before .args .code .now) (c .before .before .before .before .args .lengths .now) (c .before .before .before .before .args .threads) (c .before .before .before .before .pre .0) (c .before .before .before .before .pre .1) (c .before .before .loop .k / 16) (omega (arith, c .before .loop-test .taken)), (S .state, S .holds))
+met-requires c κs =
+    let entry = c .before .before .before .before in
+    let pre = entry .pre in
+    let args = entry .args in
+    let started = c .before .before .before .started in
+    let loop = c .before .before .loop in
+    let loop-test = c .before .loop-test in
+    let S = (turn-standing (args .code .now) (args .lengths .now) (args .threads) (pre .0) (pre .1) (args .t4) (started .result) (loop .m) (loop .k) (loop .places) (loop .left) (started .ensures (pre .0) (pre .1)) (loop .inv .2 (pre .0) (pre .1)) (c .standing .result) (c .standing .ensures)) in (omega (arith, six-held (args .code .now) (args .lengths .now) (args .threads) (pre .0) (pre .1)), short-held (args .code .now) (args .lengths .now) (args .threads) (pre .0) (pre .1) (loop .k / 16) (omega (arith, loop-test .taken)), (S .state, S .holds))
 
 array-write-places : tie.Need-array-write-places Inv-loop μ-loop
-array-write-places c = omega (arith, six-held (c .before .before .before .before .before .args .code .now) (c .before .before .before .before .before .args .lengths .now) (c .before .before .before .before .before .args .threads) (c .before .before .before .before .before .pre .0) (c .before .before .before .before .before .pre .1))
+array-write-places c =
+    let entry = c .before .before .before .before .before in
+    let pre = entry .pre in
+    let args = entry .args in
+    omega (arith, six-held (args .code .now) (args .lengths .now) (args .threads) (pre .0) (pre .1))
 
 mul-left : tie.Need-mul-left Inv-loop μ-loop
-mul-left c = omega (arith, six-held (c .before .before .before .before .before .args .code .now) (c .before .before .before .before .before .args .lengths .now) (c .before .before .before .before .before .args .threads) (c .before .before .before .before .before .pre .0) (c .before .before .before .before .before .pre .1))
+mul-left c =
+    let entry = c .before .before .before .before .before in
+    let pre = entry .pre in
+    let args = entry .args in
+    omega (arith, six-held (args .code .now) (args .lengths .now) (args .threads) (pre .0) (pre .1))
 
 array-write-left : tie.Need-array-write-left Inv-loop μ-loop
-array-write-left c = omega (arith, six-held (c .before .before .before .before .before .args .code .now) (c .before .before .before .before .before .args .lengths .now) (c .before .before .before .before .before .args .threads) (c .before .before .before .before .before .pre .0) (c .before .before .before .before .before .pre .1))
+array-write-left c =
+    let entry = c .before .before .before .before .before in
+    let pre = entry .pre in
+    let args = entry .args in
+    omega (arith, six-held (args .code .now) (args .lengths .now) (args .threads) (pre .0) (pre .1))
 
 add-k : tie.Need-add-k Inv-loop μ-loop
-add-k c = omega (arith, six-held (c .before .before .before .before .before .before .args .code .now) (c .before .before .before .before .before .before .args .lengths .now) (c .before .before .before .before .before .before .args .threads) (c .before .before .before .before .before .before .pre .0) (c .before .before .before .before .before .before .pre .1))
+add-k c =
+    let entry = c .before .before .before .before .before .before in
+    let pre = entry .pre in
+    let args = entry .args in
+    omega (arith, six-held (args .code .now) (args .lengths .now) (args .threads) (pre .0) (pre .1))
 
 loop-again : tie.Need-loop-again Inv-loop μ-loop
-loop-again c = (length-set (c .before .before .before .before .loop .places) (c .before .before .before .before .loop .k) (c .before .met .result .place) ∙ c .before .before .before .before .loop .inv .0, length-set (c .before .before .before .before .loop .left) (c .before .before .before .before .loop .k) (c .before .met .result .left) ∙ c .before .before .before .before .loop .inv .1, λ p loaded. let S = (turn-standing (c .before .before .before .before .before .before .args .code .now) (c .before .before .before .before .before .before .args .lengths .now) (c .before .before .before .before .before .before .args .threads) p loaded (c .before .before .before .before .before .before .args .t4) (c .before .before .before .before .before .started .result) (c .before .before .before .before .loop .m) (c .before .before .before .before .loop .k) (c .before .before .before .before .loop .places) (c .before .before .before .before .loop .left) (c .before .before .before .before .before .started .ensures p loaded) (c .before .before .before .before .loop .inv .2 p loaded) (c .before .before .standing .result) (c .before .before .standing .ensures)) in turn-more (c .before .before .before .before .before .before .args .code .now) (c .before .before .before .before .before .before .args .lengths .now) (c .before .before .before .before .before .before .args .threads) p loaded (c .before .before .before .before .before .before .args .t4) (c .before .before .before .before .before .started .result) (c .before .before .before .before .loop .m) (c .before .before .before .before .loop .k) (c .before .before .before .before .loop .places) (c .before .before .before .before .loop .left) (c .before .before .before .before .before .started .ensures p loaded) (c .before .before .before .before .loop .inv .2 p loaded) (c .before .before .standing .result) S (c .before .met .result) (c .before .met .ensures (S .state) (S .holds) (near-held (c .before .before .before .before .before .before .args .code .now) (c .before .before .before .before .before .before .args .lengths .now) (c .before .before .before .before .before .before .args .threads) p loaded (c .before .before .standing .result) (S .state) (S .holds) (c .before .before .before .before .loop .k / 16) (omega (arith, c .before .before .before .loop-test .taken)))) (c .before .before .before .before .loop .inv .0) (c .before .before .before .before .loop .inv .1) (omega (arith, six-held (c .before .before .before .before .before .before .args .code .now) (c .before .before .before .before .before .before .args .lengths .now) (c .before .before .before .before .before .before .args .threads) (c .before .before .before .before .before .before .pre .0) (c .before .before .before .before .before .before .pre .1))))
+loop-again c =
+    let entry = c .before .before .before .before .before .before in
+    let pre = entry .pre in
+    let args = entry .args in
+    let started = c .before .before .before .before .before .started in
+    let loop = c .before .before .before .before .loop in
+    let loop-test = c .before .before .before .loop-test in
+    let standing = c .before .before .standing in
+    let met = c .before .met in
+    (length-set (loop .places) (loop .k) (met .result .place) ∙ loop .inv .0, length-set (loop .left) (loop .k) (met .result .left) ∙ loop .inv .1, λ p loaded. let S = (turn-standing (args .code .now) (args .lengths .now) (args .threads) p loaded (args .t4) (started .result) (loop .m) (loop .k) (loop .places) (loop .left) (started .ensures p loaded) (loop .inv .2 p loaded) (standing .result) (standing .ensures)) in turn-more (args .code .now) (args .lengths .now) (args .threads) p loaded (args .t4) (started .result) (loop .m) (loop .k) (loop .places) (loop .left) (started .ensures p loaded) (loop .inv .2 p loaded) (standing .result) S (met .result) (met .ensures (S .state) (S .holds) (near-held (args .code .now) (args .lengths .now) (args .threads) p loaded (standing .result) (S .state) (S .holds) (loop .k / 16) (omega (arith, loop-test .taken)))) (loop .inv .0) (loop .inv .1) (omega (arith, six-held (args .code .now) (args .lengths .now) (args .threads) (pre .0) (pre .1))))
 
 returns : tie.Need-returns Inv-loop μ-loop
-returns c = λ p loaded. turns-done (c .before .before .before .args .code .now) (c .before .before .before .args .lengths .now) (c .before .before .before .args .threads) p loaded (c .before .before .before .args .t4) (c .before .before .started .result) (c .before .loop .m) (c .before .loop .k) (c .before .loop .places) (c .before .loop .left) (c .before .before .started .ensures p loaded) (c .before .loop .inv .2 p loaded) (c .loop-test .left)
+returns c =
+    let args = c .before .before .before .args in
+    let started = c .before .before .started in
+    let loop = c .before .loop in
+    λ p loaded. turns-done (args .code .now) (args .lengths .now) (args .threads) p loaded (args .t4) (started .result) (loop .m) (loop .k) (loop .places) (loop .left) (started .ensures p loaded) (loop .inv .2 p loaded) (c .loop-test .left)
 
 pub in-round-spec : {M : Type 1} → statement M
 in-round-spec = tie.close (tie.spec Inv-loop μ-loop started-requires loop-holds mul-loop (λ c κs. search needs) cast-met mul-met array-read-met met-requires array-write-places mul-left array-write-left add-k (λ c. search needs) loop-again returns)

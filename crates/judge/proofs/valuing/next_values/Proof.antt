@@ -19,7 +19,11 @@ loop-holds : tie.Need-loop-holds Inv-loop μ-loop
 loop-holds c = (search needs, search needs, λ j h. absurd (omega arith))
 
 loop-again : tie.Need-loop-again Inv-loop μ-loop
-loop-again c = (search needs, length-set (c .before .before .loop .vs) (c .before .before .loop .k) (c .found .result) ∙ c .before .before .loop .inv .1, filled (c .before .before .before .args .pairs) (c .before .before .before .args .left) (c .before .before .loop .vs) (c .before .before .loop .k) (c .found .result) (c .before .before .loop .inv .1) (c .before .loop-test .taken) (c .before .before .loop .inv .2) (c .found .ensures))
+loop-again c =
+    let args = c .before .before .before .args in
+    let loop = c .before .before .loop in
+    let loop-test = c .before .loop-test in
+    (search needs, length-set (loop .vs) (loop .k) (c .found .result) ∙ loop .inv .1, filled (args .pairs) (args .left) (loop .vs) (loop .k) (c .found .result) (loop .inv .1) (loop-test .taken) (loop .inv .2) (c .found .ensures))
 
 returns : tie.Need-returns Inv-loop μ-loop
 returns c = λ j h. c .before .loop .inv .2 j (omega (arith, c .before .loop .inv .0))

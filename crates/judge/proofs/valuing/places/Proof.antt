@@ -35,13 +35,21 @@ in-round-requires : tie.Need-in-round-requires Inv-loop μ-loop
 in-round-requires c κs = c .before .before .pre
 
 loop-again : tie.Need-loop-again Inv-loop μ-loop
-loop-again c = (search needs, λ p text counts g loaded e T x h. values-more (c .before .before .before .before .before .args .threads) (six-held (c .before .before .before .before .before .args .code .now) (c .before .before .before .before .before .args .lengths .now) (c .before .before .before .before .before .args .threads) p loaded) p (c .before .before .before .before .loop .vs) (c .before .before .in-round .result .places) (c .before .before .in-round .result .left) (c .before .before .in-round .ensures p loaded) (c .before .before .before .before .before .args .pairs) counts g (read-readable (c .before .before .before .before .before .args .threads) text g e) T (c .before .before .before .before .loop .k) (c .before .before .before .before .loop .inv .1 p text counts g loaded e T) (c .next-values .result) (c .next-values .ensures) x h)
+loop-again c =
+    let args = c .before .before .before .before .before .args in
+    let loop = c .before .before .before .before .loop in
+    let in-round = c .before .before .in-round in
+    (search needs, λ p text counts g loaded e T x h. values-more (args .threads) (six-held (args .code .now) (args .lengths .now) (args .threads) p loaded) p (loop .vs) (in-round .result .places) (in-round .result .left) (in-round .ensures p loaded) (args .pairs) counts g (read-readable (args .threads) text g e) T (loop .k) (loop .inv .1 p text counts g loaded e T) (c .next-values .result) (c .next-values .ensures) x h)
 
 in-round-requires-2 : tie.Need-in-round-requires-2 Inv-loop μ-loop
 in-round-requires-2 c κs = c .before .before .pre
 
 returns : tie.Need-returns Inv-loop μ-loop
-returns c = λ p text counts g loaded e T. places-are (c .before .before .before .before .args .threads) (six-held (c .before .before .before .before .args .code .now) (c .before .before .before .before .args .lengths .now) (c .before .before .before .before .args .threads) p loaded) p (c .before .before .before .loop .vs) (c .before .in-round2 .result .places) (c .before .in-round2 .result .left) (c .before .in-round2 .ensures p loaded) (c .before .before .before .before .args .pairs) counts g (read-readable (c .before .before .before .before .args .threads) text g e) T (c .before .before .before .loop .k) (c .before .before .before .loop .inv .1 p text counts g loaded e T) (omega (arith, c .before .before .before .loop .inv .0))
+returns c =
+    let args = c .before .before .before .before .args in
+    let loop = c .before .before .before .loop in
+    let in-round2 = c .before .in-round2 in
+    λ p text counts g loaded e T. places-are (args .threads) (six-held (args .code .now) (args .lengths .now) (args .threads) p loaded) p (loop .vs) (in-round2 .result .places) (in-round2 .result .left) (in-round2 .ensures p loaded) (args .pairs) counts g (read-readable (args .threads) text g e) T (loop .k) (loop .inv .1 p text counts g loaded e T) (omega (arith, loop .inv .0))
 
 pub places-spec : {M : Type 1} → statement M
 places-spec = tie.close (tie.spec Inv-loop μ-loop loop-holds in-round-requires (λ c κs. search needs) (λ c. search needs) (λ c. search needs) loop-again in-round-requires-2 returns)

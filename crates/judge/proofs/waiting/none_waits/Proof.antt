@@ -19,13 +19,25 @@ loop-holds : tie.Need-loop-holds Inv-loop μ-loop
 loop-holds c = (search needs, λ i h. absurd (omega arith))
 
 returns : tie.Need-returns Inv-loop μ-loop
-returns c = λ g place σ D mark. sym (one-waits (c .before .before .before .before .args .pairs) (c .before .before .before .before .args .places) (c .before .before .before .before .args .threads) (c .before .before .before .before .args .m) g place σ D (c .before .before .before .before .args .l) (c .before .before .before .before .args .u) (c .before .before .before .before .args .j) (c .before .before .before .before .args .t) (c .before .before .before .before .args .d) (c .before .before .before .loop .k) (c .before .before .loop-test .taken) mark (sym (c .before .waits .ensures) ∙ c .if1 .taken))
+returns c =
+    let args = c .before .before .before .before .args in
+    let loop = c .before .before .before .loop in
+    let loop-test = c .before .before .loop-test in
+    let waits = c .before .waits in
+    λ g place σ D mark. sym (one-waits (args .pairs) (args .places) (args .threads) (args .m) g place σ D (args .l) (args .u) (args .j) (args .t) (args .d) (loop .k) (loop-test .taken) mark (sym (waits .ensures) ∙ c .if1 .taken))
 
 loop-again : tie.Need-loop-again Inv-loop μ-loop
-loop-again c = (search needs, one-more-none (c .before .before .before .before .args .pairs) (c .before .before .before .before .args .places) (c .before .before .before .before .args .m) (c .before .before .before .before .args .l) (c .before .before .before .before .args .u) (c .before .before .before .before .args .j) (c .before .before .before .before .args .t) (c .before .before .before .before .args .d) (c .before .before .before .loop .k) (c .before .before .before .loop .inv .1) (sym (c .before .waits .ensures) ∙ c .if1 .left))
+loop-again c =
+    let args = c .before .before .before .before .args in
+    let loop = c .before .before .before .loop in
+    let waits = c .before .waits in
+    (search needs, one-more-none (args .pairs) (args .places) (args .m) (args .l) (args .u) (args .j) (args .t) (args .d) (loop .k) (loop .inv .1) (sym (waits .ensures) ∙ c .if1 .left))
 
 returns-2 : tie.Need-returns-2 Inv-loop μ-loop
-returns-2 c = λ g place σ D mark. sym (no-one-waits (c .before .before .args .pairs) (c .before .before .args .places) (c .before .before .args .threads) (c .before .before .args .m) g place σ D (c .before .before .args .l) (c .before .before .args .u) (c .before .before .args .j) (c .before .before .args .t) (c .before .before .args .d) (λ i h. c .before .loop .inv .1 i (omega (arith, c .before .loop .inv .0))))
+returns-2 c =
+    let args = c .before .before .args in
+    let loop = c .before .loop in
+    λ g place σ D mark. sym (no-one-waits (args .pairs) (args .places) (args .threads) (args .m) g place σ D (args .l) (args .u) (args .j) (args .t) (args .d) (λ i h. loop .inv .1 i (omega (arith, loop .inv .0))))
 
 pub none-waits-spec : {M : Type 1} → statement M
 none-waits-spec = tie.close (tie.spec Inv-loop μ-loop loop-holds (λ c. search needs) (λ c κs. search needs) returns (λ c. search needs) (λ c. search needs) loop-again returns-2)

@@ -30,25 +30,88 @@ loop-holds : tie.Need-loop-holds Inv-loop μ-loop
 loop-holds c = (search needs, search needs, search needs, (λ l. let z = zeros 8 l in omega arith), λ p g X. walk-start (c .before .args .code .now) (c .before .args .lengths .now) p g (c .started .result) _ (c .started .ensures p (X .loaded)))
 
 chosen-requires : tie.Need-chosen-requires Inv-loop μ-loop
-chosen-requires c κs = ((λ l. let z = c .before .loop .inv .3 l in omega (arith, c .loop-test .taken)), (c .before .before .before .pre .0, c .before .before .before .pre .1, (c .before .loop .inv .4 (c .before .before .before .pre .0) (c .before .before .before .pre .1) (c .before .before .before .pre .2) .so-far), walk-on (c .before .before .before .args .code .now) (c .before .before .before .args .lengths .now) (c .before .before .before .args .threads) (c .before .before .before .args .pairs) (c .before .before .before .args .places) (c .before .before .before .pre .0) (c .before .before .before .pre .1) (c .before .before .before .pre .2) (c .before .loop .m) (c .before .loop .made) (c .before .loop .counts) (c .before .loop .schedule) (c .before .loop .k) (c .before .loop .inv .4 (c .before .before .before .pre .0) (c .before .before .before .pre .1) (c .before .before .before .pre .2))))
+chosen-requires c κs =
+    let entry = c .before .before .before in
+    let pre = entry .pre in
+    let args = entry .args in
+    let loop = c .before .loop in
+    ((λ l. let z = loop .inv .3 l in omega (arith, c .loop-test .taken)), (pre .0, pre .1, (loop .inv .4 (pre .0) (pre .1) (pre .2) .so-far), walk-on (args .code .now) (args .lengths .now) (args .threads) (args .pairs) (args .places) (pre .0) (pre .1) (pre .2) (loop .m) (loop .made) (loop .counts) (loop .schedule) (loop .k) (loop .inv .4 (pre .0) (pre .1) (pre .2))))
 
 returns : tie.Need-returns Inv-loop μ-loop
-returns c = λ p g X. walk-stops (c .before .before .before .before .before .args .code .now) (c .before .before .before .before .before .args .lengths .now) (c .before .before .before .before .before .args .threads) (c .before .before .before .before .before .args .pairs) (c .before .before .before .before .before .args .places) p g X (c .before .before .before .loop .m) (c .before .before .before .loop .made) (c .before .before .before .loop .counts) (c .before .before .before .loop .schedule) (c .before .before .before .loop .k) (c .before .before .before .loop .inv .4 p g X) (c .before .chosen .result) (c .before .chosen .ensures .1 p g (c .before .before .before .loop .inv .4 p g X .so-far) (walk-on (c .before .before .before .before .before .args .code .now) (c .before .before .before .before .before .args .lengths .now) (c .before .before .before .before .before .args .threads) (c .before .before .before .before .before .args .pairs) (c .before .before .before .before .before .args .places) p g X (c .before .before .before .loop .m) (c .before .before .before .loop .made) (c .before .before .before .loop .counts) (c .before .before .before .loop .schedule) (c .before .before .before .loop .k) (c .before .before .before .loop .inv .4 p g X))) (c .before .before .loop-test .taken) (c .if1 .taken) (λ l. let z = c .before .before .before .loop .inv .3 l in omega (arith, c .before .before .loop-test .taken))
+returns c =
+    let args = c .before .before .before .before .before .args in
+    let loop = c .before .before .before .loop in
+    let loop-test = c .before .before .loop-test in
+    let chosen = c .before .chosen in
+    λ p g X. walk-stops (args .code .now) (args .lengths .now) (args .threads) (args .pairs) (args .places) p g X (loop .m) (loop .made) (loop .counts) (loop .schedule) (loop .k) (loop .inv .4 p g X) (chosen .result) (chosen .ensures .1 p g (loop .inv .4 p g X .so-far) (walk-on (args .code .now) (args .lengths .now) (args .threads) (args .pairs) (args .places) p g X (loop .m) (loop .made) (loop .counts) (loop .schedule) (loop .k) (loop .inv .4 p g X))) (loop-test .taken) (c .if1 .taken) (λ l. let z = loop .inv .3 l in omega (arith, loop-test .taken))
 
 step-requires : tie.Need-step-requires Inv-loop μ-loop
-step-requires c κs = walk-ready (c .before .before .before .before .before .args .code .now) (c .before .before .before .before .before .args .lengths .now) (c .before .before .before .before .before .args .threads) (c .before .before .before .before .before .args .pairs) (c .before .before .before .before .before .args .places) (c .before .before .before .before .before .pre .0) (c .before .before .before .before .before .pre .1) (c .before .before .before .loop .m) (c .before .before .before .loop .counts) (c .before .before .before .loop .inv .4 (c .before .before .before .before .before .pre .0) (c .before .before .before .before .before .pre .1) (c .before .before .before .before .before .pre .2) .so-far) (walk-on (c .before .before .before .before .before .args .code .now) (c .before .before .before .before .before .args .lengths .now) (c .before .before .before .before .before .args .threads) (c .before .before .before .before .before .args .pairs) (c .before .before .before .before .before .args .places) (c .before .before .before .before .before .pre .0) (c .before .before .before .before .before .pre .1) (c .before .before .before .before .before .pre .2) (c .before .before .before .loop .m) (c .before .before .before .loop .made) (c .before .before .before .loop .counts) (c .before .before .before .loop .schedule) (c .before .before .before .loop .k) (c .before .before .before .loop .inv .4 (c .before .before .before .before .before .pre .0) (c .before .before .before .before .before .pre .1) (c .before .before .before .before .before .pre .2))) (c .before .chosen .result) (walk-may (c .before .before .before .before .before .args .code .now) (c .before .before .before .before .before .args .lengths .now) (c .before .before .before .before .before .args .threads) (c .before .before .before .before .before .args .pairs) (c .before .before .before .before .before .args .places) (c .before .before .before .before .before .pre .0) (c .before .before .before .before .before .pre .1) (c .before .before .before .before .before .pre .2) (c .before .before .before .loop .m) (c .before .before .before .loop .made) (c .before .before .before .loop .counts) (c .before .before .before .loop .schedule) (c .before .before .before .loop .k) (c .before .before .before .loop .inv .4 (c .before .before .before .before .before .pre .0) (c .before .before .before .before .before .pre .1) (c .before .before .before .before .before .pre .2)) (c .before .chosen .result) (c .before .chosen .ensures .1 (c .before .before .before .before .before .pre .0) (c .before .before .before .before .before .pre .1) (c .before .before .before .loop .inv .4 (c .before .before .before .before .before .pre .0) (c .before .before .before .before .before .pre .1) (c .before .before .before .before .before .pre .2) .so-far) (walk-on (c .before .before .before .before .before .args .code .now) (c .before .before .before .before .before .args .lengths .now) (c .before .before .before .before .before .args .threads) (c .before .before .before .before .before .args .pairs) (c .before .before .before .before .before .args .places) (c .before .before .before .before .before .pre .0) (c .before .before .before .before .before .pre .1) (c .before .before .before .before .before .pre .2) (c .before .before .before .loop .m) (c .before .before .before .loop .made) (c .before .before .before .loop .counts) (c .before .before .before .loop .schedule) (c .before .before .before .loop .k) (c .before .before .before .loop .inv .4 (c .before .before .before .before .before .pre .0) (c .before .before .before .before .before .pre .1) (c .before .before .before .before .before .pre .2)))) (c .before .before .loop-test .taken) (c .before .chosen .ensures .0) (c .if1 .left))
+step-requires c κs =
+    let entry = c .before .before .before .before .before in
+    let pre = entry .pre in
+    let args = entry .args in
+    let loop = c .before .before .before .loop in
+    let loop-test = c .before .before .loop-test in
+    let chosen = c .before .chosen in
+    walk-ready (args .code .now) (args .lengths .now) (args .threads) (args .pairs) (args .places) (pre .0) (pre .1) (loop .m) (loop .counts) (loop .inv .4 (pre .0) (pre .1) (pre .2) .so-far) (walk-on (args .code .now) (args .lengths .now) (args .threads) (args .pairs) (args .places) (pre .0) (pre .1) (pre .2) (loop .m) (loop .made) (loop .counts) (loop .schedule) (loop .k) (loop .inv .4 (pre .0) (pre .1) (pre .2))) (chosen .result) (walk-may (args .code .now) (args .lengths .now) (args .threads) (args .pairs) (args .places) (pre .0) (pre .1) (pre .2) (loop .m) (loop .made) (loop .counts) (loop .schedule) (loop .k) (loop .inv .4 (pre .0) (pre .1) (pre .2)) (chosen .result) (chosen .ensures .1 (pre .0) (pre .1) (loop .inv .4 (pre .0) (pre .1) (pre .2) .so-far) (walk-on (args .code .now) (args .lengths .now) (args .threads) (args .pairs) (args .places) (pre .0) (pre .1) (pre .2) (loop .m) (loop .made) (loop .counts) (loop .schedule) (loop .k) (loop .inv .4 (pre .0) (pre .1) (pre .2)))) (loop-test .taken) (chosen .ensures .0) (c .if1 .left))
 
 with-source-requires : tie.Need-with-source-requires Inv-loop μ-loop
-with-source-requires c κs = walk-note (c .before .before .before .before .before .before .before .args .code .now) (c .before .before .before .before .before .before .before .args .lengths .now) (c .before .before .before .before .before .before .before .args .threads) (c .before .before .before .before .before .before .before .args .pairs) (c .before .before .before .before .before .before .before .args .places) (c .before .before .before .before .before .before .before .pre .0) (c .before .before .before .before .before .before .before .pre .1) (c .before .before .before .before .before .before .before .pre .2) (c .before .before .before .before .before .loop .m) (c .before .before .before .before .before .loop .made) (c .before .before .before .before .before .loop .counts) (c .before .before .before .before .before .loop .schedule) (c .before .before .before .before .before .loop .k) (c .before .before .before .before .before .loop .inv .4 (c .before .before .before .before .before .before .before .pre .0) (c .before .before .before .before .before .before .before .pre .1) (c .before .before .before .before .before .before .before .pre .2)) (c .before .before .before .chosen .result) (c .before .before .before .chosen .ensures .1 (c .before .before .before .before .before .before .before .pre .0) (c .before .before .before .before .before .before .before .pre .1) (c .before .before .before .before .before .loop .inv .4 (c .before .before .before .before .before .before .before .pre .0) (c .before .before .before .before .before .before .before .pre .1) (c .before .before .before .before .before .before .before .pre .2) .so-far) (walk-on (c .before .before .before .before .before .before .before .args .code .now) (c .before .before .before .before .before .before .before .args .lengths .now) (c .before .before .before .before .before .before .before .args .threads) (c .before .before .before .before .before .before .before .args .pairs) (c .before .before .before .before .before .before .before .args .places) (c .before .before .before .before .before .before .before .pre .0) (c .before .before .before .before .before .before .before .pre .1) (c .before .before .before .before .before .before .before .pre .2) (c .before .before .before .before .before .loop .m) (c .before .before .before .before .before .loop .made) (c .before .before .before .before .before .loop .counts) (c .before .before .before .before .before .loop .schedule) (c .before .before .before .before .before .loop .k) (c .before .before .before .before .before .loop .inv .4 (c .before .before .before .before .before .before .before .pre .0) (c .before .before .before .before .before .before .before .pre .1) (c .before .before .before .before .before .before .before .pre .2)))) (c .before .before .before .before .loop-test .taken) (c .before .before .before .chosen .ensures .0) (c .before .before .if1 .left) (c .before .step .result) (c .before .step .ensures (run SC (start (c .before .before .before .before .before .before .before .pre .0)) (c .before .before .before .before .before .loop .inv .4 (c .before .before .before .before .before .before .before .pre .0) (c .before .before .before .before .before .before .before .pre .1) (c .before .before .before .before .before .before .before .pre .2) .so-far)) (c .before .before .before .before .before .loop .inv .4 (c .before .before .before .before .before .before .before .pre .0) (c .before .before .before .before .before .before .before .pre .1) (c .before .before .before .before .before .before .before .pre .2) .holds) (walk-may (c .before .before .before .before .before .before .before .args .code .now) (c .before .before .before .before .before .before .before .args .lengths .now) (c .before .before .before .before .before .before .before .args .threads) (c .before .before .before .before .before .before .before .args .pairs) (c .before .before .before .before .before .before .before .args .places) (c .before .before .before .before .before .before .before .pre .0) (c .before .before .before .before .before .before .before .pre .1) (c .before .before .before .before .before .before .before .pre .2) (c .before .before .before .before .before .loop .m) (c .before .before .before .before .before .loop .made) (c .before .before .before .before .before .loop .counts) (c .before .before .before .before .before .loop .schedule) (c .before .before .before .before .before .loop .k) (c .before .before .before .before .before .loop .inv .4 (c .before .before .before .before .before .before .before .pre .0) (c .before .before .before .before .before .before .before .pre .1) (c .before .before .before .before .before .before .before .pre .2)) (c .before .before .before .chosen .result) (c .before .before .before .chosen .ensures .1 (c .before .before .before .before .before .before .before .pre .0) (c .before .before .before .before .before .before .before .pre .1) (c .before .before .before .before .before .loop .inv .4 (c .before .before .before .before .before .before .before .pre .0) (c .before .before .before .before .before .before .before .pre .1) (c .before .before .before .before .before .before .before .pre .2) .so-far) (walk-on (c .before .before .before .before .before .before .before .args .code .now) (c .before .before .before .before .before .before .before .args .lengths .now) (c .before .before .before .before .before .before .before .args .threads) (c .before .before .before .before .before .before .before .args .pairs) (c .before .before .before .before .before .before .before .args .places) (c .before .before .before .before .before .before .before .pre .0) (c .before .before .before .before .before .before .before .pre .1) (c .before .before .before .before .before .before .before .pre .2) (c .before .before .before .before .before .loop .m) (c .before .before .before .before .before .loop .made) (c .before .before .before .before .before .loop .counts) (c .before .before .before .before .before .loop .schedule) (c .before .before .before .before .before .loop .k) (c .before .before .before .before .before .loop .inv .4 (c .before .before .before .before .before .before .before .pre .0) (c .before .before .before .before .before .before .before .pre .1) (c .before .before .before .before .before .before .before .pre .2)))) (c .before .before .before .before .loop-test .taken) (c .before .before .before .chosen .ensures .0) (c .before .before .if1 .left)) (walk-near (c .before .before .before .before .before .before .before .args .code .now) (c .before .before .before .before .before .before .before .args .lengths .now) (c .before .before .before .before .before .before .before .args .threads) (c .before .before .before .before .before .before .before .args .pairs) (c .before .before .before .before .before .before .before .args .places) (c .before .before .before .before .before .before .before .pre .0) (c .before .before .before .before .before .before .before .pre .1) (c .before .before .before .before .before .loop .m) (c .before .before .before .before .before .loop .counts) (c .before .before .before .before .before .loop .inv .4 (c .before .before .before .before .before .before .before .pre .0) (c .before .before .before .before .before .before .before .pre .1) (c .before .before .before .before .before .before .before .pre .2) .so-far) (walk-on (c .before .before .before .before .before .before .before .args .code .now) (c .before .before .before .before .before .before .before .args .lengths .now) (c .before .before .before .before .before .before .before .args .threads) (c .before .before .before .before .before .before .before .args .pairs) (c .before .before .before .before .before .before .before .args .places) (c .before .before .before .before .before .before .before .pre .0) (c .before .before .before .before .before .before .before .pre .1) (c .before .before .before .before .before .before .before .pre .2) (c .before .before .before .before .before .loop .m) (c .before .before .before .before .before .loop .made) (c .before .before .before .before .before .loop .counts) (c .before .before .before .before .before .loop .schedule) (c .before .before .before .before .before .loop .k) (c .before .before .before .before .before .loop .inv .4 (c .before .before .before .before .before .before .before .pre .0) (c .before .before .before .before .before .before .before .pre .1) (c .before .before .before .before .before .before .before .pre .2))) (c .before .before .before .chosen .result) (walk-may (c .before .before .before .before .before .before .before .args .code .now) (c .before .before .before .before .before .before .before .args .lengths .now) (c .before .before .before .before .before .before .before .args .threads) (c .before .before .before .before .before .before .before .args .pairs) (c .before .before .before .before .before .before .before .args .places) (c .before .before .before .before .before .before .before .pre .0) (c .before .before .before .before .before .before .before .pre .1) (c .before .before .before .before .before .before .before .pre .2) (c .before .before .before .before .before .loop .m) (c .before .before .before .before .before .loop .made) (c .before .before .before .before .before .loop .counts) (c .before .before .before .before .before .loop .schedule) (c .before .before .before .before .before .loop .k) (c .before .before .before .before .before .loop .inv .4 (c .before .before .before .before .before .before .before .pre .0) (c .before .before .before .before .before .before .before .pre .1) (c .before .before .before .before .before .before .before .pre .2)) (c .before .before .before .chosen .result) (c .before .before .before .chosen .ensures .1 (c .before .before .before .before .before .before .before .pre .0) (c .before .before .before .before .before .before .before .pre .1) (c .before .before .before .before .before .loop .inv .4 (c .before .before .before .before .before .before .before .pre .0) (c .before .before .before .before .before .before .before .pre .1) (c .before .before .before .before .before .before .before .pre .2) .so-far) (walk-on (c .before .before .before .before .before .before .before .args .code .now) (c .before .before .before .before .before .before .before .args .lengths .now) (c .before .before .before .before .before .before .before .args .threads) (c .before .before .before .before .before .before .before .args .pairs) (c .before .before .before .before .before .before .before .args .places) (c .before .before .before .before .before .before .before .pre .0) (c .before .before .before .before .before .before .before .pre .1) (c .before .before .before .before .before .before .before .pre .2) (c .before .before .before .before .before .loop .m) (c .before .before .before .before .before .loop .made) (c .before .before .before .before .before .loop .counts) (c .before .before .before .before .before .loop .schedule) (c .before .before .before .before .before .loop .k) (c .before .before .before .before .before .loop .inv .4 (c .before .before .before .before .before .before .before .pre .0) (c .before .before .before .before .before .before .before .pre .1) (c .before .before .before .before .before .before .before .pre .2)))) (c .before .before .before .before .loop-test .taken) (c .before .before .before .chosen .ensures .0) (c .before .before .if1 .left))))
+with-source-requires c κs =
+    let entry = c .before .before .before .before .before .before .before in
+    let pre = entry .pre in
+    let args = entry .args in
+    let loop = c .before .before .before .before .before .loop in
+    let loop-test = c .before .before .before .before .loop-test in
+    let chosen = c .before .before .before .chosen in
+    let if1 = c .before .before .if1 in
+    let step = c .before .step in
+    walk-note (args .code .now) (args .lengths .now) (args .threads) (args .pairs) (args .places) (pre .0) (pre .1) (pre .2) (loop .m) (loop .made) (loop .counts) (loop .schedule) (loop .k) (loop .inv .4 (pre .0) (pre .1) (pre .2)) (chosen .result) (chosen .ensures .1 (pre .0) (pre .1) (loop .inv .4 (pre .0) (pre .1) (pre .2) .so-far) (walk-on (args .code .now) (args .lengths .now) (args .threads) (args .pairs) (args .places) (pre .0) (pre .1) (pre .2) (loop .m) (loop .made) (loop .counts) (loop .schedule) (loop .k) (loop .inv .4 (pre .0) (pre .1) (pre .2)))) (loop-test .taken) (chosen .ensures .0) (if1 .left) (step .result) (step .ensures (run SC (start (pre .0)) (loop .inv .4 (pre .0) (pre .1) (pre .2) .so-far)) (loop .inv .4 (pre .0) (pre .1) (pre .2) .holds) (walk-may (args .code .now) (args .lengths .now) (args .threads) (args .pairs) (args .places) (pre .0) (pre .1) (pre .2) (loop .m) (loop .made) (loop .counts) (loop .schedule) (loop .k) (loop .inv .4 (pre .0) (pre .1) (pre .2)) (chosen .result) (chosen .ensures .1 (pre .0) (pre .1) (loop .inv .4 (pre .0) (pre .1) (pre .2) .so-far) (walk-on (args .code .now) (args .lengths .now) (args .threads) (args .pairs) (args .places) (pre .0) (pre .1) (pre .2) (loop .m) (loop .made) (loop .counts) (loop .schedule) (loop .k) (loop .inv .4 (pre .0) (pre .1) (pre .2)))) (loop-test .taken) (chosen .ensures .0) (if1 .left)) (walk-near (args .code .now) (args .lengths .now) (args .threads) (args .pairs) (args .places) (pre .0) (pre .1) (loop .m) (loop .counts) (loop .inv .4 (pre .0) (pre .1) (pre .2) .so-far) (walk-on (args .code .now) (args .lengths .now) (args .threads) (args .pairs) (args .places) (pre .0) (pre .1) (pre .2) (loop .m) (loop .made) (loop .counts) (loop .schedule) (loop .k) (loop .inv .4 (pre .0) (pre .1) (pre .2))) (chosen .result) (walk-may (args .code .now) (args .lengths .now) (args .threads) (args .pairs) (args .places) (pre .0) (pre .1) (pre .2) (loop .m) (loop .made) (loop .counts) (loop .schedule) (loop .k) (loop .inv .4 (pre .0) (pre .1) (pre .2)) (chosen .result) (chosen .ensures .1 (pre .0) (pre .1) (loop .inv .4 (pre .0) (pre .1) (pre .2) .so-far) (walk-on (args .code .now) (args .lengths .now) (args .threads) (args .pairs) (args .places) (pre .0) (pre .1) (pre .2) (loop .m) (loop .made) (loop .counts) (loop .schedule) (loop .k) (loop .inv .4 (pre .0) (pre .1) (pre .2)))) (loop-test .taken) (chosen .ensures .0) (if1 .left))))
 
 with-event-requires : tie.Need-with-event-requires Inv-loop μ-loop
-with-event-requires c κs = (walk-note (c .before .before .before .before .before .before .before .before .args .code .now) (c .before .before .before .before .before .before .before .before .args .lengths .now) (c .before .before .before .before .before .before .before .before .args .threads) (c .before .before .before .before .before .before .before .before .args .pairs) (c .before .before .before .before .before .before .before .before .args .places) (c .before .before .before .before .before .before .before .before .pre .0) (c .before .before .before .before .before .before .before .before .pre .1) (c .before .before .before .before .before .before .before .before .pre .2) (c .before .before .before .before .before .before .loop .m) (c .before .before .before .before .before .before .loop .made) (c .before .before .before .before .before .before .loop .counts) (c .before .before .before .before .before .before .loop .schedule) (c .before .before .before .before .before .before .loop .k) (c .before .before .before .before .before .before .loop .inv .4 (c .before .before .before .before .before .before .before .before .pre .0) (c .before .before .before .before .before .before .before .before .pre .1) (c .before .before .before .before .before .before .before .before .pre .2)) (c .before .before .before .before .chosen .result) (c .before .before .before .before .chosen .ensures .1 (c .before .before .before .before .before .before .before .before .pre .0) (c .before .before .before .before .before .before .before .before .pre .1) (c .before .before .before .before .before .before .loop .inv .4 (c .before .before .before .before .before .before .before .before .pre .0) (c .before .before .before .before .before .before .before .before .pre .1) (c .before .before .before .before .before .before .before .before .pre .2) .so-far) (walk-on (c .before .before .before .before .before .before .before .before .args .code .now) (c .before .before .before .before .before .before .before .before .args .lengths .now) (c .before .before .before .before .before .before .before .before .args .threads) (c .before .before .before .before .before .before .before .before .args .pairs) (c .before .before .before .before .before .before .before .before .args .places) (c .before .before .before .before .before .before .before .before .pre .0) (c .before .before .before .before .before .before .before .before .pre .1) (c .before .before .before .before .before .before .before .before .pre .2) (c .before .before .before .before .before .before .loop .m) (c .before .before .before .before .before .before .loop .made) (c .before .before .before .before .before .before .loop .counts) (c .before .before .before .before .before .before .loop .schedule) (c .before .before .before .before .before .before .loop .k) (c .before .before .before .before .before .before .loop .inv .4 (c .before .before .before .before .before .before .before .before .pre .0) (c .before .before .before .before .before .before .before .before .pre .1) (c .before .before .before .before .before .before .before .before .pre .2)))) (c .before .before .before .before .before .loop-test .taken) (c .before .before .before .before .chosen .ensures .0) (c .before .before .before .if1 .left) (c .before .before .step .result) (c .before .before .step .ensures (run SC (start (c .before .before .before .before .before .before .before .before .pre .0)) (c .before .before .before .before .before .before .loop .inv .4 (c .before .before .before .before .before .before .before .before .pre .0) (c .before .before .before .before .before .before .before .before .pre .1) (c .before .before .before .before .before .before .before .before .pre .2) .so-far)) (c .before .before .before .before .before .before .loop .inv .4 (c .before .before .before .before .before .before .before .before .pre .0) (c .before .before .before .before .before .before .before .before .pre .1) (c .before .before .before .before .before .before .before .before .pre .2) .holds) (walk-may (c .before .before .before .before .before .before .before .before .args .code .now) (c .before .before .before .before .before .before .before .before .args .lengths .now) (c .before .before .before .before .before .before .before .before .args .threads) (c .before .before .before .before .before .before .before .before .args .pairs) (c .before .before .before .before .before .before .before .before .args .places) (c .before .before .before .before .before .before .before .before .pre .0) (c .before .before .before .before .before .before .before .before .pre .1) (c .before .before .before .before .before .before .before .before .pre .2) (c .before .before .before .before .before .before .loop .m) (c .before .before .before .before .before .before .loop .made) (c .before .before .before .before .before .before .loop .counts) (c .before .before .before .before .before .before .loop .schedule) (c .before .before .before .before .before .before .loop .k) (c .before .before .before .before .before .before .loop .inv .4 (c .before .before .before .before .before .before .before .before .pre .0) (c .before .before .before .before .before .before .before .before .pre .1) (c .before .before .before .before .before .before .before .before .pre .2)) (c .before .before .before .before .chosen .result) (c .before .before .before .before .chosen .ensures .1 (c .before .before .before .before .before .before .before .before .pre .0) (c .before .before .before .before .before .before .before .before .pre .1) (c .before .before .before .before .before .before .loop .inv .4 (c .before .before .before .before .before .before .before .before .pre .0) (c .before .before .before .before .before .before .before .before .pre .1) (c .before .before .before .before .before .before .before .before .pre .2) .so-far) (walk-on (c .before .before .before .before .before .before .before .before .args .code .now) (c .before .before .before .before .before .before .before .before .args .lengths .now) (c .before .before .before .before .before .before .before .before .args .threads) (c .before .before .before .before .before .before .before .before .args .pairs) (c .before .before .before .before .before .before .before .before .args .places) (c .before .before .before .before .before .before .before .before .pre .0) (c .before .before .before .before .before .before .before .before .pre .1) (c .before .before .before .before .before .before .before .before .pre .2) (c .before .before .before .before .before .before .loop .m) (c .before .before .before .before .before .before .loop .made) (c .before .before .before .before .before .before .loop .counts) (c .before .before .before .before .before .before .loop .schedule) (c .before .before .before .before .before .before .loop .k) (c .before .before .before .before .before .before .loop .inv .4 (c .before .before .before .before .before .before .before .before .pre .0) (c .before .before .before .before .before .before .before .before .pre .1) (c .before .before .before .before .before .before .before .before .pre .2)))) (c .before .before .before .before .before .loop-test .taken) (c .before .before .before .before .chosen .ensures .0) (c .before .before .before .if1 .left)) (walk-near (c .before .before .before .before .before .before .before .before .args .code .now) (c .before .before .before .before .before .before .before .before .args .lengths .now) (c .before .before .before .before .before .before .before .before .args .threads) (c .before .before .before .before .before .before .before .before .args .pairs) (c .before .before .before .before .before .before .before .before .args .places) (c .before .before .before .before .before .before .before .before .pre .0) (c .before .before .before .before .before .before .before .before .pre .1) (c .before .before .before .before .before .before .loop .m) (c .before .before .before .before .before .before .loop .counts) (c .before .before .before .before .before .before .loop .inv .4 (c .before .before .before .before .before .before .before .before .pre .0) (c .before .before .before .before .before .before .before .before .pre .1) (c .before .before .before .before .before .before .before .before .pre .2) .so-far) (walk-on (c .before .before .before .before .before .before .before .before .args .code .now) (c .before .before .before .before .before .before .before .before .args .lengths .now) (c .before .before .before .before .before .before .before .before .args .threads) (c .before .before .before .before .before .before .before .before .args .pairs) (c .before .before .before .before .before .before .before .before .args .places) (c .before .before .before .before .before .before .before .before .pre .0) (c .before .before .before .before .before .before .before .before .pre .1) (c .before .before .before .before .before .before .before .before .pre .2) (c .before .before .before .before .before .before .loop .m) (c .before .before .before .before .before .before .loop .made) (c .before .before .before .before .before .before .loop .counts) (c .before .before .before .before .before .before .loop .schedule) (c .before .before .before .before .before .before .loop .k) (c .before .before .before .before .before .before .loop .inv .4 (c .before .before .before .before .before .before .before .before .pre .0) (c .before .before .before .before .before .before .before .before .pre .1) (c .before .before .before .before .before .before .before .before .pre .2))) (c .before .before .before .before .chosen .result) (walk-may (c .before .before .before .before .before .before .before .before .args .code .now) (c .before .before .before .before .before .before .before .before .args .lengths .now) (c .before .before .before .before .before .before .before .before .args .threads) (c .before .before .before .before .before .before .before .before .args .pairs) (c .before .before .before .before .before .before .before .before .args .places) (c .before .before .before .before .before .before .before .before .pre .0) (c .before .before .before .before .before .before .before .before .pre .1) (c .before .before .before .before .before .before .before .before .pre .2) (c .before .before .before .before .before .before .loop .m) (c .before .before .before .before .before .before .loop .made) (c .before .before .before .before .before .before .loop .counts) (c .before .before .before .before .before .before .loop .schedule) (c .before .before .before .before .before .before .loop .k) (c .before .before .before .before .before .before .loop .inv .4 (c .before .before .before .before .before .before .before .before .pre .0) (c .before .before .before .before .before .before .before .before .pre .1) (c .before .before .before .before .before .before .before .before .pre .2)) (c .before .before .before .before .chosen .result) (c .before .before .before .before .chosen .ensures .1 (c .before .before .before .before .before .before .before .before .pre .0) (c .before .before .before .before .before .before .before .before .pre .1) (c .before .before .before .before .before .before .loop .inv .4 (c .before .before .before .before .before .before .before .before .pre .0) (c .before .before .before .before .before .before .before .before .pre .1) (c .before .before .before .before .before .before .before .before .pre .2) .so-far) (walk-on (c .before .before .before .before .before .before .before .before .args .code .now) (c .before .before .before .before .before .before .before .before .args .lengths .now) (c .before .before .before .before .before .before .before .before .args .threads) (c .before .before .before .before .before .before .before .before .args .pairs) (c .before .before .before .before .before .before .before .before .args .places) (c .before .before .before .before .before .before .before .before .pre .0) (c .before .before .before .before .before .before .before .before .pre .1) (c .before .before .before .before .before .before .before .before .pre .2) (c .before .before .before .before .before .before .loop .m) (c .before .before .before .before .before .before .loop .made) (c .before .before .before .before .before .before .loop .counts) (c .before .before .before .before .before .before .loop .schedule) (c .before .before .before .before .before .before .loop .k) (c .before .before .before .before .before .before .loop .inv .4 (c .before .before .before .before .before .before .before .before .pre .0) (c .before .before .before .before .before .before .before .before .pre .1) (c .before .before .before .before .before .before .before .before .pre .2)))) (c .before .before .before .before .before .loop-test .taken) (c .before .before .before .before .chosen .ensures .0) (c .before .before .before .if1 .left)))), (λ l. let z = c .before .before .before .before .before .before .loop .inv .3 l in omega (arith, c .before .before .before .before .before .loop-test .taken)))
+with-event-requires c κs =
+    let entry = c .before .before .before .before .before .before .before .before in
+    let pre = entry .pre in
+    let args = entry .args in
+    let loop = c .before .before .before .before .before .before .loop in
+    let loop-test = c .before .before .before .before .before .loop-test in
+    let chosen = c .before .before .before .before .chosen in
+    let if1 = c .before .before .before .if1 in
+    let step = c .before .before .step in
+    (walk-note (args .code .now) (args .lengths .now) (args .threads) (args .pairs) (args .places) (pre .0) (pre .1) (pre .2) (loop .m) (loop .made) (loop .counts) (loop .schedule) (loop .k) (loop .inv .4 (pre .0) (pre .1) (pre .2)) (chosen .result) (chosen .ensures .1 (pre .0) (pre .1) (loop .inv .4 (pre .0) (pre .1) (pre .2) .so-far) (walk-on (args .code .now) (args .lengths .now) (args .threads) (args .pairs) (args .places) (pre .0) (pre .1) (pre .2) (loop .m) (loop .made) (loop .counts) (loop .schedule) (loop .k) (loop .inv .4 (pre .0) (pre .1) (pre .2)))) (loop-test .taken) (chosen .ensures .0) (if1 .left) (step .result) (step .ensures (run SC (start (pre .0)) (loop .inv .4 (pre .0) (pre .1) (pre .2) .so-far)) (loop .inv .4 (pre .0) (pre .1) (pre .2) .holds) (walk-may (args .code .now) (args .lengths .now) (args .threads) (args .pairs) (args .places) (pre .0) (pre .1) (pre .2) (loop .m) (loop .made) (loop .counts) (loop .schedule) (loop .k) (loop .inv .4 (pre .0) (pre .1) (pre .2)) (chosen .result) (chosen .ensures .1 (pre .0) (pre .1) (loop .inv .4 (pre .0) (pre .1) (pre .2) .so-far) (walk-on (args .code .now) (args .lengths .now) (args .threads) (args .pairs) (args .places) (pre .0) (pre .1) (pre .2) (loop .m) (loop .made) (loop .counts) (loop .schedule) (loop .k) (loop .inv .4 (pre .0) (pre .1) (pre .2)))) (loop-test .taken) (chosen .ensures .0) (if1 .left)) (walk-near (args .code .now) (args .lengths .now) (args .threads) (args .pairs) (args .places) (pre .0) (pre .1) (loop .m) (loop .counts) (loop .inv .4 (pre .0) (pre .1) (pre .2) .so-far) (walk-on (args .code .now) (args .lengths .now) (args .threads) (args .pairs) (args .places) (pre .0) (pre .1) (pre .2) (loop .m) (loop .made) (loop .counts) (loop .schedule) (loop .k) (loop .inv .4 (pre .0) (pre .1) (pre .2))) (chosen .result) (walk-may (args .code .now) (args .lengths .now) (args .threads) (args .pairs) (args .places) (pre .0) (pre .1) (pre .2) (loop .m) (loop .made) (loop .counts) (loop .schedule) (loop .k) (loop .inv .4 (pre .0) (pre .1) (pre .2)) (chosen .result) (chosen .ensures .1 (pre .0) (pre .1) (loop .inv .4 (pre .0) (pre .1) (pre .2) .so-far) (walk-on (args .code .now) (args .lengths .now) (args .threads) (args .pairs) (args .places) (pre .0) (pre .1) (pre .2) (loop .m) (loop .made) (loop .counts) (loop .schedule) (loop .k) (loop .inv .4 (pre .0) (pre .1) (pre .2)))) (loop-test .taken) (chosen .ensures .0) (if1 .left)))), (λ l. let z = loop .inv .3 l in omega (arith, loop-test .taken)))
 
 loop-again : tie.Need-loop-again Inv-loop μ-loop
-loop-again c = (search needs, search needs, length-set (c .before .before .before .before .before .before .before .before .before .before .loop .schedule) (c .before .before .before .before .before .before .before .before .before .before .loop .k) (c .before .before .before .before .before .before .before .before .chosen .result) ∙ c .before .before .before .before .before .before .before .before .before .before .loop .inv .2, few-more (c .before .before .before .before .before .before .before .before .before .before .loop .counts) _ _ (c .before .before .before .before .before .before .before .before .before .before .loop .k) (c .before .before .before .before .before .before .before .before .before .before .loop .inv .1) (walk-note (c .before .before .before .before .before .before .before .before .before .before .before .before .args .code .now) (c .before .before .before .before .before .before .before .before .before .before .before .before .args .lengths .now) (c .before .before .before .before .before .before .before .before .before .before .before .before .args .threads) (c .before .before .before .before .before .before .before .before .before .before .before .before .args .pairs) (c .before .before .before .before .before .before .before .before .before .before .before .before .args .places) (c .before .before .before .before .before .before .before .before .before .before .before .before .pre .0) (c .before .before .before .before .before .before .before .before .before .before .before .before .pre .1) (c .before .before .before .before .before .before .before .before .before .before .before .before .pre .2) (c .before .before .before .before .before .before .before .before .before .before .loop .m) (c .before .before .before .before .before .before .before .before .before .before .loop .made) (c .before .before .before .before .before .before .before .before .before .before .loop .counts) (c .before .before .before .before .before .before .before .before .before .before .loop .schedule) (c .before .before .before .before .before .before .before .before .before .before .loop .k) (c .before .before .before .before .before .before .before .before .before .before .loop .inv .4 (c .before .before .before .before .before .before .before .before .before .before .before .before .pre .0) (c .before .before .before .before .before .before .before .before .before .before .before .before .pre .1) (c .before .before .before .before .before .before .before .before .before .before .before .before .pre .2)) (c .before .before .before .before .before .before .before .before .chosen .result) (c .before .before .before .before .before .before .before .before .chosen .ensures .1 (c .before .before .before .before .before .before .before .before .before .before .before .before .pre .0) (c .before .before .before .before .before .before .before .before .before .before .before .before .pre .1) (c .before .before .before .before .before .before .before .before .before .before .loop .inv .4 (c .before .before .before .before .before .before .before .before .before .before .before .before .pre .0) (c .before .before .before .before .before .before .before .before .before .before .before .before .pre .1) (c .before .before .before .before .before .before .before .before .before .before .before .before .pre .2) .so-far) (walk-on (c .before .before .before .before .before .before .before .before .before .before .before .before .args .code .now) (c .before .before .before .before .before .before .before .before .before .before .before .before .args .lengths .now) (c .before .before .before .before .before .before .before .before .before .before .before .before .args .threads) (c .before .before .before .before .before .before .before .before .before .before .before .before .args .pairs) (c .before .before .before .before .before .before .before .before .before .before .before .before .args .places) (c .before .before .before .before .before .before .before .before .before .before .before .before .pre .0) (c .before .before .before .before .before .before .before .before .before .before .before .before .pre .1) (c .before .before .before .before .before .before .before .before .before .before .before .before .pre .2) (c .before .before .before .before .before .before .before .before .before .before .loop .m) (c .before .before .before .before .before .before .before .before .before .before .loop .made) (c .before .before .before .before .before .before .before .before .before .before .loop .counts) (c .before .before .before .before .before .before .before .before .before .before .loop .schedule) (c .before .before .before .before .before .before .before .before .before .before .loop .k) (c .before .before .before .before .before .before .before .before .before .before .loop .inv .4 (c .before .before .before .before .before .before .before .before .before .before .before .before .pre .0) (c .before .before .before .before .before .before .before .before .before .before .before .before .pre .1) (c .before .before .before .before .before .before .before .before .before .before .before .before .pre .2)))) (c .before .before .before .before .before .before .before .before .before .loop-test .taken) (c .before .before .before .before .before .before .before .before .chosen .ensures .0) (c .before .before .before .before .before .before .before .if1 .left) (c .before .before .before .before .before .before .step .result) (c .before .before .before .before .before .before .step .ensures (run SC (start (c .before .before .before .before .before .before .before .before .before .before .before .before .pre .0)) (c .before .before .before .before .before .before .before .before .before .before .loop .inv .4 (c .before .before .before .before .before .before .before .before .before .before .before .before .pre .0) (c .before .before .before .before .before .before .before .before .before .before .before .before .pre .1) (c .before .before .before .before .before .before .before .before .before .before .before .before .pre .2) .so-far)) (c .before .before .before .before .before .before .before .before .before .before .loop .inv .4 (c .before .before .before .before .before .before .before .before .before .before .before .before .pre .0) (c .before .before .before .before .before .before .before .before .before .before .before .before .pre .1) (c .before .before .before .before .before .before .before .before .before .before .before .before .pre .2) .holds) (walk-may (c .before .before .before .before .before .before .before .before .before .before .before .before .args .code .now) (c .before .before .before .before .before .before .before .before .before .before .before .before .args .lengths .now) (c .before .before .before .before .before .before .before .before .before .before .before .before .args .threads) (c .before .before .before .before .before .before .before .before .before .before .before .before .args .pairs) (c .before .before .before .before .before .before .before .before .before .before .before .before .args .places) (c .before .before .before .before .before .before .before .before .before .before .before .before .pre .0) (c .before .before .before .before .before .before .before .before .before .before .before .before .pre .1) (c .before .before .before .before .before .before .before .before .before .before .before .before .pre .2) (c .before .before .before .before .before .before .before .before .before .before .loop .m) (c .before .before .before .before .before .before .before .before .before .before .loop .made) (c .before .before .before .before .before .before .before .before .before .before .loop .counts) (c .before .before .before .before .before .before .before .before .before .before .loop .schedule) (c .before .before .before .before .before .before .before .before .before .before .loop .k) (c .before .before .before .before .before .before .before .before .before .before .loop .inv .4 (c .before .before .before .before .before .before .before .before .before .before .before .before .pre .0) (c .before .before .before .before .before .before .before .before .before .before .before .before .pre .1) (c .before .before .before .before .before .before .before .before .before .before .before .before .pre .2)) (c .before .before .before .before .before .before .before .before .chosen .result) (c .before .before .before .before .before .before .before .before .chosen .ensures .1 (c .before .before .before .before .before .before .before .before .before .before .before .before .pre .0) (c .before .before .before .before .before .before .before .before .before .before .before .before .pre .1) (c .before .before .before .before .before .before .before .before .before .before .loop .inv .4 (c .before .before .before .before .before .before .before .before .before .before .before .before .pre .0) (c .before .before .before .before .before .before .before .before .before .before .before .before .pre .1) (c .before .before .before .before .before .before .before .before .before .before .before .before .pre .2) .so-far) (walk-on (c .before .before .before .before .before .before .before .before .before .before .before .before .args .code .now) (c .before .before .before .before .before .before .before .before .before .before .before .before .args .lengths .now) (c .before .before .before .before .before .before .before .before .before .before .before .before .args .threads) (c .before .before .before .before .before .before .before .before .before .before .before .before .args .pairs) (c .before .before .before .before .before .before .before .before .before .before .before .before .args .places) (c .before .before .before .before .before .before .before .before .before .before .before .before .pre .0) (c .before .before .before .before .before .before .before .before .before .before .before .before .pre .1) (c .before .before .before .before .before .before .before .before .before .before .before .before .pre .2) (c .before .before .before .before .before .before .before .before .before .before .loop .m) (c .before .before .before .before .before .before .before .before .before .before .loop .made) (c .before .before .before .before .before .before .before .before .before .before .loop .counts) (c .before .before .before .before .before .before .before .before .before .before .loop .schedule) (c .before .before .before .before .before .before .before .before .before .before .loop .k) (c .before .before .before .before .before .before .before .before .before .before .loop .inv .4 (c .before .before .before .before .before .before .before .before .before .before .before .before .pre .0) (c .before .before .before .before .before .before .before .before .before .before .before .before .pre .1) (c .before .before .before .before .before .before .before .before .before .before .before .before .pre .2)))) (c .before .before .before .before .before .before .before .before .before .loop-test .taken) (c .before .before .before .before .before .before .before .before .chosen .ensures .0) (c .before .before .before .before .before .before .before .if1 .left)) (walk-near (c .before .before .before .before .before .before .before .before .before .before .before .before .args .code .now) (c .before .before .before .before .before .before .before .before .before .before .before .before .args .lengths .now) (c .before .before .before .before .before .before .before .before .before .before .before .before .args .threads) (c .before .before .before .before .before .before .before .before .before .before .before .before .args .pairs) (c .before .before .before .before .before .before .before .before .before .before .before .before .args .places) (c .before .before .before .before .before .before .before .before .before .before .before .before .pre .0) (c .before .before .before .before .before .before .before .before .before .before .before .before .pre .1) (c .before .before .before .before .before .before .before .before .before .before .loop .m) (c .before .before .before .before .before .before .before .before .before .before .loop .counts) (c .before .before .before .before .before .before .before .before .before .before .loop .inv .4 (c .before .before .before .before .before .before .before .before .before .before .before .before .pre .0) (c .before .before .before .before .before .before .before .before .before .before .before .before .pre .1) (c .before .before .before .before .before .before .before .before .before .before .before .before .pre .2) .so-far) (walk-on (c .before .before .before .before .before .before .before .before .before .before .before .before .args .code .now) (c .before .before .before .before .before .before .before .before .before .before .before .before .args .lengths .now) (c .before .before .before .before .before .before .before .before .before .before .before .before .args .threads) (c .before .before .before .before .before .before .before .before .before .before .before .before .args .pairs) (c .before .before .before .before .before .before .before .before .before .before .before .before .args .places) (c .before .before .before .before .before .before .before .before .before .before .before .before .pre .0) (c .before .before .before .before .before .before .before .before .before .before .before .before .pre .1) (c .before .before .before .before .before .before .before .before .before .before .before .before .pre .2) (c .before .before .before .before .before .before .before .before .before .before .loop .m) (c .before .before .before .before .before .before .before .before .before .before .loop .made) (c .before .before .before .before .before .before .before .before .before .before .loop .counts) (c .before .before .before .before .before .before .before .before .before .before .loop .schedule) (c .before .before .before .before .before .before .before .before .before .before .loop .k) (c .before .before .before .before .before .before .before .before .before .before .loop .inv .4 (c .before .before .before .before .before .before .before .before .before .before .before .before .pre .0) (c .before .before .before .before .before .before .before .before .before .before .before .before .pre .1) (c .before .before .before .before .before .before .before .before .before .before .before .before .pre .2))) (c .before .before .before .before .before .before .before .before .chosen .result) (walk-may (c .before .before .before .before .before .before .before .before .before .before .before .before .args .code .now) (c .before .before .before .before .before .before .before .before .before .before .before .before .args .lengths .now) (c .before .before .before .before .before .before .before .before .before .before .before .before .args .threads) (c .before .before .before .before .before .before .before .before .before .before .before .before .args .pairs) (c .before .before .before .before .before .before .before .before .before .before .before .before .args .places) (c .before .before .before .before .before .before .before .before .before .before .before .before .pre .0) (c .before .before .before .before .before .before .before .before .before .before .before .before .pre .1) (c .before .before .before .before .before .before .before .before .before .before .before .before .pre .2) (c .before .before .before .before .before .before .before .before .before .before .loop .m) (c .before .before .before .before .before .before .before .before .before .before .loop .made) (c .before .before .before .before .before .before .before .before .before .before .loop .counts) (c .before .before .before .before .before .before .before .before .before .before .loop .schedule) (c .before .before .before .before .before .before .before .before .before .before .loop .k) (c .before .before .before .before .before .before .before .before .before .before .loop .inv .4 (c .before .before .before .before .before .before .before .before .before .before .before .before .pre .0) (c .before .before .before .before .before .before .before .before .before .before .before .before .pre .1) (c .before .before .before .before .before .before .before .before .before .before .before .before .pre .2)) (c .before .before .before .before .before .before .before .before .chosen .result) (c .before .before .before .before .before .before .before .before .chosen .ensures .1 (c .before .before .before .before .before .before .before .before .before .before .before .before .pre .0) (c .before .before .before .before .before .before .before .before .before .before .before .before .pre .1) (c .before .before .before .before .before .before .before .before .before .before .loop .inv .4 (c .before .before .before .before .before .before .before .before .before .before .before .before .pre .0) (c .before .before .before .before .before .before .before .before .before .before .before .before .pre .1) (c .before .before .before .before .before .before .before .before .before .before .before .before .pre .2) .so-far) (walk-on (c .before .before .before .before .before .before .before .before .before .before .before .before .args .code .now) (c .before .before .before .before .before .before .before .before .before .before .before .before .args .lengths .now) (c .before .before .before .before .before .before .before .before .before .before .before .before .args .threads) (c .before .before .before .before .before .before .before .before .before .before .before .before .args .pairs) (c .before .before .before .before .before .before .before .before .before .before .before .before .args .places) (c .before .before .before .before .before .before .before .before .before .before .before .before .pre .0) (c .before .before .before .before .before .before .before .before .before .before .before .before .pre .1) (c .before .before .before .before .before .before .before .before .before .before .before .before .pre .2) (c .before .before .before .before .before .before .before .before .before .before .loop .m) (c .before .before .before .before .before .before .before .before .before .before .loop .made) (c .before .before .before .before .before .before .before .before .before .before .loop .counts) (c .before .before .before .before .before .before .before .before .before .before .loop .schedule) (c .before .before .before .before .before .before .before .before .before .before .loop .k) (c .before .before .before .before .before .before .before .before .before .before .loop .inv .4 (c .before .before .before .before .before .before .before .before .before .before .before .before .pre .0) (c .before .before .before .before .before .before .before .before .before .before .before .before .pre .1) (c .before .before .before .before .before .before .before .before .before .before .before .before .pre .2)))) (c .before .before .before .before .before .before .before .before .before .loop-test .taken) (c .before .before .before .before .before .before .before .before .chosen .ensures .0) (c .before .before .before .before .before .before .before .if1 .left))))) (c .before .before .before .with-event .ensures .1) (c .before .before .before .before .before .before .before .before .before .before .loop .inv .3), λ p g X. walk-more (c .before .before .before .before .before .before .before .before .before .before .before .before .args .code .now) (c .before .before .before .before .before .before .before .before .before .before .before .before .args .lengths .now) (c .before .before .before .before .before .before .before .before .before .before .before .before .args .threads) (c .before .before .before .before .before .before .before .before .before .before .before .before .args .pairs) (c .before .before .before .before .before .before .before .before .before .before .before .before .args .places) p g X (c .before .before .before .before .before .before .before .before .before .before .loop .m) (c .before .before .before .before .before .before .before .before .before .before .loop .made) (c .before .before .before .before .before .before .before .before .before .before .loop .counts) (c .before .before .before .before .before .before .before .before .before .before .loop .schedule) (c .before .before .before .before .before .before .before .before .before .before .loop .k) (c .before .before .before .before .before .before .before .before .before .before .loop .inv .4 p g X) (c .before .before .before .before .before .before .before .before .chosen .result) (c .before .before .before .before .before .before .before .before .chosen .ensures .1 p g (c .before .before .before .before .before .before .before .before .before .before .loop .inv .4 p g X .so-far) (walk-on (c .before .before .before .before .before .before .before .before .before .before .before .before .args .code .now) (c .before .before .before .before .before .before .before .before .before .before .before .before .args .lengths .now) (c .before .before .before .before .before .before .before .before .before .before .before .before .args .threads) (c .before .before .before .before .before .before .before .before .before .before .before .before .args .pairs) (c .before .before .before .before .before .before .before .before .before .before .before .before .args .places) p g X (c .before .before .before .before .before .before .before .before .before .before .loop .m) (c .before .before .before .before .before .before .before .before .before .before .loop .made) (c .before .before .before .before .before .before .before .before .before .before .loop .counts) (c .before .before .before .before .before .before .before .before .before .before .loop .schedule) (c .before .before .before .before .before .before .before .before .before .before .loop .k) (c .before .before .before .before .before .before .before .before .before .before .loop .inv .4 p g X))) (c .before .before .before .before .before .before .before .before .before .loop-test .taken) (c .before .before .before .before .before .before .before .before .chosen .ensures .0) (c .before .before .before .before .before .before .before .if1 .left) (c .before .before .before .before .before .before .step .result) (c .before .before .before .before .before .before .step .ensures (run SC (start p) (c .before .before .before .before .before .before .before .before .before .before .loop .inv .4 p g X .so-far)) (c .before .before .before .before .before .before .before .before .before .before .loop .inv .4 p g X .holds) (walk-may (c .before .before .before .before .before .before .before .before .before .before .before .before .args .code .now) (c .before .before .before .before .before .before .before .before .before .before .before .before .args .lengths .now) (c .before .before .before .before .before .before .before .before .before .before .before .before .args .threads) (c .before .before .before .before .before .before .before .before .before .before .before .before .args .pairs) (c .before .before .before .before .before .before .before .before .before .before .before .before .args .places) p g X (c .before .before .before .before .before .before .before .before .before .before .loop .m) (c .before .before .before .before .before .before .before .before .before .before .loop .made) (c .before .before .before .before .before .before .before .before .before .before .loop .counts) (c .before .before .before .before .before .before .before .before .before .before .loop .schedule) (c .before .before .before .before .before .before .before .before .before .before .loop .k) (c .before .before .before .before .before .before .before .before .before .before .loop .inv .4 p g X) (c .before .before .before .before .before .before .before .before .chosen .result) (c .before .before .before .before .before .before .before .before .chosen .ensures .1 p g (c .before .before .before .before .before .before .before .before .before .before .loop .inv .4 p g X .so-far) (walk-on (c .before .before .before .before .before .before .before .before .before .before .before .before .args .code .now) (c .before .before .before .before .before .before .before .before .before .before .before .before .args .lengths .now) (c .before .before .before .before .before .before .before .before .before .before .before .before .args .threads) (c .before .before .before .before .before .before .before .before .before .before .before .before .args .pairs) (c .before .before .before .before .before .before .before .before .before .before .before .before .args .places) p g X (c .before .before .before .before .before .before .before .before .before .before .loop .m) (c .before .before .before .before .before .before .before .before .before .before .loop .made) (c .before .before .before .before .before .before .before .before .before .before .loop .counts) (c .before .before .before .before .before .before .before .before .before .before .loop .schedule) (c .before .before .before .before .before .before .before .before .before .before .loop .k) (c .before .before .before .before .before .before .before .before .before .before .loop .inv .4 p g X))) (c .before .before .before .before .before .before .before .before .before .loop-test .taken) (c .before .before .before .before .before .before .before .before .chosen .ensures .0) (c .before .before .before .before .before .before .before .if1 .left)) (walk-near (c .before .before .before .before .before .before .before .before .before .before .before .before .args .code .now) (c .before .before .before .before .before .before .before .before .before .before .before .before .args .lengths .now) (c .before .before .before .before .before .before .before .before .before .before .before .before .args .threads) (c .before .before .before .before .before .before .before .before .before .before .before .before .args .pairs) (c .before .before .before .before .before .before .before .before .before .before .before .before .args .places) p g (c .before .before .before .before .before .before .before .before .before .before .loop .m) (c .before .before .before .before .before .before .before .before .before .before .loop .counts) (c .before .before .before .before .before .before .before .before .before .before .loop .inv .4 p g X .so-far) (walk-on (c .before .before .before .before .before .before .before .before .before .before .before .before .args .code .now) (c .before .before .before .before .before .before .before .before .before .before .before .before .args .lengths .now) (c .before .before .before .before .before .before .before .before .before .before .before .before .args .threads) (c .before .before .before .before .before .before .before .before .before .before .before .before .args .pairs) (c .before .before .before .before .before .before .before .before .before .before .before .before .args .places) p g X (c .before .before .before .before .before .before .before .before .before .before .loop .m) (c .before .before .before .before .before .before .before .before .before .before .loop .made) (c .before .before .before .before .before .before .before .before .before .before .loop .counts) (c .before .before .before .before .before .before .before .before .before .before .loop .schedule) (c .before .before .before .before .before .before .before .before .before .before .loop .k) (c .before .before .before .before .before .before .before .before .before .before .loop .inv .4 p g X)) (c .before .before .before .before .before .before .before .before .chosen .result) (walk-may (c .before .before .before .before .before .before .before .before .before .before .before .before .args .code .now) (c .before .before .before .before .before .before .before .before .before .before .before .before .args .lengths .now) (c .before .before .before .before .before .before .before .before .before .before .before .before .args .threads) (c .before .before .before .before .before .before .before .before .before .before .before .before .args .pairs) (c .before .before .before .before .before .before .before .before .before .before .before .before .args .places) p g X (c .before .before .before .before .before .before .before .before .before .before .loop .m) (c .before .before .before .before .before .before .before .before .before .before .loop .made) (c .before .before .before .before .before .before .before .before .before .before .loop .counts) (c .before .before .before .before .before .before .before .before .before .before .loop .schedule) (c .before .before .before .before .before .before .before .before .before .before .loop .k) (c .before .before .before .before .before .before .before .before .before .before .loop .inv .4 p g X) (c .before .before .before .before .before .before .before .before .chosen .result) (c .before .before .before .before .before .before .before .before .chosen .ensures .1 p g (c .before .before .before .before .before .before .before .before .before .before .loop .inv .4 p g X .so-far) (walk-on (c .before .before .before .before .before .before .before .before .before .before .before .before .args .code .now) (c .before .before .before .before .before .before .before .before .before .before .before .before .args .lengths .now) (c .before .before .before .before .before .before .before .before .before .before .before .before .args .threads) (c .before .before .before .before .before .before .before .before .before .before .before .before .args .pairs) (c .before .before .before .before .before .before .before .before .before .before .before .before .args .places) p g X (c .before .before .before .before .before .before .before .before .before .before .loop .m) (c .before .before .before .before .before .before .before .before .before .before .loop .made) (c .before .before .before .before .before .before .before .before .before .before .loop .counts) (c .before .before .before .before .before .before .before .before .before .before .loop .schedule) (c .before .before .before .before .before .before .before .before .before .before .loop .k) (c .before .before .before .before .before .before .before .before .before .before .loop .inv .4 p g X))) (c .before .before .before .before .before .before .before .before .before .loop-test .taken) (c .before .before .before .before .before .before .before .before .chosen .ensures .0) (c .before .before .before .before .before .before .before .if1 .left)))) _ _ (c .before .before .before .with-event .ensures .0 ∙ rw (c .before .before .before .before .with-source .ensures)) (c .before .before .before .with-event .ensures .1) (c .before .before .before .before .before .before .before .before .before .before .loop .inv .0) (c .before .before .before .before .before .before .before .before .before .before .loop .inv .1) (c .before .before .before .before .before .before .before .before .before .before .loop .inv .2) (λ l. let z = c .before .before .before .before .before .before .before .before .before .before .loop .inv .3 l in omega (arith, c .before .before .before .before .before .before .before .before .before .loop-test .taken)))
+loop-again c = (
+  search needs,
+  search needs,
+  let loop = c .before .before .before .before .before .before .before .before .before .before .loop in
+      let chosen = c .before .before .before .before .before .before .before .before .chosen in
+      length-set (loop .schedule) (loop .k) (chosen .result) ∙ loop .inv .2,
+  let entry = c .before .before .before .before .before .before .before .before .before .before .before .before in
+      let pre = entry .pre in
+      let args = entry .args in
+      let loop = c .before .before .before .before .before .before .before .before .before .before .loop in
+      let loop-test = c .before .before .before .before .before .before .before .before .before .loop-test in
+      let chosen = c .before .before .before .before .before .before .before .before .chosen in
+      let if1 = c .before .before .before .before .before .before .before .if1 in
+      let step = c .before .before .before .before .before .before .step in
+      let with-event = c .before .before .before .with-event in
+      few-more (loop .counts) _ _ (loop .k) (loop .inv .1) (walk-note (args .code .now) (args .lengths .now) (args .threads) (args .pairs) (args .places) (pre .0) (pre .1) (pre .2) (loop .m) (loop .made) (loop .counts) (loop .schedule) (loop .k) (loop .inv .4 (pre .0) (pre .1) (pre .2)) (chosen .result) (chosen .ensures .1 (pre .0) (pre .1) (loop .inv .4 (pre .0) (pre .1) (pre .2) .so-far) (walk-on (args .code .now) (args .lengths .now) (args .threads) (args .pairs) (args .places) (pre .0) (pre .1) (pre .2) (loop .m) (loop .made) (loop .counts) (loop .schedule) (loop .k) (loop .inv .4 (pre .0) (pre .1) (pre .2)))) (loop-test .taken) (chosen .ensures .0) (if1 .left) (step .result) (step .ensures (run SC (start (pre .0)) (loop .inv .4 (pre .0) (pre .1) (pre .2) .so-far)) (loop .inv .4 (pre .0) (pre .1) (pre .2) .holds) (walk-may (args .code .now) (args .lengths .now) (args .threads) (args .pairs) (args .places) (pre .0) (pre .1) (pre .2) (loop .m) (loop .made) (loop .counts) (loop .schedule) (loop .k) (loop .inv .4 (pre .0) (pre .1) (pre .2)) (chosen .result) (chosen .ensures .1 (pre .0) (pre .1) (loop .inv .4 (pre .0) (pre .1) (pre .2) .so-far) (walk-on (args .code .now) (args .lengths .now) (args .threads) (args .pairs) (args .places) (pre .0) (pre .1) (pre .2) (loop .m) (loop .made) (loop .counts) (loop .schedule) (loop .k) (loop .inv .4 (pre .0) (pre .1) (pre .2)))) (loop-test .taken) (chosen .ensures .0) (if1 .left)) (walk-near (args .code .now) (args .lengths .now) (args .threads) (args .pairs) (args .places) (pre .0) (pre .1) (loop .m) (loop .counts) (loop .inv .4 (pre .0) (pre .1) (pre .2) .so-far) (walk-on (args .code .now) (args .lengths .now) (args .threads) (args .pairs) (args .places) (pre .0) (pre .1) (pre .2) (loop .m) (loop .made) (loop .counts) (loop .schedule) (loop .k) (loop .inv .4 (pre .0) (pre .1) (pre .2))) (chosen .result) (walk-may (args .code .now) (args .lengths .now) (args .threads) (args .pairs) (args .places) (pre .0) (pre .1) (pre .2) (loop .m) (loop .made) (loop .counts) (loop .schedule) (loop .k) (loop .inv .4 (pre .0) (pre .1) (pre .2)) (chosen .result) (chosen .ensures .1 (pre .0) (pre .1) (loop .inv .4 (pre .0) (pre .1) (pre .2) .so-far) (walk-on (args .code .now) (args .lengths .now) (args .threads) (args .pairs) (args .places) (pre .0) (pre .1) (pre .2) (loop .m) (loop .made) (loop .counts) (loop .schedule) (loop .k) (loop .inv .4 (pre .0) (pre .1) (pre .2)))) (loop-test .taken) (chosen .ensures .0) (if1 .left))))) (with-event .ensures .1) (loop .inv .3),
+  let args = c .before .before .before .before .before .before .before .before .before .before .before .before .args in
+      let loop = c .before .before .before .before .before .before .before .before .before .before .loop in
+      let loop-test = c .before .before .before .before .before .before .before .before .before .loop-test in
+      let chosen = c .before .before .before .before .before .before .before .before .chosen in
+      let if1 = c .before .before .before .before .before .before .before .if1 in
+      let step = c .before .before .before .before .before .before .step in
+      let with-source = c .before .before .before .before .with-source in
+      let with-event = c .before .before .before .with-event in
+      λ p g X. walk-more (args .code .now) (args .lengths .now) (args .threads) (args .pairs) (args .places) p g X (loop .m) (loop .made) (loop .counts) (loop .schedule) (loop .k) (loop .inv .4 p g X) (chosen .result) (chosen .ensures .1 p g (loop .inv .4 p g X .so-far) (walk-on (args .code .now) (args .lengths .now) (args .threads) (args .pairs) (args .places) p g X (loop .m) (loop .made) (loop .counts) (loop .schedule) (loop .k) (loop .inv .4 p g X))) (loop-test .taken) (chosen .ensures .0) (if1 .left) (step .result) (step .ensures (run SC (start p) (loop .inv .4 p g X .so-far)) (loop .inv .4 p g X .holds) (walk-may (args .code .now) (args .lengths .now) (args .threads) (args .pairs) (args .places) p g X (loop .m) (loop .made) (loop .counts) (loop .schedule) (loop .k) (loop .inv .4 p g X) (chosen .result) (chosen .ensures .1 p g (loop .inv .4 p g X .so-far) (walk-on (args .code .now) (args .lengths .now) (args .threads) (args .pairs) (args .places) p g X (loop .m) (loop .made) (loop .counts) (loop .schedule) (loop .k) (loop .inv .4 p g X))) (loop-test .taken) (chosen .ensures .0) (if1 .left)) (walk-near (args .code .now) (args .lengths .now) (args .threads) (args .pairs) (args .places) p g (loop .m) (loop .counts) (loop .inv .4 p g X .so-far) (walk-on (args .code .now) (args .lengths .now) (args .threads) (args .pairs) (args .places) p g X (loop .m) (loop .made) (loop .counts) (loop .schedule) (loop .k) (loop .inv .4 p g X)) (chosen .result) (walk-may (args .code .now) (args .lengths .now) (args .threads) (args .pairs) (args .places) p g X (loop .m) (loop .made) (loop .counts) (loop .schedule) (loop .k) (loop .inv .4 p g X) (chosen .result) (chosen .ensures .1 p g (loop .inv .4 p g X .so-far) (walk-on (args .code .now) (args .lengths .now) (args .threads) (args .pairs) (args .places) p g X (loop .m) (loop .made) (loop .counts) (loop .schedule) (loop .k) (loop .inv .4 p g X))) (loop-test .taken) (chosen .ensures .0) (if1 .left)))) _ _ (with-event .ensures .0 ∙ rw (with-source .ensures)) (with-event .ensures .1) (loop .inv .0) (loop .inv .1) (loop .inv .2) (λ l. let z = loop .inv .3 l in omega (arith, loop-test .taken)),
+)
 
 returns-2 : tie.Need-returns-2 Inv-loop μ-loop
-returns-2 c = λ p g X. walk-whole (c .before .before .before .args .code .now) (c .before .before .before .args .lengths .now) (c .before .before .before .args .threads) (c .before .before .before .args .pairs) (c .before .before .before .args .places) p g X (c .before .loop .m) (c .before .loop .made) (c .before .loop .counts) (c .before .loop .schedule) (c .before .loop .k) (c .before .loop .inv .4 p g X) (c .loop-test .left) (λ l. let z = c .before .loop .inv .3 l in let y = c .before .loop .inv .4 p g X .most in omega arith)
+returns-2 c =
+    let args = c .before .before .before .args in
+    let loop = c .before .loop in
+    λ p g X. walk-whole (args .code .now) (args .lengths .now) (args .threads) (args .pairs) (args .places) p g X (loop .m) (loop .made) (loop .counts) (loop .schedule) (loop .k) (loop .inv .4 p g X) (c .loop-test .left) (λ l. let z = loop .inv .3 l in let y = loop .inv .4 p g X .most in omega arith)
 
 pub walked-spec : {M : Type 1} → statement M
 walked-spec = tie.close (tie.spec Inv-loop μ-loop started-requires loop-holds chosen-requires returns step-requires with-source-requires with-event-requires (λ c. search needs) (λ c. search needs) (λ c. search needs) loop-again returns-2)

@@ -15,13 +15,20 @@ continued-requires c κs = decoded-well-formed (c .before .before .before .befor
 returns : tie.Need-returns
 unfolding said
 returns c =
-    let e = continue-file-refused (c .before .before .before .before .before .before .before .args .file .now) (c .before .before .before .before .before .before .before .args .schedule .now) (c .before .before .before .before .before .before .before .args .out .now) _ _ (decoded-refused (c .before .before .before .decode .result) (c .before .before .before .before .before .before .before .args .file .now) (c .before .before .before .decode .ensures) _ _ (c .before .v .given .1)) in
+    let args = c .before .before .before .before .before .before .before .args in
+    let decode = c .before .before .before .decode in
+    let v = c .before .v in
+    let e = continue-file-refused (args .file .now) (args .schedule .now) (args .out .now) _ _ (decoded-refused (decode .result) (args .file .now) (decode .ensures) _ _ (v .given .1)) in
     (ap (λ (r : Result). said (r .0)) (sym e), ap (λ (r : Result). r .1) (sym e))
 
 returns-2 : tie.Need-returns-2
 returns-2 c =
-    let e = continue-file (c .before .before .before .before .before .before .before .before .before .before .before .args .file .now) (c .before .before .before .before .before .before .before .before .before .before .before .args .schedule .now) (c .before .before .before .before .before .before .before .before .before .before .before .args .out .now) (programOf (c .before .before .before .before .before .before .before .decode .result .program)) (decoded-accepted (c .before .before .before .before .before .before .before .decode .result) (c .before .before .before .before .before .before .before .before .before .before .before .args .file .now) (c .before .before .before .before .before .before .before .decode .ensures) (c .before .before .before .before .before .enum-told .given .1)) in
-    (c .before .before .continued .ensures .0 ∙ ap (λ (r : Result). said (r .0)) e, c .before .before .continued .ensures .1 ∙ ap (λ (r : Result). r .1) e)
+    let args = c .before .before .before .before .before .before .before .before .before .before .before .args in
+    let decode = c .before .before .before .before .before .before .before .decode in
+    let enum-told = c .before .before .before .before .before .enum-told in
+    let continued = c .before .before .continued in
+    let e = continue-file (args .file .now) (args .schedule .now) (args .out .now) (programOf (decode .result .program)) (decoded-accepted (decode .result) (args .file .now) (decode .ensures) (enum-told .given .1)) in
+    (continued .ensures .0 ∙ ap (λ (r : Result). said (r .0)) e, continued .ensures .1 ∙ ap (λ (r : Result). r .1) e)
 
 pub continue-from-spec : {M : Type 1} → statement M
 continue-from-spec = tie.close (tie.spec (λ c κs. search needs) (λ c. search needs) (λ c. search needs) continued-requires returns (λ c. search needs) returns-2)

@@ -12,25 +12,43 @@ use Rattle.listing.proofs.calling.continued.Tie as tie
 returns : tie.Need-returns
 unfolding said
 returns c =
-    let e = continue-short (programOf (c .before .before .before .args .program)) (c .before .before .before .args .schedule .now) (c .before .before .before .args .out .now) (c .if1 .taken) in
+    let args = c .before .before .before .args in
+    let e = continue-short (programOf (args .program)) (args .schedule .now) (args .out .now) (c .if1 .taken) in
     (ap (λ (r : Result). said (r .0)) (sym e), ap (λ (r : Result). r .1) (sym e))
 
 replayed-requires : tie.Need-replayed-requires
-replayed-requires c κs = (programOf (c .before .before .before .before .before .before .before .args .program), loaded-compiled (c .before .before .before .before .before .before .before .args .program) (c .before .before .before .before .before .before .before .pre))
+replayed-requires c κs =
+    let entry = c .before .before .before .before .before .before .before in
+    let pre = entry .pre in
+    let args = entry .args in
+    (programOf (args .program), loaded-compiled (args .program) (pre))
 
 returns-2 : tie.Need-returns-2
 unfolding said
 returns-2 c =
-    let p = c .before .before .before .before .before .before .before .before .before .before .before .args .program in
-    let e = continue-refused (programOf p) (c .before .before .before .before .before .before .before .before .before .before .before .args .schedule .now) (c .before .before .before .before .before .before .before .before .before .before .before .args .out .now) (p .code) (p .lengths) (c .before .before .before .replayed .result) (c .before .before .before .replayed .ensures (programOf p) (loaded-compiled p (c .before .before .before .before .before .before .before .before .before .before .before .pre))) (c .before .before .before .before .before .before .before .before .if1 .left) _ _ (c .before .v .given .1) in
+    let entry = c .before .before .before .before .before .before .before .before .before .before .before in
+    let pre = entry .pre in
+    let args = entry .args in
+    let if1 = c .before .before .before .before .before .before .before .before .if1 in
+    let replayed = c .before .before .before .replayed in
+    let v = c .before .v in
+    let p = args .program in
+    let e = continue-refused (programOf p) (args .schedule .now) (args .out .now) (p .code) (p .lengths) (replayed .result) (replayed .ensures (programOf p) (loaded-compiled p (pre))) (if1 .left) _ _ (v .given .1) in
     (ap (λ (r : Result). said (r .0)) (sym e), ap (λ (r : Result). r .1) (sym e))
 
 returns-3 : tie.Need-returns-3
 returns-3 c =
-    let p = c .before .before .before .before .before .before .before .before .before .before .before .before .before .before .args .program in
-    let h = c .before .before .before .before .before .before .replayed .ensures (programOf p) (loaded-compiled p (c .before .before .before .before .before .before .before .before .before .before .before .before .before .before .pre)) in (
-      c .before .before .next-listed .ensures .0 ∙ ap said (continue-whole (programOf p) (c .before .before .before .before .before .before .before .before .before .before .before .before .before .before .args .schedule .now) (c .before .before .before .before .before .before .before .before .before .before .before .before .before .before .args .out .now) (p .code) (p .lengths) (c .before .before .before .before .before .before .replayed .result) h (c .before .before .before .before .before .before .before .before .before .before .before .if1 .left) (c .before .before .before .before .enum-told .given .1)),
-      c .before .before .next-listed .ensures .1 ∙ continue-output (programOf p) (c .before .before .before .before .before .before .before .before .before .before .before .before .before .before .args .schedule .now) (c .before .before .before .before .before .before .before .before .before .before .before .before .before .before .args .out .now) (p .code) (p .lengths) (c .before .before .before .before .before .before .replayed .result) h (c .before .before .before .before .before .before .before .before .before .before .before .if1 .left) (c .before .before .before .before .enum-told .given .1),
+    let entry = c .before .before .before .before .before .before .before .before .before .before .before .before .before .before in
+    let pre = entry .pre in
+    let args = entry .args in
+    let if1 = c .before .before .before .before .before .before .before .before .before .before .before .if1 in
+    let replayed = c .before .before .before .before .before .before .replayed in
+    let enum-told = c .before .before .before .before .enum-told in
+    let next-listed = c .before .before .next-listed in
+    let p = args .program in
+    let h = replayed .ensures (programOf p) (loaded-compiled p (pre)) in (
+      next-listed .ensures .0 ∙ ap said (continue-whole (programOf p) (args .schedule .now) (args .out .now) (p .code) (p .lengths) (replayed .result) h (if1 .left) (enum-told .given .1)),
+      next-listed .ensures .1 ∙ continue-output (programOf p) (args .schedule .now) (args .out .now) (p .code) (p .lengths) (replayed .result) h (if1 .left) (enum-told .given .1),
     )
 
 pub continued-spec : {M : Type 1} → statement M

@@ -21,18 +21,23 @@ loop-holds c = (omega arith, refl, sym (over-nil _))
 
 loop-again : tie.Need-loop-again Inv-loop μ-loop
 loop-again c =
-    let a = c .before .before .before .args in
+    let entry = c .before .before .before in
+    let pre = entry .pre in
+    let a = entry .args in
     let l = c .before .before .loop in
-    let h = c .before .loop-test .taken in (
+    let loop-test = c .before .loop-test in
+    let h = loop-test .taken in (
       search needs,
       search needs,
-      schedule-more (a .row .now) (a .out .now) (l .out) (l .k) _ (c .before .before .before .pre .2) (omega (arith, h, c .before .before .before .pre .0)) (omega (arith, h, c .before .before .before .pre .0, c .before .before .before .pre .1)) (l .inv .2) refl,
+      schedule-more (a .row .now) (a .out .now) (l .out) (l .k) _ (pre .2) (omega (arith, h, pre .0)) (omega (arith, h, pre .0, pre .1)) (l .inv .2) refl,
     )
 
 returns : tie.Need-returns Inv-loop μ-loop
 returns c =
-    let e : c .before .loop .k ≡ c .before .before .args .n = omega (arith, c .loop-test .left, c .before .loop .inv .0) in
-    c .before .loop .inv .2 ∙ ap (λ k. over (take k (drop 2 (c .before .before .args .row .now))) (c .before .before .args .out .now)) e
+    let args = c .before .before .args in
+    let loop = c .before .loop in
+    let e : loop .k ≡ args .n = omega (arith, c .loop-test .left, loop .inv .0) in
+    loop .inv .2 ∙ ap (λ k. over (take k (drop 2 (args .row .now))) (args .out .now)) e
 
 pub put-schedule-spec : {M : Type 1} → statement M
 put-schedule-spec = tie.close (tie.spec Inv-loop μ-loop loop-holds (λ c. search needs) (λ c. search needs) (λ c. search needs) (λ c. search needs) (λ c. search needs) loop-again (λ c. search needs) returns)

@@ -14,14 +14,21 @@ next-listed-requires c κs = decoded-well-formed (c .before .before .before .bef
 returns : tie.Need-returns
 unfolding said
 returns c =
-    let e = decoded-refused (c .before .before .before .decode .result) (c .before .before .before .before .before .before .args .file .now) (c .before .before .before .decode .ensures) _ _ (c .before .v .given .1) in
-    (ap said (sym (start-refused (c .before .before .before .before .before .before .args .file .now) (c .before .before .before .before .before .before .args .out .now) _ _ e)), sym (start-refused-out (c .before .before .before .before .before .before .args .file .now) (c .before .before .before .before .before .before .args .out .now) _ _ e))
+    let args = c .before .before .before .before .before .before .args in
+    let decode = c .before .before .before .decode in
+    let v = c .before .v in
+    let e = decoded-refused (decode .result) (args .file .now) (decode .ensures) _ _ (v .given .1) in
+    (ap said (sym (start-refused (args .file .now) (args .out .now) _ _ e)), sym (start-refused-out (args .file .now) (args .out .now) _ _ e))
 
 returns-2 : tie.Need-returns-2
 returns-2 c =
-    let e = decoded-accepted (c .before .before .before .before .before .before .before .decode .result) (c .before .before .before .before .before .before .before .before .before .before .args .file .now) (c .before .before .before .before .before .before .before .decode .ensures) (c .before .before .before .before .before .enum-told .given .1) in
-    let p = programOf (c .before .before .before .before .before .before .before .decode .result .program) in
-    (c .before .before .next-listed .ensures .0 ∙ ap said (start-answered (c .before .before .before .before .before .before .before .before .before .before .args .file .now) (c .before .before .before .before .before .before .before .before .before .before .args .out .now) p (c .before .before .before .before .before .before .before .before .before .before .args .file .now) e), c .before .before .next-listed .ensures .1 ∙ start-output (c .before .before .before .before .before .before .before .before .before .before .args .file .now) (c .before .before .before .before .before .before .before .before .before .before .args .out .now) p (c .before .before .before .before .before .before .before .before .before .before .args .file .now) e)
+    let args = c .before .before .before .before .before .before .before .before .before .before .args in
+    let decode = c .before .before .before .before .before .before .before .decode in
+    let enum-told = c .before .before .before .before .before .enum-told in
+    let next-listed = c .before .before .next-listed in
+    let e = decoded-accepted (decode .result) (args .file .now) (decode .ensures) (enum-told .given .1) in
+    let p = programOf (decode .result .program) in
+    (next-listed .ensures .0 ∙ ap said (start-answered (args .file .now) (args .out .now) p (args .file .now) e), next-listed .ensures .1 ∙ start-output (args .file .now) (args .out .now) p (args .file .now) e)
 
 pub start-spec : {M : Type 1} → statement M
 start-spec = tie.close (tie.spec (λ c κs. search needs) (λ c. search needs) (λ c. search needs) next-listed-requires returns (λ c. search needs) returns-2)

@@ -17,14 +17,21 @@ next-listed-requires c κs = decoded-well-formed (c .before .before .before .bef
 returns : tie.Need-returns
 unfolding violationSaid
 returns c =
-    let e = violation-refused (c .before .before .before .before .before .before .args .file .now) (c .before .before .before .before .before .before .args .out .now) (c .before .before .before .before .before .before .args .file .now) _ _ (decoded-refused (c .before .before .before .decode .result) (c .before .before .before .before .before .before .args .file .now) (c .before .before .before .decode .ensures) _ _ (c .before .v .given .1)) in
+    let args = c .before .before .before .before .before .before .args in
+    let decode = c .before .before .before .decode in
+    let v = c .before .v in
+    let e = violation-refused (args .file .now) (args .out .now) (args .file .now) _ _ (decoded-refused (decode .result) (args .file .now) (decode .ensures) _ _ (v .given .1)) in
     (ap (λ (r : Violation × List ℕ). violationSaid (r .0)) (sym e), ap (λ (r : Violation × List ℕ). r .1) (sym e))
 
 returns-2 : tie.Need-returns-2
 returns-2 c =
-    let e = decoded-accepted (c .before .before .before .before .before .before .before .decode .result) (c .before .before .before .before .before .before .before .before .before .before .args .file .now) (c .before .before .before .before .before .before .before .decode .ensures) (c .before .before .before .before .before .enum-told .given .1) in
-    let p = programOf (c .before .before .before .before .before .before .before .decode .result .program) in
-    (c .before .before .next-listed .ensures .0 ∙ violation-said (c .before .before .before .before .before .before .before .before .before .before .args .file .now) (c .before .before .before .before .before .before .before .before .before .before .args .out .now) (c .before .before .before .before .before .before .before .before .before .before .args .file .now) p e, c .before .before .next-listed .ensures .1 ∙ violation-output (c .before .before .before .before .before .before .before .before .before .before .args .file .now) (c .before .before .before .before .before .before .before .before .before .before .args .out .now) (c .before .before .before .before .before .before .before .before .before .before .args .file .now) p e)
+    let args = c .before .before .before .before .before .before .before .before .before .before .args in
+    let decode = c .before .before .before .before .before .before .before .decode in
+    let enum-told = c .before .before .before .before .before .enum-told in
+    let next-listed = c .before .before .next-listed in
+    let e = decoded-accepted (decode .result) (args .file .now) (decode .ensures) (enum-told .given .1) in
+    let p = programOf (decode .result .program) in
+    (next-listed .ensures .0 ∙ violation-said (args .file .now) (args .out .now) (args .file .now) p e, next-listed .ensures .1 ∙ violation-output (args .file .now) (args .out .now) (args .file .now) p e)
 
 pub violation-spec : {M : Type 1} → statement M
 violation-spec = tie.close (tie.spec (λ c κs. search needs) (λ c. search needs) (λ c. search needs) next-listed-requires returns (λ c. search needs) returns-2)

@@ -30,7 +30,10 @@ loop-again c =
     )
 
 returns : tie.Need-returns Inv-loop μ-loop
-returns c = let e : c .before .loop .k ≡ c .before .before .args .steps = omega (arith, c .loop-test .left, c .before .loop .inv .0) in moved-all (c .before .before .args .trail .now) (c .before .before .args .a) (c .before .loop .out) (c .before .before .args .steps) (λ i h. c .before .loop .inv .2 i (omega (arith, e)))
+returns c =
+    let args = c .before .before .args in
+    let loop = c .before .loop in
+    let e : loop .k ≡ args .steps = omega (arith, c .loop-test .left, loop .inv .0) in moved-all (args .trail .now) (args .a) (loop .out) (args .steps) (λ i h. loop .inv .2 i (omega (arith, e)))
 
 pub exchanged-spec : {M : Type 1} → statement M
 exchanged-spec = tie.close (tie.spec Inv-loop μ-loop loop-holds (λ c. search needs) (λ c. search needs) (λ c κs. search needs) (λ c. search needs) (λ c. search needs) (λ c. search needs) (λ c. search needs) (λ c. search needs) (λ c. search needs) (λ c. search needs) (λ c. search needs) (λ c. search needs) (λ c. search needs) (λ c. search needs) loop-again returns)

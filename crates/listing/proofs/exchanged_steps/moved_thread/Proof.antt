@@ -9,7 +9,10 @@ use Rattle.listing.proofs.exchanged_steps.moved_thread.Statement.{state
 use Rattle.listing.proofs.exchanged_steps.moved_thread.Tie as tie
 
 returns : tie.Need-returns
-returns c = let h : length (c .before .before .args .t1) ≡ 6 = search needs in ap (λ (i : ℕ). getD (c .before .before .args .t1) i 0) (c .before .wide .ensures) ∙ getD-inside (c .before .before .args .t1) (c .before .before .args .x) 0 (c .before .before .args .x) (omega (arith, h, c .if1 .taken, c .before .wide .ensures))
+returns c =
+    let args = c .before .before .args in
+    let wide = c .before .wide in
+    let h : length (args .t1) ≡ 6 = search needs in ap (λ (i : ℕ). getD (args .t1) i 0) (wide .ensures) ∙ getD-inside (args .t1) (args .x) 0 (args .x) (omega (arith, h, c .if1 .taken, wide .ensures))
 
 returns-2 : tie.Need-returns-2
 returns-2 c = let h : length (c .before .before .args .t1) ≡ 6 = search needs in sym (List·getD-eq-default (c .before .before .args .t1) (c .before .before .args .x) (omega (arith, h, c .if1 .left, c .before .wide .ensures)))

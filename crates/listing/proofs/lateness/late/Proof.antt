@@ -60,7 +60,10 @@ loop-again c =
     )
 
 returns-4 : tie.Need-returns-4 Inv-loop μ-loop
-returns-4 c = let z : c .before .loop .i ≡ 0 = omega (arith, c .loop-test .left) in λ ns held e. sym (ap (λ (k : List Action). late (reverse k) (doing (c .before .before .args .t) (c .before .before .args .l) (c .before .before .args .wrote))) (sym (actions-held (c .before .before .args .trail .now) ns (c .before .before .args .steps) held e)) ∙ c .before .loop .inv .1 ∙ ap (λ (i : ℕ). late (reverse (actionsAt (c .before .before .args .trail .now) i)) (doing (c .before .before .args .t) (c .before .before .args .l) (c .before .before .args .wrote))) z ∙ late-over (c .before .before .args .trail .now) (doing (c .before .before .args .t) (c .before .before .args .l) (c .before .before .args .wrote)))
+returns-4 c =
+    let args = c .before .before .args in
+    let loop = c .before .loop in
+    let z : loop .i ≡ 0 = omega (arith, c .loop-test .left) in λ ns held e. sym (ap (λ (k : List Action). late (reverse k) (doing (args .t) (args .l) (args .wrote))) (sym (actions-held (args .trail .now) ns (args .steps) held e)) ∙ loop .inv .1 ∙ ap (λ (i : ℕ). late (reverse (actionsAt (args .trail .now) i)) (doing (args .t) (args .l) (args .wrote))) z ∙ late-over (args .trail .now) (doing (args .t) (args .l) (args .wrote)))
 
 pub late-spec : {M : Type 1} → statement M
 late-spec = tie.close (tie.spec Inv-loop μ-loop loop-holds (λ c. search needs) (λ c. search needs) (λ c. search needs) returns (λ c κs. search needs) returns-2 returns-3 (λ c. search needs) loop-again returns-4)

@@ -36,11 +36,11 @@ abbrev μ-loop : tie.MeasureT-loop
 
 loop-holds : tie.Need-loop-holds Inv-loop μ-loop
 loop-holds c =
-    let c3 = c .before .before .before in
-    let n : (c3 .args .j) ≡ (c3 .args .j) - 0 = omega arith in (
+    let args = c .before .before .before .args in
+    let n : (args .j) ≡ (args .j) - 0 = omega arith in (
       search needs,
-      ap (λ (n : ℕ). all (clearOf (c3 .args .trail .now) (c3 .args .gone .now)
-          (c3 .args .j)) (upTo 0 n)) n,
+      ap (λ (n : ℕ). all (clearOf (args .trail .now) (args .gone .now)
+          (args .j)) (upTo 0 n)) n,
     )
 
 returns : tie.Need-returns Inv-loop μ-loop
@@ -54,25 +54,26 @@ returns c =
 
 loop-again : tie.Need-loop-again Inv-loop μ-loop
 loop-again c =
-    let c3 = c .before .before .before in
-    let c7 = c3 .before .before .before .before in
-    let i : (c7 .args .j) - (c3 .loop .k) - 1 ≡ (c7 .args .j) - ((c3 .loop .k) + 1) = omega arith in (
+    let args = c .before .before .before .before .before .before .before .args in
+    let loop = c .before .before .before .loop in
+    let loop-test = c .before .before .loop-test in
+    let i : (args .j) - (loop .k) - 1 ≡ (args .j) - ((loop .k) + 1) = omega arith in (
       search needs,
-      c3 .loop .inv .1 ∙ all-further
-          (clearOf (c7 .args .trail .now) (c7 .args .gone .now) (c7 .args .j)) (c3 .loop .k) ((c7 .args .j) - (c3 .loop .k)) (omega (
+      loop .inv .1 ∙ all-further
+          (clearOf (args .trail .now) (args .gone .now) (args .j)) (loop .k) ((args .j) - (loop .k)) (omega (
             arith,
-            c .before
-                .before .loop-test .taken,
-          )) (⊎-elim (λ w. waits-by (c7 .args .trail .now) (c7 .args .gone .now) (c7 .args .j) (c3 .loop .k) false (w .0 .taken)
-          (asked (c7 .args .trail .now) (c7 .args .j) (c3 .loop .k) (w .1 .result) false (w .1 .ensures) (w .2 .left))) (λ w. waits-not (c7 .args .trail .now) (c7 .args .gone .now) (c7 .args .j) (c3 .loop .k) (w .left)) (c .if1
-          .came)) ∙ ap (λ (n : ℕ). all (clearOf (c7 .args .trail .now) (c7 .args .gone .now) (c7 .args .j)) (upTo ((c3 .loop .k) + 1) n)) i,
+            loop-test .taken,
+          )) (⊎-elim (λ w. waits-by (args .trail .now) (args .gone .now) (args .j) (loop .k) false (w .0 .taken)
+          (asked (args .trail .now) (args .j) (loop .k) (w .1 .result) false (w .1 .ensures) (w .2 .left))) (λ w. waits-not (args .trail .now) (args .gone .now) (args .j) (loop .k) (w .left)) (c .if1
+          .came)) ∙ ap (λ (n : ℕ). all (clearOf (args .trail .now) (args .gone .now) (args .j)) (upTo ((loop .k) + 1) n)) i,
     )
 
 returns-2 : tie.Need-returns-2 Inv-loop μ-loop
 returns-2 c =
-    let c5 = c .before .before .before .before .before in
-    sym (c .before .loop .inv .1 ∙ all-over (clearOf (c5 .args .trail .now) (c5 .args .gone .now) (c5 .args .j)) (c .before .loop .k) ((c5 .args .j) -
-    (c .before .loop .k)) (omega (arith, c .loop-test .left)))
+    let args = c .before .before .before .before .before .args in
+    let loop = c .before .loop in
+    sym (loop .inv .1 ∙ all-over (clearOf (args .trail .now) (args .gone .now) (args .j)) (loop .k) ((args .j) -
+    (loop .k)) (omega (arith, c .loop-test .left)))
 
 pub is-clear-spec : {M : Type 1} → statement M
 is-clear-spec = tie.close (tie.spec Inv-loop μ-loop (λ c. search needs) (λ c. search needs) (λ c. search needs) (λ c. search needs) (λ c. search needs) (λ c. search needs) loop-holds (λ c. search needs) (λ c κs. search needs) returns (λ c. search needs) (λ c. search needs) loop-again returns-2)

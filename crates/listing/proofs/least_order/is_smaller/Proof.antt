@@ -71,7 +71,10 @@ loop-again c =
     )
 
 returns-3 : tie.Need-returns-3 Inv-loop μ-loop
-returns-3 c = sym (c .before .loop .inv .2 ∙ order-over (c .before .before .args .moved .now) (c .before .loop .gone) (c .before .before .args .trail .now) (c .before .before .args .steps) (c .before .loop .i) ((c .before .before .args .steps) - c .before .loop .i) (omega (arith, c .loop-test .left)))
+returns-3 c =
+    let args = c .before .before .args in
+    let loop = c .before .loop in
+    sym (loop .inv .2 ∙ order-over (args .moved .now) (loop .gone) (args .trail .now) (args .steps) (loop .i) ((args .steps) - loop .i) (omega (arith, c .loop-test .left)))
 
 pub is-smaller-spec : {M : Type 1} → statement M
 is-smaller-spec = tie.close (tie.spec Inv-loop μ-loop loop-holds (λ c κs. search needs) returns (λ c. search needs) (λ c. search needs) (λ c. search needs) (λ c. search needs) returns-2 (λ c. search needs) (λ c. search needs) (λ c. search needs) loop-again returns-3)

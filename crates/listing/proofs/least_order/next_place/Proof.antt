@@ -34,18 +34,21 @@ returns c =
 
 loop-again : tie.Need-loop-again Inv-loop μ-loop
 loop-again c =
-    let c3 = c .before .before .before in
-    let c4 = c3 .before in (
+    let args = c .before .before .before .before .args in
+    let loop = c .before .before .before .loop in
+    let loop-test = c .before .before .loop-test in
+    let first-of = c .before .first-of in (
       search needs,
-      next-further (c4 .args .trail .now) (c4 .args .gone .now) (c4 .args .steps) (c3 .loop .t) (c .before .first-of .result) (c .before
-          .before .loop-test .taken) (c3 .loop .inv .1) (⊎-elim (λ w. ready-first (c4 .args .trail .now) (c4 .args .gone .now) (c4 .args .steps) (c3 .loop
-          .t) (c .before .first-of .result) (c .before .first-of .ensures) (w .0 .taken) ∙ sym (w .1 .ensures) ∙ w .2 .left) (λ w. let q = c .before
-          .first-of .ensures .within in ready-none (c4 .args .trail .now) (c4 .args .gone .now) (c4 .args .steps) (c3 .loop .t) (c .before .first-of
-          .result) (c .before .first-of .ensures) (omega (arith, q, w .left))) (c .if1 .came)),
+      next-further (args .trail .now) (args .gone .now) (args .steps) (loop .t) (first-of .result) (loop-test .taken) (loop .inv .1) (⊎-elim (λ w. ready-first (args .trail .now) (args .gone .now) (args .steps) (loop
+          .t) (first-of .result) (first-of .ensures) (w .0 .taken) ∙ sym (w .1 .ensures) ∙ w .2 .left) (λ w. let q = first-of .ensures .within in ready-none (args .trail .now) (args .gone .now) (args .steps) (loop .t) (first-of
+          .result) (first-of .ensures) (omega (arith, q, w .left))) (c .if1 .came)),
     )
 
 returns-2 : tie.Need-returns-2 Inv-loop μ-loop
-returns-2 c = record { within = omega arith; over = λ e. c .before .loop .inv .1 ∙ first-none-left (ready who conflict (leftAt (c .before .before .args .trail .now) (c .before .before .args .gone .now) 0 (c .before .before .args .steps))) (c .before .loop .t) (6 - c .before .loop .t) (omega (arith, c .loop-test .left)); place = λ h. absurd (omega arith); least = λ h. absurd (omega arith) }
+returns-2 c =
+    let args = c .before .before .args in
+    let loop = c .before .loop in
+    record { within = omega arith; over = λ e. loop .inv .1 ∙ first-none-left (ready who conflict (leftAt (args .trail .now) (args .gone .now) 0 (args .steps))) (loop .t) (6 - loop .t) (omega (arith, c .loop-test .left)); place = λ h. absurd (omega arith); least = λ h. absurd (omega arith) }
 
 pub next-place-spec : {M : Type 1} → statement M
 next-place-spec = tie.close (tie.spec Inv-loop μ-loop loop-holds (λ c κs. search needs) (λ c κs. search needs) returns (λ c. search needs) (λ c. search needs) loop-again returns-2)

@@ -10,24 +10,35 @@ use Rattle.listing.proofs.listed.listed_rows.Statement.{statement}
 use Rattle.listing.proofs.listed.listed_rows.Tie as tie
 
 started-requires : tie.Need-started-requires
-started-requires c κs = (programOf (c .before .before .before .before .before .before .before .before .args .program), loaded-compiled (c .before .before .before .before .before .before .before .before .args .program) (c .before .before .before .before .before .before .before .before .pre .0))
+started-requires c κs =
+    let entry = c .before .before .before .before .before .before .before .before in
+    let pre = entry .pre in
+    let args = entry .args in
+    (programOf (args .program), loaded-compiled (args .program) (pre .0))
 
 walk-requires : tie.Need-walk-requires
 walk-requires c κs =
-    let a = c .before .before .before .before .before .before .before .before .before .before .before .before .before .before .before .args in
-    let w = c .before .before .before .before .before .before .before .before .before .before .before .before .before .before .before .pre .0 in (
-      (a .program .threads, programOf (a .program), [], walk-begins (a .program) (c .before .before .before .before .before .before .started .result) _ w (c .before .before .before .before .before .before .started .ensures (programOf (a .program)) (loaded-compiled (a .program) w)) (search needs)),
-      c .before .before .before .before .before .before .before .before .before .before .before .before .before .before .before .pre .1 .within,
+    let entry = c .before .before .before .before .before .before .before .before .before .before .before .before .before .before .before in
+    let pre = entry .pre in
+    let a = entry .args in
+    let started = c .before .before .before .before .before .before .started in
+    let w = pre .0 in (
+      (a .program .threads, programOf (a .program), [], walk-begins (a .program) (started .result) _ w (started .ensures (programOf (a .program)) (loaded-compiled (a .program) w)) (search needs)),
+      pre .1 .within,
       omega arith,
       rooms _,
     )
 
 returns : tie.Need-returns
 returns c =
-    let a = c .before .before .before .before .before .before .before .before .before .before .before .before .before .before .before .before .before .before .args in
-    let w = c .before .before .before .before .before .before .before .before .before .before .before .before .before .before .before .before .before .before .pre .0 in
+    let entry = c .before .before .before .before .before .before .before .before .before .before .before .before .before .before .before .before .before .before in
+    let pre = entry .pre in
+    let a = entry .args in
+    let started = c .before .before .before .before .before .before .before .before .before .started in
+    let walk = c .before .before .walk in
+    let w = pre .0 in
     walk-whole (programOf (a .program)) (a .only) (boundAt (a .along) (a .bound .now) 0) (a .out .now) _ _ w
-    (c .before .before .walk .ensures .1 .1 (a .program .threads) (programOf (a .program)) [] (walk-begins (a .program) (c .before .before .before .before .before .before .before .before .before .started .result) _ w (c .before .before .before .before .before .before .before .before .before .started .ensures (programOf (a .program)) (loaded-compiled (a .program) w)) (search needs)) (c .before .before .before .before .before .before .before .before .before .before .before .before .before .before .before .before .before .before .pre .1))
+    (walk .ensures .1 .1 (a .program .threads) (programOf (a .program)) [] (walk-begins (a .program) (started .result) _ w (started .ensures (programOf (a .program)) (loaded-compiled (a .program) w)) (search needs)) (pre .1))
 
 pub listed-rows-spec : {M : Type 1} → statement M
 listed-rows-spec = tie.close (tie.spec started-requires walk-requires (λ c. search needs) returns)

@@ -63,7 +63,10 @@ loop-again c =
 
 returns-2 : tie.Need-returns-2 Inv-loop μ-loop
 unfolding permits
-returns-2 c = sym (c .before .loop .inv .1 ∙ all-over (stayTest (c .before .before .args .class) (c .before .before .args .groups) (c .before .before .args .t3)) (c .before .loop .t) (6 - c .before .loop .t) (omega (arith, c .loop-test .left)))
+returns-2 c =
+    let args = c .before .before .args in
+    let loop = c .before .loop in
+    sym (loop .inv .1 ∙ all-over (stayTest (args .class) (args .groups) (args .t3)) (loop .t) (6 - loop .t) (omega (arith, c .loop-test .left)))
 
 pub permits-spec : {M : Type 1} → statement M
 permits-spec = tie.close (tie.spec Inv-loop μ-loop loop-holds (λ c. search needs) (λ c κs. search needs) (λ c κs. search needs) returns (λ c. search needs) (λ c. search needs) loop-again returns-2)

@@ -61,7 +61,10 @@ loop-again c =
     .before .permutation .ensures)) ∙ w .0 .left in found-other _ _ _ _ _ _ _ (c4 .loop .inv) (c3 .loop-test .taken) t (w .1) (w .2)) (c .if1 .came)
 
 returns : tie.Need-returns Inv-loop μ-loop
-returns c = let n : 720 - (c .before .loop .k) ≡ 0 = omega (arith, c .loop-test .left) in (omega (arith, c .before .loop .inv .0, c .before .loop .inv .1), sym (kept-over (λ k. permits (groupsOf (c .before .before .args .class) (c .before .before .args .groups)) (permutationOf k)) (c .before .loop .k) (720 - (c .before .loop .k)) (c .before .loop .numbers) (c .before .loop .count) n) ∙ c .before .loop .inv .3)
+returns c =
+    let args = c .before .before .args in
+    let loop = c .before .loop in
+    let n : 720 - (loop .k) ≡ 0 = omega (arith, c .loop-test .left) in (omega (arith, loop .inv .0, loop .inv .1), sym (kept-over (λ k. permits (groupsOf (args .class) (args .groups)) (permutationOf k)) (loop .k) (720 - (loop .k)) (loop .numbers) (loop .count) n) ∙ loop .inv .3)
 
 pub permitted-numbers-spec : {M : Type 1} → statement M
 permitted-numbers-spec = tie.close (tie.spec Inv-loop μ-loop loop-holds (λ c κs. search needs) (λ c κs. search needs) (λ c. search needs) (λ c. search needs) (λ c. search needs) (λ c. search needs) (λ c. search needs) (λ c. search needs) loop-again returns)

@@ -10,13 +10,17 @@ returns : tie.Need-returns
 returns c = rw (eq-eqb _ _ (c .if1 .taken))
 
 returns-2 : tie.Need-returns-2
-returns-2 c = let n = not-together (c .before .before .args .t1) (c .before .before .args .groups) (c .before .before .args .t) (c .before .before .args .u) (λ e. let k = together-class (c .before .before .args .t1) (c .before .before .args .groups) (c .before .before .args .t) (c .before .before .args .u) e in omega (arith, k .0, c .if2 .taken)) in rw (ne-eqb _ _ (c .before .if1 .left), n)
+returns-2 c =
+    let args = c .before .before .args in
+    let if1 = c .before .if1 in
+    let n = not-together (args .t1) (args .groups) (args .t) (args .u) (λ e. let k = together-class (args .t1) (args .groups) (args .t) (args .u) e in omega (arith, k .0, c .if2 .taken)) in rw (ne-eqb _ _ (if1 .left), n)
 
 returns-3 : tie.Need-returns-3
 returns-3 c =
-    let c3 = c .before .before .before in
-    let n = not-together (c3 .args .t1) (c3 .args .groups) (c3 .args .t) (c3 .args .u) (λ e. let k = together-class (c3 .args .t1) (c3 .args .groups)
-    (c3 .args .t) (c3 .args .u) e in omega (arith, k .1, c .if3 .taken)) in rw (ne-eqb _ _ (c .before .before .if1 .left), n)
+    let args = c .before .before .before .args in
+    let if1 = c .before .before .if1 in
+    let n = not-together (args .t1) (args .groups) (args .t) (args .u) (λ e. let k = together-class (args .t1) (args .groups)
+    (args .t) (args .u) e in omega (arith, k .1, c .if3 .taken)) in rw (ne-eqb _ _ (if1 .left), n)
 
 returns-4 : tie.Need-returns-4
 returns-4 c =

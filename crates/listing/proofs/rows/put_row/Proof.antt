@@ -32,7 +32,8 @@ loop-again c =
 returns : tie.Need-returns Inv-loop μ-loop
 returns c =
     let a = c .before .before .before .args in
-    row-whole (threadsAt (a .trail .now) 0 (a .steps)) (a .fails) (a .out .now) (c .before .loop .out) (c .before .loop .k) (c .loop-test .left) (c .before .loop .inv .1)
+    let loop = c .before .loop in
+    row-whole (threadsAt (a .trail .now) 0 (a .steps)) (a .fails) (a .out .now) (loop .out) (loop .k) (c .loop-test .left) (loop .inv .1)
 
 pub put-row-spec : {M : Type 1} → statement M
 put-row-spec = tie.close (tie.spec Inv-loop μ-loop loop-holds (λ c κs. search needs) (λ c. search needs) (λ c. search needs) (λ c. search needs) loop-again (λ c. search needs) returns)

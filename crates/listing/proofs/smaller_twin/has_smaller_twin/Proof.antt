@@ -71,9 +71,10 @@ loop-again c =
 returns-2 : tie.Need-returns-2 Inv-loop μ-loop
 returns-2 c =
     let a = c .before .before .before .before .args in
+    let loop = c .before .loop in
     λ code lengths threads p v r ok. sym (any-twin-held code lengths (a .class .now) threads (a .groups) (a .t3) (a .trail .now) (a .steps) p v r (a .t) (upTo 0 (a .t)) ok
-    ∙ c .before .loop .inv .1
-    ∙ any-over (tested (a .class .now) (a .groups) (a .t3) (a .trail .now) (a .steps) (a .t)) (c .before .loop .u) (a .t - c .before .loop .u) (omega (arith, c .loop-test .left)))
+    ∙ loop .inv .1
+    ∙ any-over (tested (a .class .now) (a .groups) (a .t3) (a .trail .now) (a .steps) (a .t)) (loop .u) (a .t - loop .u) (omega (arith, c .loop-test .left)))
 
 pub has-smaller-twin-spec : {M : Type 1} → statement M
 has-smaller-twin-spec = tie.close (tie.spec Inv-loop μ-loop (λ c κs. search needs) (λ c. search needs) (λ c. search needs) loop-holds (λ c κs. search needs) (λ c. search needs) (λ c. search needs) (λ c κs. search needs) returns (λ c. search needs) (λ c. search needs) loop-again returns-2)

@@ -32,7 +32,8 @@ loop-again c =
 returns-2 : tie.Need-returns-2 Inv-loop μ-loop
 returns-2 c =
     let a = c .before .before .args in
-    next-none (a .trail .now) (a .steps) (a .u) (a .from) (c .before .loop .k) (c .before .loop .inv .1) (c .loop-test .left) (c .before .loop .inv .0) (c .before .loop .inv .2)
+    let loop = c .before .loop in
+    next-none (a .trail .now) (a .steps) (a .u) (a .from) (loop .k) (loop .inv .1) (c .loop-test .left) (loop .inv .0) (loop .inv .2)
 
 pub next-read-spec : {M : Type 1} → statement M
 next-read-spec = tie.close (tie.spec Inv-loop μ-loop loop-holds (λ c κs. search needs) returns (λ c. search needs) (λ c. search needs) loop-again returns-2)

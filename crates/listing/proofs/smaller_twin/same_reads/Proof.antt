@@ -36,9 +36,10 @@ returns-2 c =
 
 loop-less : tie.Need-loop-less Inv-loop μ-loop
 loop-less c =
-    let c6 = c .before .before .before .before .before .before in
-    let h = c .before .before .before .before .before .loop-test .taken in
-    omega (arith, h, c .before .next-read3 .ensures .behind)
+    let loop-test = c .before .before .before .before .before .loop-test in
+    let next-read3 = c .before .next-read3 in
+    let h = loop-test .taken in
+    omega (arith, h, next-read3 .ensures .behind)
 
 loop-again : tie.Need-loop-again Inv-loop μ-loop
 loop-again c =
@@ -56,7 +57,8 @@ loop-again c =
 returns-3 : tie.Need-returns-3 Inv-loop μ-loop
 returns-3 c =
     let a = c .before .before .before .before .args in
-    sym (beside-over (a .trail .now) (a .steps) (a .u) (a .t) (c .before .loop .i) (c .before .loop .j) (c .before .loop .inv .2) (c .loop-test .left))
+    let loop = c .before .loop in
+    sym (beside-over (a .trail .now) (a .steps) (a .u) (a .t) (loop .i) (loop .j) (loop .inv .2) (c .loop-test .left))
 
 pub same-reads-spec : {M : Type 1} → statement M
 same-reads-spec = tie.close (tie.spec Inv-loop μ-loop (λ c κs. search needs) (λ c κs. search needs) loop-holds returns (λ c κs. search needs) returns-2 (λ c. search needs) (λ c κs. search needs) (λ c. search needs) (λ c κs. search needs) loop-less loop-again returns-3)

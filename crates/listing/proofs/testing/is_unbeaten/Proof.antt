@@ -72,7 +72,10 @@ loop-again c =
     (upTo ((c8 .loop .i) + 1) m)) n
 
 returns-2 : tie.Need-returns-2 Inv-loop μ-loop
-returns-2 c = sym (c .before .loop .inv ∙ all-over (passed (c .before .before .args .trail .now) (c .before .before .args .steps) (c .before .before .args .numbers .now)) (c .before .loop .i) ((c .before .before .args .count) - (c .before .loop .i)) (omega (arith, c .loop-test .left)))
+returns-2 c =
+    let args = c .before .before .args in
+    let loop = c .before .loop in
+    sym (loop .inv ∙ all-over (passed (args .trail .now) (args .steps) (args .numbers .now)) (loop .i) ((args .count) - (loop .i)) (omega (arith, c .loop-test .left)))
 
 pub is-unbeaten-spec : {M : Type 1} → statement M
 is-unbeaten-spec = tie.close (tie.spec Inv-loop μ-loop loop-holds (λ c. search needs) (λ c. search needs) (λ c κs. search needs) (λ c κs. search needs) (λ c κs. search needs) (λ c κs. search needs) returns (λ c. search needs) (λ c. search needs) loop-again returns-2)

@@ -81,35 +81,46 @@ walk-callees t = (ended-all-reads.Asked, ended-all-reads.Learnt, at-end-reads.As
 -- ---- turn
 turn-returns : (t : ℕ) → turn-lts.Need-returns (turn-callees t) (turn-at t) turn.Post
 turn-returns t c =
-    let a = c .before .before .before .before .before .args in (
-      c .before .before .before .before .before .pre .1 .2,
+    let entry = c .before .before .before .before .before in
+    let pre = entry .pre in
+    let a = entry .args in
+    let has-smaller-twin = c .before .has-smaller-twin in (
+      pre .1 .2,
       (
         (λ threads p v at. at .noted),
         λ threads p v at num.
-            let ok = reached-may-yes (a .code .now) (a .lengths .now) (a .class .now) threads (a .groups) (a .m) (a .trail .now) (a .steps) p v at (a .t) (c .before .before .before .before .before .pre .1 .4) (c .before .before .before .before .before .pre .1 .6) in
+            let ok = reached-may-yes (a .code .now) (a .lengths .now) (a .class .now) threads (a .groups) (a .m) (a .trail .now) (a .steps) p v at (a .t) (pre .1 .4) (pre .1 .6) in
             adds-none p (a .room) _ (a .out .now) (a .rows)
-            (with-twin (a .code .now) (a .lengths .now) (a .class .now) threads (a .groups) (a .m) (a .trail .now) (a .steps) p v at (a .only) (boundAt (a .along) (a .bound .now) (a .steps)) (a .t) ok (sym (c .before .has-smaller-twin .ensures (a .code .now) (a .lengths .now) threads p v at ok) ∙ c .if1 .taken)),
+            (with-twin (a .code .now) (a .lengths .now) (a .class .now) threads (a .groups) (a .m) (a .trail .now) (a .steps) p v at (a .only) (boundAt (a .along) (a .bound .now) (a .steps)) (a .t) ok (sym (has-smaller-twin .ensures (a .code .now) (a .lengths .now) threads p v at ok) ∙ c .if1 .taken)),
       ),
     )
 
 turn-acted-requires : (t : ℕ) → turn-lts.Need-acted-requires (turn-callees t) (turn-at t) turn.Post
 turn-acted-requires t c κs =
-    let a = c .before .before .before .before .before .before .before .before .before .args in
-    let e = c .before .before .before .before .before .before .before .before .before .pre .1 .0 in
-    subst (λ (v : ℕ). ReadyThread (a .lengths .now) (threadAt (a .m) v) (a .t)) (sym (c .before .before .before .wide .ensures)) (reached-able (a .code .now) (a .lengths .now) (a .class .now) (e .0) (a .groups) (a .m) (a .trail .now) (a .steps) (e .1) (e .2) (e .3) (a .t) (reached-may-yes (a .code .now) (a .lengths .now) (a .class .now) (e .0) (a .groups) (a .m) (a .trail .now) (a .steps) (e .1) (e .2) (e .3) (a .t) (c .before .before .before .before .before .before .before .before .before .pre .1 .4) (c .before .before .before .before .before .before .before .before .before .pre .1 .6)))
+    let entry = c .before .before .before .before .before .before .before .before .before in
+    let pre = entry .pre in
+    let a = entry .args in
+    let wide = c .before .before .before .wide in
+    let e = pre .1 .0 in
+    subst (λ (v : ℕ). ReadyThread (a .lengths .now) (threadAt (a .m) v) (a .t)) (sym (wide .ensures)) (reached-able (a .code .now) (a .lengths .now) (a .class .now) (e .0) (a .groups) (a .m) (a .trail .now) (a .steps) (e .1) (e .2) (e .3) (a .t) (reached-may-yes (a .code .now) (a .lengths .now) (a .class .now) (e .0) (a .groups) (a .m) (a .trail .now) (a .steps) (e .1) (e .2) (e .3) (a .t) (pre .1 .4) (pre .1 .6)))
 
 turn-returns-2 : (t : ℕ) → turn-lts.Need-returns-2 (turn-callees t) (turn-at t) turn.Post
 turn-returns-2 t c =
-    let a = c .before .before .before .before .before .before .before .before .before .before .before .before .before .before .args in (
-      c .before .before .before .before .before .before .before .before .before .before .before .before .before .before .pre .1 .2,
+    let entry = c .before .before .before .before .before .before .before .before .before .before .before .before .before .before in
+    let pre = entry .pre in
+    let a = entry .args in
+    let wide = c .before .before .before .before .before .before .before .before .wide in
+    let acted = c .before .before .before .before .acted in
+    let late = c .before .late in (
+      pre .1 .2,
       (
         (λ threads p v at. at .noted),
         λ threads p v at num.
             let o = boundAt (a .along) (a .bound .now) (a .steps) in
-            let ok = reached-may-yes (a .code .now) (a .lengths .now) (a .class .now) threads (a .groups) (a .m) (a .trail .now) (a .steps) p v at (a .t) (c .before .before .before .before .before .before .before .before .before .before .before .before .before .before .pre .1 .4) (c .before .before .before .before .before .before .before .before .before .before .before .before .before .before .pre .1 .6) in
+            let ok = reached-may-yes (a .code .now) (a .lengths .now) (a .class .now) threads (a .groups) (a .m) (a .trail .now) (a .steps) p v at (a .t) (pre .1 .4) (pre .1 .6) in
             adds-none p (a .room) _ (a .out .now) (a .rows)
             (with-late (a .code .now) (a .lengths .now) (a .class .now) threads (a .groups) (a .m) (a .trail .now) (a .steps) p v at (a .only) o (a .t) ok
-            (sym (turn-late (a .code .now) (a .lengths .now) (a .class .now) threads (a .groups) (a .m) (a .trail .now) (a .steps) p v at (a .only) o (a .t) ok (behind (a .m) (c .before .before .before .before .before .before .before .before .wide .result) (c .before .before .before .before .acted .result)) (stored-step (a .code .now) (a .lengths .now) (a .m) (a .t) (c .before .before .before .before .before .before .before .before .wide .result) (c .before .before .before .before .acted .result) (c .before .before .before .before .before .before .before .before .wide .ensures) (c .before .before .before .before .acted .ensures .1)) (c .before .late .result) (c .before .late .ensures)) ∙ c .if2 .taken)),
+            (sym (turn-late (a .code .now) (a .lengths .now) (a .class .now) threads (a .groups) (a .m) (a .trail .now) (a .steps) p v at (a .only) o (a .t) ok (behind (a .m) (wide .result) (acted .result)) (stored-step (a .code .now) (a .lengths .now) (a .m) (a .t) (wide .result) (acted .result) (wide .ensures) (acted .ensures .1)) (late .result) (late .ensures)) ∙ c .if2 .taken)),
       ),
     )
 
@@ -139,7 +150,8 @@ turn-element-set-from-next-2 t c =
 
 turn-put-note-requires : (t : ℕ) → turn-lts.Need-put-note-requires (turn-callees t) (turn-at t) turn.Post
 turn-put-note-requires t c κs =
-    (c .before .before .before .before .before .before .before .before .before .before .before .before .before .before .before .pre .1 .5, c .before .before .before .before .before .before .before .before .before .before .before .before .before .before .before .pre .1 .0 .3 .noted .size)
+    let pre = c .before .before .before .before .before .before .before .before .before .before .before .before .before .before .before .pre in
+    (pre .1 .5, pre .1 .0 .3 .noted .size)
 
 turn-add-some-asleep : (t : ℕ) → turn-lts.Need-add-some-asleep (turn-callees t) (turn-at t) turn.Post
 turn-add-some-asleep t c =
@@ -147,34 +159,49 @@ turn-add-some-asleep t c =
 
 turn-some-asleep-requires : (t : ℕ) → turn-lts.Need-some-asleep-requires (turn-callees t) (turn-at t) turn.Post
 turn-some-asleep-requires t c κs =
-    let a = c .before .before .before .before .before .before .before .before .before .before .before .before .before .before .before .before .before .before .args in
-    let e = c .before .before .before .before .before .before .before .before .before .before .before .before .before .before .before .before .before .before .pre .1 .0 in
+    let entry = c .before .before .before .before .before .before .before .before .before .before .before .before .before .before .before .before .before .before in
+    let pre = entry .pre in
+    let a = entry .args in
+    let wide = c .before .before .before .before .before .before .before .before .before .before .before .before .wide in
+    let acted = c .before .before .before .before .before .before .before .before .acted in
+    let late = c .before .before .before .before .before .late in
+    let if2 = c .before .before .before .before .if2 in
+    let put-note = c .before .before .put-note in
+    let e = pre .1 .0 in
     let o = boundAt (a .along) (a .bound .now) (a .steps) in
-    let ok = reached-may-yes (a .code .now) (a .lengths .now) (a .class .now) (e .0) (a .groups) (a .m) (a .trail .now) (a .steps) (e .1) (e .2) (e .3) (a .t) (c .before .before .before .before .before .before .before .before .before .before .before .before .before .before .before .before .before .before .pre .1 .4) (c .before .before .before .before .before .before .before .before .before .before .before .before .before .before .before .before .before .before .pre .1 .6) in (
+    let ok = reached-may-yes (a .code .now) (a .lengths .now) (a .class .now) (e .0) (a .groups) (a .m) (a .trail .now) (a .steps) (e .1) (e .2) (e .3) (a .t) (pre .1 .4) (pre .1 .6) in (
       a .class .now,
       e .0,
       a .groups,
       e .1,
       e .2 ++ (a .t ∷ []),
-      turn-next (a .code .now) (a .lengths .now) (a .class .now) (e .0) (a .groups) (a .m) (a .trail .now) (a .steps) (e .1) (e .2) (e .3) (a .only) o (a .t) ok (behind (a .m) (c .before .before .before .before .before .before .before .before .before .before .before .before .wide .result) (c .before .before .before .before .before .before .before .before .acted .result)) (stored-step (a .code .now) (a .lengths .now) (a .m) (a .t) (c .before .before .before .before .before .before .before .before .before .before .before .before .wide .result) (c .before .before .before .before .before .before .before .before .acted .result) (c .before .before .before .before .before .before .before .before .before .before .before .before .wide .ensures) (c .before .before .before .before .before .before .before .before .acted .ensures .1)) (c .before .before .put-note .last .0) (sym (turn-late (a .code .now) (a .lengths .now) (a .class .now) (e .0) (a .groups) (a .m) (a .trail .now) (a .steps) (e .1) (e .2) (e .3) (a .only) o (a .t) ok (behind (a .m) (c .before .before .before .before .before .before .before .before .before .before .before .before .wide .result) (c .before .before .before .before .before .before .before .before .acted .result)) (stored-step (a .code .now) (a .lengths .now) (a .m) (a .t) (c .before .before .before .before .before .before .before .before .before .before .before .before .wide .result) (c .before .before .before .before .before .before .before .before .acted .result) (c .before .before .before .before .before .before .before .before .before .before .before .before .wide .ensures) (c .before .before .before .before .before .before .before .before .acted .ensures .1)) (c .before .before .before .before .before .late .result) (c .before .before .before .before .before .late .ensures)) ∙ c .before .before .before .before .if2 .left) (c .before .before .put-note .ensures),
+      turn-next (a .code .now) (a .lengths .now) (a .class .now) (e .0) (a .groups) (a .m) (a .trail .now) (a .steps) (e .1) (e .2) (e .3) (a .only) o (a .t) ok (behind (a .m) (wide .result) (acted .result)) (stored-step (a .code .now) (a .lengths .now) (a .m) (a .t) (wide .result) (acted .result) (wide .ensures) (acted .ensures .1)) (put-note .last .0) (sym (turn-late (a .code .now) (a .lengths .now) (a .class .now) (e .0) (a .groups) (a .m) (a .trail .now) (a .steps) (e .1) (e .2) (e .3) (a .only) o (a .t) ok (behind (a .m) (wide .result) (acted .result)) (stored-step (a .code .now) (a .lengths .now) (a .m) (a .t) (wide .result) (acted .result) (wide .ensures) (acted .ensures .1)) (late .result) (late .ensures)) ∙ if2 .left) (put-note .ensures),
     )
 
 turn-returns-3 : (t : ℕ) → turn-lts.Need-returns-3 (turn-callees t) (turn-at t) turn.Post
 turn-returns-3 t c =
-    let a = c .before .before .before .before .before .before .before .before .before .before .before .before .before .before .before .before .before .before .before .before .args in (
-      c .before .before .before .before .before .before .before .before .before .before .before .before .before .before .before .before .before .before .before .before .pre .1 .2,
+    let entry = c .before .before .before .before .before .before .before .before .before .before .before .before .before .before .before .before .before .before .before .before in
+    let pre = entry .pre in
+    let a = entry .args in
+    let wide = c .before .before .before .before .before .before .before .before .before .before .before .before .before .before .wide in
+    let acted = c .before .before .before .before .before .before .before .before .before .before .acted in
+    let late = c .before .before .before .before .before .before .before .late in
+    let if2 = c .before .before .before .before .before .before .if2 in
+    let put-note = c .before .before .before .before .put-note in
+    let some-asleep = c .before .some-asleep in (
+      pre .1 .2,
       (
         (λ threads p v at.
             let o = boundAt (a .along) (a .bound .now) (a .steps) in
-            let ok = reached-may-yes (a .code .now) (a .lengths .now) (a .class .now) threads (a .groups) (a .m) (a .trail .now) (a .steps) p v at (a .t) (c .before .before .before .before .before .before .before .before .before .before .before .before .before .before .before .before .before .before .before .before .pre .1 .4) (c .before .before .before .before .before .before .before .before .before .before .before .before .before .before .before .before .before .before .before .before .pre .1 .6) in
-            let next = turn-next (a .code .now) (a .lengths .now) (a .class .now) threads (a .groups) (a .m) (a .trail .now) (a .steps) p v at (a .only) o (a .t) ok (behind (a .m) (c .before .before .before .before .before .before .before .before .before .before .before .before .before .before .wide .result) (c .before .before .before .before .before .before .before .before .before .before .acted .result)) (stored-step (a .code .now) (a .lengths .now) (a .m) (a .t) (c .before .before .before .before .before .before .before .before .before .before .before .before .before .before .wide .result) (c .before .before .before .before .before .before .before .before .before .before .acted .result) (c .before .before .before .before .before .before .before .before .before .before .before .before .before .before .wide .ensures) (c .before .before .before .before .before .before .before .before .before .before .acted .ensures .1)) (c .before .before .before .before .put-note .last .0) (sym (turn-late (a .code .now) (a .lengths .now) (a .class .now) threads (a .groups) (a .m) (a .trail .now) (a .steps) p v at (a .only) o (a .t) ok (behind (a .m) (c .before .before .before .before .before .before .before .before .before .before .before .before .before .before .wide .result) (c .before .before .before .before .before .before .before .before .before .before .acted .result)) (stored-step (a .code .now) (a .lengths .now) (a .m) (a .t) (c .before .before .before .before .before .before .before .before .before .before .before .before .before .before .wide .result) (c .before .before .before .before .before .before .before .before .before .before .acted .result) (c .before .before .before .before .before .before .before .before .before .before .before .before .before .before .wide .ensures) (c .before .before .before .before .before .before .before .before .before .before .acted .ensures .1)) (c .before .before .before .before .before .before .before .late .result) (c .before .before .before .before .before .before .before .late .ensures)) ∙ c .before .before .before .before .before .before .if2 .left) (c .before .before .before .before .put-note .ensures) in
-            reached-back (a .code .now) (a .lengths .now) (a .class .now) threads (a .groups) (a .m) (a .trail .now) (a .steps) p v at (c .before .before .before .before .put-note .last .0) (a .t ∷ []) (next .noted) .noted),
+            let ok = reached-may-yes (a .code .now) (a .lengths .now) (a .class .now) threads (a .groups) (a .m) (a .trail .now) (a .steps) p v at (a .t) (pre .1 .4) (pre .1 .6) in
+            let next = turn-next (a .code .now) (a .lengths .now) (a .class .now) threads (a .groups) (a .m) (a .trail .now) (a .steps) p v at (a .only) o (a .t) ok (behind (a .m) (wide .result) (acted .result)) (stored-step (a .code .now) (a .lengths .now) (a .m) (a .t) (wide .result) (acted .result) (wide .ensures) (acted .ensures .1)) (put-note .last .0) (sym (turn-late (a .code .now) (a .lengths .now) (a .class .now) threads (a .groups) (a .m) (a .trail .now) (a .steps) p v at (a .only) o (a .t) ok (behind (a .m) (wide .result) (acted .result)) (stored-step (a .code .now) (a .lengths .now) (a .m) (a .t) (wide .result) (acted .result) (wide .ensures) (acted .ensures .1)) (late .result) (late .ensures)) ∙ if2 .left) (put-note .ensures) in
+            reached-back (a .code .now) (a .lengths .now) (a .class .now) threads (a .groups) (a .m) (a .trail .now) (a .steps) p v at (put-note .last .0) (a .t ∷ []) (next .noted) .noted),
         λ threads p v at num.
             let o = boundAt (a .along) (a .bound .now) (a .steps) in
-            let ok = reached-may-yes (a .code .now) (a .lengths .now) (a .class .now) threads (a .groups) (a .m) (a .trail .now) (a .steps) p v at (a .t) (c .before .before .before .before .before .before .before .before .before .before .before .before .before .before .before .before .before .before .before .before .pre .1 .4) (c .before .before .before .before .before .before .before .before .before .before .before .before .before .before .before .before .before .before .before .before .pre .1 .6) in
-            let next = turn-next (a .code .now) (a .lengths .now) (a .class .now) threads (a .groups) (a .m) (a .trail .now) (a .steps) p v at (a .only) o (a .t) ok (behind (a .m) (c .before .before .before .before .before .before .before .before .before .before .before .before .before .before .wide .result) (c .before .before .before .before .before .before .before .before .before .before .acted .result)) (stored-step (a .code .now) (a .lengths .now) (a .m) (a .t) (c .before .before .before .before .before .before .before .before .before .before .before .before .before .before .wide .result) (c .before .before .before .before .before .before .before .before .before .before .acted .result) (c .before .before .before .before .before .before .before .before .before .before .before .before .before .before .wide .ensures) (c .before .before .before .before .before .before .before .before .before .before .acted .ensures .1)) (c .before .before .before .before .put-note .last .0) (sym (turn-late (a .code .now) (a .lengths .now) (a .class .now) threads (a .groups) (a .m) (a .trail .now) (a .steps) p v at (a .only) o (a .t) ok (behind (a .m) (c .before .before .before .before .before .before .before .before .before .before .before .before .before .before .wide .result) (c .before .before .before .before .before .before .before .before .before .before .acted .result)) (stored-step (a .code .now) (a .lengths .now) (a .m) (a .t) (c .before .before .before .before .before .before .before .before .before .before .before .before .before .before .wide .result) (c .before .before .before .before .before .before .before .before .before .before .acted .result) (c .before .before .before .before .before .before .before .before .before .before .before .before .before .before .wide .ensures) (c .before .before .before .before .before .before .before .before .before .before .acted .ensures .1)) (c .before .before .before .before .before .before .before .late .result) (c .before .before .before .before .before .before .before .late .ensures)) ∙ c .before .before .before .before .before .before .if2 .left) (c .before .before .before .before .put-note .ensures) in
+            let ok = reached-may-yes (a .code .now) (a .lengths .now) (a .class .now) threads (a .groups) (a .m) (a .trail .now) (a .steps) p v at (a .t) (pre .1 .4) (pre .1 .6) in
+            let next = turn-next (a .code .now) (a .lengths .now) (a .class .now) threads (a .groups) (a .m) (a .trail .now) (a .steps) p v at (a .only) o (a .t) ok (behind (a .m) (wide .result) (acted .result)) (stored-step (a .code .now) (a .lengths .now) (a .m) (a .t) (wide .result) (acted .result) (wide .ensures) (acted .ensures .1)) (put-note .last .0) (sym (turn-late (a .code .now) (a .lengths .now) (a .class .now) threads (a .groups) (a .m) (a .trail .now) (a .steps) p v at (a .only) o (a .t) ok (behind (a .m) (wide .result) (acted .result)) (stored-step (a .code .now) (a .lengths .now) (a .m) (a .t) (wide .result) (acted .result) (wide .ensures) (acted .ensures .1)) (late .result) (late .ensures)) ∙ if2 .left) (put-note .ensures) in
             adds-none p (a .room) _ (a .out .now) (a .rows)
-            (with-asleep (a .code .now) (a .lengths .now) (a .class .now) threads (a .groups) (a .m) (a .trail .now) (a .steps) p v at (a .only) o (a .t) ok (sym (c .before .some-asleep .ensures (a .class .now) threads (a .groups) p (v ++ (a .t ∷ [])) next) ∙ c .if3 .taken)),
+            (with-asleep (a .code .now) (a .lengths .now) (a .class .now) threads (a .groups) (a .m) (a .trail .now) (a .steps) p v at (a .only) o (a .t) ok (sym (some-asleep .ensures (a .class .now) threads (a .groups) p (v ++ (a .t ∷ [])) next) ∙ c .if3 .taken)),
       ),
     )
 
@@ -184,45 +211,65 @@ turn-add-walk t c =
 
 turn-walk-requires : (t : ℕ) → turn-lts.Need-walk-requires (turn-callees t) (turn-at t) turn.Post
 turn-walk-requires t c κs =
-    let a = c .before .before .before .before .before .before .before .before .before .before .before .before .before .before .before .before .before .before .before .before .before .before .before .args in
-    let e = c .before .before .before .before .before .before .before .before .before .before .before .before .before .before .before .before .before .before .before .before .before .before .before .pre .1 .0 in
+    let entry = c .before .before .before .before .before .before .before .before .before .before .before .before .before .before .before .before .before .before .before .before .before .before .before in
+    let pre = entry .pre in
+    let a = entry .args in
+    let wide = c .before .before .before .before .before .before .before .before .before .before .before .before .before .before .before .before .before .wide in
+    let acted = c .before .before .before .before .before .before .before .before .before .before .before .before .before .acted in
+    let late = c .before .before .before .before .before .before .before .before .before .before .late in
+    let if2 = c .before .before .before .before .before .before .before .before .before .if2 in
+    let put-note = c .before .before .before .before .before .before .before .put-note in
+    let e = pre .1 .0 in
     let o = boundAt (a .along) (a .bound .now) (a .steps) in
-    let ok = reached-may-yes (a .code .now) (a .lengths .now) (a .class .now) (e .0) (a .groups) (a .m) (a .trail .now) (a .steps) (e .1) (e .2) (e .3) (a .t) (c .before .before .before .before .before .before .before .before .before .before .before .before .before .before .before .before .before .before .before .before .before .before .before .pre .1 .4) (c .before .before .before .before .before .before .before .before .before .before .before .before .before .before .before .before .before .before .before .before .before .before .before .pre .1 .6) in (
-      omega (arith, c .before .before .before .before .before .before .before .before .before .before .before .before .before .before .before .before .before .before .before .before .before .before .before .pre .0, c .before .before .before .before .before .before .before .before .before .before .before .before .before .before .before .before .before .before .before .before .before .before .before .pre .1 .5),
+    let ok = reached-may-yes (a .code .now) (a .lengths .now) (a .class .now) (e .0) (a .groups) (a .m) (a .trail .now) (a .steps) (e .1) (e .2) (e .3) (a .t) (pre .1 .4) (pre .1 .6) in (
+      omega (arith, pre .0, pre .1 .5),
       (
         (
           e .0,
           e .1,
           e .2 ++ (a .t ∷ []),
-          turn-next (a .code .now) (a .lengths .now) (a .class .now) (e .0) (a .groups) (a .m) (a .trail .now) (a .steps) (e .1) (e .2) (e .3) (a .only) o (a .t) ok (behind (a .m) (c .before .before .before .before .before .before .before .before .before .before .before .before .before .before .before .before .before .wide .result) (c .before .before .before .before .before .before .before .before .before .before .before .before .before .acted .result)) (stored-step (a .code .now) (a .lengths .now) (a .m) (a .t) (c .before .before .before .before .before .before .before .before .before .before .before .before .before .before .before .before .before .wide .result) (c .before .before .before .before .before .before .before .before .before .before .before .before .before .acted .result) (c .before .before .before .before .before .before .before .before .before .before .before .before .before .before .before .before .before .wide .ensures) (c .before .before .before .before .before .before .before .before .before .before .before .before .before .acted .ensures .1)) (c .before .before .before .before .before .before .before .put-note .last .0) (sym (turn-late (a .code .now) (a .lengths .now) (a .class .now) (e .0) (a .groups) (a .m) (a .trail .now) (a .steps) (e .1) (e .2) (e .3) (a .only) o (a .t) ok (behind (a .m) (c .before .before .before .before .before .before .before .before .before .before .before .before .before .before .before .before .before .wide .result) (c .before .before .before .before .before .before .before .before .before .before .before .before .before .acted .result)) (stored-step (a .code .now) (a .lengths .now) (a .m) (a .t) (c .before .before .before .before .before .before .before .before .before .before .before .before .before .before .before .before .before .wide .result) (c .before .before .before .before .before .before .before .before .before .before .before .before .before .acted .result) (c .before .before .before .before .before .before .before .before .before .before .before .before .before .before .before .before .before .wide .ensures) (c .before .before .before .before .before .before .before .before .before .before .before .before .before .acted .ensures .1)) (c .before .before .before .before .before .before .before .before .before .before .late .result) (c .before .before .before .before .before .before .before .before .before .before .late .ensures)) ∙ c .before .before .before .before .before .before .before .before .before .if2 .left) (c .before .before .before .before .before .before .before .put-note .ensures),
+          turn-next (a .code .now) (a .lengths .now) (a .class .now) (e .0) (a .groups) (a .m) (a .trail .now) (a .steps) (e .1) (e .2) (e .3) (a .only) o (a .t) ok (behind (a .m) (wide .result) (acted .result)) (stored-step (a .code .now) (a .lengths .now) (a .m) (a .t) (wide .result) (acted .result) (wide .ensures) (acted .ensures .1)) (put-note .last .0) (sym (turn-late (a .code .now) (a .lengths .now) (a .class .now) (e .0) (a .groups) (a .m) (a .trail .now) (a .steps) (e .1) (e .2) (e .3) (a .only) o (a .t) ok (behind (a .m) (wide .result) (acted .result)) (stored-step (a .code .now) (a .lengths .now) (a .m) (a .t) (wide .result) (acted .result) (wide .ensures) (acted .ensures .1)) (late .result) (late .ensures)) ∙ if2 .left) (put-note .ensures),
         ),
-        c .before .before .before .before .before .before .before .before .before .before .before .before .before .before .before .before .before .before .before .before .before .before .before .pre .1 .1,
-        c .before .before .before .before .before .before .before .before .before .before .before .before .before .before .before .before .before .before .before .before .before .before .before .pre .1 .2,
-        c .before .before .before .before .before .before .before .before .before .before .before .before .before .before .before .before .before .before .before .before .before .before .before .pre .1 .3,
+        pre .1 .1,
+        pre .1 .2,
+        pre .1 .3,
       ),
     )
 
 turn-returns-4 : (t : ℕ) → turn-lts.Need-returns-4 (turn-callees t) (turn-at t) turn.Post
 turn-returns-4 t c =
-    let a = c .before .before .before .before .before .before .before .before .before .before .before .before .before .before .before .before .before .before .before .before .before .before .before .before .before .before .args in (
-      c .before .before .walk .ensures .0,
+    let entry = c .before .before .before .before .before .before .before .before .before .before .before .before .before .before .before .before .before .before .before .before .before .before .before .before .before .before in
+    let pre = entry .pre in
+    let a = entry .args in
+    let has-smaller-twin = c .before .before .before .before .before .before .before .before .before .before .before .before .before .before .before .before .before .before .before .before .before .before .has-smaller-twin in
+    let if1 = c .before .before .before .before .before .before .before .before .before .before .before .before .before .before .before .before .before .before .before .before .before .if1 in
+    let wide = c .before .before .before .before .before .before .before .before .before .before .before .before .before .before .before .before .before .before .before .before .wide in
+    let acted = c .before .before .before .before .before .before .before .before .before .before .before .before .before .before .before .before .acted in
+    let late = c .before .before .before .before .before .before .before .before .before .before .before .before .before .late in
+    let if2 = c .before .before .before .before .before .before .before .before .before .before .before .before .if2 in
+    let put-note = c .before .before .before .before .before .before .before .before .before .before .put-note in
+    let some-asleep = c .before .before .before .before .before .before .before .some-asleep in
+    let if3 = c .before .before .before .before .before .before .if3 in
+    let stays-along = c .before .before .before .before .before .stays-along in
+    let walk = c .before .before .walk in (
+      walk .ensures .0,
       (
         (λ threads p v at.
             let o = boundAt (a .along) (a .bound .now) (a .steps) in
-            let ok = reached-may-yes (a .code .now) (a .lengths .now) (a .class .now) threads (a .groups) (a .m) (a .trail .now) (a .steps) p v at (a .t) (c .before .before .before .before .before .before .before .before .before .before .before .before .before .before .before .before .before .before .before .before .before .before .before .before .before .before .pre .1 .4) (c .before .before .before .before .before .before .before .before .before .before .before .before .before .before .before .before .before .before .before .before .before .before .before .before .before .before .pre .1 .6) in
-            let next = turn-next (a .code .now) (a .lengths .now) (a .class .now) threads (a .groups) (a .m) (a .trail .now) (a .steps) p v at (a .only) o (a .t) ok (behind (a .m) (c .before .before .before .before .before .before .before .before .before .before .before .before .before .before .before .before .before .before .before .before .wide .result) (c .before .before .before .before .before .before .before .before .before .before .before .before .before .before .before .before .acted .result)) (stored-step (a .code .now) (a .lengths .now) (a .m) (a .t) (c .before .before .before .before .before .before .before .before .before .before .before .before .before .before .before .before .before .before .before .before .wide .result) (c .before .before .before .before .before .before .before .before .before .before .before .before .before .before .before .before .acted .result) (c .before .before .before .before .before .before .before .before .before .before .before .before .before .before .before .before .before .before .before .before .wide .ensures) (c .before .before .before .before .before .before .before .before .before .before .before .before .before .before .before .before .acted .ensures .1)) (c .before .before .before .before .before .before .before .before .before .before .put-note .last .0) (sym (turn-late (a .code .now) (a .lengths .now) (a .class .now) threads (a .groups) (a .m) (a .trail .now) (a .steps) p v at (a .only) o (a .t) ok (behind (a .m) (c .before .before .before .before .before .before .before .before .before .before .before .before .before .before .before .before .before .before .before .before .wide .result) (c .before .before .before .before .before .before .before .before .before .before .before .before .before .before .before .before .acted .result)) (stored-step (a .code .now) (a .lengths .now) (a .m) (a .t) (c .before .before .before .before .before .before .before .before .before .before .before .before .before .before .before .before .before .before .before .before .wide .result) (c .before .before .before .before .before .before .before .before .before .before .before .before .before .before .before .before .acted .result) (c .before .before .before .before .before .before .before .before .before .before .before .before .before .before .before .before .before .before .before .before .wide .ensures) (c .before .before .before .before .before .before .before .before .before .before .before .before .before .before .before .before .acted .ensures .1)) (c .before .before .before .before .before .before .before .before .before .before .before .before .before .late .result) (c .before .before .before .before .before .before .before .before .before .before .before .before .before .late .ensures)) ∙ c .before .before .before .before .before .before .before .before .before .before .before .before .if2 .left) (c .before .before .before .before .before .before .before .before .before .before .put-note .ensures) in
-            reached-back (a .code .now) (a .lengths .now) (a .class .now) threads (a .groups) (a .m) (a .trail .now) (a .steps) p v at _ (a .t ∷ []) (c .before .before .walk .ensures .1 .0 threads p (v ++ (a .t ∷ [])) next) .noted),
+            let ok = reached-may-yes (a .code .now) (a .lengths .now) (a .class .now) threads (a .groups) (a .m) (a .trail .now) (a .steps) p v at (a .t) (pre .1 .4) (pre .1 .6) in
+            let next = turn-next (a .code .now) (a .lengths .now) (a .class .now) threads (a .groups) (a .m) (a .trail .now) (a .steps) p v at (a .only) o (a .t) ok (behind (a .m) (wide .result) (acted .result)) (stored-step (a .code .now) (a .lengths .now) (a .m) (a .t) (wide .result) (acted .result) (wide .ensures) (acted .ensures .1)) (put-note .last .0) (sym (turn-late (a .code .now) (a .lengths .now) (a .class .now) threads (a .groups) (a .m) (a .trail .now) (a .steps) p v at (a .only) o (a .t) ok (behind (a .m) (wide .result) (acted .result)) (stored-step (a .code .now) (a .lengths .now) (a .m) (a .t) (wide .result) (acted .result) (wide .ensures) (acted .ensures .1)) (late .result) (late .ensures)) ∙ if2 .left) (put-note .ensures) in
+            reached-back (a .code .now) (a .lengths .now) (a .class .now) threads (a .groups) (a .m) (a .trail .now) (a .steps) p v at _ (a .t ∷ []) (walk .ensures .1 .0 threads p (v ++ (a .t ∷ [])) next) .noted),
         λ threads p v at num.
             let o = boundAt (a .along) (a .bound .now) (a .steps) in
-            let ok = reached-may-yes (a .code .now) (a .lengths .now) (a .class .now) threads (a .groups) (a .m) (a .trail .now) (a .steps) p v at (a .t) (c .before .before .before .before .before .before .before .before .before .before .before .before .before .before .before .before .before .before .before .before .before .before .before .before .before .before .pre .1 .4) (c .before .before .before .before .before .before .before .before .before .before .before .before .before .before .before .before .before .before .before .before .before .before .before .before .before .before .pre .1 .6) in
-            let next = turn-next (a .code .now) (a .lengths .now) (a .class .now) threads (a .groups) (a .m) (a .trail .now) (a .steps) p v at (a .only) o (a .t) ok (behind (a .m) (c .before .before .before .before .before .before .before .before .before .before .before .before .before .before .before .before .before .before .before .before .wide .result) (c .before .before .before .before .before .before .before .before .before .before .before .before .before .before .before .before .acted .result)) (stored-step (a .code .now) (a .lengths .now) (a .m) (a .t) (c .before .before .before .before .before .before .before .before .before .before .before .before .before .before .before .before .before .before .before .before .wide .result) (c .before .before .before .before .before .before .before .before .before .before .before .before .before .before .before .before .acted .result) (c .before .before .before .before .before .before .before .before .before .before .before .before .before .before .before .before .before .before .before .before .wide .ensures) (c .before .before .before .before .before .before .before .before .before .before .before .before .before .before .before .before .acted .ensures .1)) (c .before .before .before .before .before .before .before .before .before .before .put-note .last .0) (sym (turn-late (a .code .now) (a .lengths .now) (a .class .now) threads (a .groups) (a .m) (a .trail .now) (a .steps) p v at (a .only) o (a .t) ok (behind (a .m) (c .before .before .before .before .before .before .before .before .before .before .before .before .before .before .before .before .before .before .before .before .wide .result) (c .before .before .before .before .before .before .before .before .before .before .before .before .before .before .before .before .acted .result)) (stored-step (a .code .now) (a .lengths .now) (a .m) (a .t) (c .before .before .before .before .before .before .before .before .before .before .before .before .before .before .before .before .before .before .before .before .wide .result) (c .before .before .before .before .before .before .before .before .before .before .before .before .before .before .before .before .acted .result) (c .before .before .before .before .before .before .before .before .before .before .before .before .before .before .before .before .before .before .before .before .wide .ensures) (c .before .before .before .before .before .before .before .before .before .before .before .before .before .before .before .before .acted .ensures .1)) (c .before .before .before .before .before .before .before .before .before .before .before .before .before .late .result) (c .before .before .before .before .before .before .before .before .before .before .before .before .before .late .ensures)) ∙ c .before .before .before .before .before .before .before .before .before .before .before .before .if2 .left) (c .before .before .before .before .before .before .before .before .before .before .put-note .ensures) in
+            let ok = reached-may-yes (a .code .now) (a .lengths .now) (a .class .now) threads (a .groups) (a .m) (a .trail .now) (a .steps) p v at (a .t) (pre .1 .4) (pre .1 .6) in
+            let next = turn-next (a .code .now) (a .lengths .now) (a .class .now) threads (a .groups) (a .m) (a .trail .now) (a .steps) p v at (a .only) o (a .t) ok (behind (a .m) (wide .result) (acted .result)) (stored-step (a .code .now) (a .lengths .now) (a .m) (a .t) (wide .result) (acted .result) (wide .ensures) (acted .ensures .1)) (put-note .last .0) (sym (turn-late (a .code .now) (a .lengths .now) (a .class .now) threads (a .groups) (a .m) (a .trail .now) (a .steps) p v at (a .only) o (a .t) ok (behind (a .m) (wide .result) (acted .result)) (stored-step (a .code .now) (a .lengths .now) (a .m) (a .t) (wide .result) (acted .result) (wide .ensures) (acted .ensures .1)) (late .result) (late .ensures)) ∙ if2 .left) (put-note .ensures) in
             adds-same p (a .room) _ _ (a .out .now) _ (a .rows) _
             (with-live (a .code .now) (a .lengths .now) (a .class .now) threads (a .groups) (a .m) (a .trail .now) (a .steps) p v at (a .only) o (a .t) ok
-            (sym (c .before .before .before .before .before .before .before .before .before .before .before .before .before .before .before .before .before .before .before .before .before .before .has-smaller-twin .ensures (a .code .now) (a .lengths .now) threads p v at ok) ∙ c .before .before .before .before .before .before .before .before .before .before .before .before .before .before .before .before .before .before .before .before .before .if1 .left)
-            (sym (turn-late (a .code .now) (a .lengths .now) (a .class .now) threads (a .groups) (a .m) (a .trail .now) (a .steps) p v at (a .only) o (a .t) ok (behind (a .m) (c .before .before .before .before .before .before .before .before .before .before .before .before .before .before .before .before .before .before .before .before .wide .result) (c .before .before .before .before .before .before .before .before .before .before .before .before .before .before .before .before .acted .result)) (stored-step (a .code .now) (a .lengths .now) (a .m) (a .t) (c .before .before .before .before .before .before .before .before .before .before .before .before .before .before .before .before .before .before .before .before .wide .result) (c .before .before .before .before .before .before .before .before .before .before .before .before .before .before .before .before .acted .result) (c .before .before .before .before .before .before .before .before .before .before .before .before .before .before .before .before .before .before .before .before .wide .ensures) (c .before .before .before .before .before .before .before .before .before .before .before .before .before .before .before .before .acted .ensures .1)) (c .before .before .before .before .before .before .before .before .before .before .before .before .before .late .result) (c .before .before .before .before .before .before .before .before .before .before .before .before .before .late .ensures)) ∙ c .before .before .before .before .before .before .before .before .before .before .before .before .if2 .left)
-            (sym (c .before .before .before .before .before .before .before .some-asleep .ensures (a .class .now) threads (a .groups) p (v ++ (a .t ∷ [])) next) ∙ c .before .before .before .before .before .before .if3 .left)
-            ∙ ap (λ (b : Option Schedule). foundBehind (a .only) p (a .steps + 1) b (v ++ (a .t ∷ []))) (sym (c .before .before .before .before .before .stays-along .ensures)))
-            (c .before .before .walk .ensures .1 .1 threads p (v ++ (a .t ∷ [])) next num),
+            (sym (has-smaller-twin .ensures (a .code .now) (a .lengths .now) threads p v at ok) ∙ if1 .left)
+            (sym (turn-late (a .code .now) (a .lengths .now) (a .class .now) threads (a .groups) (a .m) (a .trail .now) (a .steps) p v at (a .only) o (a .t) ok (behind (a .m) (wide .result) (acted .result)) (stored-step (a .code .now) (a .lengths .now) (a .m) (a .t) (wide .result) (acted .result) (wide .ensures) (acted .ensures .1)) (late .result) (late .ensures)) ∙ if2 .left)
+            (sym (some-asleep .ensures (a .class .now) threads (a .groups) p (v ++ (a .t ∷ [])) next) ∙ if3 .left)
+            ∙ ap (λ (b : Option Schedule). foundBehind (a .only) p (a .steps + 1) b (v ++ (a .t ∷ []))) (sym (stays-along .ensures)))
+            (walk .ensures .1 .1 threads p (v ++ (a .t ∷ [])) next num),
       ),
     )
 
@@ -247,9 +294,11 @@ walk-returns t c =
 
 walk-at-end-requires : (t : ℕ) → walk-lts.Need-at-end-requires (walk-callees t) (walk-at t) walk.Post walk-Inv-loop walk-μ-loop
 walk-at-end-requires t c κs =
-    let a = c .before .before .before .before .before .before .before .args in
-    let e = c .before .before .before .before .before .before .before .pre .1 .0 in
-    (reached-most (a .code .now) (a .lengths .now) (a .class .now) (e .0) (a .groups) (a .t8) (a .trail .now) (a .steps) (e .1) (e .2) (e .3), c .before .before .before .before .before .before .before .pre .1 .1, c .before .before .before .before .before .before .before .pre .1 .2, c .before .before .before .before .before .before .before .pre .1 .3)
+    let entry = c .before .before .before .before .before .before .before in
+    let pre = entry .pre in
+    let a = entry .args in
+    let e = pre .1 .0 in
+    (reached-most (a .code .now) (a .lengths .now) (a .class .now) (e .0) (a .groups) (a .t8) (a .trail .now) (a .steps) (e .1) (e .2) (e .3), pre .1 .1, pre .1 .2, pre .1 .3)
 
 walk-returns-2 : (t : ℕ) → walk-lts.Need-returns-2 (walk-callees t) (walk-at t) walk.Post walk-Inv-loop walk-μ-loop
 walk-returns-2 t c =
@@ -296,18 +345,24 @@ walk-returns-4 t c =
 
 walk-turn-requires : (t : ℕ) → walk-lts.Need-turn-requires (walk-callees t) (walk-at t) walk.Post walk-Inv-loop walk-μ-loop
 walk-turn-requires t c κs =
-    let a = c .before .before .before .before .before .before .before .before .before .before .before .before .before .before .before .before .args in
+    let entry = c .before .before .before .before .before .before .before .before .before .before .before .before .before .before .before .before in
+    let pre = entry .pre in
+    let a = entry .args in
+    let if3 = c .before .before .before .before .before .before .before .before .before .before .before .if3 in
     let l = c .before .before .before .before .before .before .before .before .before .loop in
-    let e = c .before .before .before .before .before .before .before .before .before .before .before .before .before .before .before .before .pre .1 .0 in (
-      omega (arith, c .before .before .before .before .before .before .before .before .before .before .before .before .before .before .before .before .pre .0),
+    let loop-test = c .before .before .before .before .before .before .before .before .loop-test in
+    let wide = c .before .before .before .before .before .before .wide in
+    let if5 = c .before .before .if5 in
+    let e = pre .1 .0 in (
+      omega (arith, pre .0),
       (
         (e .0, e .1, e .2, reached-trail (a .code .now) (a .lengths .now) (a .class .now) (e .0) (a .groups) (a .t8) (a .trail .now) (a .steps) (e .1) (e .2) (e .3) (l .trail) (l .inv .2 (e .0) (e .1) (e .2) (e .3) .0)),
-        c .before .before .before .before .before .before .before .before .before .before .before .before .before .before .before .before .pre .1 .1,
+        pre .1 .1,
         l .inv .0,
-        omega (arith, c .before .before .before .before .before .before .before .before .before .before .before .before .before .before .before .before .pre .1 .3, l .inv .1),
-        c .before .before .before .before .before .before .before .before .loop-test .taken,
-        c .before .before .before .before .before .before .before .before .before .before .before .if3 .left,
-        subst (λ (v : ℕ). threadAt (a .t8) v .at < getD (a .lengths .now) v 0) (c .before .before .before .before .before .before .wide .ensures) (c .before .before .if5 .taken),
+        omega (arith, pre .1 .3, l .inv .1),
+        loop-test .taken,
+        if3 .left,
+        subst (λ (v : ℕ). threadAt (a .t8) v .at < getD (a .lengths .now) v 0) (wide .ensures) (if5 .taken),
       ),
     )
 
@@ -315,11 +370,13 @@ walk-loop-again : (t : ℕ) → walk-lts.Need-loop-again (walk-callees t) (walk-
 walk-loop-again t c =
     let a = c .before .before .before .before .before .before .before .before .before .before .before .before .before .before .args in
     let l = c .before .before .before .before .before .before .before .loop in
+    let loop-test = c .before .before .before .before .before .before .loop-test in
+    let wide = c .before .before .before .before .wide in
     ⊎-elim
     (λ w. left-joined (a .code .now) (a .lengths .now) (a .class .now) (a .groups) (a .numbers .now) (a .count) (a .only) (a .t8) (a .trail .now) (a .steps) (boundAt (a .along) (a .bound .now) (a .steps)) (a .out .now) (a .room) (a .rows) _ _ _ _ _ _ _ (w .6) (w .7) (w .8) (w .3 .ensures .0) (w .4 .given ∙ l .inv .1)
-    (left-next (a .code .now) (a .lengths .now) (a .class .now) (a .groups) (a .numbers .now) (a .count) (a .only) (a .t8) (a .trail .now) (a .steps) (boundAt (a .along) (a .bound .now) (a .steps)) (a .out .now) (a .room) (a .rows) (l .trail) (l .out) _ _ (l .n) _ (l .t) (c .before .before .before .before .before .before .loop-test .taken) (l .inv .2) (w .3 .ensures .1 .0) (w .3 .ensures .1 .1)))
+    (left-next (a .code .now) (a .lengths .now) (a .class .now) (a .groups) (a .numbers .now) (a .count) (a .only) (a .t8) (a .trail .now) (a .steps) (boundAt (a .along) (a .bound .now) (a .steps)) (a .out .now) (a .room) (a .rows) (l .trail) (l .out) _ _ (l .n) _ (l .t) (loop-test .taken) (l .inv .2) (w .3 .ensures .1 .0) (w .3 .ensures .1 .1)))
     (λ w. left-joined (a .code .now) (a .lengths .now) (a .class .now) (a .groups) (a .numbers .now) (a .count) (a .only) (a .t8) (a .trail .now) (a .steps) (boundAt (a .along) (a .bound .now) (a .steps)) (a .out .now) (a .room) (a .rows) _ _ _ _ _ _ _ (w .1) (w .2) (w .3) (l .inv .0) (l .inv .1)
-    (left-skip (a .code .now) (a .lengths .now) (a .class .now) (a .groups) (a .numbers .now) (a .count) (a .only) (a .t8) (a .trail .now) (a .steps) (boundAt (a .along) (a .bound .now) (a .steps)) (a .out .now) (a .room) (a .rows) (l .trail) (l .out) (l .n) (l .t) (c .before .before .before .before .wide .result) (c .before .before .before .before .wide .ensures) (c .before .before .before .before .before .before .loop-test .taken) (w .0 .left) (l .inv .2)))
+    (left-skip (a .code .now) (a .lengths .now) (a .class .now) (a .groups) (a .numbers .now) (a .count) (a .only) (a .t8) (a .trail .now) (a .steps) (boundAt (a .along) (a .bound .now) (a .steps)) (a .out .now) (a .room) (a .rows) (l .trail) (l .out) (l .n) (l .t) (wide .result) (wide .ensures) (loop-test .taken) (w .0 .left) (l .inv .2)))
     (c .if5 .came)
 
 walk-returns-5 : (t : ℕ) → walk-lts.Need-returns-5 (walk-callees t) (walk-at t) walk.Post walk-Inv-loop walk-μ-loop

@@ -50,9 +50,9 @@ loop-again c =
 
 returns-2 : tie.Need-returns-2 Inv-loop μ-loop
 returns-2 c =
-    let c1 = c .before in
-    let c2 = c1 .before in
-    sym (c1 .loop .inv .1 ∙ meets-none (c2 .args .code .now) (c2 .args .t) (c2 .args .n) (c1 .loop .i) (c2 .args .l) (c2 .args .w) (c .loop-test .left))
+    let args = c .before .before .args in
+    let loop = c .before .loop in
+    sym (loop .inv .1 ∙ meets-none (args .code .now) (args .t) (args .n) (loop .i) (args .l) (args .w) (c .loop-test .left))
 
 pub could-meet-spec : {M : Type 1} → statement M
 could-meet-spec = tie.close (tie.spec Inv-loop μ-loop loop-holds (λ c. search needs) add-instruction-at (λ c κs. search needs) (λ c κs. search needs) returns (λ c. search needs) (λ c. search needs) loop-again returns-2)

@@ -12,10 +12,18 @@ returns-2 : tie.Need-returns-2
 returns-2 c = sym (access-load (c .before .before .before .args .code .now) (c .before .before .before .args .row) (c .before .before .before .pre) (c .if2 .taken))
 
 returns-3 : tie.Need-returns-3
-returns-3 c = sym (access-fetch-add (c .before .before .before .before .args .code .now) (c .before .before .before .before .args .row) (c .before .before .before .before .pre) (c .if3 .taken))
+returns-3 c =
+    let entry = c .before .before .before .before in
+    let pre = entry .pre in
+    let args = entry .args in
+    sym (access-fetch-add (args .code .now) (args .row) (pre) (c .if3 .taken))
 
 returns-4 : tie.Need-returns-4
-returns-4 c = sym (access-compare-swap (c .before .before .before .before .before .args .code .now) (c .before .before .before .before .before .args .row) (c .before .before .before .before .before .pre) (c .if4 .taken))
+returns-4 c =
+    let entry = c .before .before .before .before .before in
+    let pre = entry .pre in
+    let args = entry .args in
+    sym (access-compare-swap (args .code .now) (args .row) (pre) (c .if4 .taken))
 
 returns-5 : tie.Need-returns-5
 returns-5 c = sym (no-access (c .before .before .before .before .before .args .code .now) (c .before .before .before .before .before .args .row) (c .before .before .before .before .before .pre) (c .before .before .before .if1 .left) (c .before .before .if2 .left) (c .before .if3 .left) (c .if4 .left))

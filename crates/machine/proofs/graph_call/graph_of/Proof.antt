@@ -16,11 +16,11 @@ use Rattle.machine.proofs.graph_call.graph_of.Tie as tie
 returns : tie.Need-returns
 unfolding saidOf graphOutput
 returns c =
-    let c3 = c .before .before .before in
-    let e = graph-short (programOf (c3 .args .p)) (c3 .args .schedule .now) (length (c3 .args .out .now)) (c .if1 .taken) in (
+    let args = c .before .before .before .args in
+    let e = graph-short (programOf (args .p)) (args .schedule .now) (length (args .out .now)) (c .if1 .taken) in (
       ap saidOf (sym e),
       ap (λ
-          (a : GraphSaid). graphOutput a (c3 .args .out .now)) (sym e),
+          (a : GraphSaid). graphOutput a (args .out .now)) (sym e),
     )
 
 replayed-requires : tie.Need-replayed-requires

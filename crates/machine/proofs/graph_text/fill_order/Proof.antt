@@ -33,7 +33,12 @@ loop-again c =
     )
 
 returns : tie.Need-returns Inv-loop μ-loop
-returns c = filled-all (c .before .before .args .trail .now) (c .before .before .args .l) (c .before .loop .k) (c .before .before .args .steps) (c .before .before .args .frame .now) _ _ (omega arith) (c .before .before .pre .1) (c .before .loop .inv .3)
+returns c =
+    let entry = c .before .before in
+    let pre = entry .pre in
+    let args = entry .args in
+    let loop = c .before .loop in
+    filled-all (args .trail .now) (args .l) (loop .k) (args .steps) (args .frame .now) _ _ (omega arith) (pre .1) (loop .inv .3)
 
 pub fill-order-spec : {M : Type 1} → statement M
 fill-order-spec = tie.close (tie.spec Inv-loop μ-loop (λ c. search needs) (λ c. search needs) loop-holds (λ c κs. search needs) (λ c. search needs) (λ c. search needs) (λ c. search needs) (λ c. search needs) (λ c. search needs) (λ c. search needs) (λ c. search needs) (λ c. search needs) (λ c. search needs) (λ c. search needs) loop-again returns)

@@ -12,7 +12,9 @@ returns c =
     unwritten _ (c4 .args .out .now) (order-none (c4 .args .l) (c .before .fill-order .result) _ (c .before .fill-order .ensures .0) (c .if1 .taken))
 
 array-share-prefix-frame : tie.Need-array-share-prefix-frame
-array-share-prefix-frame c = order-within _ _ _ _ (c .before .before .fill-order .ensures .0) (c .before .before .fill-order .ensures .1 .0) (c .before .before .fill-order .ensures .1 .1) (search needs)
+array-share-prefix-frame c =
+    let fill-order = c .before .before .fill-order in
+    order-within _ _ _ _ (fill-order .ensures .0) (fill-order .ensures .1 .0) (fill-order .ensures .1 .1) (search needs)
 
 slice-aggregate-write : tie.Need-slice-aggregate-write
 slice-aggregate-write c =

@@ -6,8 +6,8 @@ use Rattle.machine.proofs.graph_text.write_read.Tie as tie
 
 returns : tie.Need-returns
 returns c =
-    let c3 = c .before .before .before in
-    unwritten _ (c3 .args .out .now) (other-thread (c3 .args .trail .now) (c3 .args .k) (c3 .args .t) (c .if1 .taken))
+    let args = c .before .before .before .args in
+    unwritten _ (args .out .now) (other-thread (args .trail .now) (args .k) (args .t) (c .if1 .taken))
 
 returns-2 : tie.Need-returns-2
 returns-2 c =

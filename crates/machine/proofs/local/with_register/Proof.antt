@@ -8,8 +8,12 @@ use Rattle.machine.proofs.local.with_register.Tie as tie
 
 returns : tie.Need-returns
 returns c =
-    let h : length (c .before .before .before .before .args .t1) ≡ 4 = search needs in
-    rw (c .chosen4 .ensures, c .before .chosen3 .ensures, c .before .before .chosen2 .ensures, c .before .before .before .chosen .ensures) (write-four (c .before .before .before .before .args .t1) (c .before .before .before .before .args .k) (c .before .before .before .before .args .v) h)
+    let args = c .before .before .before .before .args in
+    let chosen = c .before .before .before .chosen in
+    let chosen2 = c .before .before .chosen2 in
+    let chosen3 = c .before .chosen3 in
+    let h : length (args .t1) ≡ 4 = search needs in
+    rw (c .chosen4 .ensures, chosen3 .ensures, chosen2 .ensures, chosen .ensures) (write-four (args .t1) (args .k) (args .v) h)
 
 pub with-register-spec : {M : Type 1} → statement M
 with-register-spec = tie.close (tie.spec (λ c. search needs) (λ c κs. search needs) (λ c. search needs) (λ c κs. search needs) (λ c. search needs) (λ c κs. search needs) (λ c. search needs) (λ c κs. search needs) returns)

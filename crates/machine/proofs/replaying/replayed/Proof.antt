@@ -22,7 +22,9 @@ started-requires : tie.Need-started-requires Inv-loop μ-loop
 started-requires c κs = c .before .pre
 
 loop-holds : tie.Need-loop-holds Inv-loop μ-loop
-loop-holds c = λ p loaded. progress-start (c .before .before .args .code .now) (c .before .before .args .lengths .now) p (c .before .before .args .schedule .now) (c .started .result) _ (c .started .ensures p loaded) refl
+loop-holds c =
+    let args = c .before .before .args in
+    λ p loaded. progress-start (args .code .now) (args .lengths .now) p (args .schedule .now) (c .started .result) _ (c .started .ensures p loaded) refl
 
 returns : tie.Need-returns Inv-loop μ-loop
 returns c =
@@ -34,31 +36,58 @@ returns-2 : tie.Need-returns-2 Inv-loop μ-loop
 returns-2 c =
     let i = c .before .before .before .before .before .before .before .before .before .before .before .before .args in
     let j = c .before .before .before .before .before .before .before .before .before .loop in
-    λ p loaded. subst (HoldsRun (i .code .now) (i .lengths .now) p (i .schedule .now)) (sym (c .ended-here2 .ensures)) (replay-stops (i .code .now) (i .lengths .now) (i .threads) p loaded (i .schedule .now) (j .m) (j .trail) (j .k) (j .inv p loaded) (c .before .before .before .before .before .before .before .before .loop-test .taken) (replay-over (i .code .now) (i .lengths .now) (i .threads) p loaded (i .schedule .now) (j .m) (j .trail) (j .k) (j .inv p loaded) (c .before .before .before .before .before .before .before .before .loop-test .taken) (c .before .before .before .before .before .wide .result) (c .before .before .before .before .before .wide .ensures) (omega (arith, c .before .before .before .before .before .before .if1 .left)) (c .before .if2 .taken)))
+    let loop-test = c .before .before .before .before .before .before .before .before .loop-test in
+    let if1 = c .before .before .before .before .before .before .if1 in
+    let wide = c .before .before .before .before .before .wide in
+    let if2 = c .before .if2 in
+    λ p loaded. subst (HoldsRun (i .code .now) (i .lengths .now) p (i .schedule .now)) (sym (c .ended-here2 .ensures)) (replay-stops (i .code .now) (i .lengths .now) (i .threads) p loaded (i .schedule .now) (j .m) (j .trail) (j .k) (j .inv p loaded) (loop-test .taken) (replay-over (i .code .now) (i .lengths .now) (i .threads) p loaded (i .schedule .now) (j .m) (j .trail) (j .k) (j .inv p loaded) (loop-test .taken) (wide .result) (wide .ensures) (omega (arith, if1 .left)) (if2 .taken)))
 
 acted-requires : tie.Need-acted-requires Inv-loop μ-loop
 acted-requires c κs =
-    let i = c .before .before .before .before .before .before .before .before .before .before .before .before .before .args in
+    let entry = c .before .before .before .before .before .before .before .before .before .before .before .before .before in
+    let pre = entry .pre in
+    let i = entry .args in
     let j = c .before .before .before .before .before .before .before .before .before .before .loop in
-    replay-thread (i .code .now) (i .lengths .now) (i .threads) (c .before .before .before .before .before .before .before .before .before .before .before .before .before .pre .0) (c .before .before .before .before .before .before .before .before .before .before .before .before .before .pre .1) (i .schedule .now) (j .m) (j .trail) (j .k) (j .inv (c .before .before .before .before .before .before .before .before .before .before .before .before .before .pre .0) (c .before .before .before .before .before .before .before .before .before .before .before .before .before .pre .1)) (c .before .before .before .before .before .before .before .before .before .loop-test .taken) (c .before .before .before .before .before .before .wide .result) (c .before .before .before .before .before .before .wide .ensures) (omega (arith, c .before .before .before .before .before .before .before .if1 .left)) (c .before .before .if2 .left)
+    let loop-test = c .before .before .before .before .before .before .before .before .before .loop-test in
+    let if1 = c .before .before .before .before .before .before .before .if1 in
+    let wide = c .before .before .before .before .before .before .wide in
+    let if2 = c .before .before .if2 in
+    replay-thread (i .code .now) (i .lengths .now) (i .threads) (pre .0) (pre .1) (i .schedule .now) (j .m) (j .trail) (j .k) (j .inv (pre .0) (pre .1)) (loop-test .taken) (wide .result) (wide .ensures) (omega (arith, if1 .left)) (if2 .left)
 
 put-note-requires : tie.Need-put-note-requires Inv-loop μ-loop
 put-note-requires c κs =
-    let i = c .before .before .before .before .before .before .before .before .before .before .before .before .before .before .before .before .before .args in
+    let entry = c .before .before .before .before .before .before .before .before .before .before .before .before .before .before .before .before .before in
+    let pre = entry .pre in
+    let i = entry .args in
     let j = c .before .before .before .before .before .before .before .before .before .before .before .before .before .before .loop in
-    (replay-fits (i .code .now) (i .lengths .now) (i .threads) (c .before .before .before .before .before .before .before .before .before .before .before .before .before .before .before .before .before .pre .0) (c .before .before .before .before .before .before .before .before .before .before .before .before .before .before .before .before .before .pre .1) (i .schedule .now) (j .m) (j .trail) (j .k) (j .inv (c .before .before .before .before .before .before .before .before .before .before .before .before .before .before .before .before .before .pre .0) (c .before .before .before .before .before .before .before .before .before .before .before .before .before .before .before .before .before .pre .1)) (c .before .before .before .before .before .before .before .before .before .before .before .before .before .loop-test .taken) (c .before .before .before .before .before .before .before .before .before .before .wide .result) (c .before .before .before .before .before .before .before .before .before .before .wide .ensures) (omega (arith, c .before .before .before .before .before .before .before .before .before .before .before .if1 .left)) (c .before .before .before .before .before .before .if2 .left), j .inv (c .before .before .before .before .before .before .before .before .before .before .before .before .before .before .before .before .before .pre .0) (c .before .before .before .before .before .before .before .before .before .before .before .before .before .before .before .before .before .pre .1) .noted .size)
+    let loop-test = c .before .before .before .before .before .before .before .before .before .before .before .before .before .loop-test in
+    let if1 = c .before .before .before .before .before .before .before .before .before .before .before .if1 in
+    let wide = c .before .before .before .before .before .before .before .before .before .before .wide in
+    let if2 = c .before .before .before .before .before .before .if2 in
+    (replay-fits (i .code .now) (i .lengths .now) (i .threads) (pre .0) (pre .1) (i .schedule .now) (j .m) (j .trail) (j .k) (j .inv (pre .0) (pre .1)) (loop-test .taken) (wide .result) (wide .ensures) (omega (arith, if1 .left)) (if2 .left), j .inv (pre .0) (pre .1) .noted .size)
 
 add-k : tie.Need-add-k Inv-loop μ-loop
 add-k c =
-    let i = c .before .before .before .before .before .before .before .before .before .before .before .before .before .before .before .before .before .before .args in
+    let entry = c .before .before .before .before .before .before .before .before .before .before .before .before .before .before .before .before .before .before in
+    let pre = entry .pre in
+    let i = entry .args in
     let j = c .before .before .before .before .before .before .before .before .before .before .before .before .before .before .before .loop in
-    omega (arith, replay-fits (i .code .now) (i .lengths .now) (i .threads) (c .before .before .before .before .before .before .before .before .before .before .before .before .before .before .before .before .before .before .pre .0) (c .before .before .before .before .before .before .before .before .before .before .before .before .before .before .before .before .before .before .pre .1) (i .schedule .now) (j .m) (j .trail) (j .k) (j .inv (c .before .before .before .before .before .before .before .before .before .before .before .before .before .before .before .before .before .before .pre .0) (c .before .before .before .before .before .before .before .before .before .before .before .before .before .before .before .before .before .before .pre .1)) (c .before .before .before .before .before .before .before .before .before .before .before .before .before .before .loop-test .taken) (c .before .before .before .before .before .before .before .before .before .before .before .wide .result) (c .before .before .before .before .before .before .before .before .before .before .before .wide .ensures) (omega (arith, c .before .before .before .before .before .before .before .before .before .before .before .before .if1 .left)) (c .before .before .before .before .before .before .before .if2 .left))
+    let loop-test = c .before .before .before .before .before .before .before .before .before .before .before .before .before .before .loop-test in
+    let if1 = c .before .before .before .before .before .before .before .before .before .before .before .before .if1 in
+    let wide = c .before .before .before .before .before .before .before .before .before .before .before .wide in
+    let if2 = c .before .before .before .before .before .before .before .if2 in
+    omega (arith, replay-fits (i .code .now) (i .lengths .now) (i .threads) (pre .0) (pre .1) (i .schedule .now) (j .m) (j .trail) (j .k) (j .inv (pre .0) (pre .1)) (loop-test .taken) (wide .result) (wide .ensures) (omega (arith, if1 .left)) (if2 .left))
 
 loop-again : tie.Need-loop-again Inv-loop μ-loop
 loop-again c =
     let i = c .before .before .before .before .before .before .before .before .before .before .before .before .before .before .before .before .before .before .args in
     let j = c .before .before .before .before .before .before .before .before .before .before .before .before .before .before .before .loop in
-    λ p loaded. replay-stored (i .code .now) (i .lengths .now) (i .threads) p loaded (i .schedule .now) (j .m) (j .trail) (j .k) (j .inv p loaded) (c .before .before .before .before .before .before .before .before .before .before .before .before .before .before .loop-test .taken) (c .before .before .before .before .before .before .before .before .before .before .before .wide .result) (c .before .before .before .before .before .before .before .before .before .before .before .wide .ensures) (omega (arith, c .before .before .before .before .before .before .before .before .before .before .before .before .if1 .left)) (c .before .before .before .before .before .before .before .if2 .left) (c .before .before .before .before .acted .result) _ (c .before .before .before .before .acted .ensures .1) (c .put-note .ensures)
+    let loop-test = c .before .before .before .before .before .before .before .before .before .before .before .before .before .before .loop-test in
+    let if1 = c .before .before .before .before .before .before .before .before .before .before .before .before .if1 in
+    let wide = c .before .before .before .before .before .before .before .before .before .before .before .wide in
+    let if2 = c .before .before .before .before .before .before .before .if2 in
+    let acted = c .before .before .before .before .acted in
+    λ p loaded. replay-stored (i .code .now) (i .lengths .now) (i .threads) p loaded (i .schedule .now) (j .m) (j .trail) (j .k) (j .inv p loaded) (loop-test .taken) (wide .result) (wide .ensures) (omega (arith, if1 .left)) (if2 .left) (acted .result) _ (acted .ensures .1) (c .put-note .ensures)
 
 returns-3 : tie.Need-returns-3 Inv-loop μ-loop
 returns-3 c =

@@ -20,16 +20,36 @@ loop-holds : tie.Need-loop-holds Inv-loop μ-loop
 loop-holds c = (refl, search needs)
 
 returns : tie.Need-returns Inv-loop μ-loop
-returns c = (loop-stands (c .before .before .before .before .args .code .now) (c .before .before .before .before .args .t) (c .before .before .before .before .args .n) _ (c .before .before .before .loop .i) (c .before .before .before .loop .rs) (c .before .before .before .before .args .done) (c .before .before .before .loop .inv .0) (c .before .before .loop-test .taken) (instructionAt (c .before .before .before .before .args .code .now) (c .before .before .before .before .args .t * 16 + c .before .before .before .loop .i)) (c .before .turned .result) refl (c .before .turned .ensures) (c .if1 .taken), (search needs, search needs, search needs))
+returns c =
+    let args = c .before .before .before .before .args in
+    let loop = c .before .before .before .loop in
+    let loop-test = c .before .before .loop-test in
+    let turned = c .before .turned in
+    (loop-stands (args .code .now) (args .t) (args .n) _ (loop .i) (loop .rs) (args .done) (loop .inv .0) (loop-test .taken) (instructionAt (args .code .now) (args .t * 16 + loop .i)) (turned .result) refl (turned .ensures) (c .if1 .taken), (search needs, search needs, search needs))
 
 returns-2 : tie.Need-returns-2 Inv-loop μ-loop
-returns-2 c = (loop-fails (c .before .before .before .before .before .args .code .now) (c .before .before .before .before .before .args .t) (c .before .before .before .before .before .args .n) _ (c .before .before .before .before .loop .i) (c .before .before .before .before .loop .rs) (c .before .before .before .before .before .args .done) (c .before .before .before .before .loop .inv .0) (c .before .before .before .loop-test .taken) (instructionAt (c .before .before .before .before .before .args .code .now) (c .before .before .before .before .before .args .t * 16 + c .before .before .before .before .loop .i)) (c .before .before .turned .result) refl (c .before .before .turned .ensures) (c .if2 .taken), (search needs, search needs, search needs))
+returns-2 c =
+    let args = c .before .before .before .before .before .args in
+    let loop = c .before .before .before .before .loop in
+    let loop-test = c .before .before .before .loop-test in
+    let turned = c .before .before .turned in
+    (loop-fails (args .code .now) (args .t) (args .n) _ (loop .i) (loop .rs) (args .done) (loop .inv .0) (loop-test .taken) (instructionAt (args .code .now) (args .t * 16 + loop .i)) (turned .result) refl (turned .ensures) (c .if2 .taken), (search needs, search needs, search needs))
 
 loop-again : tie.Need-loop-again Inv-loop μ-loop
-loop-again c = (loop-goes (c .before .before .before .before .before .before .before .args .code .now) (c .before .before .before .before .before .before .before .args .t) (c .before .before .before .before .before .before .before .args .n) _ (c .before .before .before .before .before .before .loop .i) (c .before .before .before .before .before .before .loop .rs) (c .before .before .before .before .before .before .before .args .done) (c .before .before .before .before .before .before .loop .inv .0) (c .before .before .before .before .before .loop-test .taken) (instructionAt (c .before .before .before .before .before .before .before .args .code .now) (c .before .before .before .before .before .before .before .args .t * 16 + c .before .before .before .before .before .before .loop .i)) (c .before .before .before .before .turned .result) refl (c .before .before .before .before .turned .ensures) (c .wide .result) (c .before .before .before .if1 .left) (c .before .before .if2 .left) (c .wide .ensures), search needs)
+loop-again c =
+    let args = c .before .before .before .before .before .before .before .args in
+    let loop = c .before .before .before .before .before .before .loop in
+    let loop-test = c .before .before .before .before .before .loop-test in
+    let turned = c .before .before .before .before .turned in
+    let if1 = c .before .before .before .if1 in
+    let if2 = c .before .before .if2 in
+    (loop-goes (args .code .now) (args .t) (args .n) _ (loop .i) (loop .rs) (args .done) (loop .inv .0) (loop-test .taken) (instructionAt (args .code .now) (args .t * 16 + loop .i)) (turned .result) refl (turned .ensures) (c .wide .result) (if1 .left) (if2 .left) (c .wide .ensures), search needs)
 
 returns-3 : tie.Need-returns-3 Inv-loop μ-loop
-returns-3 c = (loop-ends (c .before .before .args .code .now) (c .before .before .args .t) (c .before .before .args .n) _ (c .before .loop .i) (c .before .loop .rs) (c .before .before .args .done) (c .before .loop .inv .0) (c .loop-test .left), (search needs, search needs, search needs))
+returns-3 c =
+    let args = c .before .before .args in
+    let loop = c .before .loop in
+    (loop-ends (args .code .now) (args .t) (args .n) _ (loop .i) (loop .rs) (args .done) (loop .inv .0) (c .loop-test .left), (search needs, search needs, search needs))
 
 pub settle-spec : {M : Type 1} → statement M
 settle-spec = tie.close (tie.spec Inv-loop μ-loop loop-holds (λ c. search needs) (λ c. search needs) (λ c κs. search needs) returns returns-2 (λ c κs. search needs) (λ c. search needs) (λ c. search needs) (λ c. search needs) loop-again returns-3)

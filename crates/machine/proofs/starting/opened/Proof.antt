@@ -15,7 +15,9 @@ returns c =
     .if1 .taken) (c .settle .ensures .0) (c .settle .ensures .1 .2)
 
 returns-2 : tie.Need-returns-2
-returns-2 c = λ p loaded. missing-held (c .before .before .args .code .now) (c .before .before .args .lengths .now) (c .before .before .args .threads) p loaded (c .before .before .args .t) _ (c .if1 .left)
+returns-2 c =
+    let args = c .before .before .args in
+    λ p loaded. missing-held (args .code .now) (args .lengths .now) (args .threads) p loaded (args .t) _ (c .if1 .left)
 
 pub opened-spec : {M : Type 1} → statement M
 opened-spec = tie.close (tie.spec (λ c. search needs) (λ c. search needs) settle-requires returns returns-2)

@@ -26,17 +26,21 @@ opened-requires c κs = (search needs, λ h. short-held (c .before .before .args
 
 loop-again : tie.Need-loop-again Inv-loop μ-loop
 loop-again c =
-    let c3 = c .before .before .before in (
+    let args = c .before .before .before .args in
+    let loop = c .before .before .loop in
+    let loop-test = c .before .loop-test in (
       search needs,
-      length-set (c .before .before .loop .all) (c .before .before .loop .t) (c .opened .result) ∙ c .before .before .loop .inv .1,
+      length-set (loop .all) (loop .t) (c .opened .result) ∙ loop .inv .1,
       λ p
-          loaded. one-more (c3 .args .code .now) (c3 .args .lengths .now) (c3 .args .threads) p loaded (c .before .before .loop .all) (c .before .before
-          .loop .t) (c .opened .result) (c .before .before .loop .inv .1) (c .before .loop-test .taken) (c .before .before .loop .inv .2 p loaded) (c
+          loaded. one-more (args .code .now) (args .lengths .now) (args .threads) p loaded (loop .all) (loop .t) (c .opened .result) (loop .inv .1) (loop-test .taken) (loop .inv .2 p loaded) (c
           .opened .ensures p loaded),
     )
 
 returns : tie.Need-returns Inv-loop μ-loop
-returns c = λ p loaded. start-held (c .before .before .args .code .now) (c .before .before .args .lengths .now) (c .before .before .args .threads) p loaded (c .before .loop .all) (c .before .loop .t) (c .before .loop .inv .1) (c .loop-test .left) (c .before .loop .inv .2 p loaded)
+returns c =
+    let args = c .before .before .args in
+    let loop = c .before .loop in
+    λ p loaded. start-held (args .code .now) (args .lengths .now) (args .threads) p loaded (loop .all) (loop .t) (loop .inv .1) (c .loop-test .left) (loop .inv .2 p loaded)
 
 pub started-spec : {M : Type 1} → statement M
 started-spec = tie.close (tie.spec Inv-loop μ-loop loop-holds opened-requires (λ c. search needs) (λ c. search needs) (λ c. search needs) (λ c. search needs) loop-again returns)

@@ -241,8 +241,8 @@ add-at c =
 
 add-number : tie.Need-add-number Inv-loop μ-loop
 add-number c =
-    let c14 = c .before .before .before .before .before .before .before .before .before .before .before .before .before .before in
-    omega (arith, c14 .loop .inv .0 .counted, c14 .loop .inv .0 .within)
+    let loop = c .before .before .before .before .before .before .before .before .before .before .before .before .before .before .loop in
+    omega (arith, loop .inv .0 .counted, loop .inv .0 .within)
 
 loop-less : tie.Need-loop-less Inv-loop μ-loop
 loop-less c =
@@ -280,20 +280,21 @@ loop-again c =
 
 finished-requires : tie.Need-finished-requires Inv-loop μ-loop
 finished-requires c κs =
-    let c3 = c .before .before .before in
-    let c5 = c3 .before .before in
-    progress-bounded (c5 .args .file .now) (c .before .loop .code) (c .before .loop .rows) (c .before .loop .s) (c .before .loop .at) (c .before .loop
-    .number) (c3 .if1 .left) (c .before .loop .inv .0)
+    let args = c .before .before .before .before .before .args in
+    let if1 = c .before .before .before .if1 in
+    let loop = c .before .loop in
+    progress-bounded (args .file .now) (loop .code) (loop .rows) (loop .s) (loop .at) (loop
+    .number) (if1 .left) (loop .inv .0)
 
 returns-5 : tie.Need-returns-5 Inv-loop μ-loop
 returns-5 c =
-    let c4 = c .before .before .before .before in
-    let c6 = c4 .before .before in
-    c .finished .ensures (c .before .before .loop .inv .0 .read) (c .before .before .loop .inv .0 .holds) (c .before .before .loop .inv .0 .lined)
-    (progress-grouped (c6 .args .file .now) (c .before .before .loop .code) (c .before .before .loop .rows) (c .before .before .loop .s) (c .before
-    .before .loop .at) (c .before .before .loop .number) (c4 .if1 .left) (c .before .before .loop .inv .0)) ∙ sym (read-done (c6 .args .file .now) (c
-    .before .before .loop .code) (c .before .before .loop .rows) (c .before .before .loop .s) (c .before .before .loop .at) (c .before .before .loop
-    .number) (c4 .if1 .left) (c .before .before .loop .inv .0) (c .before .loop-test .left))
+    let args = c .before .before .before .before .before .before .args in
+    let if1 = c .before .before .before .before .if1 in
+    let loop = c .before .before .loop in
+    let loop-test = c .before .loop-test in
+    c .finished .ensures (loop .inv .0 .read) (loop .inv .0 .holds) (loop .inv .0 .lined)
+    (progress-grouped (args .file .now) (loop .code) (loop .rows) (loop .s) (loop .at) (loop .number) (if1 .left) (loop .inv .0)) ∙ sym (read-done (args .file .now) (loop .code) (loop .rows) (loop .s) (loop .at) (loop
+    .number) (if1 .left) (loop .inv .0) (loop-test .left))
 
 pub decode-spec : {M : Type 1} → statement M
 decode-spec = tie.close (tie.spec Inv-loop μ-loop (λ c κs. search needs) returns (λ c κs. search needs) loop-holds (λ c κs. search needs) (λ c κs. search needs) returns-2 sub-frame-length part-frame-length-start part-frame-length-end (λ c κs. search needs) (λ c κs. search needs) returns-3 sub-refusal part-refusal-start part-refusal-end refusal-requires (λ c κs. search needs) returns-4 sub-taken part-taken-start part-taken-end taken-requires add-at add-number loop-less loop-again finished-requires returns-5)

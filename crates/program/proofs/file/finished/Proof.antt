@@ -17,7 +17,9 @@ returns c =
     .taken))
 
 far-skip-requires : tie.Need-far-skip-requires
-far-skip-requires c κs = (c .before .before .before .before .before .pre .six, c .before .before .before .before .before .pre .sixteen)
+far-skip-requires c κs =
+    let pre = c .before .before .before .before .before .pre in
+    (pre .six, pre .sixteen)
 
 returns-2 : tie.Need-returns-2
 returns-2 c =

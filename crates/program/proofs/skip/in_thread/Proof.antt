@@ -38,7 +38,10 @@ loop-again c =
     )
 
 returns-2 : tie.Need-returns-2 Inv-loop μ-loop
-returns-2 c = λ xs held e. sym (c .before .loop .inv .1 xs held e ∙ far-none (c .before .before .args .code .now) (c .before .before .args .rows .now) (c .before .before .args .t) xs held (c .before .loop .i) (omega arith))
+returns-2 c =
+    let args = c .before .before .args in
+    let loop = c .before .loop in
+    λ xs held e. sym (loop .inv .1 xs held e ∙ far-none (args .code .now) (args .rows .now) (args .t) xs held (loop .i) (omega arith))
 
 pub in-thread-spec : {M : Type 1} → statement M
 in-thread-spec = tie.close (tie.spec Inv-loop μ-loop loop-holds (λ c. search needs) (λ c. search needs) (λ c. search needs) (λ c. search needs) (λ c κs. search needs) (λ c. search needs) (λ c. search needs) returns (λ c. search needs) (λ c. search needs) loop-again returns-2)

@@ -31,8 +31,9 @@ loop-again c =
 
 returns : tie.Need-returns Inv-loop μ-loop
 returns c =
-    let c3 = c .before .before .before in
-    sym (c .before .loop .inv .1 ∙ marked-none (c3 .args .g) (pairs (c3 .args .line .now)) (c .before .loop .c) (c .before .loop .j) (omega arith))
+    let args = c .before .before .before .args in
+    let loop = c .before .loop in
+    sym (loop .inv .1 ∙ marked-none (args .g) (pairs (args .line .now)) (loop .c) (loop .j) (omega arith))
 
 pub mark-spec : {M : Type 1} → statement M
 mark-spec = tie.close (tie.spec Inv-loop μ-loop loop-holds (λ c κs. search needs) (λ c. search needs) (λ c. search needs) (λ c. search needs) (λ c. search needs) loop-again returns)

@@ -10,43 +10,121 @@ use Rattle.program.proofs.taken.taken.Statement.{statement}
 use Rattle.program.proofs.taken.taken.Tie as tie
 
 opened-requires : tie.Need-opened-requires
-opened-requires c κs = passes-opened (pairs (c .before .before .before .args .line .now)) (c .before .before .before .args .code .now) (c .before .before .before .args .s) (c .before .before .before .pre .read) (c .before .before .before .pre .holds) (c .before .before .before .pre .passes) (sym (c .before .field .ensures) ∙ c .if1 .taken)
+opened-requires c κs =
+    let entry = c .before .before .before in
+    let pre = entry .pre in
+    let args = entry .args in
+    let field = c .before .field in
+    passes-opened (pairs (args .line .now)) (args .code .now) (args .s) (pre .read) (pre .holds) (pre .passes) (sym (field .ensures) ∙ c .if1 .taken)
 
 returns : tie.Need-returns
-returns c = taken-opened (c .before .before .before .before .args .line .now) (c .before .before .before .before .args .number) (c .before .before .before .before .args .code .now) (c .before .before .before .before .args .rows .now) (c .before .before .before .before .args .s) (c .opened .result) (c .opened .ensures) (sym (c .before .before .field .ensures) ∙ c .before .if1 .taken)
+returns c =
+    let args = c .before .before .before .before .args in
+    let field = c .before .before .field in
+    let if1 = c .before .if1 in
+    taken-opened (args .line .now) (args .number) (args .code .now) (args .rows .now) (args .s) (c .opened .result) (c .opened .ensures) (sym (field .ensures) ∙ if1 .taken)
 
 grouped-requires : tie.Need-grouped-requires
-grouped-requires c κs = (c .before .before .before .before .pre .size, c .before .before .before .before .pre .bounded .few)
+grouped-requires c κs =
+    let pre = c .before .before .before .before .pre in
+    (pre .size, pre .bounded .few)
 
 returns-2 : tie.Need-returns-2
-returns-2 c = let l : length (c .before .before .before .before .before .args .s .class) ≡ 6 = search needs in taken-grouped (c .before .before .before .before .before .args .line .now) (c .before .before .before .before .before .args .number) (c .before .before .before .before .before .args .code .now) (c .before .before .before .before .before .args .rows .now) (c .before .before .before .before .before .args .s) (c .grouped .result) (c .grouped .ensures) l (sym (c .before .before .before .field .ensures) ∙ c .before .if2 .taken)
+returns-2 c =
+    let args = c .before .before .before .before .before .args in
+    let field = c .before .before .before .field in
+    let if2 = c .before .if2 in
+    let l : length (args .s .class) ≡ 6 = search needs in taken-grouped (args .line .now) (args .number) (args .code .now) (args .rows .now) (args .s) (c .grouped .result) (c .grouped .ensures) l (sym (field .ensures) ∙ if2 .taken)
 
 sub-last : tie.Need-sub-last
-sub-last c = let p = passes-extended (pairs (c .before .before .before .before .before .before .args .line .now)) (c .before .before .before .before .before .before .args .code .now) (c .before .before .before .before .before .before .args .s) (c .before .before .before .before .before .before .pre .read) (c .before .before .before .before .before .before .pre .holds) (c .before .before .before .before .before .before .pre .passes) (λ e. c .before .before .before .if1 .left (c .before .before .before .before .field .ensures ∙ e)) (λ e. c .before .before .if2 .left (c .before .before .before .before .field .ensures ∙ e)) in let s = c .before .before .before .before .before .before .pre .bounded in omega arith
+sub-last c =
+    let entry = c .before .before .before .before .before .before in
+    let pre = entry .pre in
+    let args = entry .args in
+    let field = c .before .before .before .before .field in
+    let if1 = c .before .before .before .if1 in
+    let if2 = c .before .before .if2 in
+    let p = passes-extended (pairs (args .line .now)) (args .code .now) (args .s) (pre .read) (pre .holds) (pre .passes) (λ e. if1 .left (field .ensures ∙ e)) (λ e. if2 .left (field .ensures ∙ e)) in let s = pre .bounded in omega arith
 
 mul-row : tie.Need-mul-row
-mul-row c = let p = passes-extended (pairs (c .before .before .before .before .before .before .args .line .now)) (c .before .before .before .before .before .before .args .code .now) (c .before .before .before .before .before .before .args .s) (c .before .before .before .before .before .before .pre .read) (c .before .before .before .before .before .before .pre .holds) (c .before .before .before .before .before .before .pre .passes) (λ e. c .before .before .before .if1 .left (c .before .before .before .before .field .ensures ∙ e)) (λ e. c .before .before .if2 .left (c .before .before .before .before .field .ensures ∙ e)) in let s = c .before .before .before .before .before .before .pre .bounded in omega arith
+mul-row c =
+    let entry = c .before .before .before .before .before .before in
+    let pre = entry .pre in
+    let args = entry .args in
+    let field = c .before .before .before .before .field in
+    let if1 = c .before .before .before .if1 in
+    let if2 = c .before .before .if2 in
+    let p = passes-extended (pairs (args .line .now)) (args .code .now) (args .s) (pre .read) (pre .holds) (pre .passes) (λ e. if1 .left (field .ensures ∙ e)) (λ e. if2 .left (field .ensures ∙ e)) in let s = pre .bounded in omega arith
 
 mul-row-2 : tie.Need-mul-row-2
-mul-row-2 c = let p = passes-extended (pairs (c .before .before .before .before .before .before .args .line .now)) (c .before .before .before .before .before .before .args .code .now) (c .before .before .before .before .before .before .args .s) (c .before .before .before .before .before .before .pre .read) (c .before .before .before .before .before .before .pre .holds) (c .before .before .before .before .before .before .pre .passes) (λ e. c .before .before .before .if1 .left (c .before .before .before .before .field .ensures ∙ e)) (λ e. c .before .before .if2 .left (c .before .before .before .before .field .ensures ∙ e)) in let s = c .before .before .before .before .before .before .pre .bounded in omega arith
+mul-row-2 c =
+    let entry = c .before .before .before .before .before .before in
+    let pre = entry .pre in
+    let args = entry .args in
+    let field = c .before .before .before .before .field in
+    let if1 = c .before .before .before .if1 in
+    let if2 = c .before .before .if2 in
+    let p = passes-extended (pairs (args .line .now)) (args .code .now) (args .s) (pre .read) (pre .holds) (pre .passes) (λ e. if1 .left (field .ensures ∙ e)) (λ e. if2 .left (field .ensures ∙ e)) in let s = pre .bounded in omega arith
 
 array-read-row : tie.Need-array-read-row
-array-read-row c = let p = passes-extended (pairs (c .before .before .before .before .before .before .args .line .now)) (c .before .before .before .before .before .before .args .code .now) (c .before .before .before .before .before .before .args .s) (c .before .before .before .before .before .before .pre .read) (c .before .before .before .before .before .before .pre .holds) (c .before .before .before .before .before .before .pre .passes) (λ e. c .before .before .before .if1 .left (c .before .before .before .before .field .ensures ∙ e)) (λ e. c .before .before .if2 .left (c .before .before .before .before .field .ensures ∙ e)) in let s = c .before .before .before .before .before .before .pre .bounded in omega arith
+array-read-row c =
+    let entry = c .before .before .before .before .before .before in
+    let pre = entry .pre in
+    let args = entry .args in
+    let field = c .before .before .before .before .field in
+    let if1 = c .before .before .before .if1 in
+    let if2 = c .before .before .if2 in
+    let p = passes-extended (pairs (args .line .now)) (args .code .now) (args .s) (pre .read) (pre .holds) (pre .passes) (λ e. if1 .left (field .ensures ∙ e)) (λ e. if2 .left (field .ensures ∙ e)) in let s = pre .bounded in omega arith
 
 add-row : tie.Need-add-row
-add-row c = let p = passes-extended (pairs (c .before .before .before .before .before .before .args .line .now)) (c .before .before .before .before .before .before .args .code .now) (c .before .before .before .before .before .before .args .s) (c .before .before .before .before .before .before .pre .read) (c .before .before .before .before .before .before .pre .holds) (c .before .before .before .before .before .before .pre .passes) (λ e. c .before .before .before .if1 .left (c .before .before .before .before .field .ensures ∙ e)) (λ e. c .before .before .if2 .left (c .before .before .before .before .field .ensures ∙ e)) in let s = c .before .before .before .before .before .before .pre .bounded in omega arith
+add-row c =
+    let entry = c .before .before .before .before .before .before in
+    let pre = entry .pre in
+    let args = entry .args in
+    let field = c .before .before .before .before .field in
+    let if1 = c .before .before .before .if1 in
+    let if2 = c .before .before .if2 in
+    let p = passes-extended (pairs (args .line .now)) (args .code .now) (args .s) (pre .read) (pre .holds) (pre .passes) (λ e. if1 .left (field .ensures ∙ e)) (λ e. if2 .left (field .ensures ∙ e)) in let s = pre .bounded in omega arith
 
 put-row-requires : tie.Need-put-row-requires
-put-row-requires c κs = let p = passes-extended (pairs (c .before .before .before .before .before .before .before .args .line .now)) (c .before .before .before .before .before .before .before .args .code .now) (c .before .before .before .before .before .before .before .args .s) (c .before .before .before .before .before .before .before .pre .read) (c .before .before .before .before .before .before .before .pre .holds) (c .before .before .before .before .before .before .before .pre .passes) (λ e. c .before .before .before .before .if1 .left (c .before .before .before .before .before .field .ensures ∙ e)) (λ e. c .before .before .before .if2 .left (c .before .before .before .before .before .field .ensures ∙ e)) in let s = c .before .before .before .before .before .before .before .pre .bounded in (omega arith, omega (arith, c .before .before .before .before .before .before .before .pre .size), c .before .before .before .before .before .before .before .pre .holds .size)
+put-row-requires c κs =
+    let entry = c .before .before .before .before .before .before .before in
+    let pre = entry .pre in
+    let args = entry .args in
+    let field = c .before .before .before .before .before .field in
+    let if1 = c .before .before .before .before .if1 in
+    let if2 = c .before .before .before .if2 in
+    let p = passes-extended (pairs (args .line .now)) (args .code .now) (args .s) (pre .read) (pre .holds) (pre .passes) (λ e. if1 .left (field .ensures ∙ e)) (λ e. if2 .left (field .ensures ∙ e)) in let s = pre .bounded in (omega arith, omega (arith, pre .size), pre .holds .size)
 
 mul-rows : tie.Need-mul-rows
-mul-rows c = let p = passes-extended (pairs (c .before .before .before .before .before .before .before .before .args .line .now)) (c .before .before .before .before .before .before .before .before .args .code .now) (c .before .before .before .before .before .before .before .before .args .s) (c .before .before .before .before .before .before .before .before .pre .read) (c .before .before .before .before .before .before .before .before .pre .holds) (c .before .before .before .before .before .before .before .before .pre .passes) (λ e. c .before .before .before .before .before .if1 .left (c .before .before .before .before .before .before .field .ensures ∙ e)) (λ e. c .before .before .before .before .if2 .left (c .before .before .before .before .before .before .field .ensures ∙ e)) in let s = c .before .before .before .before .before .before .before .before .pre .bounded in omega arith
+mul-rows c =
+    let entry = c .before .before .before .before .before .before .before .before in
+    let pre = entry .pre in
+    let args = entry .args in
+    let field = c .before .before .before .before .before .before .field in
+    let if1 = c .before .before .before .before .before .if1 in
+    let if2 = c .before .before .before .before .if2 in
+    let p = passes-extended (pairs (args .line .now)) (args .code .now) (args .s) (pre .read) (pre .holds) (pre .passes) (λ e. if1 .left (field .ensures ∙ e)) (λ e. if2 .left (field .ensures ∙ e)) in let s = pre .bounded in omega arith
 
 element-write-rows : tie.Need-element-write-rows
-element-write-rows c = let p = passes-extended (pairs (c .before .before .before .before .before .before .before .before .args .line .now)) (c .before .before .before .before .before .before .before .before .args .code .now) (c .before .before .before .before .before .before .before .before .args .s) (c .before .before .before .before .before .before .before .before .pre .read) (c .before .before .before .before .before .before .before .before .pre .holds) (c .before .before .before .before .before .before .before .before .pre .passes) (λ e. c .before .before .before .before .before .if1 .left (c .before .before .before .before .before .before .field .ensures ∙ e)) (λ e. c .before .before .before .before .if2 .left (c .before .before .before .before .before .before .field .ensures ∙ e)) in let s = c .before .before .before .before .before .before .before .before .pre .bounded in omega arith
+element-write-rows c =
+    let entry = c .before .before .before .before .before .before .before .before in
+    let pre = entry .pre in
+    let args = entry .args in
+    let field = c .before .before .before .before .before .before .field in
+    let if1 = c .before .before .before .before .before .if1 in
+    let if2 = c .before .before .before .before .if2 in
+    let p = passes-extended (pairs (args .line .now)) (args .code .now) (args .s) (pre .read) (pre .holds) (pre .passes) (λ e. if1 .left (field .ensures ∙ e)) (λ e. if2 .left (field .ensures ∙ e)) in let s = pre .bounded in omega arith
 
 extended-requires : tie.Need-extended-requires
-extended-requires c κs = let p = passes-extended (pairs (c .before .before .before .before .before .before .before .before .args .line .now)) (c .before .before .before .before .before .before .before .before .args .code .now) (c .before .before .before .before .before .before .before .before .args .s) (c .before .before .before .before .before .before .before .before .pre .read) (c .before .before .before .before .before .before .before .before .pre .holds) (c .before .before .before .before .before .before .before .before .pre .passes) (λ e. c .before .before .before .before .before .if1 .left (c .before .before .before .before .before .before .field .ensures ∙ e)) (λ e. c .before .before .before .before .if2 .left (c .before .before .before .before .before .before .field .ensures ∙ e)) in let s = c .before .before .before .before .before .before .before .before .pre .bounded in (s, p .0)
+extended-requires c κs =
+    let entry = c .before .before .before .before .before .before .before .before in
+    let pre = entry .pre in
+    let args = entry .args in
+    let field = c .before .before .before .before .before .before .field in
+    let if1 = c .before .before .before .before .before .if1 in
+    let if2 = c .before .before .before .before .if2 in
+    let p = passes-extended (pairs (args .line .now)) (args .code .now) (args .s) (pre .read) (pre .holds) (pre .passes) (λ e. if1 .left (field .ensures ∙ e)) (λ e. if2 .left (field .ensures ∙ e)) in let s = pre .bounded in (s, p .0)
 
 returns-3 : tie.Need-returns-3
 returns-3 c = let l : length (c .before .before .before .before .before .before .before .before .before .args .s .lengths) ≡ 6 = search needs in taken-extended (c .before .before .before .before .before .before .before .before .before .args .line .now) (c .before .before .before .before .before .before .before .before .before .args .number) (c .before .before .before .before .before .before .before .before .before .args .code .now) (c .before .before .before .before .before .before .before .before .before .args .rows .now) (c .before .before .before .before .before .before .before .before .before .args .s) (c .extended .result) (c .before .before .before .before .before .before .before .field .result) (c .before .before .before .before .before .before .before .before .before .args .n) (c .before .put-row .last .0) (c .before .before .before .before .before .before .before .before .before .pre .bounded) l (c .before .before .before .before .before .before .before .before .before .pre .size) (c .before .before .before .before .before .before .before .field .ensures) (c .before .before .before .before .before .before .if1 .left) (c .before .before .before .before .before .if2 .left) (c .extended .ensures) (c .before .put-row .ensures)

@@ -28,10 +28,12 @@ loop-again c =
 
 returns : tie.Need-returns Inv-loop μ-loop
 returns c =
-    let v = c .before .loop .inv in
+    let args = c .before .before .args in
+    let loop = c .before .loop in
+    let v = loop .inv in
     let h = v .2 in
-    let e : c .before .loop .j - c .before .before .args .at ≡ 0 = omega arith in
-    sym (v .3 ∙ ap (λ (n : ℕ). bring (c .before .before .args .at) n (c .before .loop .b)) e ∙ bring-here (c .before .before .args .at) (c .before .loop .b) (omega arith))
+    let e : loop .j - args .at ≡ 0 = omega arith in
+    sym (v .3 ∙ ap (λ (n : ℕ). bring (args .at) n (loop .b)) e ∙ bring-here (args .at) (loop .b) (omega arith))
 
 pub brought-spec : {M : Type 1} → statement M
 brought-spec =
