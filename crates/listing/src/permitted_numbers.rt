@@ -1,12 +1,12 @@
 // The permitted permutations, by their numbers.
 use schedules::permutation;
 ghost use mathlib.Core.Path.{_≡_};
-ghost use mathlib.Core.Bool.{_||_};
-ghost use Prim.Native.Nat.{_<_, _≤_};
+ghost use mathlib.Core.Bool.{true, false, _||_};
+ghost use Prim.Native.Nat.{ℕ, _<_, _≤_};
 ghost use lib.Dec.{eqb};
 ghost use lib.ListN.{length, take};
 ghost use Rattle.schedules.specs.Lists.{upTo, keep};
-ghost use Rattle.schedules.specs.Permutations.{permutationOf};
+ghost use Rattle.schedules.specs.Permutations.{permutationOf, moved};
 ghost use Rattle.listing.specs.ListOf.{together, permits};
 ghost use Rattle.listing.specs.ClassGroups.{groupsOf};
 
@@ -44,21 +44,41 @@ fn stays(class: [usize; 6], groups: usize, t: usize, u: usize) -> bool
     class[u] == g
 }
 
-// Whether each thread stays or moves within its line.
-fn permits(class: [usize; 6], groups: usize, a: [u8; 6]) -> bool
-    ensures { λ r. ⌜ r ≡ permits (groupsOf class groups) a ⌝ }
+// The first thread that neither stays nor moves within its line; 6 if there is none.
+fn first_stray(class: [usize; 6], groups: usize, a: [u8; 6]) -> usize
+    ensures { λ r. ⌜ (r ≤ 6) × (r ≡ 6 → permits (groupsOf class groups) a ≡ true) × (r < 6 → (eqb (moved a r) r || together (groupsOf class groups) r (moved a r)) ≡ false) ⌝ }
 {
     let mut t = 0;
     while t < 6 {
         if !stays(class, groups, t, wide(a[t])) {
-            return false;
+            return t;
         }
         t += 1;
     }
-    true
+    6
 }
 
-// The numbers of the permitted permutations.
+// The next number whose permutation may have another thread at place t than that with number k.
+fn next_block(k: usize, t: usize) -> usize
+    requires { ⌜ k < 720 ⌝ }
+    ensures { λ r. ⌜ (k < r) × (r ≤ 720) × ((j : ℕ) → k ≤ j → j < r → moved (permutationOf k) t ≡ moved (permutationOf j) t) ⌝ }
+{
+    if t == 0 {
+        return k / 120 * 120 + 120;
+    }
+    if t == 1 {
+        return k / 24 * 24 + 24;
+    }
+    if t == 2 {
+        return k / 6 * 6 + 6;
+    }
+    if t == 3 {
+        return k / 2 * 2 + 2;
+    }
+    k + 1
+}
+
+// The numbers of the permitted permutations. Behind one in which a thread leaves its line come others in which it does the same: they are passed over.
 pub fn permitted_numbers(class: [usize; 6], groups: usize) -> Permitted
     ensures { λ r. ⌜ (r .count ≤ 720) × (take (r .count) (r .numbers) ≡ keep (λ k. permits (groupsOf class groups) (permutationOf k)) (upTo 0 720)) ⌝ }
 {
@@ -66,11 +86,14 @@ pub fn permitted_numbers(class: [usize; 6], groups: usize) -> Permitted
     let mut count = 0;
     let mut k = 0;
     while k < 720 {
-        if permits(class, groups, permutation(k)) {
+        let t = first_stray(class, groups, permutation(k));
+        if t < 6 {
+            k = next_block(k, t);
+        } else {
             numbers[count] = k as u16;
             count += 1;
+            k += 1;
         }
-        k += 1;
     }
     Permitted {
         count: count,

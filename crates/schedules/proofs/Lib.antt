@@ -45,6 +45,8 @@ pub mod Permutations
 pub mod Numbered
 -- inverse, composition, and the permutation of every number
 pub mod Group
+-- permutations with neighbouring numbers share their first places
+pub mod Places
 -- the definitions as a loop in code meets them, one turn at a time
 pub mod Loops
 -- the least order of a run's actions, one action at a time

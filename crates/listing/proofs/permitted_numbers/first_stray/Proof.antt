@@ -1,4 +1,4 @@
--- `permits` goes through the threads. The invariant: those that are left decide.
+-- `first_stray` goes through the threads. The invariant: those that are left decide.
 use borrow.Author.Needs.{needs}
 use Prim.Native.Nat.{ℕ, _<_, _≤_, _-_, _+_}
 use mathlib.Core.Path.{_≡_, refl, sym, ap, _∙_}
@@ -12,9 +12,10 @@ use Rattle.schedules.specs.Lists.{upTo, all}
 use Rattle.schedules.specs.Permutations.{moved}
 use Rattle.listing.specs.ListOf.{together, permits}
 use Rattle.listing.specs.ClassGroups.{groupsOf}
-use Rattle.listing.proofs.Numbers.{getD-inside, all-over, all-further, all-fails}
-use Rattle.listing.proofs.permitted_numbers.permits.Statement.{statement}
-use Rattle.listing.proofs.permitted_numbers.permits.Tie as tie
+use Rattle.schedules.proofs.Group.{getD-any}
+use Rattle.listing.proofs.Numbers.{all-over, all-further}
+use Rattle.listing.proofs.permitted_numbers.first_stray.Statement.{statement}
+use Rattle.listing.proofs.permitted_numbers.first_stray.Tie as tie
 
 -- whether thread t stays or moves within its line
 abbrev stayTest : List ℕ → ℕ → List ℕ → ℕ → Bool
@@ -28,21 +29,21 @@ abbrev μ-loop : tie.MeasureT-loop
 
 -- the test as the code makes it
 made : (class : List ℕ) (groups : ℕ) (a : List ℕ) (t u : ℕ) (r v : Bool) → t < length a → u ≡ getD a t 0 → r ≡ (eqb u t || together (groupsOf class groups) t u) → r ≡ v → stayTest class groups a t ≡ v
-made class groups a t u r v h e q k = let z = getD-inside a t t 0 h in ap (λ (x : ℕ). eqb x t || together (groupsOf class groups) t x) (z ∙ sym e) ∙ sym q ∙ k
+made class groups a t u r v h e q k = let z = getD-any a t t 0 h in ap (λ (x : ℕ). eqb x t || together (groupsOf class groups) t x) (z ∙ sym e) ∙ sym q ∙ k
 
 loop-holds : tie.Need-loop-holds Inv-loop μ-loop
 loop-holds c = (search needs, refl)
 
 returns : tie.Need-returns Inv-loop μ-loop
-unfolding permits
 returns c =
     let c3 = c .before .before .before in
     let c4 = c3 .before in
     let c5 = c4 .before in
-    let l : length (c5 .args .t3) ≡ 6 = search needs in sym (c4 .loop .inv .1 ∙ all-fails (stayTest (c5 .args .class) (c5 .args .groups) (c5 .args
-    .t3)) (c4 .loop .t) (6 - c4 .loop .t) (omega (arith, c3 .loop-test .taken)) (made (c5 .args .class) (c5 .args .groups) (c5 .args .t3) (c4 .loop
-    .t) (c .before .before .wide .result) (c .before .stays .result) false (omega (arith, l, c3 .loop-test .taken)) (c .before .before .wide .ensures)
-    (c .before .stays .ensures) (not-true _ (c .if1 .taken))))
+    let l : length (c5 .args .t3) ≡ 6 = search needs in (
+      omega (arith, c3 .loop-test .taken),
+      (λ e. absurd (omega (arith, e, c3 .loop-test .taken))),
+      λ h. made (c5 .args .class) (c5 .args .groups) (c5 .args .t3) (c4 .loop .t) (c .before .before .wide .result) (c .before .stays .result) false (omega (arith, l, c3 .loop-test .taken)) (c .before .before .wide .ensures) (c .before .stays .ensures) (not-true _ (c .if1 .taken)),
+    )
 
 loop-again : tie.Need-loop-again Inv-loop μ-loop
 loop-again c =
@@ -65,8 +66,11 @@ returns-2 : tie.Need-returns-2 Inv-loop μ-loop
 unfolding permits
 returns-2 c =
     let args = c .before .before .args in
-    let loop = c .before .loop in
-    sym (loop .inv .1 ∙ all-over (stayTest (args .class) (args .groups) (args .t3)) (loop .t) (6 - loop .t) (omega (arith, c .loop-test .left)))
+    let loop = c .before .loop in (
+      omega arith,
+      (λ e. loop .inv .1 ∙ all-over (stayTest (args .class) (args .groups) (args .t3)) (loop .t) (6 - loop .t) (omega (arith, c .loop-test .left))),
+      λ h. absurd (omega (arith, h)),
+    )
 
-pub permits-spec : {M : Type 1} → statement M
-permits-spec = tie.close (tie.spec Inv-loop μ-loop loop-holds (λ c. search needs) (λ c κs. search needs) (λ c κs. search needs) returns (λ c. search needs) (λ c. search needs) loop-again returns-2)
+pub first-stray-spec : {M : Type 1} → statement M
+first-stray-spec = tie.close (tie.spec Inv-loop μ-loop loop-holds (λ c. search needs) (λ c κs. search needs) (λ c κs. search needs) returns (λ c. search needs) (λ c. search needs) loop-again returns-2)
