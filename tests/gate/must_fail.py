@@ -16,7 +16,6 @@ HOLE = re.compile(r'is not admitted: has-holes')
 MISFITS = [
     (re.compile(r'has no `[^`]+` that can be named from here'), 'a name that is not there'),
     (re.compile(r'is not in scope'), 'a name that is not in scope'),
-    (re.compile(r'^(`[^`]+`: )?record `[^`]+` has no field'), 'a field that is not there'),
     (re.compile(r'has no function `[^`]+` for this file to be the proof of'), 'a proof of no function'),
     (re.compile(r'no `mod` line names this file'), 'a file that no `mod` line names'),
     (re.compile(r'expected type `(\S+\.)?Need-\S+`, but this has type `(\S+\.)?Need-'), 'one need given for another'),
@@ -25,6 +24,7 @@ MISFITS = [
     (re.compile(r'this pattern needs a function|this is applied to an argument but'), 'a wrong number of arguments'),
     (re.compile(r'is a tactic, not a term'), 'an ill-formed proof'),
 ]
+LOST_FIELD = re.compile(r'^(`[^`]+`: )?record `[^`]+` has no field')
 # what an error in specs/ must speak of to be about a fact and not about an ill-typed definition
 FACT = re.compile(r'≡|\bPath\b|≤|<|`(search|omega|simp|cc|rw)`')
 
@@ -50,6 +50,9 @@ def misfit(file, code, text, whole):
     for pattern, why in MISFITS:
         if pattern.search(text):
             return why
+    # the prover breaks this sentence where the record's name is long
+    if LOST_FIELD.search(' '.join(whole.split())):
+        return 'a field that is not there'
     if not IN_DEFINITION.match(text):
         return 'a parse error'
     if '/src/' in file or file.startswith('src/'):
