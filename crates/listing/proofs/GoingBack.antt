@@ -31,11 +31,11 @@ unfolding actionsAt
 actions-held array ns n held e = ap (map did) (ap (notesAt array) (sym e) ∙ notes-held array ns held)
 
 -- none of them, and one more
-pub actions-none : (array : List ℕ) → actionsAt array 0 ≡ []
+actions-none : (array : List ℕ) → actionsAt array 0 ≡ []
 unfolding actionsAt
 actions-none array = ap (map did) (notes-none array)
 
-pub actions-next : (array : List ℕ) (k : ℕ) → actionsAt array (k + 1) ≡ actionsAt array k ++ (actionAt array k ∷ [])
+actions-next : (array : List ℕ) (k : ℕ) → actionsAt array (k + 1) ≡ actionsAt array k ++ (actionAt array k ∷ [])
 unfolding actionsAt
 actions-next array k = ap (map did) (notes-next array k) ∙ map-append did (notesAt array k) (noteAt array k ∷ [])
 

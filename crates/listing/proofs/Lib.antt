@@ -44,8 +44,8 @@ pub mod LeftSteps
 pub mod FirstLeft
 -- the least order of steps beside another, one step at a time
 pub mod NextSteps
--- the steps of the exchanged run, one written at a time
-pub mod MovedSteps
+-- the steps of the exchanged run, read off the run's own
+pub mod ExchangedSteps
 -- a search's bound behind one step more
 pub mod BoundSteps
 -- a row's bytes, and rows in a buffer

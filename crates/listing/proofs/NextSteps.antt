@@ -18,31 +18,29 @@ use Rattle.schedules.proofs.Loops.{upTo-none, upTo-more, first-here, first-late
 use Rattle.schedules.proofs.LeastOrder.{least-walk}
 use Rattle.schedules.proofs.Comparing.{heads-differ}
 use Rattle.machine.specs.Trail.{Action, conflict, who, leastOf}
-use Rattle.machine.specs.NoteText.{noteAt}
-use Rattle.machine.proofs.NotesHeld.{notes-each}
-use Rattle.listing.specs.NotedSteps.{did, actionAt, actionsAt}
+use Rattle.listing.specs.NotedSteps.{actionAt}
 use Rattle.listing.specs.LeftSteps.{leftAt, FirstOf, waits, NextPlace, threadsAt}
 use Rattle.listing.proofs.LeftSteps.{left-none, left-here}
 use Rattle.listing.proofs.FirstLeft.{ready-first, out-first}
 
 -- ---- the thread that goes next
-module _ (trail gone : List ℕ) (steps t j : ℕ) where
+module _ (act : ℕ → Action) (gone : List ℕ) (steps t j : ℕ) where
   abbrev may : ℕ → Bool
-  may = ready who conflict (leftAt trail gone 0 steps)
+  may = ready who conflict (leftAt act gone 0 steps)
 
-  pub found-next : t < 6 → first (ready who conflict (leftAt trail gone 0 steps)) (upTo 0 6) ≡ first (ready who conflict (leftAt trail gone 0 steps)) (upTo t (6 - t)) → FirstOf trail gone steps t j → j < steps
-      → all (λ k. not (waits trail gone j k)) (upTo 0 j) ≡ true → NextPlace trail gone steps j
+  pub found-next : t < 6 → first (ready who conflict (leftAt act gone 0 steps)) (upTo 0 6) ≡ first (ready who conflict (leftAt act gone 0 steps)) (upTo t (6 - t)) → FirstOf act gone steps t j → j < steps
+      → all (λ k. not (waits act gone j k)) (upTo 0 j) ≡ true → NextPlace act gone steps j
   found-next h inv f i e =
       let own = f .here i .1 in
       record {
         within = f .within;
         over = λ q. absurd (omega arith);
-        place = λ q. subst (λ (u : ℕ). FirstOf trail gone steps u j) (sym own) f;
-        least = λ q. inv ∙ first-here may t (6 - t) (omega arith) (ready-first trail gone steps t j f i ∙ e) ∙ ap some (sym own);
+        place = λ q. subst (λ (u : ℕ). FirstOf act gone steps u j) (sym own) f;
+        least = λ q. inv ∙ first-here may t (6 - t) (omega arith) (ready-first act gone steps t j f i ∙ e) ∙ ap some (sym own);
       }
 
-  pub next-further : t < 6 → first (ready who conflict (leftAt trail gone 0 steps)) (upTo 0 6) ≡ first (ready who conflict (leftAt trail gone 0 steps)) (upTo t (6 - t)) → ready who conflict (leftAt trail gone 0 steps) t ≡ false
-      → first (ready who conflict (leftAt trail gone 0 steps)) (upTo 0 6) ≡ first (ready who conflict (leftAt trail gone 0 steps)) (upTo (t + 1) (6 - (t + 1)))
+  pub next-further : t < 6 → first (ready who conflict (leftAt act gone 0 steps)) (upTo 0 6) ≡ first (ready who conflict (leftAt act gone 0 steps)) (upTo t (6 - t)) → ready who conflict (leftAt act gone 0 steps) t ≡ false
+      → first (ready who conflict (leftAt act gone 0 steps)) (upTo 0 6) ≡ first (ready who conflict (leftAt act gone 0 steps)) (upTo (t + 1) (6 - (t + 1)))
   next-further h inv e = let n : 6 - t - 1 ≡ 6 - (t + 1) = omega arith in inv ∙ first-later may t (6 - t) (omega arith) e ∙ ap (λ (m : ℕ). first may (upTo (t + 1) m)) n
 
 -- ---- the two orders
@@ -58,38 +56,38 @@ same-front : (x y : ℕ) (a b : Schedule) → x ≡ y → less (x ∷ a) (y ∷ 
 same-front x y a b e = ap (λ (z : ℕ). less (z ∷ a) (y ∷ b)) e ∙ less-front y a b
 
 -- the least order of the steps left, at most n of them
-unfoldable pub rest : List ℕ → List ℕ → ℕ → ℕ → Schedule
-rest moved gone steps n = greedy (Remaining who conflict (upTo 0 6)) (ready who conflict) n (leftAt moved gone 0 steps)
+unfoldable pub rest : (ℕ → Action) → List ℕ → ℕ → ℕ → Schedule
+rest act gone steps n = greedy (Remaining who conflict (upTo 0 6)) (ready who conflict) n (leftAt act gone 0 steps)
 
-module _ (moved gone trail : List ℕ) (steps j i n : ℕ) (next : NextPlace moved gone steps j) (more : 0 < n) where
-  pub order-stuck : j ≡ steps → less (rest moved gone steps n) (threadsAt trail i n) ≡ true
+module _ (act : ℕ → Action) (gone trail : List ℕ) (steps j i n : ℕ) (next : NextPlace act gone steps j) (more : 0 < n) where
+  pub order-stuck : j ≡ steps → less (rest act gone steps n) (threadsAt trail i n) ≡ true
   unfolding rest
   order-stuck e =
-      ap₂ less (greedy-stuck (Remaining who conflict (upTo 0 6)) (ready who conflict) n (leftAt moved gone 0 steps) (next .over e)) (threads-more trail i n more)
+      ap₂ less (greedy-stuck (Remaining who conflict (upTo 0 6)) (ready who conflict) n (leftAt act gone 0 steps) (next .over e)) (threads-more trail i n more)
       ∙ nil-less (actionAt trail i .thread) (threadsAt trail (i + 1) (n - 1))
 
   abbrev there : ℕ
-  there = actionAt moved j .thread
+  there = act j .thread
 
-  rest-more : j < steps → rest moved gone steps n ≡ there ∷ greedy (Remaining who conflict (upTo 0 6)) (ready who conflict) (n - 1) (takeOut who conflict (leftAt moved gone 0 steps) there)
+  rest-more : j < steps → rest act gone steps n ≡ there ∷ greedy (Remaining who conflict (upTo 0 6)) (ready who conflict) (n - 1) (takeOut who conflict (leftAt act gone 0 steps) there)
   unfolding rest
-  rest-more h = greedy-step (Remaining who conflict (upTo 0 6)) (ready who conflict) n (leftAt moved gone 0 steps) there more (next .least h)
+  rest-more h = greedy-step (Remaining who conflict (upTo 0 6)) (ready who conflict) n (leftAt act gone 0 steps) there more (next .least h)
 
-  pub order-differ : j < steps → actionAt moved j .thread ≢ actionAt trail i .thread → less (rest moved gone steps n) (threadsAt trail i n) ≡ ltb (actionAt moved j .thread) (actionAt trail i .thread)
+  pub order-differ : j < steps → act j .thread ≢ actionAt trail i .thread → less (rest act gone steps n) (threadsAt trail i n) ≡ ltb (act j .thread) (actionAt trail i .thread)
   order-differ h d = ap₂ less (rest-more h) (threads-more trail i n more) ∙ heads-differ there (actionAt trail i .thread) _ (threadsAt trail (i + 1) (n - 1)) d
 
-  pub order-equal : j < steps → j < length gone → actionAt moved j .thread ≡ actionAt trail i .thread → less (rest moved gone steps n) (threadsAt trail i n) ≡ less (rest moved (set gone j 1) steps (n - 1)) (threadsAt trail (i + 1) (n - 1))
+  pub order-equal : j < steps → j < length gone → act j .thread ≡ actionAt trail i .thread → less (rest act gone steps n) (threadsAt trail i n) ≡ less (rest act (set gone j 1) steps (n - 1)) (threadsAt trail (i + 1) (n - 1))
   unfolding rest
   order-equal h l q =
       let f = next .place h in
       let z = f .here h in
       ap₂ less (rest-more h) (threads-more trail i n more)
-      ∙ same-front there (actionAt trail i .thread) (greedy (Remaining who conflict (upTo 0 6)) (ready who conflict) (n - 1) (takeOut who conflict (leftAt moved gone 0 steps) there)) (threadsAt trail (i + 1) (n - 1)) q
-      ∙ (ap (λ (k : List Action). less (greedy (Remaining who conflict (upTo 0 6)) (ready who conflict) (n - 1) k) (threadsAt trail (i + 1) (n - 1))) (out-first moved gone there j (z .0) (z .1) (f .before) steps h l))
+      ∙ same-front there (actionAt trail i .thread) (greedy (Remaining who conflict (upTo 0 6)) (ready who conflict) (n - 1) (takeOut who conflict (leftAt act gone 0 steps) there)) (threadsAt trail (i + 1) (n - 1)) q
+      ∙ (ap (λ (k : List Action). less (greedy (Remaining who conflict (upTo 0 6)) (ready who conflict) (n - 1) k) (threadsAt trail (i + 1) (n - 1))) (out-first act gone there j (z .0) (z .1) (f .before) steps h l))
 
-pub order-over : (moved gone trail : List ℕ) (steps i n : ℕ) → n ≡ 0 → less (rest moved gone steps n) (threadsAt trail i n) ≡ false
+pub order-over : (act : ℕ → Action) (gone trail : List ℕ) (steps i n : ℕ) → n ≡ 0 → less (rest act gone steps n) (threadsAt trail i n) ≡ false
 unfolding rest
-order-over moved gone trail steps i n e = ap₂ less (greedy-over (Remaining who conflict (upTo 0 6)) (ready who conflict) n (leftAt moved gone 0 steps) e) (threads-none trail i n e) ∙ less-nil []
+order-over act gone trail steps i n e = ap₂ less (greedy-over (Remaining who conflict (upTo 0 6)) (ready who conflict) n (leftAt act gone 0 steps) e) (threads-none trail i n e) ∙ less-nil []
 
 -- ---- before the first step all are left
 pub zeros : (n k : ℕ) → getD {A = ℕ} (replicate n 0) k 0 ≡ 0
@@ -97,20 +95,14 @@ zeros zero k = refl
 zeros (suc n) zero = refl
 zeros (suc n) (suc k) = zeros n k
 
-left-all : (trail gone : List ℕ) (k n : ℕ) → ((i : ℕ) → getD gone i 0 ≡ 0) → leftAt trail gone k n ≡ map (actionAt trail) (upTo k n)
-left-all trail gone k zero z = left-none trail gone k ∙ sym (ap (map (actionAt trail)) (upTo-none k 0 refl))
-left-all trail gone k (suc n) z =
-    left-here trail gone k n (z k) ∙ ap (λ (l : List Action). actionAt trail k ∷ l) (left-all trail gone (suc k) n z)
-    ∙ sym (ap (map (actionAt trail)) (upTo-suc k n))
+left-all : (act : ℕ → Action) (gone : List ℕ) (k n : ℕ) → ((i : ℕ) → getD gone i 0 ≡ 0) → leftAt act gone k n ≡ map act (upTo k n)
+left-all act gone k zero z = left-none act gone k ∙ sym (ap (map act) (upTo-none k 0 refl))
+left-all act gone k (suc n) z =
+    left-here act gone k n (z k) ∙ ap (λ (l : List Action). act k ∷ l) (left-all act gone (suc k) n z)
+    ∙ sym (ap (map act) (upTo-suc k n))
 
-actions-mapped : (trail : List ℕ) (l : List ℕ) → map did (map (noteAt trail) l) ≡ map (actionAt trail) l
-actions-mapped trail [] = refl
-actions-mapped trail (k ∷ l) = ap (λ (r : List Action). actionAt trail k ∷ r) (actions-mapped trail l)
-
-pub order-start : (moved gone : List ℕ) (steps : ℕ) → ((k : ℕ) → getD gone k 0 ≡ 0) → leastOf (actionsAt moved steps) ≡ rest moved gone steps steps
-unfolding rest actionsAt
-order-start moved gone steps z =
-    let e : actionsAt moved steps ≡ map (actionAt moved) (upTo 0 steps) = ap (map did) (notes-each moved steps) ∙ actions-mapped moved (upTo 0 steps) in
-    let n : length (actionsAt moved steps) ≡ steps = ap length e ∙ length-map (upTo 0 steps) (actionAt moved) ∙ upTo-length 0 steps in
-    least-walk who conflict (upTo 0 6) (actionsAt moved steps) steps n
-    ∙ ap (λ (l : List Action). greedy (Remaining who conflict (upTo 0 6)) (ready who conflict) steps l) (e ∙ sym (left-all moved gone 0 steps z))
+pub order-start : (act : ℕ → Action) (gone : List ℕ) (steps : ℕ) → ((k : ℕ) → getD gone k 0 ≡ 0) → leastOf (map act (upTo 0 steps)) ≡ rest act gone steps steps
+unfolding rest
+order-start act gone steps z =
+    least-walk who conflict (upTo 0 6) (map act (upTo 0 steps)) steps (length-map (upTo 0 steps) act ∙ upTo-length 0 steps)
+    ∙ ap (λ (l : List Action). greedy (Remaining who conflict (upTo 0 6)) (ready who conflict) steps l) (sym (left-all act gone 0 steps z))

@@ -20,7 +20,7 @@ use Rattle.listing.specs.NotedSteps.{did, doing, actionAt}
 use Rattle.listing.specs.HeldTwin.{readAt}
 
 -- steps with the same parts are equal
-pub same-parts : (a b : Action) → a .thread ≡ b .thread → a .location ≡ b .location → a .wrote ≡ b .wrote → a ≡ b
+same-parts : (a b : Action) → a .thread ≡ b .thread → a .location ≡ b .location → a .wrote ≡ b .wrote → a ≡ b
 same-parts a b e f g = ap₂ (λ (t l : ℕ). doing t l (a .wrote)) e f ∙ ap (λ (w : Bool). doing (b .thread) (b .location) w) g
 
 -- what the next step of thread t does, and what its note says of it
@@ -37,11 +37,11 @@ module _ (trail : List ℕ) (k : ℕ) where
   unfolding did
   thread-at = note-thread trail k
 
-  pub location-at : actionAt trail k .location ≡ getD trail (k * 8 + 2) 0
+  location-at : actionAt trail k .location ≡ getD trail (k * 8 + 2) 0
   unfolding did
   location-at = note-location trail k
 
-  pub wrote-at : actionAt trail k .wrote ≡ eqb (getD trail (k * 8 + 6) 0) 1
+  wrote-at : actionAt trail k .wrote ≡ eqb (getD trail (k * 8 + 6) 0) 1
   unfolding did
   wrote-at = note-wrote trail k
 

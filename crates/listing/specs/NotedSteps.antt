@@ -2,7 +2,9 @@
 use Prim.Native.Nat.{ℕ}
 use mathlib.Core.Bool.{Bool}
 use mathlib.Core.List.{List, map}
+use Rattle.schedules.specs.Permutations.{moved}
 use Rattle.machine.specs.Trail.{Action}
+use Rattle.machine.specs.ExchangedTrail.{movedAction}
 use Rattle.machine.specs.Notes.{Note}
 use Rattle.machine.specs.NoteText.{noteAt, notesAt}
 
@@ -21,3 +23,7 @@ actionAt trail k = did (noteAt trail k)
 -- what the first n steps did
 unfoldable pub actionsAt : List ℕ → ℕ → List Action
 actionsAt trail n = map did (notesAt trail n)
+
+-- what the step in place k does in the run exchanged by π
+abbrev pub exchangedAt : List ℕ → List ℕ → ℕ → Action
+exchangedAt π trail k = movedAction (moved π) (actionAt trail k)

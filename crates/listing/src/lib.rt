@@ -6,10 +6,8 @@ mod lateness;
 mod smaller_twin;
 // The permitted permutations, by their numbers.
 mod permitted_numbers;
-// The least order of a run's steps.
+// The least order of an exchanged run's steps.
 mod least_order;
-// The steps of an exchanged run.
-mod exchanged_steps;
 // The test at a full schedule.
 mod testing;
 // A listed schedule as a row of bytes.

@@ -1,5 +1,4 @@
 // The test at a full schedule: no permitted exchange has a smaller least schedule.
-use crate::exchanged_steps::exchanged;
 use crate::least_order::is_smaller;
 use schedules::permutation;
 ghost use mathlib.Core.Path.{_≡_};
@@ -28,8 +27,7 @@ pub fn is_unbeaten(
 {
     let mut i = from;
     while i < count {
-        let m = exchanged(trail, steps, permutation(wide_number(numbers[i])));
-        if is_smaller(&m, trail, steps) {
+        if is_smaller(trail, steps, permutation(wide_number(numbers[i]))) {
             return false;
         }
         i += 1;

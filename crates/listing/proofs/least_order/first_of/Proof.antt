@@ -30,7 +30,7 @@ loop-again c =
     let c3 = c .before .before .before in
     let c4 = c3 .before in (
       search needs,
-      before-more (c4 .args .trail .now) (c4 .args .gone .now) (c4 .args .t) (c3 .loop .j) (c3 .loop .inv .1) (⊎-elim (λ w e q. w .2 .left (sym (thread-at (c4 .args .trail .now) (c3 .loop .j)) ∙ q))
+      before-more (actionAt (c4 .args .trail .now)) (c4 .args .gone .now) (c4 .args .t) (c3 .loop .j) (c3 .loop .inv .1) (⊎-elim (λ w e q. w .2 .left (sym (thread-at (c4 .args .trail .now) (c3 .loop .j)) ∙ q))
           (λ w e. absurd (w .left e)) (c .if1 .came)),
     )
 

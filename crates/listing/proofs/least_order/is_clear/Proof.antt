@@ -20,7 +20,7 @@ use Rattle.listing.proofs.least_order.is_clear.Tie as tie
 
 -- the step in place j does not wait for the one in place k
 abbrev clearOf : List ℕ → List ℕ → ℕ → ℕ → Bool
-clearOf trail gone j = λ k. not (waits trail gone j k)
+clearOf trail gone j = λ k. not (waits (actionAt trail) gone j k)
 
 -- the step in place j by its bytes: whether the one in place k conflicts with it, as the code asks it
 asked : (trail : List ℕ) (j k : ℕ) (r v : Bool)
@@ -49,7 +49,7 @@ returns c =
     let c5 = c4 .before in
     let c9 = c5 .before .before .before .before in
     sym (c5 .loop .inv .1 ∙ all-fails (clearOf (c9 .args .trail .now) (c9 .args .gone .now) (c9 .args .j)) (c5 .loop .k) ((c9 .args .j) - (c5 .loop
-    .k)) (omega (arith, c4 .loop-test .taken)) (waits-by (c9 .args .trail .now) (c9 .args .gone .now) (c9 .args .j) (c5 .loop .k) true (c .before
+    .k)) (omega (arith, c4 .loop-test .taken)) (waits-by (actionAt (c9 .args .trail .now)) (c9 .args .gone .now) (c9 .args .j) (c5 .loop .k) true (c .before
     .before .if1 .taken) (asked (c9 .args .trail .now) (c9 .args .j) (c5 .loop .k) (c .before .conflicts .result) true (c .before .conflicts .ensures) (c .if2 .taken))))
 
 loop-again : tie.Need-loop-again Inv-loop μ-loop
@@ -63,8 +63,8 @@ loop-again c =
           (clearOf (args .trail .now) (args .gone .now) (args .j)) (loop .k) ((args .j) - (loop .k)) (omega (
             arith,
             loop-test .taken,
-          )) (⊎-elim (λ w. waits-by (args .trail .now) (args .gone .now) (args .j) (loop .k) false (w .0 .taken)
-          (asked (args .trail .now) (args .j) (loop .k) (w .1 .result) false (w .1 .ensures) (w .2 .left))) (λ w. waits-not (args .trail .now) (args .gone .now) (args .j) (loop .k) (w .left)) (c .if1
+          )) (⊎-elim (λ w. waits-by (actionAt (args .trail .now)) (args .gone .now) (args .j) (loop .k) false (w .0 .taken)
+          (asked (args .trail .now) (args .j) (loop .k) (w .1 .result) false (w .1 .ensures) (w .2 .left))) (λ w. waits-not (actionAt (args .trail .now)) (args .gone .now) (args .j) (loop .k) (w .left)) (c .if1
           .came)) ∙ ap (λ (n : ℕ). all (clearOf (args .trail .now) (args .gone .now) (args .j)) (upTo ((loop .k) + 1) n)) i,
     )
 

@@ -5,8 +5,8 @@ use mathlib.Core.Path.{_≡_, sym, ap, _∙_}
 use native.Mathlib.Omega.{arith}
 use lib.ListN.{length, getD, List·getD-eq-default}
 use Rattle.schedules.proofs.Group.{getD-any}
-use Rattle.listing.proofs.exchanged_steps.moved_thread.Statement.{statement}
-use Rattle.listing.proofs.exchanged_steps.moved_thread.Tie as tie
+use Rattle.listing.proofs.least_order.moved_thread.Statement.{statement}
+use Rattle.listing.proofs.least_order.moved_thread.Tie as tie
 
 returns : tie.Need-returns
 returns c =
