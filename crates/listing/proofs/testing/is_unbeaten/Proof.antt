@@ -42,9 +42,7 @@ loop-holds : tie.Need-loop-holds Inv-loop μ-loop
 loop-holds c = refl
 
 is-smaller-requires : tie.Need-is-smaller-requires Inv-loop μ-loop
-is-smaller-requires c κs =
-    let start = c .before .before .before .before .before in
-    (start .pre .0, subst (λ (a : List ℕ). List·Memᴰ a permutations) (sym (c .permutation .ensures)) (numbered-member (c .before .wide-number .result)))
+is-smaller-requires c κs = (search needs, subst (λ (a : List ℕ). List·Memᴰ a permutations) (sym (c .permutation .ensures)) (numbered-member (c .before .wide-number .result)))
 
 returns : tie.Need-returns Inv-loop μ-loop
 returns c =
