@@ -30,7 +30,7 @@ fn wide(x: u8) -> usize
 }
 
 // Row k of these rows of 26 bytes.
-pub fn row_at(rows: &[u8; 6656], k: usize) -> [u8; 26]
+pub(crate) fn row_at(rows: &[u8; 6656], k: usize) -> [u8; 26]
     requires { ⌜ (k < 256) × (length (now rows) ≡ 6656) ⌝ }
     ensures { λ r. ⌜ r ≡ take 26 (drop (k * 26) (now (rows .entry))) ⌝ }
 {
@@ -45,7 +45,7 @@ pub fn row_at(rows: &[u8; 6656], k: usize) -> [u8; 26]
 }
 
 // How many steps the schedule of this row has.
-pub fn steps_of(row: [u8; 26]) -> usize
+pub(crate) fn steps_of(row: [u8; 26]) -> usize
     ensures most { λ r. ⌜ r ≤ 24 ⌝ }
     ensures steps { λ r. ⌜ ((s : Schedule) (f : Bool) → row ≡ rowBytes s f → length s ≤ 24 → r ≡ length s) ⌝ }
 {
@@ -65,7 +65,7 @@ fn schedule_line(out: &mut [u8], row: [u8; 26]) -> usize
 }
 
 // The lines of the schedules in the first n rows.
-pub fn schedule_lines(out: &mut [u8], rows: &[u8; 6656], n: usize) -> Lines
+pub(crate) fn schedule_lines(out: &mut [u8], rows: &[u8; 6656], n: usize) -> Lines
     requires { ⌜ (n ≤ 256) × (length (now rows) ≡ 6656) ⌝ }
     ensures { λ r. ⌜ ((p : Program) (ss : List Schedule) (held : List ℕ) → Shown p ss held (now (rows .entry)) n → Short ss →
         Wrote (map (scheduleFrame p) ss) (now (out .entry)) (now (out .exit)) (r .length) × (r .failed ≡ length (keep (failing p) ss))) ⌝ }
@@ -94,7 +94,7 @@ fn byte_of(n: u64, place: u64) -> u8
 }
 
 // The line of the two counts.
-pub fn count_line(out: &mut [u8], listed: u64, failed: u64) -> usize
+pub(crate) fn count_line(out: &mut [u8], listed: u64, failed: u64) -> usize
     ensures { λ r. ⌜ Wrote (countFrame (record { listed = listed; failed = failed }) ∷ []) (now (out .entry)) (now (out .exit)) r ⌝ }
 {
     let frame = [
@@ -120,7 +120,7 @@ pub fn count_line(out: &mut [u8], listed: u64, failed: u64) -> usize
 }
 
 // The line of a refusal.
-pub fn refusal_line(out: &mut [u8], number: u8, place: usize) -> usize
+pub(crate) fn refusal_line(out: &mut [u8], number: u8, place: usize) -> usize
     ensures { λ r. ⌜ Wrote (printedFrames (refused number place)) (now (out .entry)) (now (out .exit)) r ⌝ }
 {
     let k = place as u64;

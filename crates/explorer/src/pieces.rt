@@ -61,7 +61,7 @@ fn unprinted(stage: Stage, program: Compiled, permitted: Permitted) -> Listing
 }
 
 // All that is printed of this file is still to come.
-pub fn begin(file: &[u8]) -> Listing
+pub(crate) fn begin(file: &[u8]) -> Listing
     ensures { λ r. ⌜ Begun (now (file .entry)) r ⌝ }
 {
     let a = program::decode(file);
@@ -122,7 +122,7 @@ fn walk_on(s: Listing, out: &mut [u8]) -> Piece
 }
 
 // Writes what comes next to the front of the output; no bytes only where nothing is left.
-pub fn next(s: Listing, out: &mut [u8]) -> Piece
+pub(crate) fn next(s: Listing, out: &mut [u8]) -> Piece
     requires { ⌜ Sound s × (13568 ≤ length (now out)) ⌝ }
     ensures { λ r. ⌜ (r .length ≤ length (now (out .exit))) × Next s (take (r .length) (now (out .exit))) (r .listing) ⌝ }
 {

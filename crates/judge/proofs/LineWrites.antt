@@ -11,7 +11,8 @@ use lib.ListN.{length, getD, drop, drop-of-length-le, length-drop, List·getD-eq
 use lib.Seq.{drop-cons, getD-drop}
 use Rattle.schedules.specs.Lists.{any, all}
 use Rattle.machine.specs.State.{Event}
-use Rattle.judge.specs.Reading.{Frame, byteAt, eventsIn, writesIn}
+use Rattle.machine.specs.Text.{eventsIn}
+use Rattle.judge.specs.Reading.{Frame, byteAt, writesIn}
 use Rattle.judge.specs.Held.{noLine, byteOr}
 
 -- two comparisons of which each follows from the other

@@ -1,6 +1,6 @@
 -- The `41` lines of a graph pass, location by location, and give its lists back.
 use Prim.Native.Nat.{ℕ, zero, suc, _+_, _%_, _<_, _≤_}
-use mathlib.Core.Path.{_≡_, refl, sym, ap, subst, _∙_}
+use mathlib.Core.Path.{_≡_, sym, ap, subst, _∙_}
 use mathlib.Core.Logic.{_⊎_, inl, inr, ⊎-elim}
 use mathlib.Core.Bool.{true}
 use mathlib.Core.List.{List, [], _∷_, _++_, append-assoc, reverse, reverse-reverse, List·Memᴰ, List·Memᴰ·not-nil}
@@ -13,19 +13,14 @@ use Rattle.schedules.specs.Order.{less}
 use Rattle.schedules.proofs.Order.{less-front, less-heads}
 use Rattle.machine.specs.State.{Event}
 use Rattle.machine.specs.Graph.{Graph, graphWith}
-use Rattle.machine.specs.Text.{eventBytes, writeFrame, writeFrames}
+use Rattle.machine.specs.Text.{eventBytes, writeFrame, writeFrames, eventsIn}
+use Rattle.machine.proofs.Frames.{events-back}
 use Rattle.machine.proofs.NoteLength.{bytes-length}
 use Rattle.judge.specs.Consistent.{Distinct}
-use Rattle.judge.specs.Reading.{Frame, isRead, eventsIn, writesIn, known, isEvent, inRange, key, Reading, inOrder, refusal, withLine, after}
+use Rattle.judge.specs.Reading.{Frame, isRead, writesIn, known, isEvent, inRange, key, Reading, inOrder, refusal, withLine, after}
 use Rattle.judge.proofs.Readable.{Named, Unwritten, is-event, is-new, reverse-in, distinct-reverse}
 use Rattle.judge.proofs.Parsed.{empty-row}
 use Rattle.judge.proofs.FramesRead.{Passing, afterAll, after-append, passing-append}
-
--- the bytes of events spell them
-events-back : (es : List Event) → eventsIn (eventBytes es) ≡ es
-unfolding eventsIn eventBytes
-events-back [] = refl
-events-back (e ∷ es) = ap {B = List Event} (λ l. e ∷ l) (events-back es)
 
 -- who stands in lists of which the last ones are empty, and in lists with one more
 in-front : (pre : List (List Event)) (m k : ℕ) (x : Event) → List·Memᴰ x (getD (pre ++ replicate m []) k []) → List·Memᴰ x (getD pre k [])

@@ -10,7 +10,8 @@ use lib.ListN.{length, getD, set, drop}
 use Rattle.program.proofs.Tests.{both}
 use Rattle.schedules.specs.Lists.{all}
 use Rattle.machine.specs.State.{Event}
-use Rattle.judge.specs.Reading.{Frame, byteAt, eventsIn, isEvent, allNew}
+use Rattle.machine.specs.Text.{eventsIn}
+use Rattle.judge.specs.Reading.{Frame, byteAt, isEvent, allNew}
 use Rattle.judge.specs.Held.{Seen, markedBy}
 use Rattle.judge.proofs.Readable.{Named, event-is}
 use Rattle.judge.proofs.LineWrites.{all-cons, event-here}

@@ -12,6 +12,7 @@ use Rattle.schedules.specs.Lists.{any, all}
 use Rattle.schedules.specs.Order.{less}
 use Rattle.machine.specs.State.{Event, initialWrite}
 use Rattle.machine.specs.Graph.{Graph}
+use Rattle.machine.specs.Text.{eventsIn}
 use Rattle.judge.specs.Consistent.{rowOf}
 use Rattle.judge.specs.Judge.{sameEvent}
 
@@ -25,12 +26,6 @@ byteAt f k = getD f k 0
 -- a `40` line
 unfoldable pub isRead : Frame → Bool
 isRead f = eqb (byteAt f 0) 0x40
-
--- the events that these bytes spell, two a piece
-unfoldable pub eventsIn : List ℕ → List Event
-eventsIn [] = []
-eventsIn (t ∷ []) = []
-eventsIn (t ∷ i ∷ l) = (t, i) ∷ eventsIn l
 
 -- the writes of a `41` line, in coherence order
 unfoldable pub writesIn : Frame → List Event

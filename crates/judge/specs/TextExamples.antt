@@ -11,9 +11,9 @@ use Rattle.lines.specs.TextLines.{prepend, before, split}
 use Rattle.program.specs.Program.{Program}
 use Rattle.schedules.specs.Lists.{all}
 use Rattle.schedules.specs.Order.{less}
-use Rattle.machine.specs.Text.{textOf}
+use Rattle.machine.specs.Text.{textOf, eventsIn}
 use Rattle.judge.specs.Judge.{sameList}
-use Rattle.judge.specs.Reading.{Frame, isRead, eventsIn, writesIn, known, isEvent, isSource, inRange, key, written, allNew, inOrder, refusal, withLine, after, fresh, frameOf, readLines, readGraph}
+use Rattle.judge.specs.Reading.{Frame, isRead, writesIn, known, isEvent, isSource, inRange, key, written, allNew, inOrder, refusal, withLine, after, fresh, frameOf, readLines, readGraph}
 use Rattle.judge.specs.Answer.{Answer, consistent, inconsistent, refusing, answerOf, answerTo, judgeAnswer}
 use Rattle.judge.specs.Examples.{judging, buffering, threadsOf}
 

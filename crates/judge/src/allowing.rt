@@ -45,7 +45,7 @@ fn turn_allowed(pairs: [u8; 576], made: [usize; 8], note: [u8; 8]) -> bool
 }
 
 // Whether the graph allows the step with this note on this machine.
-pub fn allowed(
+pub(crate) fn allowed(
     pairs: [u8; 576],
     places: [u8; 96],
     threads: usize,

@@ -33,14 +33,14 @@ fn facing(m: Machine, x: u32) -> Machine
 }
 
 // A byte as a larger number.
-pub fn wide(x: u8) -> usize
+pub(crate) fn wide(x: u8) -> usize
     ensures { λ r. ⌜ r ≡ x ⌝ }
 {
     x as usize
 }
 
 // Thread t's next access, which finds x.
-pub fn met(code: &[u8; 1536], lengths: &[usize; 6], m: Machine, t: u8, x: u32) -> Lone
+pub(crate) fn met(code: &[u8; 1536], lengths: &[usize; 6], m: Machine, t: u8, x: u32) -> Lone
     requires { ⌜ (t < 6) × (getD (now lengths) t 0 ≤ 16) × ((σ : State) × Holds (now code) (now lengths) m σ) ⌝ }
     ensures { λ r. ⌜ ((σ : State) → Holds (now (code .entry)) (now (lengths .entry)) m σ → place σ t < 8 → MetAlone (now (code .entry)) (now (lengths .entry)) σ t x r) ⌝ }
 {

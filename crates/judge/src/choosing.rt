@@ -38,7 +38,7 @@ fn may_go(
 }
 
 // That thread, or 6 if there is none.
-pub fn chosen(
+pub(crate) fn chosen(
     code: &[u8; 1536],
     lengths: &[usize; 6],
     threads: usize,

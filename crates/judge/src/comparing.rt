@@ -3,7 +3,7 @@ ghost use mathlib.Core.Path.{_≡_};
 ghost use mathlib.Core.Bool.{true, false};
 ghost use lib.ListN.{length};
 
-pub fn same_pairs(a: [u8; 576], b: [u8; 576]) -> bool
+pub(crate) fn same_pairs(a: [u8; 576], b: [u8; 576]) -> bool
     ensures { λ r. ⌜ (length a ≡ 576) × (length b ≡ 576) × (r ≡ true → a ≡ b) × (r ≡ false → a ≡ b → ⊥) ⌝ }
 {
     let mut k = 0;
@@ -16,7 +16,7 @@ pub fn same_pairs(a: [u8; 576], b: [u8; 576]) -> bool
     true
 }
 
-pub fn same_counts(a: [usize; 8], b: [usize; 8]) -> bool
+pub(crate) fn same_counts(a: [usize; 8], b: [usize; 8]) -> bool
     ensures { λ r. ⌜ (length a ≡ 8) × (length b ≡ 8) × (r ≡ true → a ≡ b) × (r ≡ false → a ≡ b → ⊥) ⌝ }
 {
     let mut k = 0;

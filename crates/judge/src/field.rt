@@ -14,14 +14,14 @@ fn wide(x: u8) -> usize
 }
 
 // The byte at a position of the line's frame.
-pub fn field(line: &[u8], at: usize) -> usize
+pub(crate) fn field(line: &[u8], at: usize) -> usize
     ensures { λ r. ⌜ (r ≡ byteAt (pairs (now (line .entry))) at) × (r < 256) ⌝ }
 {
     wide(lines::byte_at(line, at))
 }
 
 // How many bytes the line's frame has; 0 where it is no frame.
-pub fn frame_length(line: &[u8]) -> usize
+pub(crate) fn frame_length(line: &[u8]) -> usize
     ensures { λ n. ⌜ n ≡ frameLength (now (line .entry)) ⌝ }
 {
     match lines::read(line) {

@@ -35,7 +35,7 @@ fn denied() -> Finding
 }
 
 // Judges the graph in this table for the program in these rows.
-pub fn judged(
+pub(crate) fn judged(
     code: &[u8; 1536],
     lengths: &[usize; 6],
     threads: usize,

@@ -12,7 +12,7 @@ pub struct Made {
 }
 
 // With the source of the step with this note, if it reads.
-pub fn with_source(pairs: [u8; 576], note: [u8; 8]) -> [u8; 576]
+pub(crate) fn with_source(pairs: [u8; 576], note: [u8; 8]) -> [u8; 576]
     requires { ⌜ Ranged note ⌝ }
     ensures { λ r. ⌜ r ≡ sourceAdded pairs note ⌝ }
 {
@@ -27,7 +27,7 @@ pub fn with_source(pairs: [u8; 576], note: [u8; 8]) -> [u8; 576]
 }
 
 // With its event, if it writes.
-pub fn with_event(pairs: [u8; 576], counts: [usize; 8], note: [u8; 8]) -> Made
+pub(crate) fn with_event(pairs: [u8; 576], counts: [usize; 8], note: [u8; 8]) -> Made
     requires { ⌜ Ranged note × ((l : ℕ) → getD counts l 0 < 24) ⌝ }
     ensures { λ r. ⌜ (r .pairs ≡ eventAdded pairs counts note) × (r .counts ≡ countAdded counts note) ⌝ }
 {

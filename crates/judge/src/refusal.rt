@@ -113,7 +113,7 @@ fn all_new(line: &[u8], size: usize, seen: [u8; 96]) -> bool
 }
 
 // The frame's place in the order of all lines.
-pub fn rank(line: &[u8]) -> usize
+pub(crate) fn rank(line: &[u8]) -> usize
     ensures { λ r. ⌜ r ≡ rankOf (pairs (now (line .entry))) ⌝ }
 {
     let b = field(line, 0);
@@ -126,7 +126,7 @@ pub fn rank(line: &[u8]) -> usize
 }
 
 // For the frame of so many bytes on this line, of a text of n threads, after what has been read.
-pub fn refusal(line: &[u8], size: usize, n: usize, s: Table) -> u8
+pub(crate) fn refusal(line: &[u8], size: usize, n: usize, s: Table) -> u8
     requires { ⌜ (size ≡ length (pairs (now line))) × (n ≤ 6) ⌝ }
     ensures { λ k. ⌜ ((r : Reading) → Holds n s r → k ≡ refusal n r (pairs (now (line .entry)))) ⌝ }
 {

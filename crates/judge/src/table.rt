@@ -17,7 +17,7 @@ ghost use mathlib.Core.Path.{_≡_};
 ghost use Rattle.judge.specs.Held.{emptyTable};
 
 // Before the first line.
-pub fn empty() -> Table
+pub(crate) fn empty() -> Table
     ensures { λ r. ⌜ r ≡ emptyTable ⌝ }
 {
     Table {

@@ -78,7 +78,7 @@ fn ordered(line: &[u8], size: usize, old: [u8; 576], l: usize) -> [u8; 576]
 }
 
 // With the frame of so many bytes on this line, which is not refused.
-pub fn taken(line: &[u8], size: usize, n: usize, s: Table) -> Table
+pub(crate) fn taken(line: &[u8], size: usize, n: usize, s: Table) -> Table
     requires { ⌜ Passes n (now line) size ⌝ }
     ensures { λ q. ⌜ Taken n (now (line .entry)) s q ⌝ }
 {

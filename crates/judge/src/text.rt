@@ -22,7 +22,7 @@ pub struct Reply {
 }
 
 // Reads a graph text of n threads.
-pub fn read_graph(text: &[u8], n: usize) -> Reply
+pub(crate) fn read_graph(text: &[u8], n: usize) -> Reply
     requires { ⌜ n ≤ 6 ⌝ }
     ensures { λ a. ⌜ ReadAs (a .verdict) (a .table) (readGraph n (now (text .entry))) ⌝ }
 {

@@ -88,7 +88,12 @@ fn next_values(pairs: [u8; 576], left: [u32; 96]) -> [u32; 96]
 }
 
 // Where each access goes on the values of the last round.
-pub fn places(code: &[u8; 1536], lengths: &[usize; 6], threads: usize, pairs: [u8; 576]) -> [u8; 96]
+pub(crate) fn places(
+    code: &[u8; 1536],
+    lengths: &[usize; 6],
+    threads: usize,
+    pairs: [u8; 576],
+) -> [u8; 96]
     requires { ⌜ ((p : Program) × Loaded (now code) (now lengths) threads p) ⌝ }
     ensures { λ r. ⌜ ((p : Program) (text counts : List ℕ) (g : Graph) → Loaded (now (code .entry)) (now (lengths .entry)) threads p → readGraph threads text ≡ parsed g → Tabled pairs counts g → (t i : ℕ) → t < threads → i < 16 → getD r (t * 16 + i) 0 ≡ locationOf p (values p g 24) (t, i)) ⌝ }
 {

@@ -46,7 +46,7 @@ fn waits(
 }
 
 // Whether no read but access d of thread t still waits for the write (u, j) at location l.
-pub fn none_waits(
+pub(crate) fn none_waits(
     pairs: [u8; 576],
     places: [u8; 96],
     threads: usize,

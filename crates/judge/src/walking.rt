@@ -20,7 +20,7 @@ pub struct Walk {
 }
 
 // Walks by the table of a graph and the places of its accesses.
-pub fn walked(
+pub(crate) fn walked(
     code: &[u8; 1536],
     lengths: &[usize; 6],
     threads: usize,

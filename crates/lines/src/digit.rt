@@ -4,7 +4,7 @@ ghost use mathlib.Core.Path.{_≡_};
 ghost use Rattle.lines.specs.Digit.{digit, value, digitOf};
 
 // Whether the byte is a digit.
-pub fn is_digit(b: u8) -> bool
+pub(crate) fn is_digit(b: u8) -> bool
     ensures { λ r. ⌜ r ≡ digit b ⌝ }
 {
     if 97 <= b {
@@ -17,7 +17,7 @@ pub fn is_digit(b: u8) -> bool
 }
 
 // What the digit is worth; 0 for a byte that is no digit.
-pub fn value_of(b: u8) -> u8
+pub(crate) fn value_of(b: u8) -> u8
     ensures { λ r. ⌜ (r ≡ value b) × (r < 16) ⌝ }
 {
     if b < 48 {
@@ -36,14 +36,14 @@ pub fn value_of(b: u8) -> u8
 }
 
 // The digit of a byte's larger part.
-pub fn high(b: u8) -> u8
+pub(crate) fn high(b: u8) -> u8
     ensures { λ r. ⌜ r ≡ digitOf (b / 16) ⌝ }
 {
     digit_of(b / 16)
 }
 
 // The digit of what is left of a byte.
-pub fn low(b: u8) -> u8
+pub(crate) fn low(b: u8) -> u8
     ensures { λ r. ⌜ r ≡ digitOf (b % 16) ⌝ }
 {
     digit_of(b % 16)

@@ -5,7 +5,7 @@ ghost use Rattle.schedules.specs.Search.{low, past};
 ghost use Rattle.listing.specs.Bounds.{boundAt};
 
 // The first thread to try behind k steps.
-pub fn first_thread(bound: &[u8], along: bool, k: usize) -> u8
+pub(crate) fn first_thread(bound: &[u8], along: bool, k: usize) -> u8
     ensures { λ r. ⌜ r ≡ low (boundAt along (now (bound .entry)) k) ⌝ }
 {
     if along {
@@ -17,7 +17,7 @@ pub fn first_thread(bound: &[u8], along: bool, k: usize) -> u8
 }
 
 // Whether the steps are still the bound's own when t is the next behind k.
-pub fn stays_along(bound: &[u8], along: bool, k: usize, t: u8) -> bool
+pub(crate) fn stays_along(bound: &[u8], along: bool, k: usize, t: u8) -> bool
     ensures { λ r. ⌜ boundAt r (now (bound .entry)) (k + 1) ≡ past (boundAt along (now (bound .entry)) k) t ⌝ }
 {
     if along {

@@ -29,7 +29,7 @@ fn is_meant(only: bool, f: bool) -> bool
 }
 
 // Adds its row, if it is wanted and there is room; answers how many rows there are.
-pub fn at_end(
+pub(crate) fn at_end(
     numbers: &[u16; 720],
     count: usize,
     only: bool,

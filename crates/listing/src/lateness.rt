@@ -9,7 +9,7 @@ ghost use Rattle.listing.specs.Rules.{late};
 ghost use Rattle.listing.specs.NotedSteps.{did, doing, actionAt};
 
 // Whether the step noted in place k conflicts with an access of location l.
-pub fn conflicts(trail: &[u8; 192], k: usize, t: u8, l: u8, wrote: bool) -> bool
+pub(crate) fn conflicts(trail: &[u8; 192], k: usize, t: u8, l: u8, wrote: bool) -> bool
     requires { ⌜ k < 24 ⌝ }
     ensures { λ r. ⌜ r ≡ conflict (actionAt (now (trail .entry)) k) (doing t l wrote) ⌝ }
 {
@@ -24,7 +24,7 @@ pub fn conflicts(trail: &[u8; 192], k: usize, t: u8, l: u8, wrote: bool) -> bool
 }
 
 // Whether a step of thread t at location l comes late behind the steps noted.
-pub fn late(trail: &[u8; 192], steps: usize, t: u8, l: u8, wrote: bool) -> bool
+pub(crate) fn late(trail: &[u8; 192], steps: usize, t: u8, l: u8, wrote: bool) -> bool
     requires { ⌜ steps ≤ 24 ⌝ }
     ensures { λ r. ⌜ ((ns : List Note) → Noted (now (trail .entry)) ns → length ns ≡ steps → r ≡ late (reverse (map did ns)) (doing t l wrote)) ⌝ }
 {

@@ -96,7 +96,7 @@ fn next_place(trail: &[u8; 192], gone: &[u8; 24], steps: usize, a: [u8; 6]) -> u
 }
 
 // Whether the least order of the exchanged run's steps is smaller than the order of the run's own.
-pub fn is_smaller(trail: &[u8; 192], steps: usize, a: [u8; 6]) -> bool
+pub(crate) fn is_smaller(trail: &[u8; 192], steps: usize, a: [u8; 6]) -> bool
     requires { ⌜ (steps ≤ 24) × List·Memᴰ a permutations ⌝ }
     ensures { λ r. ⌜ r ≡ less (leastOf (map (movedAction (moved a)) (actionsAt (now (trail .entry)) steps))) (threadsAt (now (trail .entry)) 0 steps) ⌝ }
 {

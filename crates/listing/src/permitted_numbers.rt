@@ -17,7 +17,7 @@ pub struct Permitted {
 }
 
 // A byte as a larger number.
-pub fn wide(x: u8) -> usize
+pub(crate) fn wide(x: u8) -> usize
     ensures { λ r. ⌜ r ≡ x ⌝ }
 {
     x as usize

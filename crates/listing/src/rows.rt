@@ -28,7 +28,7 @@ fn row_byte(trail: &[u8; 192], steps: usize, fails: bool, k: usize) -> u8
 }
 
 // Writes that row to the front of the output.
-pub fn put_row(out: &mut [u8], trail: &[u8; 192], steps: usize, fails: bool)
+pub(crate) fn put_row(out: &mut [u8], trail: &[u8; 192], steps: usize, fails: bool)
     requires { ⌜ (steps ≤ 24) × (26 ≤ length (now out)) ⌝ }
     ensures { λ r. ⌜ now (out .exit) ≡ over (rowBytes (threadsAt (now (trail .entry)) 0 steps) fails) (now (out .entry)) ⌝ }
 {

@@ -86,7 +86,7 @@ fn is_asleep(
 }
 
 // Whether some thread is asleep for good.
-pub fn some_asleep(
+pub(crate) fn some_asleep(
     code: &[u8; 1536],
     lengths: &[usize; 6],
     m: Machine,

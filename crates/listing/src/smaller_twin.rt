@@ -205,7 +205,7 @@ fn is_twin(
 }
 
 // Whether a smaller thread is t's twin.
-pub fn has_smaller_twin(
+pub(crate) fn has_smaller_twin(
     class: &[usize; 6],
     groups: usize,
     m: Machine,

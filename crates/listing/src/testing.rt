@@ -15,7 +15,7 @@ fn wide_number(x: u16) -> usize
 }
 
 // Whether the run that is noted passes the test, by the numbers of the permitted permutations from place `from` on.
-pub fn is_unbeaten(
+pub(crate) fn is_unbeaten(
     trail: &[u8; 192],
     steps: usize,
     numbers: &[u16; 720],

@@ -99,7 +99,7 @@ fn turn(
 }
 
 // Adds all that is found behind the steps taken.
-pub fn walk(
+pub(crate) fn walk(
     code: &[u8; 1536],
     lengths: &[usize; 6],
     class: &[usize; 6],

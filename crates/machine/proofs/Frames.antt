@@ -11,7 +11,7 @@ use lib.ListN.{length, getD, drop}
 use lib.Seq.{ext-getD}
 use Rattle.machine.specs.State.{Event}
 use Rattle.machine.specs.Graph.{Graph}
-use Rattle.machine.specs.Text.{readFrame, readFrames, eventBytes, writeFrame, writeFrames, frames}
+use Rattle.machine.specs.Text.{readFrame, readFrames, eventBytes, eventsIn, writeFrame, writeFrames, frames}
 
 -- what is collected from each frame
 collect : {A : Type 0} → (List ℕ → List A) → List (List ℕ) → List A
@@ -26,11 +26,6 @@ collect-append {A} f (x ∷ xs) ys = ap (λ (k : List A). f x ++ k) (collect-app
 -- the read of thread t that a frame states, if it does
 readIn : ℕ → List ℕ → List (ℕ × Event)
 readIn t f = elim (eqb (getD f 0 0) 0x40) [ true ↦ elim (eqb (getD f 1 0) t) [ true ↦ (getD f 2 0, (getD f 3 0, getD f 4 0)) ∷ [] | false ↦ [] ] | false ↦ [] ]
-
-eventsIn : List ℕ → List Event
-eventsIn [] = []
-eventsIn (x ∷ []) = []
-eventsIn (x ∷ y ∷ l) = (x, y) ∷ eventsIn l
 
 -- the writes of location l that a frame states, if it does
 writesIn : ℕ → List ℕ → List Event
@@ -92,7 +87,7 @@ writes-no-reads t l (ws ∷ rows) =
     ∙ ap₂ (λ (a b : List (ℕ × Event)). a ++ b) (no-reads t l ws) (writes-no-reads t (suc l) rows)
 
 -- one location's frame
-events-back : (es : List Event) → eventsIn (eventBytes es) ≡ es
+pub events-back : (es : List Event) → eventsIn (eventBytes es) ≡ es
 unfolding eventsIn eventBytes
 events-back [] = refl
 events-back (e ∷ es) = ap (λ (k : List Event). e ∷ k) (events-back es)

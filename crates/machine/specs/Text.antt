@@ -20,6 +20,12 @@ unfoldable pub eventBytes : List Event → List ℕ
 eventBytes [] = []
 eventBytes (e ∷ es) = e .0 ∷ e .1 ∷ eventBytes es
 
+-- the events that these bytes spell, two a piece
+unfoldable pub eventsIn : List ℕ → List Event
+eventsIn [] = []
+eventsIn (t ∷ []) = []
+eventsIn (t ∷ i ∷ l) = (t, i) ∷ eventsIn l
+
 -- the frame of location l, unless it was not written; its writes latest first
 unfoldable pub writeFrame : ℕ → List Event → List (List ℕ)
 writeFrame l [] = []

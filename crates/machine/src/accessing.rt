@@ -18,7 +18,7 @@ pub struct Access {
 }
 
 // What memory holds at a location; 0 at one that does not exist.
-pub fn found(memory: [u32; 8], l: u8) -> u32
+pub(crate) fn found(memory: [u32; 8], l: u8) -> u32
     ensures { λ r. ⌜ r ≡ getD memory l 0 ⌝ }
 {
     let k = wide(l);
@@ -29,7 +29,7 @@ pub fn found(memory: [u32; 8], l: u8) -> u32
 }
 
 // An access to l with these registers behind it.
-pub fn done(l: u8, reads: u8, registers: [u32; 4], writes: u8, value: u32) -> Access
+pub(crate) fn done(l: u8, reads: u8, registers: [u32; 4], writes: u8, value: u32) -> Access
     ensures { λ r. ⌜ r ≡ accessing l reads registers writes value ⌝ }
 {
     Access {
@@ -42,7 +42,7 @@ pub fn done(l: u8, reads: u8, registers: [u32; 4], writes: u8, value: u32) -> Ac
 }
 
 // Does the access i on finding memory so. Operands are read before the register changes.
-pub fn accessed(i: Instruction, registers: [u32; 4], memory: [u32; 8]) -> Access
+pub(crate) fn accessed(i: Instruction, registers: [u32; 4], memory: [u32; 8]) -> Access
     ensures { λ r. ⌜ r ≡ accessOf i registers memory ⌝ }
 {
     match i {

@@ -22,7 +22,7 @@ ghost use Rattle.machine.specs.Local.{beginsWithAccess};
 ghost use Rattle.machine.specs.Turns.{turnOf, accessOf};
 
 // Whether it is an access.
-pub fn is_access(code: &[u8; 1536], row: usize) -> bool
+pub(crate) fn is_access(code: &[u8; 1536], row: usize) -> bool
     requires { ⌜ row < 96 ⌝ }
     ensures { λ r. ⌜ r ≡ beginsWithAccess (instructionAt (now (code .entry)) row ∷ []) ⌝ }
 {
@@ -80,7 +80,7 @@ fn asserted(registers: [u32; 4], r: u8, p: Operand) -> Turn
 }
 
 // Carries it out unless it is an access.
-pub fn turned(code: &[u8; 1536], row: usize, registers: [u32; 4]) -> Turn
+pub(crate) fn turned(code: &[u8; 1536], row: usize, registers: [u32; 4]) -> Turn
     requires { ⌜ row < 96 ⌝ }
     ensures { λ s. ⌜ s ≡ turnOf (instructionAt (now (code .entry)) row) registers ⌝ }
 {
@@ -106,7 +106,12 @@ pub fn turned(code: &[u8; 1536], row: usize, registers: [u32; 4]) -> Turn
 }
 
 // Does the access on finding memory so. Operands are read before the register changes.
-pub fn accessed_at(code: &[u8; 1536], row: usize, registers: [u32; 4], memory: [u32; 8]) -> Access
+pub(crate) fn accessed_at(
+    code: &[u8; 1536],
+    row: usize,
+    registers: [u32; 4],
+    memory: [u32; 8],
+) -> Access
     requires { ⌜ row < 96 ⌝ }
     ensures { λ a. ⌜ a ≡ accessOf (instructionAt (now (code .entry)) row) registers memory ⌝ }
 {

@@ -118,7 +118,7 @@ fn write_orders(out: &mut [u8], trail: &[u8; 192], steps: usize) -> usize
 }
 
 // The whole text, from the notes of so many steps; answers its length.
-pub fn write_graph(out: &mut [u8], trail: &[u8; 192], steps: usize) -> usize
+pub(crate) fn write_graph(out: &mut [u8], trail: &[u8; 192], steps: usize) -> usize
     requires { ⌜ (512 ≤ length (now out)) × (steps ≤ 24) ⌝ }
     ensures { λ n. ⌜ ((ns : List Note) → Noted (now (trail .entry)) ns → length ns ≡ steps →
         (n ≡ length (textOf (noteFrames ns))) × (now (out .exit) ≡ over (textOf (noteFrames ns)) (now (out .entry)))) ⌝ }

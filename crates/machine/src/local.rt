@@ -19,7 +19,7 @@ fn chosen(k: usize, i: usize, v: u32, w: u32) -> u32
 }
 
 // The register k; 0 for a number that names none.
-pub fn register_at(registers: [u32; 4], k: usize) -> u32
+pub(crate) fn register_at(registers: [u32; 4], k: usize) -> u32
     ensures { λ r. ⌜ r ≡ getD registers k 0 ⌝ }
 {
     let a = chosen(k, 0, registers[0], 0);
@@ -29,7 +29,7 @@ pub fn register_at(registers: [u32; 4], k: usize) -> u32
 }
 
 // The registers with v in register k.
-pub fn with_register(registers: [u32; 4], k: usize, v: u32) -> [u32; 4]
+pub(crate) fn with_register(registers: [u32; 4], k: usize, v: u32) -> [u32; 4]
     ensures { λ r. ⌜ r ≡ set registers k v ⌝ }
 {
     let a = chosen(k, 0, v, registers[0]);
@@ -40,14 +40,14 @@ pub fn with_register(registers: [u32; 4], k: usize, v: u32) -> [u32; 4]
 }
 
 // A byte as a larger number.
-pub fn wide(x: u8) -> usize
+pub(crate) fn wide(x: u8) -> usize
     ensures { λ r. ⌜ r ≡ x ⌝ }
 {
     x as usize
 }
 
 // The value of an operand.
-pub fn value(p: Operand, registers: [u32; 4]) -> u32
+pub(crate) fn value(p: Operand, registers: [u32; 4]) -> u32
     ensures { λ r. ⌜ r ≡ eval registers p ⌝ }
 {
     match p {
@@ -66,7 +66,7 @@ pub struct Turn {
 }
 
 // An access, which is left alone.
-pub fn left(registers: [u32; 4]) -> Turn
+pub(crate) fn left(registers: [u32; 4]) -> Turn
     ensures { λ r. ⌜ r ≡ standing registers ⌝ }
 {
     Turn {
@@ -78,7 +78,7 @@ pub fn left(registers: [u32; 4]) -> Turn
 }
 
 // Carried out, with these registers behind it, and so many instructions skipped.
-pub fn passed(registers: [u32; 4], skip: u8) -> Turn
+pub(crate) fn passed(registers: [u32; 4], skip: u8) -> Turn
     ensures { λ r. ⌜ r ≡ going registers skip ⌝ }
 {
     Turn {
@@ -90,7 +90,7 @@ pub fn passed(registers: [u32; 4], skip: u8) -> Turn
 }
 
 // An assertion that failed.
-pub fn failed(registers: [u32; 4]) -> Turn
+pub(crate) fn failed(registers: [u32; 4]) -> Turn
     ensures { λ r. ⌜ r ≡ failing registers ⌝ }
 {
     Turn {

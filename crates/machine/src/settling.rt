@@ -11,7 +11,7 @@ ghost use Rattle.machine.specs.Local.{settle};
 ghost use Rattle.machine.specs.Turns.{localOf};
 
 // Thread t, of n instructions, from instruction `from` on with these registers, having done so many accesses.
-pub fn settle(
+pub(crate) fn settle(
     code: &[u8; 1536],
     t: usize,
     n: usize,
@@ -55,7 +55,7 @@ pub fn settle(
 }
 
 // The same, quick where an access or the end comes at once. The registers are taken one by one, so that none of the ways keeps them in memory.
-pub fn settled(
+pub(crate) fn settled(
     code: &[u8; 1536],
     t: usize,
     n: usize,

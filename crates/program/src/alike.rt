@@ -25,7 +25,7 @@ fn same_code(code: &[u8; 1536], lengths: [usize; 6], t: usize, u: usize) -> bool
 }
 
 // Whether the threads that a line of n bytes declares alike may be.
-pub fn members_fit(line: &[u8], n: usize, code: &[u8; 1536], s: Counts) -> bool
+pub(crate) fn members_fit(line: &[u8], n: usize, code: &[u8; 1536], s: Counts) -> bool
     requires { ⌜ Bounded s × (n ≡ length (pairs (now line))) × (2 ≤ n) ⌝ }
     ensures { λ b. ⌜ ((r : Reading) → Holds (now (code .entry)) s r → b ≡ membersFit r (drop 1 (pairs (now (line .entry))))) ⌝ }
 {

@@ -18,7 +18,7 @@ ghost use lib.ListN.{getD};
 ghost use Rattle.program.specs.Held.{nothing};
 
 // Before the first line.
-pub fn none_yet() -> Counts
+pub(crate) fn none_yet() -> Counts
     ensures { λ r. ⌜ r ≡ nothing ⌝ }
 {
     Counts {
@@ -31,7 +31,7 @@ pub fn none_yet() -> Counts
 }
 
 // Whether thread t exists and stands in no group.
-pub fn is_free(s: Counts, t: usize) -> bool
+pub(crate) fn is_free(s: Counts, t: usize) -> bool
     ensures { λ r. ⌜ r ≡ (ltb t (s .threads) && (ltb t 6 && eqb (getD (s .class) t 0) 0)) ⌝ }
 {
     if s.threads <= t {

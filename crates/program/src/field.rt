@@ -6,21 +6,21 @@ ghost use Rattle.lines.specs.Frame.{pairs};
 ghost use Rattle.program.specs.Frames.{byte, word, kind, inRange, registerFits, locationFits, skipFits, operandFits};
 
 // A byte as a larger number.
-pub fn wide(x: u8) -> usize
+pub(crate) fn wide(x: u8) -> usize
     ensures { λ r. ⌜ r ≡ x ⌝ }
 {
     x as usize
 }
 
 // Four bytes as one number, most significant first.
-pub fn join(a: u8, b: u8, c: u8, d: u8) -> u32
+pub(crate) fn join(a: u8, b: u8, c: u8, d: u8) -> u32
     ensures { λ r. ⌜ r ≡ ((a * 256 + b) * 256 + c) * 256 + d ⌝ }
 {
     (((a as u32) * 256 + (b as u32)) * 256 + (c as u32)) * 256 + (d as u32)
 }
 
 // The byte at a position of the line's frame.
-pub fn field(line: &[u8], at: usize) -> usize
+pub(crate) fn field(line: &[u8], at: usize) -> usize
     ensures { λ r. ⌜ r ≡ byte (pairs (now (line .entry))) at ⌝ }
 {
     wide(lines::byte_at(line, at))
@@ -87,7 +87,7 @@ fn operand_fits(line: &[u8], at: usize) -> bool
 }
 
 // Whether the frame's fields, which stand where its kind says, are in range.
-pub fn in_range(line: &[u8], k: Kind) -> bool
+pub(crate) fn in_range(line: &[u8], k: Kind) -> bool
     requires { ⌜ k ≡ kind (pairs (now line)) ⌝ }
     ensures { λ r. ⌜ r ≡ inRange (pairs (now (line .entry))) ⌝ }
 {

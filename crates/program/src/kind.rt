@@ -54,7 +54,7 @@ fn bare(byte: usize, least: usize, most: usize) -> Kind
 }
 
 // The kind that a first byte names; for an unknown byte one that no length fits.
-pub fn kind_of(b: usize) -> Kind
+pub(crate) fn kind_of(b: usize) -> Kind
     ensures { λ r. ⌜ r ≡ kindOf b ⌝ }
 {
     if b == 0x01 {

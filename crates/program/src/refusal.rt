@@ -14,7 +14,7 @@ ghost use Rattle.program.specs.Decode.{Reading, frameRefusal};
 ghost use Rattle.program.specs.Held.{Holds, Bounded, openingRefusal, instructionRefusal};
 
 // Whether a first byte is that of an access.
-pub fn is_access(b: usize) -> bool
+pub(crate) fn is_access(b: usize) -> bool
     ensures { λ r. ⌜ r ≡ (leb 0x10 b && leb b 0x13) ⌝ }
 {
     if b < 0x10 {
@@ -61,7 +61,7 @@ fn instruction(b: usize, s: Counts) -> u8
 }
 
 // For the frame of n bytes on this line, after what has been read.
-pub fn refusal(line: &[u8], n: usize, code: &[u8; 1536], s: Counts) -> u8
+pub(crate) fn refusal(line: &[u8], n: usize, code: &[u8; 1536], s: Counts) -> u8
     requires { ⌜ Bounded s × (n ≡ length (pairs (now line))) ⌝ }
     ensures { λ k. ⌜ ((r : Reading) → Holds (now (code .entry)) s r → k ≡ frameRefusal r (pairs (now (line .entry)))) ⌝ }
 {

@@ -62,7 +62,7 @@ pub fn instruction_at(code: &[u8; 1536], row: usize) -> Instruction
 }
 
 // How many instructions the one in row `row` may skip.
-pub fn skip_at(code: &[u8; 1536], row: usize) -> usize
+pub(crate) fn skip_at(code: &[u8; 1536], row: usize) -> usize
     requires { ⌜ row < 96 ⌝ }
     ensures { λ r. ⌜ r ≡ skipOf (rowAt (now (code .entry)) row) ⌝ }
 {
@@ -74,7 +74,7 @@ pub fn skip_at(code: &[u8; 1536], row: usize) -> usize
 }
 
 // Whether the n bytes from a on and those from b on are the same.
-pub fn same_bytes(code: &[u8; 1536], a: usize, b: usize, n: usize) -> bool
+pub(crate) fn same_bytes(code: &[u8; 1536], a: usize, b: usize, n: usize) -> bool
     requires { ⌜ (a + n ≤ 1536) × (b + n ≤ 1536) ⌝ }
     ensures { λ r. ⌜ r ≡ agree (now (code .entry)) a b n ⌝ }
 {
@@ -89,7 +89,7 @@ pub fn same_bytes(code: &[u8; 1536], a: usize, b: usize, n: usize) -> bool
 }
 
 // Puts the n bytes of the line's frame into row `row`.
-pub fn put_row(code: &mut [u8; 1536], row: usize, line: &[u8], n: usize)
+pub(crate) fn put_row(code: &mut [u8; 1536], row: usize, line: &[u8], n: usize)
     requires { ⌜ (row < 96) × (n ≤ 16) × (length (now code) ≡ 1536) ⌝ }
     ensures { λ r. ⌜ Written (now (code .entry)) (row * 16) (pairs (now (line .entry))) n (now (code .exit)) ⌝ }
 {

@@ -24,7 +24,12 @@ fn in_thread(code: &[u8; 1536], rows: &[usize; 96], t: usize, n: usize) -> usize
 }
 
 // The line of the first such skip, or 0.
-pub fn far_skip(code: &[u8; 1536], rows: &[usize; 96], threads: usize, lengths: [usize; 6]) -> usize
+pub(crate) fn far_skip(
+    code: &[u8; 1536],
+    rows: &[usize; 96],
+    threads: usize,
+    lengths: [usize; 6],
+) -> usize
     requires { ⌜ (threads ≤ 6) × ((t : ℕ) → getD lengths t 0 ≤ 16) ⌝ }
     ensures { λ k. ⌜ ((cs : List (List Placed)) → HeldThreads (now (code .entry)) (now (rows .entry)) threads lengths cs → k ≡ firstFarSkip cs) ⌝ }
 {

@@ -83,7 +83,7 @@ fn extended(b: usize, s: Counts) -> Counts
 }
 
 // With the frame of n bytes on line `number`, which is not refused.
-pub fn taken(
+pub(crate) fn taken(
     line: &[u8],
     n: usize,
     number: usize,

@@ -7,21 +7,21 @@ const KIND: u64 = 0x100_0000_0000_0000;
 const NUMBER: u64 = 0x1_0000_0000_0000;
 
 // Answered, with the length of what was written.
-pub fn answered(length: usize) -> u64
+pub(crate) fn answered(length: usize) -> u64
     ensures { λ r. ⌜ r ≡ wordOf (Said.answered length) ⌝ }
 {
     KIND + (length as u64) % NUMBER
 }
 
 // No more, none, or no.
-pub fn nothing() -> u64
+pub(crate) fn nothing() -> u64
     ensures { λ r. ⌜ r ≡ wordOf Said.nothing ⌝ }
 {
     2 * KIND
 }
 
 // Refused by a number, at a place.
-pub fn refused(number: u8, place: usize) -> u64
+pub(crate) fn refused(number: u8, place: usize) -> u64
     ensures { λ r. ⌜ r ≡ wordOf (Said.refused number place) ⌝ }
 {
     3 * KIND + (number as u64) * NUMBER + (place as u64) % NUMBER

@@ -7,7 +7,8 @@ use native.Mathlib.Omega.{arith}
 use lib.ListN.{length, drop}
 use Rattle.lines.specs.Frame.{pairs}
 use Rattle.schedules.specs.Lists.{all}
-use Rattle.judge.specs.Reading.{isEvent, eventsIn, writesIn}
+use Rattle.machine.specs.Text.{eventsIn}
+use Rattle.judge.specs.Reading.{isEvent, writesIn}
 use Rattle.judge.proofs.LineWrites.{all-cons, event-here, no-event}
 use Rattle.judge.proofs.refusal.all_events.Statement.{statement}
 use Rattle.judge.proofs.refusal.all_events.Tie as tie

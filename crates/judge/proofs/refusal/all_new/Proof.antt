@@ -9,7 +9,8 @@ use lib.ListN.{length, drop, length-set}
 use Rattle.lines.specs.Frame.{pairs}
 use Rattle.schedules.specs.Lists.{all}
 use Rattle.machine.specs.State.{Event}
-use Rattle.judge.specs.Reading.{isEvent, eventsIn, writesIn, allNew}
+use Rattle.machine.specs.Text.{eventsIn}
+use Rattle.judge.specs.Reading.{isEvent, writesIn, allNew}
 use Rattle.judge.specs.Held.{Seen}
 use Rattle.judge.proofs.Marks.{seen-more}
 use Rattle.judge.proofs.MarkTurns.{turn-named, turn-found, turn-next}

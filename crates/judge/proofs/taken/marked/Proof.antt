@@ -7,7 +7,8 @@ use native.Mathlib.Omega.{arith}
 use lib.ListN.{length, drop, length-set}
 use Rattle.lines.specs.Frame.{pairs}
 use Rattle.schedules.specs.Lists.{all}
-use Rattle.judge.specs.Reading.{isEvent, eventsIn, writesIn}
+use Rattle.machine.specs.Text.{eventsIn}
+use Rattle.judge.specs.Reading.{isEvent, writesIn}
 use Rattle.judge.specs.Held.{markedBy}
 use Rattle.judge.proofs.MarkTurns.{turn-named, turn-marked}
 use Rattle.judge.proofs.LineWrites.{no-event}
