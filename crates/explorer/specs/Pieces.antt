@@ -75,7 +75,7 @@ unfoldable pub joined : List (List ℕ) → List ℕ
 joined [] = []
 joined (t ∷ ts) = t ++ joined ts
 
--- what was read stands in front of the buffer
+-- no more was read than the buffer has room for
 abbrev pub Within : Input → List ℕ → Type 0
-Within (Bytes n) file = (n ≤ length file) × (n ≡ length (take n file))
+Within (Bytes n) file = n ≤ length file
 Within Failed file = Unit {0}

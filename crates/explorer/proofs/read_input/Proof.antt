@@ -1,11 +1,10 @@
 -- `read_input` ends: each turn reads at least one byte. The invariant: what was read lies within the buffer.
 use borrow.Author.Needs.{needs}
 use Prim.Native.Nat.{ℕ, _+_, _-_, _≤_}
-use mathlib.Core.Path.{_≡_, sym, _∙_}
+use mathlib.Core.Path.{_≡_, _∙_}
 use mathlib.Core.List.{List}
 use native.Mathlib.Omega.{arith}
 use lib.ListN.{length, take, drop, length-take}
-use lib.Seq.{length-take-le}
 use borrow.Rule.Slice.PartMut.{putMid}
 use Rattle.explorer.proofs.read_input.Statement.{statement}
 use Rattle.explorer.proofs.read_input.Tie as tie
@@ -28,8 +27,7 @@ kept c = c .file .given .1
 returns-2 : tie.Need-returns-2 Inv-loop μ-loop
 returns-2 c =
     let l = c .before .before .before .before .before .before .before .before .before .before .loop in
-    let h : l .at ≤ length (read (c .before .before .before .before .before .before .before)) = omega (arith, kept (c .before .before .before .before .before .before), l .inv .0) in
-    (h, sym (length-take-le (l .at) (read (c .before .before .before .before .before .before .before)) h))
+    omega (arith, kept (c .before .before .before .before .before .before), l .inv .0)
 
 -- what was read more lies within it
 more : (c : tie.Else2 Inv-loop μ-loop) → c .before .before .before .before .before .before .before .before .before .before .loop .at + c .before .count .result ≤ length (read (c .before .before .before .before .before .before .before))
@@ -49,7 +47,7 @@ loop-again : tie.Need-loop-again Inv-loop μ-loop
 loop-again c = (more c, kept (c .before .before .before .before .before .before) ∙ c .before .before .before .before .before .before .before .before .before .before .loop .inv .1)
 
 returns-3 : tie.Need-returns-3 Inv-loop μ-loop
-returns-3 c = (c .before .loop .inv .0, sym (length-take-le _ _ (c .before .loop .inv .0)))
+returns-3 c = c .before .loop .inv .0
 
 pub read-input-spec : {M : Type 1} → statement M
 read-input-spec =
