@@ -3,9 +3,11 @@
 //! What each call answers, for all inputs, is said in `include/tarczolin.h` and proved; here each only gets slices in place
 //! of pointers and lengths. No call keeps anything for the next, so all may be made from many threads at once.
 mod answer;
+mod closed;
 mod raw;
 
 pub use answer::Answer;
+pub use closed::standard_output_was_closed;
 
 /// A schedule needs an output of so many bytes.
 pub const SCHEDULE: usize = 24;

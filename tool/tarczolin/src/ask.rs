@@ -50,6 +50,21 @@ pub fn check(file: &[u8]) -> Result<(), Refusal> {
     length(library::check(file)).map(|_| ())
 }
 
+impl Counts {
+    /// One more listed schedule.
+    pub fn add(&mut self, listed: &Listed) {
+        self.listed += 1;
+        self.failing += listed.fails as u64;
+    }
+}
+
+impl std::ops::AddAssign for Counts {
+    fn add_assign(&mut self, other: Counts) {
+        self.listed += other.listed;
+        self.failing += other.failing;
+    }
+}
+
 impl Listed {
     fn of_row(row: &[u8; ROW]) -> Listed {
         let [length, fails, steps @ ..] = *row;

@@ -1,15 +1,39 @@
-//! Files named on the command line; `-` is standard input.
+//! Files named on the command line; `-` is standard input. No more is read than can be of use.
 use crate::commands::Trouble;
-use std::io::Read;
+use crate::program::FILE_LIMIT;
+use std::fs::{File, Metadata};
+use std::io::{self, Read};
+use std::os::fd::AsFd;
+use std::os::unix::fs::MetadataExt;
 
-/// The bytes of a file.
-pub fn read(name: &str) -> Result<Vec<u8>, Trouble> {
+/// At most so many bytes are read of a graph text, of a schedule and of a program in the text form.
+pub const TEXT_LIMIT: usize = 1 << 20;
+
+/// The bytes of a file, at most so many.
+fn front(name: &str, most: usize) -> Result<Vec<u8>, Trouble> {
     let mut bytes = Vec::new();
     let read = match name {
-        "-" => std::io::stdin().read_to_end(&mut bytes).map(|_| bytes),
-        _ => std::fs::read(name),
+        "-" => io::stdin().take(most as u64).read_to_end(&mut bytes),
+        _ => File::open(name).and_then(|file| file.take(most as u64).read_to_end(&mut bytes)),
     };
-    read.map_err(|error| Trouble::said(format!("{}: {error}", called(name))))
+    match read {
+        Ok(_) => Ok(bytes),
+        Err(error) => Err(Trouble::said(format!("{}: {error}", called(name)))),
+    }
+}
+
+/// A program file. Of a longer one only so much is read as shows the library that it is too long.
+pub fn program(name: &str) -> Result<Vec<u8>, Trouble> {
+    front(name, FILE_LIMIT + 1)
+}
+
+/// A graph text, a schedule, or a program in the text form.
+pub fn text(name: &str) -> Result<Vec<u8>, Trouble> {
+    let bytes = front(name, TEXT_LIMIT + 1)?;
+    if bytes.len() > TEXT_LIMIT {
+        return Err(Trouble::said(format!("{}: the text is longer than {TEXT_LIMIT} bytes, and no more are read", called(name))));
+    }
+    Ok(bytes)
 }
 
 /// What a file is called in messages.
@@ -17,5 +41,18 @@ pub fn called(name: &str) -> &str {
     match name {
         "-" => "standard input",
         _ => name,
+    }
+}
+
+/// Would writing to this path change the input? Another path, a link, or the file that standard input comes from.
+pub fn is_input(path: &str, name: &str) -> bool {
+    let input = match name {
+        "-" => io::stdin().as_fd().try_clone_to_owned().map(File::from).and_then(|file| file.metadata()),
+        _ => std::fs::metadata(name),
+    };
+    let known = |at: Metadata| (at.dev(), at.ino());
+    match (input, std::fs::metadata(path)) {
+        (Ok(input), Ok(output)) => input.is_file() && known(input) == known(output),
+        _ => false,
     }
 }

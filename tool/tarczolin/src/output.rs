@@ -1,5 +1,6 @@
 //! Standard output: line by line for a terminal, in larger pieces for a file or a pipe.
-use std::io::{self, BufWriter, IsTerminal, Write};
+use crate::commands::{End, Trouble};
+use std::io::{self, BufWriter, ErrorKind, IsTerminal, Write};
 
 pub fn standard() -> Box<dyn Write> {
     let out = io::stdout();
@@ -8,4 +9,19 @@ pub fn standard() -> Box<dyn Write> {
     } else {
         Box::new(BufWriter::with_capacity(1 << 16, out))
     }
+}
+
+/// How a command ends that found so much and wrote it so far. Whoever closes a pipe early (`| head`) has read enough: what was
+/// found until then counts. Any other failure to write is told.
+pub fn ended(written: io::Result<()>, found: End) -> Result<End, Trouble> {
+    match written {
+        Err(error) if error.kind() != ErrorKind::BrokenPipe => Err(Trouble::Output(error)),
+        _ => Ok(found),
+    }
+}
+
+/// Writes a whole answer to standard output, and ends by what was found.
+pub fn answer(text: impl AsRef<[u8]>, found: End) -> Result<End, Trouble> {
+    let mut out = io::stdout().lock();
+    ended(out.write_all(text.as_ref()).and_then(|()| out.flush()), found)
 }

@@ -4,20 +4,19 @@ use super::{Arguments, End, Trouble};
 use crate::ask::{self, Counts};
 use crate::jobs::List;
 use crate::progress::Progress;
-use crate::{input, refusal};
-use std::io::Write;
+use crate::{input, output, refusal};
 
 pub fn run(arguments: Arguments) -> Result<End, Trouble> {
     let [name] = arguments.files()?;
     let jobs = arguments.number("--jobs", JOBS)? as usize;
-    let file = input::read(name)?;
+    let file = input::program(name)?;
     let refused = |r| refusal::of_program(name, &file, r);
     let counts = match jobs {
         1 => ask::count(&file).map_err(refused)?,
         _ => in_pieces(&List::of(&file, false).map_err(refused)?, jobs)?,
     };
-    writeln!(std::io::stdout(), "{} listed, {} failing", counts.listed, counts.failing)?;
-    Ok(End::of_failing(counts.failing))
+    let said = format!("{} listed, {} failing\n", counts.listed, counts.failing);
+    output::answer(said, End::of_failing(counts.failing))
 }
 
 /// The counts of the pieces, added up.
@@ -25,8 +24,7 @@ fn in_pieces(list: &List, jobs: usize) -> Result<Counts, Trouble> {
     let mut sum = Counts::default();
     let mut progress = Progress::default();
     list.parts(jobs, |part| {
-        sum.listed += part.counts.listed;
-        sum.failing += part.counts.failing;
+        sum += part.counts;
         progress.tell(sum);
         Ok(())
     })?;

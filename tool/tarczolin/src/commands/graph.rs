@@ -1,15 +1,13 @@
 //! graph: the graph text of a full schedule.
 use super::{Arguments, End, Trouble};
-use crate::{ask, hex, input, refusal};
-use std::io::Write;
+use crate::{ask, hex, input, output, refusal};
 
 pub fn run(arguments: Arguments) -> Result<End, Trouble> {
     let (name, words) = arguments.file_and_rest()?;
     let schedule = schedule(name, words)?;
-    let file = input::read(name)?;
+    let file = input::program(name)?;
     let text = ask::graph(&file, &schedule).map_err(|r| refusal::of_schedule(name, &file, &schedule, r))?;
-    std::io::stdout().write_all(&text)?;
-    Ok(End::Answered)
+    output::answer(text, End::Answered)
 }
 
 /// The schedule of one or more words of digits, or of standard input.
@@ -19,7 +17,7 @@ fn schedule(name: &str, words: &[String]) -> Result<Vec<u8>, Trouble> {
         if name == "-" {
             return Err(Trouble::said("standard input can be read only once"));
         }
-        digits = input::read("-")?;
+        digits = input::text("-")?;
     }
     digits.retain(|c| !c.is_ascii_whitespace());
     hex::bytes(&digits).ok_or_else(|| {

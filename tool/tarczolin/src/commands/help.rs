@@ -1,6 +1,6 @@
 //! What `tarczolin help` prints.
 use super::{End, Trouble};
-use std::io::Write;
+use crate::output;
 
 pub const SHORT: &str = "usage: tarczolin COMMAND .., see `tarczolin help`";
 
@@ -13,7 +13,7 @@ tarczolin explores the executions of a small concurrent program under sequential
   violation FILE           the first listed schedule that fails, or none
   show FILE [--from K] [--only failing] [--html OUT]
                            each listed execution in two columns: the steps, and the write that each
-                           read saw; --html writes a page with the graphs drawn
+                           read saw; --html writes a page with the graphs drawn (- is standard output)
   check FILE               is this a program file?
   graph FILE SCHEDULE      the graph of a full schedule, given as digits: 00000101
   judge FILE GRAPH         can this graph happen? yes with the least schedule that makes it, or no
@@ -25,8 +25,7 @@ Exit status: 0 answered; 1 a violation was found, or the judge says no; 2 refuse
 ";
 
 pub fn run() -> Result<End, Trouble> {
-    std::io::stdout().write_all(TEXT.as_bytes())?;
-    Ok(End::Answered)
+    output::answer(TEXT, End::Answered)
 }
 
 /// The usage of one command.

@@ -1,20 +1,13 @@
 //! judge: can this graph happen?
 use super::{Arguments, End, Trouble};
-use crate::{ask, input, refusal};
-use std::io::Write;
+use crate::{ask, input, output, refusal};
 
 pub fn run(arguments: Arguments) -> Result<End, Trouble> {
     let [name, graph] = arguments.files()?;
-    let file = input::read(name)?;
-    let text = input::read(graph)?;
+    let file = input::program(name)?;
+    let text = input::text(graph)?;
     match ask::judge(&file, &text).map_err(|r| refusal::of_graph([name, graph], &file, &text, r))? {
-        Some(schedule) => {
-            writeln!(std::io::stdout(), "yes {schedule}")?;
-            Ok(End::Answered)
-        }
-        None => {
-            writeln!(std::io::stdout(), "no")?;
-            Ok(End::Violation)
-        }
+        Some(schedule) => output::answer(format!("yes {schedule}\n"), End::Answered),
+        None => output::answer("no\n", End::Violation),
     }
 }

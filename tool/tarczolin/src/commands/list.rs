@@ -5,7 +5,7 @@ use crate::jobs::List;
 use crate::output;
 use crate::progress::Progress;
 use crate::{hex, input, refusal};
-use std::io::Write;
+use std::io::{self, Write};
 
 /// At most so many jobs.
 pub const JOBS: u64 = 256;
@@ -13,36 +13,32 @@ pub const JOBS: u64 = 256;
 pub fn run(arguments: Arguments) -> Result<End, Trouble> {
     let [name] = arguments.files()?;
     let jobs = arguments.number("--jobs", JOBS)? as usize;
-    let file = input::read(name)?;
-    let mut out = output::standard();
+    let file = input::program(name)?;
     let list = match List::of(&file, true) {
         Ok(list) => list,
         Err(r) => {
             let place = (r.place as u16).to_be_bytes();
-            out.write_all(hex::line(&[0x52, r.number, place[0], place[1]]).as_bytes())?;
-            out.flush()?;
+            output::answer(hex::line(&[0x52, r.number, place[0], place[1]]), End::Answered)?;
             return Err(refusal::of_program(name, &file, r));
         }
     };
-    let counts = lines(&list, jobs, &mut out)?;
-    let frame = [&[0x51], &counts.listed.to_be_bytes()[..], &counts.failing.to_be_bytes()].concat();
-    out.write_all(hex::line(&frame).as_bytes())?;
-    out.flush()?;
-    Ok(End::of_failing(counts.failing))
+    let mut counts = Counts::default();
+    let written = lines(&list, jobs, &mut *output::standard(), &mut counts);
+    output::ended(written, End::of_failing(counts.failing))
 }
 
-/// Prints a line for each listed schedule, and counts them.
-fn lines(list: &List, jobs: usize, out: &mut dyn Write) -> Result<Counts, Trouble> {
-    let mut sum = Counts::default();
+/// Prints a line for each listed schedule and counts them, then the line of the counts.
+fn lines(list: &List, jobs: usize, out: &mut dyn Write, counts: &mut Counts) -> io::Result<()> {
     let mut progress = Progress::default();
     list.parts(jobs, |part| {
-        sum.listed += part.counts.listed;
-        sum.failing += part.counts.failing;
+        *counts += part.counts;
         progress.give_way();
         out.write_all(&part.lines)?;
-        progress.tell(sum);
+        progress.tell(*counts);
         Ok(())
     })?;
     progress.hide();
-    Ok(sum)
+    let frame = [&[0x51], &counts.listed.to_be_bytes()[..], &counts.failing.to_be_bytes()].concat();
+    out.write_all(hex::line(&frame).as_bytes())?;
+    out.flush()
 }

@@ -86,11 +86,12 @@ fn command(words: &[String]) -> Result<End, Trouble> {
 
 /// Carries out a command: 0 answered, 1 a violation was found or the judge says no, 2 refused or bad usage.
 pub fn run(words: &[String]) -> ExitCode {
+    if tarczolin_sys::standard_output_was_closed() {
+        return failed("standard output is closed; there is nowhere to write the answer");
+    }
     match command(words) {
         Ok(End::Answered) => ExitCode::SUCCESS,
         Ok(End::Violation) => ExitCode::from(1),
-        // whoever read the output has read enough
-        Err(Trouble::Output(error)) if error.kind() == io::ErrorKind::BrokenPipe => ExitCode::SUCCESS,
         Err(Trouble::Output(error)) => failed(&format!("the output cannot be written: {error}")),
         Err(Trouble::Said(message)) => failed(&message),
     }

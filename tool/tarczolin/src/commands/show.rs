@@ -1,9 +1,11 @@
-//! show: listed executions in two columns, or as a page.
+//! show: listed executions in two columns, or as a page. Totals and exit status are those of the whole list.
 use super::{Arguments, End, Trouble};
+use crate::ask::{Counts, Listed};
 use crate::execution::Execution;
+use crate::html::{Page, Pick};
 use crate::jobs::List;
-use crate::{html, input, output, refusal, show};
-use std::io::Write;
+use crate::{input, output, refusal, show};
+use std::io::{self, Write};
 
 /// Which executions are shown.
 struct Choice {
@@ -19,62 +21,75 @@ pub fn run(arguments: Arguments) -> Result<End, Trouble> {
         Some("failing") => true,
         Some(other) => return Err(Trouble::said(format!("--only takes the word failing, not {other}"))),
     };
-    let file = input::read(name)?;
+    let page = arguments.option("--html");
+    if page.is_some_and(|page| page != "-" && input::is_input(page, name)) {
+        let message = "the page would overwrite the program that it shows; name another file behind --html";
+        return Err(Trouble::said(format!("{}: {message}", input::called(name))));
+    }
+    let file = input::program(name)?;
     let list = List::of(&file, false).map_err(|r| refusal::of_program(name, &file, r))?;
     let choice = Choice { from, failing_only };
-    match arguments.option("--html") {
+    match page {
         Some(page) => to_page(&list, &choice, input::called(name), page),
         None => to_standard_output(&list, &choice),
     }
 }
 
-/// Hands each chosen execution to `each`, until that fails or says that it is enough.
-fn chosen(list: &List, choice: &Choice, mut each: impl FnMut(Execution) -> Result<bool, Trouble>) -> Result<(), Trouble> {
-    let mut position = 0;
-    let mut ended = Ok(false);
+/// Walks the whole list and counts it; hands each chosen execution with its position to `each`, until that fails.
+fn walk(list: &List, choice: &Choice, mut each: impl FnMut(u64, &Listed) -> io::Result<()>) -> (Counts, io::Result<()>) {
+    let mut counts = Counts::default();
+    let mut done = Ok(());
     let walked = list.walk(None, |listed| {
-        position += 1;
-        if position < choice.from || (choice.failing_only && !listed.fails) {
-            return false;
+        counts.add(listed);
+        let chosen = counts.listed >= choice.from && (listed.fails || !choice.failing_only);
+        if chosen {
+            done = each(counts.listed, listed);
         }
-        let execution = Execution::of(list.file, &list.program, position, listed);
-        ended = each(execution.expect("a listed schedule of an accepted file is full"));
-        !matches!(ended, Ok(false))
+        done.is_err()
     });
     walked.expect("the file is accepted");
-    ended.map(|_| ())
+    (counts, done)
+}
+
+/// An execution of the list, ready to be shown.
+fn execution(list: &List, position: u64, listed: &Listed) -> Execution {
+    Execution::of(list.file, &list.program, position, listed).expect("a listed schedule of an accepted file is full")
 }
 
 fn to_standard_output(list: &List, choice: &Choice) -> Result<End, Trouble> {
     let mut out = output::standard();
-    let (mut shown, mut failing) = (0u64, 0);
-    chosen(list, choice, |execution| {
+    let mut shown = 0;
+    let (counts, written) = walk(list, choice, |position, listed| {
         let blank = if shown > 0 { "\n" } else { "" };
-        write!(out, "{blank}{}", show::columns(&execution))?;
         shown += 1;
-        failing += execution.fails as u64;
-        Ok(false)
-    })?;
-    if shown == 0 {
-        writeln!(out, "nothing to show: no listed execution is chosen")?;
-    }
-    out.flush()?;
-    Ok(End::of_failing(failing))
+        write!(out, "{blank}{}", show::columns(&execution(list, position, listed)))
+    });
+    let written = written.and_then(|()| {
+        if shown == 0 {
+            let Counts { listed, failing } = counts;
+            writeln!(out, "nothing to show: none of the listed executions is chosen ({listed} listed, {failing} failing)")?;
+        }
+        out.flush()
+    });
+    output::ended(written, End::of_failing(counts.failing))
 }
 
-fn to_page(list: &List, choice: &Choice, name: &str, page: &str) -> Result<End, Trouble> {
-    let mut executions = Vec::new();
-    let mut more = false;
-    chosen(list, choice, |execution| {
-        more = executions.len() == html::MOST;
-        if !more {
-            executions.push(execution);
-        }
-        Ok(more)
-    })?;
-    let text = html::page(name, &list.program, &executions, more);
-    std::fs::write(page, text).map_err(|error| Trouble::said(format!("{page}: {error}")))?;
-    let failing = executions.iter().filter(|e| e.fails).count() as u64;
-    writeln!(std::io::stdout(), "{} executions, {failing} failing, in {page}", executions.len())?;
-    Ok(End::of_failing(failing))
+fn to_page(list: &List, choice: &Choice, name: &str, to: &str) -> Result<End, Trouble> {
+    let mut pick = Pick::default();
+    let (counts, _) = walk(list, choice, |position, listed| {
+        pick.add(position, listed);
+        Ok(())
+    });
+    let left_out = pick.left_out();
+    let executions = pick.picked().iter().map(|(position, listed)| execution(list, *position, listed)).collect();
+    let page = Page { name, program: &list.program, listed: counts, executions, left_out };
+    if let Some(left_out) = page.tell_left_out() {
+        eprintln!("tarczolin: {left_out}");
+    }
+    let found = End::of_failing(counts.failing);
+    if to == "-" {
+        return output::answer(page.text(), found);
+    }
+    std::fs::write(to, page.text()).map_err(|error| Trouble::said(format!("{to}: {error}")))?;
+    output::answer(format!("{}, in {to}\n", page.counts()), found)
 }

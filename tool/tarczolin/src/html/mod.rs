@@ -1,53 +1,95 @@
 //! Executions as one page that needs nothing else: the two columns, and beside them the graph drawn, row by row.
 mod drawing;
 mod layout;
+mod pick;
 mod section;
 
+use crate::ask::Counts;
 use crate::execution::Execution;
 use crate::program::Program;
 use std::fmt::Write;
 
-/// A page holds at most so many executions.
-pub const MOST: usize = 500;
+pub use pick::{Pick, MOST};
 
 /// Text as it stands in a page.
 pub fn escaped(text: &str) -> String {
     text.replace('&', "&amp;").replace('<', "&lt;").replace('>', "&gt;").replace('"', "&quot;")
 }
 
-/// The page; `more` says that there are executions which it leaves out.
-pub fn page(name: &str, program: &Program, executions: &[Execution], more: bool) -> String {
-    let title = format!("{}: executions", escaped(name));
-    let style = include_str!("style.css");
-    let mut page = format!(
-        "<!DOCTYPE html>\n<html lang=\"en\">\n<head>\n<meta charset=\"utf-8\">\n\
-         <meta name=\"viewport\" content=\"width=device-width\">\n<title>{title}</title>\n\
-         <style>\n{style}</style>\n</head>\n<body>\n{}<h1>{}</h1>\n",
-        drawing::arrow_heads(),
-        escaped(name)
-    );
-    page += &summary(executions, more);
-    page += &code(program);
-    page += LEGEND;
-    for execution in executions {
-        page += &section::section(program, execution);
-    }
-    page + "</body>\n</html>\n"
+/// What a page tells of a program's list.
+pub struct Page<'a> {
+    pub name: &'a str,
+    pub program: &'a Program,
+    /// The counts of the whole list.
+    pub listed: Counts,
+    /// The executions that the page shows, in its order.
+    pub executions: Vec<Execution>,
+    /// How many were chosen to be shown and have no place.
+    pub left_out: Counts,
 }
 
-/// How many executions there are, and a way to each.
-fn summary(executions: &[Execution], more: bool) -> String {
-    let failing = executions.iter().filter(|e| e.fails).count();
-    let mut text = format!("<p class=\"summary\">{} executions, <b>{failing} failing</b>.", executions.len());
-    if more {
-        text += &format!(" There are more: this page holds the first {MOST}; <code>--from</code> chooses others.");
+impl Page<'_> {
+    /// How many executions the page shows.
+    fn shown(&self) -> Counts {
+        let failing = self.executions.iter().filter(|e| e.fails).count();
+        Counts { listed: self.executions.len() as u64, failing: failing as u64 }
     }
-    text += "</p>\n<nav>";
-    for Execution { position, fails, .. } in executions {
-        let class = if *fails { " class=\"fails\"" } else { "" };
-        write!(text, "<a href=\"#e{position}\"{class}>{position}</a> ").expect("text grows");
+
+    /// Does it show the whole list?
+    fn holds_all(&self) -> bool {
+        self.shown() == self.listed
     }
-    text + "</nav>\n"
+
+    /// How many executions there are, and how many of them the page shows where these are not all.
+    pub fn counts(&self) -> String {
+        let (all, shown) = (self.listed, self.shown());
+        let part = format!("; {} of them, {} failing", shown.listed, shown.failing);
+        format!("{} executions, {} failing{}", all.listed, all.failing, if self.holds_all() { "" } else { &part })
+    }
+
+    /// How many were chosen and have no place, in words; none where all have one.
+    pub fn tell_left_out(&self) -> Option<String> {
+        let Counts { listed, failing } = self.left_out;
+        let why = format!("it holds at most {MOST}, the failing ones first; --from and --only failing choose others");
+        (listed > 0).then(|| format!("{listed} more, {failing} failing, are left out of the page: {why}"))
+    }
+
+    pub fn text(&self) -> String {
+        let name = escaped(self.name);
+        let style = include_str!("style.css");
+        let mut page = format!(
+            "<!DOCTYPE html>\n<html lang=\"en\">\n<head>\n<meta charset=\"utf-8\">\n\
+             <meta name=\"viewport\" content=\"width=device-width\">\n<title>{name}: executions</title>\n\
+             <style>\n{style}</style>\n</head>\n<body>\n{}<h1>{name}</h1>\n",
+            drawing::arrow_heads()
+        );
+        page += &self.summary();
+        page += &code(self.program);
+        page += LEGEND;
+        for execution in &self.executions {
+            page += &section::section(self.program, execution);
+        }
+        page + "</body>\n</html>\n"
+    }
+
+    /// How many executions there are, how many of them stand here, and a way to each.
+    fn summary(&self) -> String {
+        let Counts { listed, failing } = self.listed;
+        let mut text = format!("<p class=\"summary\">{listed} executions, <b>{failing} failing</b>.");
+        if !self.holds_all() {
+            let Counts { listed, failing } = self.shown();
+            write!(text, " This page shows {listed} of them, {failing} failing.").expect("text grows");
+        }
+        if let Some(left_out) = self.tell_left_out() {
+            write!(text, " {left_out}.").expect("text grows");
+        }
+        text += "</p>\n<nav>";
+        for Execution { position, fails, .. } in &self.executions {
+            let class = if *fails { " class=\"fails\"" } else { "" };
+            write!(text, "<a href=\"#e{position}\"{class}>{position}</a> ").expect("text grows");
+        }
+        text + "</nav>\n"
+    }
 }
 
 /// The program in the text form, thread beside thread.

@@ -36,8 +36,7 @@ impl Part {
     }
 
     fn add(&mut self, list: &List, listed: &Listed) {
-        self.counts.listed += 1;
-        self.counts.failing += listed.fails as u64;
+        self.counts.add(listed);
         if list.lines {
             let frame = [&[0x50, listed.fails as u8], &listed.schedule[..]].concat();
             self.lines.extend(crate::hex::line(&frame).bytes());

@@ -28,7 +28,7 @@ pub fn sentence(file: &[u8], refusal: Refusal) -> String {
     let frame = hex::bytes(line_at(file, refusal.place)).unwrap_or_default();
     let before = before(file, refusal.place);
     match refusal.number {
-        1 => format!("the file has {} bytes; a program file has at most {FILE_LIMIT}", file.len()),
+        1 => format!("the file is longer than {FILE_LIMIT} bytes, the most that a program file may have"),
         2 => line::sentence(file, refusal.place),
         3 => fields::kind(&frame),
         4 => fields::range(&frame),

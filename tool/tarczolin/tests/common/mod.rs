@@ -1,5 +1,7 @@
 //! Runs the command as a user does.
+#![allow(dead_code, reason = "not every test file uses all of it")]
 use std::io::Write;
+use std::path::PathBuf;
 use std::process::{Command, Stdio};
 
 /// How a run ended: its exit status, and what it wrote.
@@ -10,11 +12,16 @@ pub struct Ran {
     pub err: String,
 }
 
-/// Runs `tarczolin` from the top of the repository with these words and this standard input.
+/// `tarczolin` with these words, to be run from the top of the repository.
+pub fn tool(words: &[&str]) -> Command {
+    let mut command = Command::new(env!("CARGO_BIN_EXE_tarczolin"));
+    command.args(words).current_dir(concat!(env!("CARGO_MANIFEST_DIR"), "/../.."));
+    command
+}
+
+/// Runs it with this standard input.
 pub fn run_with(words: &[&str], input: &[u8]) -> Ran {
-    let mut child = Command::new(env!("CARGO_BIN_EXE_tarczolin"))
-        .args(words)
-        .current_dir(concat!(env!("CARGO_MANIFEST_DIR"), "/../.."))
+    let mut child = tool(words)
         .stdin(Stdio::piped())
         .stdout(Stdio::piped())
         .stderr(Stdio::piped())
@@ -29,7 +36,13 @@ pub fn run_with(words: &[&str], input: &[u8]) -> Ran {
     Ran { status: output.status.code().expect("an exit status"), out: text(output.stdout), err: text(output.stderr) }
 }
 
-#[allow(dead_code, reason = "not every test file runs without input")]
 pub fn run(words: &[&str]) -> Ran {
     run_with(words, b"")
+}
+
+/// A folder for what a test file writes.
+pub fn folder(name: &str) -> PathBuf {
+    let folder = PathBuf::from(env!("CARGO_TARGET_TMPDIR")).join(name);
+    std::fs::create_dir_all(&folder).expect("a folder");
+    folder
 }
