@@ -2,8 +2,8 @@
 //!
 //! What is listed, counted, judged or refused is the library's answer. What this crate works out by itself, and nobody has
 //! proved, is what it shows beside an answer: values, words, columns, drawings.
-pub mod asm;
 pub mod ask;
+pub mod asm;
 pub mod commands;
 pub mod execution;
 pub mod graph;

@@ -132,8 +132,30 @@ tarczolin: standard input:2:11: a number or a register is expected here, not y
 fn any_text() {
     let mut random = Random::new(82);
     let words = [
-        "thread", "alike", "store", "load", "r0", "r9", "x", "x8", "=", "==", "+=", "!=", "if", "skip", "assert", "cas", "1", "-", "0x",
-        "\n", "\n", "#", "\u{e9}", "99999999999",
+        "thread",
+        "alike",
+        "store",
+        "load",
+        "r0",
+        "r9",
+        "x",
+        "x8",
+        "=",
+        "==",
+        "+=",
+        "!=",
+        "if",
+        "skip",
+        "assert",
+        "cas",
+        "1",
+        "-",
+        "0x",
+        "\n",
+        "\n",
+        "#",
+        "\u{e9}",
+        "99999999999",
     ];
     for _ in 0..share::of(50_000) {
         let word = |random: &mut Random| [random.pick(&words), random.pick(&[" ", "", "  "])].concat();
