@@ -144,7 +144,7 @@ fn library_and_oracle_agree() {
         for n in 0..SCHEDULES {
             // every second schedule is full
             let at = SCHEDULES * k + n;
-            let kind = if at % 2 == 0 { Kind::Full } else { schedule::ALL[at / 2 % schedule::ALL.len()] };
+            let kind = if at.is_multiple_of(2) { Kind::Full } else { schedule::ALL[at / 2 % schedule::ALL.len()] };
             let schedule = schedule::schedule(&mut random, &program, kind);
             let output = output(&mut random, at);
             let found = seen.ask(&mut random, &file, &schedule, output);

@@ -91,7 +91,7 @@ impl Seen {
 
 /// An output of 24 bytes or a few more in two of three cases, else of any length up to 30.
 fn output(random: &mut Random, k: usize) -> usize {
-    if k % 3 == 0 {
+    if k.is_multiple_of(3) {
         k / 3 % 31
     } else {
         random.between(SCHEDULE, 30)

@@ -59,7 +59,7 @@ struct Case {
 impl Case {
     /// A random program; every second one is drawn again up to ten times until its list is not short.
     fn draw(random: &mut Random, k: usize) -> Case {
-        let mut left = if k % 2 == 0 { 1 } else { 10 };
+        let mut left = if k.is_multiple_of(2) { 1 } else { 10 };
         loop {
             let file = text(&frames_parted(random, SIZES[k / 2 % SIZES.len()]));
             let program = decode(&file).unwrap();

@@ -5,6 +5,8 @@
 pub mod ask;
 pub mod asm;
 pub mod commands;
+pub mod end;
+pub mod error;
 pub mod execution;
 pub mod graph;
 pub mod hex;

@@ -2,7 +2,8 @@
 mod common;
 
 use common::{run, run_with};
-use tarczolin::asm::{assemble, text as written, Error};
+use tarczolin::asm::{assemble, text as written};
+use tarczolin::error::Mark;
 use tarczolin::program::frames as frames_of;
 use tarczolin_tests::files::{read, text};
 use tarczolin_tests::random::program::{frames, ANY, SMALL};
@@ -160,7 +161,7 @@ fn any_text() {
     for _ in 0..share::of(50_000) {
         let word = |random: &mut Random| [random.pick(&words), random.pick(&[" ", "", "  "])].concat();
         let form: String = (0..random.below(30)).map(|_| word(&mut random)).collect();
-        if let Err(Error { line, column, .. }) = assemble(form.as_bytes()) {
+        if let Err(Mark { line, column, .. }) = assemble(form.as_bytes()) {
             let at = form.split('\n').nth(line - 1).expect("a line of the text");
             assert!((1..=at.chars().count() + 1).contains(&column), "{form}: {line}:{column}");
         }

@@ -23,6 +23,13 @@ pub enum Instruction {
 use Instruction::*;
 
 impl Instruction {
+    /// Puts another location into an access; any other instruction stays as it is.
+    pub fn put_location(&mut self, number: u8) {
+        if let Store { l, .. } | Load { l, .. } | FetchAdd { l, .. } | CompareSwap { l, .. } = self {
+            *l = number;
+        }
+    }
+
     /// The name of an access, or none for an instruction on registers only.
     pub fn access(&self) -> Option<&'static str> {
         match self {
