@@ -41,9 +41,9 @@ pub fn held<const N: usize>(
 pub fn held_rows(random: &mut Random, file: &[u8], behind: Option<&[u8]>, output: usize, found: &Result<Vec<u8>, Refusal>) {
     match behind {
         None => held_to(random, [file], output, shown_rows(found), |[file], out| calls::rows(file, out)),
-        Some(last) => held_to(random, [file, last], output, shown_rows(found), |[file, last], out| {
-            calls::rows_after(file, last, out)
-        }),
+        Some(last) => {
+            held_to(random, [file, last], output, shown_rows(found), |[file, last], out| calls::rows_after(file, last, out))
+        }
     }
 }
 
@@ -56,7 +56,7 @@ fn held_to<const N: usize>(
 ) {
     let lent = inputs.map(<[u8]>::to_vec);
     let mut around = vec![0; output + 2 * AROUND];
-    around.chunks_mut(8).for_each(|c| c.copy_from_slice(&random.next().to_le_bytes()[..c.len()]));
+    around.chunks_mut(8).for_each(|c| c.copy_from_slice(&random.word().to_le_bytes()[..c.len()]));
     let mut later = around.clone();
     let answer = call(lent.each_ref().map(Vec::as_slice), &mut later[AROUND..AROUND + output]);
     around[AROUND..AROUND + front.len()].copy_from_slice(front);

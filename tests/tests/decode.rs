@@ -98,9 +98,27 @@ fn damages_do_what_they_say(seen: &Seen) {
     use Damage::*;
     assert!((1..=9).all(|number| seen.of(Nothing, number) == 0), "a file without damage is accepted");
     let aims = [
-        (LostLastNewline, 2), (Capital, 2), (EmptyLine, 2), (OddLine, 2), (AnyByte, 2), (Padded, 1), (FirstByte, 3),
-        (Length, 3), (Field, 4), (Operand, 4), (SwappedLines, 5), (InstructionFirst, 5), (BehindAlike, 5), (Threads, 6),
-        (Instructions, 6), (Accesses, 6), (Skip, 7), (AlikeMember, 8), (AlikeTwice, 8), (AlikeCode, 8), (AlikeLength, 3),
+        (LostLastNewline, 2),
+        (Capital, 2),
+        (EmptyLine, 2),
+        (OddLine, 2),
+        (AnyByte, 2),
+        (Padded, 1),
+        (FirstByte, 3),
+        (Length, 3),
+        (Field, 4),
+        (Operand, 4),
+        (SwappedLines, 5),
+        (InstructionFirst, 5),
+        (BehindAlike, 5),
+        (Threads, 6),
+        (Instructions, 6),
+        (Accesses, 6),
+        (Skip, 7),
+        (AlikeMember, 8),
+        (AlikeTwice, 8),
+        (AlikeCode, 8),
+        (AlikeLength, 3),
         (Empty, 9),
     ];
     for (damage, number) in aims {

@@ -128,7 +128,11 @@ fn long_files() {
         ("4,096 digits", vec![b'0'; 4096], "52020001"),
         ("4,097 digits", vec![b'0'; 4097], "52010000"),
         ("4,098 line ends", vec![b'\n'; 4098], "52010000"),
-        ("a program, then lines to 4,097 bytes", [read("examples/whole.hex"), vec![b'\n'; 4097]].concat()[..4097].to_vec(), "52010000"),
+        (
+            "a program, then lines to 4,097 bytes",
+            [read("examples/whole.hex"), vec![b'\n'; 4097]].concat()[..4097].to_vec(),
+            "52010000",
+        ),
     ] {
         assert_eq!(printed(&file), lines(output), "{name}");
         assert_eq!(report(&file), lines(output), "the oracle on {name}");

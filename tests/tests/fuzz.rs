@@ -146,7 +146,7 @@ fn rows(random: &mut Random, file: &[u8], beside: &[u8]) {
 
 /// Count changes its two words when it answers, and neither when it refuses.
 fn counts(random: &mut Random, file: &[u8]) {
-    let before: [u64; 4] = std::array::from_fn(|_| random.next());
+    let before: [u64; 4] = std::array::from_fn(|_| random.word());
     let mut words = before;
     let [_, listed, failing, _] = &mut words;
     match calls::count(file, listed, failing) {

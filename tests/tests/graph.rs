@@ -144,7 +144,7 @@ fn library_and_oracle_agree() {
         for n in 0..SCHEDULES {
             // every second schedule is full
             let at = SCHEDULES * k + n;
-            let kind = if at % 2 == 0 { Kind::Full } else { schedule::ALL[at / 2 % schedule::ALL.len()] };
+            let kind = if at.is_multiple_of(2) { Kind::Full } else { schedule::ALL[at / 2 % schedule::ALL.len()] };
             let schedule = schedule::schedule(&mut random, &program, kind);
             let output = output(&mut random, at);
             let found = seen.ask(&mut random, &file, &schedule, output);
@@ -183,12 +183,18 @@ fn show(seen: &Seen) {
         println!("refusal {number} at {} places, up to {}", places.len(), places.last().unwrap());
     }
     let runs = &seen.runs;
-    println!("{} steps of full schedules, {} of 24 steps, {} failing, {} at once", runs.steps, runs.of_24, runs.failing, runs.failing_at_once);
+    println!(
+        "{} steps of full schedules, {} of 24 steps, {} failing, {} at once",
+        runs.steps, runs.of_24, runs.failing, runs.failing_at_once
+    );
     println!(
         "compare and swaps: {} write, {} of these the value found, {} only read; {} sums wrap; {} operands are the register that changes",
         runs.swaps, runs.swaps_that_change_nothing, runs.failed_swaps, runs.wrapped_sums, runs.own_operands
     );
-    println!("{:?} refused files with a short and a long output, {} short outputs beside a refused schedule", seen.refused_files, seen.short_and_refused);
+    println!(
+        "{:?} refused files with a short and a long output, {} short outputs beside a refused schedule",
+        seen.refused_files, seen.short_and_refused
+    );
 }
 
 fn reached(seen: &Seen) {

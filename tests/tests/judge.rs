@@ -91,7 +91,7 @@ impl Seen {
 
 /// An output of 24 bytes or a few more in two of three cases, else of any length up to 30.
 fn output(random: &mut Random, k: usize) -> usize {
-    if k % 3 == 0 {
+    if k.is_multiple_of(3) {
         k / 3 % 31
     } else {
         random.between(SCHEDULE, 30)
@@ -137,7 +137,10 @@ fn library_and_oracle_agree() {
         "{} made and with a cycle; {} real ones of a schedule that is not the least; {} changed ones consistent; {} of 24 events",
         seen.cycles, seen.not_least, seen.changed_yes, seen.of_24
     );
-    println!("{:?} refused files with a short and a long output, {} short outputs beside a refused text", seen.refused_files, seen.short_and_refused);
+    println!(
+        "{:?} refused files with a short and a long output, {} short outputs beside a refused text",
+        seen.refused_files, seen.short_and_refused
+    );
     reached(&seen);
 }
 
@@ -182,9 +185,28 @@ fn changes_do_what_they_say(seen: &Seen) {
         assert!(seen.of(change, None) >= 1_000, "{change:?}");
     }
     let aims = [
-        (Field, 32), (NearField, 32), (NearField, 33), (HalfInitial, 32), (FirstByte, 31), (Length, 31), (EventTwice, 33), (LongWrites, 32), (LongWrites, 33),
-        (SwappedLines, 33), (TwiceLine, 33), (MovedLine, 33), (LocationTwice, 33), (AnyByte, 30), (Capital, 30), (OddLine, 30),
-        (EmptyLine, 30), (LostLastNewline, 30), (LongLine, 30), (LongLine, 31), (LongLine, 33), (AnyBytes, 30),
+        (Field, 32),
+        (NearField, 32),
+        (NearField, 33),
+        (HalfInitial, 32),
+        (FirstByte, 31),
+        (Length, 31),
+        (EventTwice, 33),
+        (LongWrites, 32),
+        (LongWrites, 33),
+        (SwappedLines, 33),
+        (TwiceLine, 33),
+        (MovedLine, 33),
+        (LocationTwice, 33),
+        (AnyByte, 30),
+        (Capital, 30),
+        (OddLine, 30),
+        (EmptyLine, 30),
+        (LostLastNewline, 30),
+        (LongLine, 30),
+        (LongLine, 31),
+        (LongLine, 33),
+        (AnyBytes, 30),
     ];
     for (change, number) in aims {
         assert!(seen.of(change, Some(number)) >= 30, "{change:?} reached {number} {} times", seen.of(change, Some(number)));
@@ -214,7 +236,9 @@ fn least_by_enumeration() {
             continue;
         }
         programs += 1;
-        for change in [Change::Nothing, Change::Source, Change::Coherence, Change::AnyOrders, Change::AnyOrders, random.pick(&graph::ALL)] {
+        for change in
+            [Change::Nothing, Change::Source, Change::Coherence, Change::AnyOrders, Change::AnyOrders, random.pick(&graph::ALL)]
+        {
             let (_, text) = graph::text(&mut random, &program, change);
             let found = parse(&program, &text).map(|graph| least.get(&graph).cloned());
             hold(&mut random, &file, &text, SCHEDULE, &found);

@@ -59,7 +59,7 @@ struct Case {
 impl Case {
     /// A random program; every second one is drawn again up to ten times until its list is not short.
     fn draw(random: &mut Random, k: usize) -> Case {
-        let mut left = if k % 2 == 0 { 1 } else { 10 };
+        let mut left = if k.is_multiple_of(2) { 1 } else { 10 };
         loop {
             let file = text(&frames_parted(random, SIZES[k / 2 % SIZES.len()]));
             let program = decode(&file).unwrap();
@@ -191,7 +191,7 @@ impl Seen {
 /// The count call is held to the oracle: the answer, the two words, the words around them, and the file.
 fn count(random: &mut Random, file: &[u8], expected: Result<(u64, u64), Refusal>) {
     let lent = file.to_vec();
-    let before: [u64; 4] = std::array::from_fn(|_| random.next());
+    let before: [u64; 4] = std::array::from_fn(|_| random.word());
     let mut words = before;
     let [_, listed, failing, _] = &mut words;
     let answer = calls::count(&lent, listed, failing);
@@ -261,11 +261,23 @@ fn refused_file(random: &mut Random, seen: &mut Seen, case: &Case) {
 }
 
 fn show(seen: &Seen) {
-    println!("{} programs, {} listed, {} of these fail, the longest list {}", seen.programs, seen.listed, seen.failing, seen.longest);
-    println!("{} with threads to exchange; of a half counted also without, {} are shorter for it", seen.with_exchange, seen.shortened);
-    println!("{} calls: {} schedules, {} no more or none, refused by number {:?}", seen.calls, seen.found, seen.no_more, seen.refused);
+    println!(
+        "{} programs, {} listed, {} of these fail, the longest list {}",
+        seen.programs, seen.listed, seen.failing, seen.longest
+    );
+    println!(
+        "{} with threads to exchange; of a half counted also without, {} are shorter for it",
+        seen.with_exchange, seen.shortened
+    );
+    println!(
+        "{} calls: {} schedules, {} no more or none, refused by number {:?}",
+        seen.calls, seen.found, seen.no_more, seen.refused
+    );
     println!("{} continues from a full schedule that is not listed", seen.from_unlisted);
-    println!("22 in lists of calls before and after the first answer {:?}; calls after a no more {}", seen.in_lists, seen.after_no_more);
+    println!(
+        "22 in lists of calls before and after the first answer {:?}; calls after a no more {}",
+        seen.in_lists, seen.after_no_more
+    );
     println!("{} rows; violations: none and some {:?}", seen.rows, seen.violations);
 }
 

@@ -47,9 +47,12 @@ fn list(name: &str, file: &[u8], schedules: &[&[u8]], failing: &[&[u8]]) {
     violation(file, 24, &Ok(failing.first().map(|s| s.to_vec())));
 }
 
+/// A file, its list, and the members of the list that fail.
+type Case<'a> = (&'a str, &'a [&'a [u8]], &'a [&'a [u8]]);
+
 #[test]
 fn known_lists() {
-    let all: [(&str, &[&[u8]], &[&[u8]]); 13] = [
+    let all: [Case; 13] = [
         ("empty-thread", &[&[]], &[]),
         ("whole", &[&[0, 1, 2], &[1, 0, 2], &[1, 2, 0]], &[]),
         ("whole-without-02", &[&[0, 1, 2], &[1, 0, 2], &[1, 2, 0], &[2, 0, 1]], &[]),

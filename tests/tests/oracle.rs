@@ -42,7 +42,9 @@ fn known_lists() {
     for (name, words) in table {
         assert_eq!(String::from_utf8(printed(name)), String::from_utf8(lines(&words)), "{name}");
     }
-    for (name, all) in [("load-add-store", 4), ("compare-and-swap-3", 3), ("fetch-and-add-3", 6), ("store-load-pair", 3), ("add-wraps", 1)] {
+    for (name, all) in
+        [("load-add-store", 4), ("compare-and-swap-3", 3), ("fetch-and-add-3", 6), ("store-load-pair", 3), ("add-wraps", 1)]
+    {
         assert_eq!(count(&example(name)), Ok((all, 0)), "{name}");
     }
 }
@@ -208,7 +210,8 @@ fn listing_holds_one_of_each_class() {
         let mut met = 0;
         every_full(&Machine::new(&program), &mut Vec::new(), &mut |schedule, machine| {
             let graph = Graph::of(machine);
-            let alike: Vec<usize> = (0..list.len()).filter(|&k| permitted.iter().any(|to| graphs[k].exchanged(to) == graph)).collect();
+            let alike: Vec<usize> =
+                (0..list.len()).filter(|&k| permitted.iter().any(|to| graphs[k].exchanged(to) == graph)).collect();
             assert_eq!(alike.len(), 1);
             assert!(list[alike[0]].schedule.as_slice() <= schedule);
             assert_eq!(list[alike[0]].fails, machine.fails());

@@ -15,7 +15,7 @@ pub enum Operand {
     Register(u8),
 }
 
-/// An instruction; `r` is a register, `l` a location.
+/// An instruction; `r` is a register, `l` a location. `SkipUnless`: if `r` is not `p`, skip the next `n` instructions.
 #[derive(Clone, Copy, Debug, PartialEq, Eq)]
 pub enum Instruction {
     Store { l: u8, p: Operand },
@@ -24,7 +24,6 @@ pub enum Instruction {
     CompareSwap { r: u8, l: u8, e: Operand, v: Operand },
     Set { r: u8, p: Operand },
     Add { r: u8, p: Operand },
-    /// If `r` is not `p`, skip the next `n` instructions.
     SkipUnless { r: u8, p: Operand, n: u8 },
     Assert { r: u8, p: Operand },
 }
@@ -66,7 +65,7 @@ fn digit(c: u8) -> Option<u8> {
 
 /// The frame bytes of a line without its 0a, or none: empty, odd, another character.
 fn read_line(line: &[u8]) -> Option<Line> {
-    if line.is_empty() || line.len() % 2 != 0 {
+    if line.is_empty() || !line.len().is_multiple_of(2) {
         return None;
     }
     let mut read = Line { bytes: [0; 14], length: line.len() / 2 };
@@ -122,12 +121,7 @@ fn in_range(b: &[u8; 14]) -> Option<Frame> {
         0x10 => Store { l: location(b[1])?, p: operand(&b[2..7])? },
         0x11 => Load { r: register(b[1])?, l: location(b[2])? },
         0x12 => FetchAdd { r: register(b[1])?, l: location(b[2])?, p: operand(&b[3..8])? },
-        0x13 => CompareSwap {
-            r: register(b[1])?,
-            l: location(b[2])?,
-            e: operand(&b[3..8])?,
-            v: operand(&b[8..13])?,
-        },
+        0x13 => CompareSwap { r: register(b[1])?, l: location(b[2])?, e: operand(&b[3..8])?, v: operand(&b[8..13])? },
         0x20 => Set { r: register(b[1])?, p: operand(&b[2..7])? },
         0x21 => Add { r: register(b[1])?, p: operand(&b[2..7])? },
         0x22 => SkipUnless { r: register(b[1])?, p: operand(&b[2..7])?, n: skip(b[7])? },

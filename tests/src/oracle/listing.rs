@@ -19,7 +19,9 @@ pub fn permitted(program: &Program) -> Vec<Vec<u8>> {
         let may = |to: &u8| *to == t || program.alike.iter().any(|group| group.contains(&t) && group.contains(to));
         all = all
             .iter()
-            .flat_map(|begun| (0..threads).filter(may).filter(|to| !begun.contains(to)).map(|to| [begun.clone(), vec![to]].concat()))
+            .flat_map(|begun| {
+                (0..threads).filter(may).filter(|to| !begun.contains(to)).map(|to| [begun.clone(), vec![to]].concat())
+            })
             .collect();
     }
     all

@@ -143,7 +143,7 @@ fn operand(random: &mut Random, size: Size) -> Vec<u8> {
     } else if random.one_in(2) {
         random.pick(&[0, 1, 2, 0x7fff_ffff, 0x8000_0000, 0xffff_fffe, 0xffff_ffff])
     } else {
-        random.next() as u32
+        random.word() as u32
     };
     [vec![0], value.to_be_bytes().to_vec()].concat()
 }

@@ -23,7 +23,7 @@ pub fn value(digit: u8) -> Option<u8> {
 
 /// The bytes that these digits write, or none: an odd number of them, or another character.
 pub fn bytes(digits: &[u8]) -> Option<Vec<u8>> {
-    if digits.len() % 2 != 0 {
+    if !digits.len().is_multiple_of(2) {
         return None;
     }
     digits.chunks_exact(2).map(|pair| Some(value(pair[0])? << 4 | value(pair[1])?)).collect()

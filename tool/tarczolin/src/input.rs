@@ -1,5 +1,5 @@
 //! Files named on the command line; `-` is standard input. No more is read than can be of use.
-use crate::commands::Trouble;
+use crate::error::{called, Error};
 use crate::program::FILE_LIMIT;
 use std::fs::{File, Metadata};
 use std::io::{self, Read};
@@ -10,7 +10,7 @@ use std::os::unix::fs::MetadataExt;
 pub const TEXT_LIMIT: usize = 1 << 20;
 
 /// The bytes of a file, at most so many.
-fn front(name: &str, most: usize) -> Result<Vec<u8>, Trouble> {
+fn front(name: &str, most: usize) -> Result<Vec<u8>, Error> {
     let mut bytes = Vec::new();
     let read = match name {
         "-" => io::stdin().take(most as u64).read_to_end(&mut bytes),
@@ -18,30 +18,22 @@ fn front(name: &str, most: usize) -> Result<Vec<u8>, Trouble> {
     };
     match read {
         Ok(_) => Ok(bytes),
-        Err(error) => Err(Trouble::said(format!("{}: {error}", called(name)))),
+        Err(cause) => Err(Error::File { name: called(name).to_string(), cause }),
     }
 }
 
 /// A program file. Of a longer one only so much is read as shows the library that it is too long.
-pub fn program(name: &str) -> Result<Vec<u8>, Trouble> {
+pub fn program(name: &str) -> Result<Vec<u8>, Error> {
     front(name, FILE_LIMIT + 1)
 }
 
 /// A graph text, a schedule, or a program in the text form.
-pub fn text(name: &str) -> Result<Vec<u8>, Trouble> {
+pub fn text(name: &str) -> Result<Vec<u8>, Error> {
     let bytes = front(name, TEXT_LIMIT + 1)?;
     if bytes.len() > TEXT_LIMIT {
-        return Err(Trouble::said(format!("{}: the text is longer than {TEXT_LIMIT} bytes, and no more are read", called(name))));
+        return Err(Error::TooLong { name: called(name).to_string(), most: TEXT_LIMIT });
     }
     Ok(bytes)
-}
-
-/// What a file is called in messages.
-pub fn called(name: &str) -> &str {
-    match name {
-        "-" => "standard input",
-        _ => name,
-    }
 }
 
 /// Would writing to this path change the input? Another path, a link, or the file that standard input comes from.

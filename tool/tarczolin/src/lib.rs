@@ -2,9 +2,11 @@
 //!
 //! What is listed, counted, judged or refused is the library's answer. What this crate works out by itself, and nobody has
 //! proved, is what it shows beside an answer: values, words, columns, drawings.
-pub mod asm;
 pub mod ask;
+pub mod asm;
 pub mod commands;
+pub mod end;
+pub mod error;
 pub mod execution;
 pub mod graph;
 pub mod hex;

@@ -2,7 +2,8 @@
 mod common;
 
 use common::{run, run_with};
-use tarczolin::asm::{assemble, text as written, Error};
+use tarczolin::asm::{assemble, text as written};
+use tarczolin::error::Mark;
 use tarczolin::program::frames as frames_of;
 use tarczolin_tests::files::{read, text};
 use tarczolin_tests::random::program::{frames, ANY, SMALL};
@@ -132,13 +133,35 @@ tarczolin: standard input:2:11: a number or a register is expected here, not y
 fn any_text() {
     let mut random = Random::new(82);
     let words = [
-        "thread", "alike", "store", "load", "r0", "r9", "x", "x8", "=", "==", "+=", "!=", "if", "skip", "assert", "cas", "1", "-", "0x",
-        "\n", "\n", "#", "\u{e9}", "99999999999",
+        "thread",
+        "alike",
+        "store",
+        "load",
+        "r0",
+        "r9",
+        "x",
+        "x8",
+        "=",
+        "==",
+        "+=",
+        "!=",
+        "if",
+        "skip",
+        "assert",
+        "cas",
+        "1",
+        "-",
+        "0x",
+        "\n",
+        "\n",
+        "#",
+        "\u{e9}",
+        "99999999999",
     ];
     for _ in 0..share::of(50_000) {
         let word = |random: &mut Random| [random.pick(&words), random.pick(&[" ", "", "  "])].concat();
         let form: String = (0..random.below(30)).map(|_| word(&mut random)).collect();
-        if let Err(Error { line, column, .. }) = assemble(form.as_bytes()) {
+        if let Err(Mark { line, column, .. }) = assemble(form.as_bytes()) {
             let at = form.split('\n').nth(line - 1).expect("a line of the text");
             assert!((1..=at.chars().count() + 1).contains(&column), "{form}: {line}:{column}");
         }

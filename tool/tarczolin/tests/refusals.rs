@@ -1,7 +1,7 @@
 //! Every refusal of damaged files, schedules and graph texts is put into words of its own, whatever the damage is.
 use std::collections::BTreeMap;
 use tarczolin::ask;
-use tarczolin::commands::Trouble;
+use tarczolin::error::Error;
 use tarczolin::refusal::{of_graph, of_program, of_schedule};
 use tarczolin_tests::files::text;
 use tarczolin_tests::oracle::decode::decode;
@@ -13,8 +13,8 @@ use tarczolin_tests::share;
 const GENERAL: [&str; 4] = ["is refused", "skip or operand is out", "cannot be alike", "access or location is out"];
 
 /// Holds a message to its form, and counts it.
-fn hold(seen: &mut BTreeMap<u8, usize>, trouble: Trouble, number: u8, of: &[u8]) {
-    let Trouble::Said(said) = trouble else { panic!("{trouble:?}") };
+fn hold(seen: &mut BTreeMap<u8, usize>, error: Error, number: u8, of: &[u8]) {
+    let said = error.to_string();
     assert!(said.contains(&format!("refusal {number}")), "{said}");
     assert!(!GENERAL.iter().any(|words| said.contains(words)), "{said}: {}", of.escape_ascii());
     assert!(said.chars().all(|c| c == '\n' || !c.is_control()), "{said:?}");

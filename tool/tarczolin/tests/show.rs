@@ -35,7 +35,10 @@ execution 2: schedule 01 00, fails
     assert_eq!(run(&["show", name, "--from", "2"]).out, second);
     assert_eq!(run(&["show", name, "--only", "failing"]).out, second);
     let none = run(&["show", name, "--from", "3"]);
-    assert_eq!((none.status, none.out.as_str()), (1, "nothing to show: none of the listed executions is chosen (2 listed, 1 failing)\n"));
+    assert_eq!(
+        (none.status, none.out.as_str()),
+        (1, "nothing to show: none of the listed executions is chosen (2 listed, 1 failing)\n")
+    );
 }
 
 /// All four accesses, with operands from registers, a sum that wraps, swaps that succeed and fail.

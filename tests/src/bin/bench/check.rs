@@ -35,7 +35,9 @@ fn row(name: &str, file: &[u8]) {
 }
 
 pub fn report() {
-    println!("tarczolin_check beside a plain Rust decoder (one pass, a list of instructions for each thread, no other allocation)");
+    println!(
+        "tarczolin_check beside a plain Rust decoder (one pass, a list of instructions for each thread, no other allocation)"
+    );
     row("longest accepted file", &longest());
     row("4,096 bytes, refused for the last", &full());
     row("one empty thread", b"01\n");

@@ -9,10 +9,8 @@ use tarczolin_tests::oracle::calls::graph;
 fn row(name: &str, words: &str, schedule: &[u8]) {
     let file = lines(words);
     let mut out = [0; 512];
-    let (library, plain) = best(
-        || calls::graph(black_box(&file), schedule, &mut out),
-        || graph(black_box(&file), schedule, 512).is_ok(),
-    );
+    let (library, plain) =
+        best(|| calls::graph(black_box(&file), schedule, &mut out), || graph(black_box(&file), schedule, 512).is_ok());
     println!("{name}: library {library:.0} ns, plain Rust {plain:.0} ns, ratio {:.2}", library / plain);
 }
 

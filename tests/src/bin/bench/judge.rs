@@ -18,7 +18,9 @@ fn row(name: &str, words: &str, schedule: &[u8]) {
 }
 
 pub fn report() {
-    println!("tarczolin_judge beside the definition in plain Rust (values by rounds, every edge, a search for a cycle from every");
+    println!(
+        "tarczolin_judge beside the definition in plain Rust (values by rounds, every edge, a search for a cycle from every"
+    );
     println!("event, then the least order): written to be read, not to be fast; no bound on the ratio is asked");
     row("the pair of document 01", "01 10000000000001 110001 01 10010000000001 110000", &[0, 0, 1, 1]);
     let six: Vec<u8> = (0..6).collect();

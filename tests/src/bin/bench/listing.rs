@@ -89,7 +89,11 @@ fn alike() {
     let ((rowed, of_rows), _) = turns(30, || by_rows(&file, 1024), || ());
     assert!(of_count == of_search && [of_calls, of_rows, of_walk, of_search.0] == [listed; 4], "all agree");
     println!("  plain Rust, a walk over all {full} schedules with a hash set of graphs: {:.1} ms", walked / 1e6);
-    println!("  the whole list by one call of rows: library {:.3} ms, the walk divided by {:.0} (asked: 20 or more)", rowed / 1e6, walked / rowed);
+    println!(
+        "  the whole list by one call of rows: library {:.3} ms, the walk divided by {:.0} (asked: 20 or more)",
+        rowed / 1e6,
+        walked / rowed
+    );
     println!("  count: library {:.3} ms, the walk divided by {:.0}", counted / 1e6, walked / counted);
     println!("  count: plain Rust's search {:.3} ms, ratio {:.2}", searched / 1e6, counted / searched);
     println!("  start and {of_calls} continues: library {:.3} ms, the walk divided by {:.0}", called / 1e6, walked / called);
@@ -121,7 +125,11 @@ fn six() {
     assert_eq!((of_count, of_search), ((1, 0), (1, 0)));
     println!("six threads, each four stores to its own location, about 3 * 10^15 schedules: 1 listed");
     let ratio = counted / searched;
-    println!("  count (asked: at once): library {:.1} us, plain Rust's search {:.1} us, ratio {ratio:.2}", counted / 1e3, searched / 1e3);
+    println!(
+        "  count (asked: at once): library {:.1} us, plain Rust's search {:.1} us, ratio {ratio:.2}",
+        counted / 1e3,
+        searched / 1e3
+    );
 }
 
 pub fn report() {

@@ -91,7 +91,11 @@ fn searched(name: &str, words: &str) {
     let rounds = (2_000_000 / steps).clamp(3, 300) as usize;
     let (library, plain) = best_of(rounds, 1, counted, || Search::new(&decode(black_box(&file)).unwrap()).count());
     let (library, plain) = (library / steps as f64, plain / steps as f64);
-    println!("{name}: {steps} steps, {} listed, a step {library:.1} ns, plain Rust {plain:.1} ns, ratio {:.2}", counts.0, library / plain);
+    println!(
+        "{name}: {steps} steps, {} listed, a step {library:.1} ns, plain Rust {plain:.1} ns, ratio {:.2}",
+        counts.0,
+        library / plain
+    );
 }
 
 /// A thread of four accesses and two register instructions, and one that loads, adds 1 and stores twice.

@@ -2,33 +2,28 @@
 mod names;
 mod parse;
 mod tokens;
+mod wrong;
 
 use crate::ask;
+use crate::error::Mark;
 use crate::program::{self, Frame, FILE_LIMIT};
 use crate::refusal;
 use parse::Statement;
+pub use wrong::Wrong;
 
-/// What is wrong with a text, and where: line and column from 1.
-#[derive(Clone, Debug, PartialEq, Eq)]
-pub struct Error {
-    pub line: usize,
-    pub column: usize,
-    pub message: String,
-}
-
-impl Error {
-    /// The message with the file's name, the offending line and a mark below it.
-    pub fn told(&self, name: &str, text: &[u8]) -> String {
-        let line = text.split(|&c| c == b'\n').nth(self.line - 1).unwrap_or(&[]);
-        let shown: String = String::from_utf8_lossy(line).chars().map(|c| if c.is_control() { ' ' } else { c }).collect();
-        let Error { line, column, message } = self;
-        let space = " ".repeat(column - 1);
-        format!("{name}:{line}:{column}: {message}\n{line:>6} | {}\n       | {space}^", shown.trim_end())
-    }
+/// A line of a text for the eye.
+fn shown(text: &[u8], line: usize) -> String {
+    let line = text.split(|&c| c == b'\n').nth(line - 1).unwrap_or(&[]);
+    let shown: String = String::from_utf8_lossy(line).chars().map(|c| if c.is_control() { ' ' } else { c }).collect();
+    shown.trim_end().to_string()
 }
 
 /// The program file of a text. The library itself says whether the program is accepted.
-pub fn assemble(text: &[u8]) -> Result<Vec<u8>, Error> {
+pub fn assemble(text: &[u8]) -> Result<Vec<u8>, Mark> {
+    program(text).map_err(|Wrong { line, column, message }| Mark { line, column, shown: shown(text, line), message })
+}
+
+fn program(text: &[u8]) -> Result<Vec<u8>, Wrong> {
     let mut statements = parse::statements(text)?;
     names::number(&mut statements)?;
     let frames: Vec<Frame> = statements.iter().map(Statement::frame).collect();
@@ -38,7 +33,7 @@ pub fn assemble(text: &[u8]) -> Result<Vec<u8>, Error> {
         Err(refused) => {
             let at = statements.get((refused.place as usize).wrapping_sub(1));
             let (line, column) = at.map_or((1, 1), |statement| (statement.line, statement.column));
-            Err(Error { line, column, message: refusal::sentence(&file, refused) })
+            Err(Wrong { line, column, message: refusal::sentence(&file, refused) })
         }
     }
 }

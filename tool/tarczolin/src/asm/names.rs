@@ -1,11 +1,11 @@
 //! Numbers for named locations: in order of first use, each the least that nothing else has.
 use super::parse::{Place, Statement};
-use super::Error;
+use super::wrong::Wrong;
 use crate::program::LOCATIONS;
 use std::collections::BTreeMap;
 
 /// Gives every named location its number.
-pub fn number(statements: &mut [Statement]) -> Result<(), Error> {
+pub fn number(statements: &mut [Statement]) -> Result<(), Wrong> {
     let written = |statement: &Statement| match statement.place {
         Some((Place::Number(l), _)) => Some(l),
         _ => None,
@@ -19,7 +19,7 @@ pub fn number(statements: &mut [Statement]) -> Result<(), Error> {
         let known = names.get(name).copied();
         let Some(l) = known.or_else(|| free.next()) else {
             let message = format!("{name} is one location too many; a program has at most {LOCATIONS}");
-            return Err(Error { line: statement.line, column: *column, message });
+            return Err(Wrong { line: statement.line, column: *column, message });
         };
         names.insert(std::mem::take(name), l);
         *place = Place::Number(l);

@@ -1,6 +1,6 @@
 //! Statements of the text form, line by line.
 use super::tokens::{tokens, Token};
-use super::Error;
+use super::wrong::Wrong;
 use crate::program::{Frame, Instruction, Operand, LOCATIONS, LONGEST_SKIP, REGISTERS};
 use Instruction::*;
 
@@ -26,23 +26,20 @@ impl Statement {
     pub fn frame(&self) -> Frame {
         let mut frame = self.frame.clone();
         if let (Frame::Instruction(instruction), Some((Place::Number(number), _))) = (&mut frame, &self.place) {
-            match instruction {
-                Store { l, .. } | Load { l, .. } | FetchAdd { l, .. } | CompareSwap { l, .. } => *l = *number,
-                _ => {}
-            }
+            instruction.put_location(*number);
         }
         frame
     }
 }
 
 /// The statements of a text. Empty lines and remarks are left out.
-pub fn statements(text: &[u8]) -> Result<Vec<Statement>, Error> {
+pub fn statements(text: &[u8]) -> Result<Vec<Statement>, Wrong> {
     let mut all = Vec::new();
     for (k, line) in text.split(|&c| c == b'\n').enumerate() {
         let number = k + 1;
         let line = std::str::from_utf8(line).map_err(|error| {
             let column = String::from_utf8_lossy(&line[..error.valid_up_to()]).chars().count() + 1;
-            Error { line: number, column, message: "the text is not UTF-8 here".to_string() }
+            Wrong { line: number, column, message: "the text is not UTF-8 here".to_string() }
         })?;
         let tokens = tokens(line, number)?;
         if let Some(first) = tokens.first() {
@@ -66,12 +63,12 @@ struct Reader<'a> {
 }
 
 impl<'a> Reader<'a> {
-    fn error<T>(&self, column: usize, message: String) -> Result<T, Error> {
-        Err(Error { line: self.line, column, message })
+    fn error<T>(&self, column: usize, message: String) -> Result<T, Wrong> {
+        Err(Wrong { line: self.line, column, message })
     }
 
     /// The next token; where there is none, what is missing.
-    fn token(&mut self, wanted: &str) -> Result<Token<'a>, Error> {
+    fn token(&mut self, wanted: &str) -> Result<Token<'a>, Wrong> {
         match self.tokens.split_first() {
             Some((first, rest)) => {
                 self.tokens = rest;
@@ -81,7 +78,7 @@ impl<'a> Reader<'a> {
         }
     }
 
-    fn expect(&mut self, sign: &str) -> Result<(), Error> {
+    fn expect(&mut self, sign: &str) -> Result<(), Wrong> {
         let token = self.token(sign)?;
         if token.text == sign {
             return Ok(());
@@ -89,14 +86,14 @@ impl<'a> Reader<'a> {
         self.error(token.column, format!("{sign} is expected here, not {}", token.text))
     }
 
-    fn nothing_more(&self) -> Result<(), Error> {
+    fn nothing_more(&self) -> Result<(), Wrong> {
         match self.tokens.first() {
             Some(token) => self.error(token.column, format!("the statement has ended; {} is too much", token.text)),
             None => Ok(()),
         }
     }
 
-    fn statement(&mut self) -> Result<Frame, Error> {
+    fn statement(&mut self) -> Result<Frame, Wrong> {
         let first = self.token("a statement")?;
         Ok(match first.text {
             "thread" => Frame::Thread,
@@ -123,7 +120,7 @@ impl<'a> Reader<'a> {
     }
 
     /// What stands behind a register at the beginning of a line.
-    fn assignment(&mut self, r: u8) -> Result<Instruction, Error> {
+    fn assignment(&mut self, r: u8) -> Result<Instruction, Wrong> {
         let sign = self.token("= or +=")?;
         match sign.text {
             "+=" => return Ok(Add { r, p: self.operand()? }),
@@ -142,7 +139,7 @@ impl<'a> Reader<'a> {
         })
     }
 
-    fn register(&mut self) -> Result<u8, Error> {
+    fn register(&mut self) -> Result<u8, Wrong> {
         let token = self.token("a register (r0 to r3)")?;
         match register(token.text) {
             Some(Ok(r)) => Ok(r),
@@ -151,7 +148,7 @@ impl<'a> Reader<'a> {
         }
     }
 
-    fn operand(&mut self) -> Result<Operand, Error> {
+    fn operand(&mut self) -> Result<Operand, Wrong> {
         let token = self.token("a number or a register")?;
         match (register(token.text), constant(token.text)) {
             (Some(Ok(r)), _) => Ok(Operand::Register(r)),
@@ -162,7 +159,7 @@ impl<'a> Reader<'a> {
     }
 
     /// A location; 0 stands in the frame until its place has a number.
-    fn location(&mut self) -> Result<u8, Error> {
+    fn location(&mut self) -> Result<u8, Wrong> {
         let token = self.token("a location (x0 to x7, or a name)")?;
         match place(token.text) {
             Ok(place) => self.place = Some((place, token.column)),
@@ -171,14 +168,14 @@ impl<'a> Reader<'a> {
         Ok(0)
     }
 
-    fn skip(&mut self) -> Result<u8, Error> {
+    fn skip(&mut self) -> Result<u8, Wrong> {
         let token = self.token("a number of instructions (1 to 15)")?;
         let number = token.text.parse().ok().filter(|n| (1..=LONGEST_SKIP).contains(n));
         number.map_or_else(|| self.error(token.column, format!("a skip is a number from 1 to 15, not {}", token.text)), Ok)
     }
 
     /// The members of an alike line: as many as there are, each a byte.
-    fn members(&mut self) -> Result<Vec<u8>, Error> {
+    fn members(&mut self) -> Result<Vec<u8>, Wrong> {
         let mut members = Vec::new();
         while members.len() < 2 || !self.tokens.is_empty() {
             let token = self.token("a thread number (alike takes two to six)")?;

@@ -1,5 +1,5 @@
 //! The words of a line, each with its column.
-use super::Error;
+use super::wrong::Wrong;
 
 #[derive(Clone, Copy, Debug, PartialEq, Eq)]
 pub struct Token<'a> {
@@ -25,7 +25,7 @@ fn class(c: char) -> Option<Class> {
 }
 
 /// The words of a line up to its remark, which begins with #: letters and digits together, signs together.
-pub fn tokens(line: &str, number: usize) -> Result<Vec<Token<'_>>, Error> {
+pub fn tokens(line: &str, number: usize) -> Result<Vec<Token<'_>>, Wrong> {
     let mut tokens: Vec<Token> = Vec::new();
     let mut last = Class::Space;
     let mut began = 0;
@@ -34,7 +34,7 @@ pub fn tokens(line: &str, number: usize) -> Result<Vec<Token<'_>>, Error> {
             break;
         }
         let Some(class) = class(c) else {
-            return Err(Error { line: number, column: column + 1, message: format!("the character {c} has no meaning here") });
+            return Err(Wrong { line: number, column: column + 1, message: format!("the character {c} has no meaning here") });
         };
         let end = at + c.len_utf8();
         match tokens.last_mut() {

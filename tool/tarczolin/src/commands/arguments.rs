@@ -1,5 +1,5 @@
 //! The words behind a command: files and options. Every option takes a value.
-use super::Trouble;
+use crate::error::Error;
 
 pub struct Arguments {
     words: Vec<String>,
@@ -8,7 +8,7 @@ pub struct Arguments {
 
 impl Arguments {
     /// Sorts the words; an option that is not among these is bad usage.
-    pub fn of(words: &[String], known: &[&str]) -> Result<Arguments, Trouble> {
+    pub fn of(words: &[String], known: &[&str]) -> Result<Arguments, Error> {
         let mut all = Arguments { words: Vec::new(), options: Vec::new() };
         let mut words = words.iter();
         while let Some(word) = words.next() {
@@ -21,28 +21,28 @@ impl Arguments {
                 None => (word.clone(), words.next().cloned()),
             };
             if !known.contains(&name.as_str()) {
-                return Err(Trouble::said(format!("there is no option {name} here")));
+                return Err(Error::usage(format!("there is no option {name} here")));
             }
-            let value = value.ok_or_else(|| Trouble::said(format!("{name} needs a value")))?;
+            let value = value.ok_or_else(|| Error::usage(format!("{name} needs a value")))?;
             all.options.push((name, value));
         }
         Ok(all)
     }
 
     /// The words that are no options, exactly so many; any other number is bad usage.
-    pub fn files<const N: usize>(&self) -> Result<[&str; N], Trouble> {
+    pub fn files<const N: usize>(&self) -> Result<[&str; N], Error> {
         let words: Vec<&str> = self.words.iter().map(String::as_str).collect();
         if words.iter().filter(|word| **word == "-").count() > 1 {
-            return Err(Trouble::said("standard input can be read only once"));
+            return Err(Error::usage("standard input can be read only once"));
         }
-        words.try_into().map_err(|_| Trouble::said(""))
+        words.try_into().map_err(|_| Error::Words)
     }
 
     /// The first word, and all that follow it, at least one.
-    pub fn file_and_rest(&self) -> Result<(&str, &[String]), Trouble> {
+    pub fn file_and_rest(&self) -> Result<(&str, &[String]), Error> {
         match self.words.split_first() {
             Some((file, rest)) if !rest.is_empty() => Ok((file, rest)),
-            _ => Err(Trouble::said("")),
+            _ => Err(Error::Words),
         }
     }
 
@@ -52,9 +52,9 @@ impl Arguments {
     }
 
     /// The value of an option that is a number from 1 to some limit; 1 where it is not given.
-    pub fn number(&self, name: &str, most: u64) -> Result<u64, Trouble> {
+    pub fn number(&self, name: &str, most: u64) -> Result<u64, Error> {
         let Some(value) = self.option(name) else { return Ok(1) };
         let number = value.parse().ok().filter(|number| (1..=most).contains(number));
-        number.ok_or_else(|| Trouble::said(format!("{name} takes a number from 1 to {most}, not {value}")))
+        number.ok_or_else(|| Error::usage(format!("{name} takes a number from 1 to {most}, not {value}")))
     }
 }

@@ -1,8 +1,10 @@
 //! graph: the graph text of a full schedule.
-use super::{Arguments, End, Trouble};
+use super::arguments::Arguments;
+use crate::end::End;
+use crate::error::Error;
 use crate::{ask, hex, input, output, refusal};
 
-pub fn run(arguments: Arguments) -> Result<End, Trouble> {
+pub fn run(arguments: Arguments) -> Result<End, Error> {
     let (name, words) = arguments.file_and_rest()?;
     let schedule = schedule(name, words)?;
     let file = input::program(name)?;
@@ -11,17 +13,17 @@ pub fn run(arguments: Arguments) -> Result<End, Trouble> {
 }
 
 /// The schedule of one or more words of digits, or of standard input.
-fn schedule(name: &str, words: &[String]) -> Result<Vec<u8>, Trouble> {
+fn schedule(name: &str, words: &[String]) -> Result<Vec<u8>, Error> {
     let mut digits = words.concat().into_bytes();
     if digits == b"-" {
         if name == "-" {
-            return Err(Trouble::said("standard input can be read only once"));
+            return Err(Error::usage("standard input can be read only once"));
         }
         digits = input::text("-")?;
     }
     digits.retain(|c| !c.is_ascii_whitespace());
     hex::bytes(&digits).ok_or_else(|| {
         let text = String::from_utf8_lossy(&digits);
-        Trouble::said(format!("{text} is no schedule: it takes two digits (0-9, a-f) a step, as in 00000101"))
+        Error::usage(format!("{text} is no schedule: it takes two digits (0-9, a-f) a step, as in 00000101"))
     })
 }

@@ -1,5 +1,6 @@
 //! What `tarczolin help` prints.
-use super::{End, Trouble};
+use crate::end::End;
+use crate::error::Error;
 use crate::output;
 
 pub const SHORT: &str = "usage: tarczolin COMMAND .., see `tarczolin help`";
@@ -24,7 +25,7 @@ FILE and GRAPH are names of files; - is standard input.
 Exit status: 0 answered; 1 a violation was found, or the judge says no; 2 refused, or bad usage.
 ";
 
-pub fn run() -> Result<End, Trouble> {
+pub fn run() -> Result<End, Error> {
     output::answer(TEXT, End::Answered)
 }
 

@@ -1,8 +1,10 @@
 //! judge: can this graph happen?
-use super::{Arguments, End, Trouble};
+use super::arguments::Arguments;
+use crate::end::End;
+use crate::error::Error;
 use crate::{ask, input, output, refusal};
 
-pub fn run(arguments: Arguments) -> Result<End, Trouble> {
+pub fn run(arguments: Arguments) -> Result<End, Error> {
     let [name, graph] = arguments.files()?;
     let file = input::program(name)?;
     let text = input::text(graph)?;

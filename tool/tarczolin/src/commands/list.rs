@@ -1,7 +1,9 @@
 //! list: the lines of the listing program.
-use super::{Arguments, End, Trouble};
+use super::arguments::Arguments;
 use crate::ask::Counts;
-use crate::jobs::List;
+use crate::end::End;
+use crate::error::Error;
+use crate::jobs::{self, List};
 use crate::output;
 use crate::progress::Progress;
 use crate::{hex, input, refusal};
@@ -10,7 +12,7 @@ use std::io::{self, Write};
 /// At most so many jobs.
 pub const JOBS: u64 = 256;
 
-pub fn run(arguments: Arguments) -> Result<End, Trouble> {
+pub fn run(arguments: Arguments) -> Result<End, Error> {
     let [name] = arguments.files()?;
     let jobs = arguments.number("--jobs", JOBS)? as usize;
     let file = input::program(name)?;
@@ -30,7 +32,7 @@ pub fn run(arguments: Arguments) -> Result<End, Trouble> {
 /// Prints a line for each listed schedule and counts them, then the line of the counts.
 fn lines(list: &List, jobs: usize, out: &mut dyn Write, counts: &mut Counts) -> io::Result<()> {
     let mut progress = Progress::default();
-    list.parts(jobs, |part| {
+    jobs::parts(list, jobs, |part| {
         *counts += part.counts;
         progress.give_way();
         out.write_all(&part.lines)?;

@@ -1,6 +1,8 @@
 //! show: listed executions in two columns, or as a page. Totals and exit status are those of the whole list.
-use super::{Arguments, End, Trouble};
+use super::arguments::Arguments;
 use crate::ask::{Counts, Listed};
+use crate::end::End;
+use crate::error::{called, Error};
 use crate::execution::Execution;
 use crate::html::{Page, Pick};
 use crate::jobs::List;
@@ -13,24 +15,24 @@ struct Choice {
     failing_only: bool,
 }
 
-pub fn run(arguments: Arguments) -> Result<End, Trouble> {
+pub fn run(arguments: Arguments) -> Result<End, Error> {
     let [name] = arguments.files()?;
     let from = arguments.number("--from", u64::MAX)?;
     let failing_only = match arguments.option("--only") {
         None => false,
         Some("failing") => true,
-        Some(other) => return Err(Trouble::said(format!("--only takes the word failing, not {other}"))),
+        Some(other) => return Err(Error::usage(format!("--only takes the word failing, not {other}"))),
     };
     let page = arguments.option("--html");
     if page.is_some_and(|page| page != "-" && input::is_input(page, name)) {
         let message = "the page would overwrite the program that it shows; name another file behind --html";
-        return Err(Trouble::said(format!("{}: {message}", input::called(name))));
+        return Err(Error::usage(format!("{}: {message}", called(name))));
     }
     let file = input::program(name)?;
     let list = List::of(&file, false).map_err(|r| refusal::of_program(name, &file, r))?;
     let choice = Choice { from, failing_only };
     match page {
-        Some(page) => to_page(&list, &choice, input::called(name), page),
+        Some(page) => to_page(&list, &choice, called(name), page),
         None => to_standard_output(&list, &choice),
     }
 }
@@ -56,7 +58,7 @@ fn execution(list: &List, position: u64, listed: &Listed) -> Execution {
     Execution::of(list.file, &list.program, position, listed).expect("a listed schedule of an accepted file is full")
 }
 
-fn to_standard_output(list: &List, choice: &Choice) -> Result<End, Trouble> {
+fn to_standard_output(list: &List, choice: &Choice) -> Result<End, Error> {
     let mut out = output::standard();
     let mut shown = 0;
     let (counts, written) = walk(list, choice, |position, listed| {
@@ -74,7 +76,7 @@ fn to_standard_output(list: &List, choice: &Choice) -> Result<End, Trouble> {
     output::ended(written, End::of_failing(counts.failing))
 }
 
-fn to_page(list: &List, choice: &Choice, name: &str, to: &str) -> Result<End, Trouble> {
+fn to_page(list: &List, choice: &Choice, name: &str, to: &str) -> Result<End, Error> {
     let mut pick = Pick::default();
     let (counts, _) = walk(list, choice, |position, listed| {
         pick.add(position, listed);
@@ -90,6 +92,6 @@ fn to_page(list: &List, choice: &Choice, name: &str, to: &str) -> Result<End, Tr
     if to == "-" {
         return output::answer(page.text(), found);
     }
-    std::fs::write(to, page.text()).map_err(|error| Trouble::said(format!("{to}: {error}")))?;
+    std::fs::write(to, page.text()).map_err(|cause| Error::File { name: to.to_string(), cause })?;
     output::answer(format!("{}, in {to}\n", page.counts()), found)
 }

@@ -1,5 +1,5 @@
 //! The graph drawn: threads as columns, a row a step, and the orders as arrows.
-use super::escaped;
+use super::escape::escaped;
 use super::layout::{middle, words, Layout, Row};
 use crate::execution::Execution;
 use crate::graph::{Event, Order};

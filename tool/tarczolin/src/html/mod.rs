@@ -1,5 +1,6 @@
 //! Executions as one page that needs nothing else: the two columns, and beside them the graph drawn, row by row.
 mod drawing;
+mod escape;
 mod layout;
 mod pick;
 mod section;
@@ -7,14 +8,10 @@ mod section;
 use crate::ask::Counts;
 use crate::execution::Execution;
 use crate::program::Program;
+use escape::escaped;
 use std::fmt::Write;
 
 pub use pick::{Pick, MOST};
-
-/// Text as it stands in a page.
-pub fn escaped(text: &str) -> String {
-    text.replace('&', "&amp;").replace('<', "&lt;").replace('>', "&gt;").replace('"', "&quot;")
-}
 
 /// What a page tells of a program's list.
 pub struct Page<'a> {

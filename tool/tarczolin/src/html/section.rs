@@ -1,6 +1,7 @@
 //! One execution: a header, the two columns, and the drawing beside them.
+use super::drawing;
+use super::escape::escaped;
 use super::layout::{rows, Row, HEAD, ROW};
-use super::{drawing, escaped};
 use crate::execution::{access, failure, source, Execution};
 use crate::program::Program;
 use std::fmt::Write;

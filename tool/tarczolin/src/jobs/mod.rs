@@ -1,89 +1,28 @@
 //! The list in pieces on threads. A piece is what lies behind one full schedule up to another; the library lists what is
 //! behind any schedule, listed or not, so the pieces one after the other are the whole list.
+mod list;
 mod pool;
 mod split;
 
-use crate::ask::{self, Counts, Listed, Refusal, Rows};
-use crate::program::Program;
-use crate::schedule::Schedule;
 use std::io;
 
+pub use list::{List, Part};
 pub use split::bounds;
 
-/// So many schedules are asked for at first, and at most so many at a time; of so many a part is handed on.
-const FEW: usize = 16;
-const MANY: usize = 1024;
-
-/// Listed schedules, in order: so many, and their lines where these are wanted.
-#[derive(Default)]
-pub struct Part {
-    pub counts: Counts,
-    pub lines: Vec<u8>,
-}
-
-/// A program whose list is walked.
-pub struct List<'a> {
-    pub file: &'a [u8],
-    pub program: Program,
-    /// Whether lines are wanted, or only counts.
-    pub lines: bool,
-}
-
-impl Part {
-    /// Is it time to hand it on?
-    fn is_large(&self) -> bool {
-        self.counts.listed >= MANY as u64
+/// Hands the whole list, part by part and in order, to `each`, worked out by so many jobs.
+pub fn parts(list: &List, jobs: usize, mut each: impl FnMut(Part) -> io::Result<()>) -> io::Result<()> {
+    if jobs > 1 {
+        return pool::parts(list, jobs, &mut each);
     }
-
-    fn add(&mut self, list: &List, listed: &Listed) {
-        self.counts.add(listed);
-        if list.lines {
-            let frame = [&[0x50, listed.fails as u8], &listed.schedule[..]].concat();
-            self.lines.extend(crate::hex::line(&frame).bytes());
+    let mut part = Part::default();
+    let mut handed = Ok(());
+    let walked = list.walk(None, |listed| {
+        part.add(list, listed);
+        if part.is_large() {
+            handed = each(std::mem::take(&mut part));
         }
-    }
-}
-
-impl<'a> List<'a> {
-    /// The list of an accepted file.
-    pub fn of(file: &'a [u8], lines: bool) -> Result<List<'a>, Refusal> {
-        ask::check(file)?;
-        Ok(List { file, program: Program::of_accepted(file), lines })
-    }
-
-    /// Hands each listed schedule behind one schedule, or from the beginning, to `each` until that says stop.
-    /// Says the schedule at which it was stopped.
-    pub fn walk(&self, behind: Option<Schedule>, mut each: impl FnMut(&Listed) -> bool) -> Result<Option<Schedule>, Refusal> {
-        let mut last = behind;
-        let mut rows = Rows::new(FEW);
-        loop {
-            let more = rows.fill(self.file, last.as_deref())?;
-            if let Some(stopped) = rows.listed().find(&mut each) {
-                return Ok(Some(stopped.schedule));
-            }
-            if !more {
-                return Ok(None);
-            }
-            last = rows.listed().next_back().map(|listed| listed.schedule);
-            rows = Rows::new(MANY.min(2 * rows.room()));
-        }
-    }
-
-    /// Hands the whole list, part by part and in order, to `each`, worked out by so many jobs.
-    pub fn parts(&self, jobs: usize, mut each: impl FnMut(Part) -> io::Result<()>) -> io::Result<()> {
-        if jobs > 1 {
-            return pool::parts(self, jobs, &mut each);
-        }
-        let mut part = Part::default();
-        let mut handed = Ok(());
-        let walked = self.walk(None, |listed| {
-            part.add(self, listed);
-            if part.is_large() {
-                handed = each(std::mem::take(&mut part));
-            }
-            handed.is_err()
-        });
-        walked.expect("the file is accepted");
-        handed.and_then(|()| each(part))
-    }
+        handed.is_err()
+    });
+    walked.expect("the file is accepted");
+    handed.and_then(|()| each(part))
 }

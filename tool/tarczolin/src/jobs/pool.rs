@@ -1,5 +1,6 @@
 //! Threads that walk pieces, and the pieces put together in order.
-use super::{bounds, List, Part};
+use super::list::{List, Part};
+use super::split::bounds;
 use crate::schedule::Schedule;
 use std::io;
 use std::sync::mpsc::{sync_channel, Receiver, SyncSender};

@@ -1,5 +1,6 @@
 //! Frames: what one line of a program file says.
-use super::{Instruction, Operand, LOCATIONS, LONGEST_SKIP, REGISTERS};
+use super::instruction::{Instruction, Operand};
+use super::limits::{LOCATIONS, LONGEST_SKIP, REGISTERS};
 use Instruction::*;
 
 #[derive(Clone, Debug, PartialEq, Eq)]

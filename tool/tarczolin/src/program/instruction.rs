@@ -7,7 +7,7 @@ pub enum Operand {
     Register(u8),
 }
 
-/// An instruction; `r` is a register, `l` a location.
+/// An instruction; `r` is a register, `l` a location. `SkipUnless`: if `r` is not `p`, skip the next `n` instructions.
 #[derive(Clone, Copy, Debug, PartialEq, Eq)]
 pub enum Instruction {
     Store { l: u8, p: Operand },
@@ -16,7 +16,6 @@ pub enum Instruction {
     CompareSwap { r: u8, l: u8, e: Operand, v: Operand },
     Set { r: u8, p: Operand },
     Add { r: u8, p: Operand },
-    /// If `r` is not `p`, skip the next `n` instructions.
     SkipUnless { r: u8, p: Operand, n: u8 },
     Assert { r: u8, p: Operand },
 }
@@ -24,6 +23,13 @@ pub enum Instruction {
 use Instruction::*;
 
 impl Instruction {
+    /// Puts another location into an access; any other instruction stays as it is.
+    pub fn put_location(&mut self, number: u8) {
+        if let Store { l, .. } | Load { l, .. } | FetchAdd { l, .. } | CompareSwap { l, .. } = self {
+            *l = number;
+        }
+    }
+
     /// The name of an access, or none for an instruction on registers only.
     pub fn access(&self) -> Option<&'static str> {
         match self {

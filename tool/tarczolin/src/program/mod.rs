@@ -1,18 +1,11 @@
 //! Programs as the tool reads them: for what it shows beside the library's answers, and for the text form.
 mod frame;
 mod instruction;
+mod limits;
 
 pub use frame::Frame;
 pub use instruction::{number, Instruction, Operand};
-
-/// The limits that sentences and the text form tell of.
-pub const FILE_LIMIT: usize = 4096;
-pub const THREADS: usize = 6;
-pub const INSTRUCTIONS: usize = 16;
-pub const ACCESSES: usize = 24;
-pub const REGISTERS: u8 = 4;
-pub const LOCATIONS: u8 = 8;
-pub const LONGEST_SKIP: u8 = 15;
+pub use limits::*;
 
 /// The code of each thread, and the threads that each `02` line declares alike.
 #[derive(Clone, Debug, Default, PartialEq, Eq)]

@@ -1,5 +1,5 @@
 //! What is wrong with a graph text.
-use super::{line, line_at};
+use super::line::{self, line_at};
 use crate::ask::Refusal;
 use crate::hex;
 use crate::program::{Program, LOCATIONS};

@@ -1,5 +1,6 @@
 //! What is wrong with a program file.
-use super::{fields, line, line_at};
+use super::fields;
+use super::line::{self, line_at};
 use crate::ask::Refusal;
 use crate::hex;
 use crate::program::{Frame, Instruction, ACCESSES, FILE_LIMIT, INSTRUCTIONS, THREADS};

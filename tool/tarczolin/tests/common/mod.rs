@@ -21,12 +21,8 @@ pub fn tool(words: &[&str]) -> Command {
 
 /// Runs it with this standard input.
 pub fn run_with(words: &[&str], input: &[u8]) -> Ran {
-    let mut child = tool(words)
-        .stdin(Stdio::piped())
-        .stdout(Stdio::piped())
-        .stderr(Stdio::piped())
-        .spawn()
-        .expect("the command starts");
+    let mut child =
+        tool(words).stdin(Stdio::piped()).stdout(Stdio::piped()).stderr(Stdio::piped()).spawn().expect("the command starts");
     let mut stdin = child.stdin.take().expect("a pipe");
     // a command that does not read its input closes it
     let _ = stdin.write_all(input);

@@ -1,0 +1,105 @@
+//! Why a command was not carried out, and how that is said.
+use crate::ask::Refusal;
+use std::fmt;
+use std::io;
+
+#[derive(Debug)]
+pub enum Error {
+    /// Bad usage: what is wrong with the words behind the command's name.
+    Usage(String),
+    /// Bad usage: too few or too many words; the command's own usage says it all.
+    Words,
+    /// A file that cannot be read or written.
+    File { name: String, cause: io::Error },
+    /// A text of which more would have to be read than is read.
+    TooLong { name: String, most: usize },
+    /// What the library refuses.
+    Refused(Refused),
+    /// What is wrong with a program in the text form.
+    Text { name: String, marks: Vec<Mark> },
+    /// Standard output cannot be written.
+    Output(io::Error),
+    /// Standard output was closed from the start.
+    Closed,
+}
+
+/// What a refusal is about.
+#[derive(Clone, Debug, PartialEq, Eq)]
+pub enum Subject {
+    /// A file of this name: the place is a line.
+    File(String),
+    /// A schedule: the place is a step.
+    Schedule,
+}
+
+/// A refusal of the library: a sentence about what is wrong, and the line or the steps to look at.
+#[derive(Clone, Debug, PartialEq, Eq)]
+pub struct Refused {
+    pub subject: Subject,
+    pub refusal: Refusal,
+    pub sentence: String,
+    pub shown: String,
+}
+
+/// A place in a text, line and column from 1, the line as it is shown, and what there is to say.
+#[derive(Clone, Debug, PartialEq, Eq)]
+pub struct Mark {
+    pub line: usize,
+    pub column: usize,
+    pub shown: String,
+    pub message: String,
+}
+
+/// What a file is called in messages.
+pub fn called(name: &str) -> &str {
+    match name {
+        "-" => "standard input",
+        _ => name,
+    }
+}
+
+impl Error {
+    pub fn usage(message: impl Into<String>) -> Error {
+        Error::Usage(message.into())
+    }
+}
+
+impl fmt::Display for Error {
+    fn fmt(&self, f: &mut fmt::Formatter) -> fmt::Result {
+        match self {
+            Error::Usage(message) => f.write_str(message),
+            Error::Words => f.write_str("too few or too many words"),
+            Error::File { name, cause } => write!(f, "{name}: {cause}"),
+            Error::TooLong { name, most } => write!(f, "{name}: the text is longer than {most} bytes, and no more are read"),
+            Error::Refused(refused) => refused.fmt(f),
+            Error::Text { name, marks } => {
+                let marks: Vec<String> = marks.iter().map(|mark| mark.told(name)).collect();
+                f.write_str(&marks.join("\n"))
+            }
+            Error::Output(cause) => write!(f, "the output cannot be written: {cause}"),
+            Error::Closed => f.write_str("standard output is closed; there is nowhere to write the answer"),
+        }
+    }
+}
+
+impl fmt::Display for Refused {
+    fn fmt(&self, f: &mut fmt::Formatter) -> fmt::Result {
+        let Refused { subject, refusal: Refusal { number, place }, sentence, shown } = self;
+        match (subject, place) {
+            (Subject::File(name), 0) => write!(f, "{name}: refusal {number}: {sentence}"),
+            (Subject::File(name), _) => {
+                write!(f, "{name}: refusal {number} at line {place}: {sentence}\n{place:>6} | {shown}")
+            }
+            (Subject::Schedule, _) => write!(f, "refusal {number} at step {place}: {sentence}\n       | {shown}"),
+        }
+    }
+}
+
+impl Mark {
+    /// The message with the file's name, the line, and a mark below it.
+    pub fn told(&self, name: &str) -> String {
+        let Mark { line, column, shown, message } = self;
+        let space = " ".repeat(column - 1);
+        format!("{name}:{line}:{column}: {message}\n{line:>6} | {shown}\n       | {space}^")
+    }
+}
