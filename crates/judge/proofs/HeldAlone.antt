@@ -10,17 +10,17 @@ use lib.ListN.{length, getD, drop, getD-replicate}
 use Rattle.machine.specs.declared.state.Machine.{Machine}
 use Rattle.machine.specs.declared.stepping.Stepped.{Stepped}
 use Rattle.program.specs.declared.instruction.Instruction.{Instruction}
-use Rattle.program.specs.Compiled.{threadCode}
-use Rattle.machine.specs.Local.{Local, placeOf, puts, next, firstPlace, firstPuts, firstNext}
-use Rattle.machine.specs.State.{Thread, Cell, State, freshCell, threadOf, cellOf, latest, initialWrite, place, step, may, met, advanced}
-use Rattle.machine.specs.Trail.{given, writes}
-use Rattle.machine.specs.Notes.{note, noteBytes}
+use Rattle.decoder.specs.Compiled.{threadCode}
+use Rattle.sc.specs.Local.{Local, placeOf, puts, next, firstPlace, firstPuts, firstNext}
+use Rattle.sc.specs.State.{Thread, Cell, State, freshCell, threadOf, cellOf, latest, initialWrite, place, step, may, met, advanced}
+use Rattle.sc.specs.Trail.{given, writes}
+use Rattle.graph_writer.specs.Notes.{note, noteBytes}
 use Rattle.machine.specs.Held.{unwritten, threadAt, eventOf, Holds, HoldsStep}
-use Rattle.machine.proofs.Steps.{may-same, may-range, thread-own, cell-own}
-use Rattle.machine.proofs.Change.{written-some}
-use Rattle.machine.proofs.HeldTurns.{code-end}
+use Rattle.sc.proofs.Steps.{may-same, may-range, thread-own, cell-own}
+use Rattle.sc.proofs.Change.{written-some}
+use Rattle.accesses.proofs.HeldTurns.{code-end}
 use Rattle.machine.proofs.HeldAsking.{may-held}
-use Rattle.judge.specs.Judge.{orZero}
+use Rattle.consistent.specs.Judge.{orZero}
 use Rattle.judge.specs.HeldRounds.{faced, facedMachine, MetAlone}
 
 module _ (code lengths : List ℕ) (m : Machine) (σ : State) (x : ℕ) (H : Holds code lengths m σ) where

@@ -14,14 +14,14 @@ use Rattle.program.specs.Program.{Program, codeOf}
 use Rattle.program.specs.WellFormed.{Everywhere, InRange}
 use Rattle.program.proofs.Everywhere.{everywhere-getD}
 use Rattle.machine.specs.declared.state.Machine.{Machine}
-use Rattle.machine.specs.Local.{placeOf, puts, next}
-use Rattle.machine.specs.State.{State, threadOf, place, start}
+use Rattle.sc.specs.Local.{placeOf, puts, next}
+use Rattle.sc.specs.State.{State, threadOf, place, start}
 use Rattle.machine.specs.Held.{threadAt, Holds, Loaded}
-use Rattle.machine.proofs.Access.{place-below}
+use Rattle.sc.proofs.Access.{place-below}
 use Rattle.machine.proofs.HeldStart.{threads-held, code-held}
 use Rattle.judge.specs.declared.by_itself.Lone.{Lone}
-use Rattle.judge.specs.Consistent.{Values, alone, locationOf, outOf}
-use Rattle.judge.specs.Judge.{orZero}
+use Rattle.consistent.specs.Consistent.{Values, alone, locationOf, outOf}
+use Rattle.consistent.specs.Judge.{orZero}
 use Rattle.judge.specs.HeldRounds.{MetAlone, valuesIn, RoundHeld}
 
 everywhere-drop : {A : Type 0} (P : A → Type 0) (n : ℕ) (l : List A) → Everywhere P l → Everywhere P (drop n l)

@@ -11,14 +11,14 @@ use native.Mathlib.Decide.{ℕ-discrete}
 use lib.ListN.{length, getD, set, replicate}
 use lib.Seq.{getD-set-same, getD-set-other}
 use Rattle.program.specs.Program.{Program, initial}
-use Rattle.machine.specs.State.{Event, initialWrite}
-use Rattle.machine.specs.Graph.{Graph}
-use Rattle.judge.specs.Consistent.{rowOf, locationOf}
-use Rattle.judge.specs.Judge.{sameEvent, sourceIn, leftBy, nextRound, values}
-use Rattle.judge.specs.Held.{noLine, lineIn, Tabled}
+use Rattle.sc.specs.State.{Event, initialWrite}
+use Rattle.sc.specs.Graph.{Graph}
+use Rattle.consistent.specs.Consistent.{rowOf, locationOf}
+use Rattle.consistent.specs.Judge.{sameEvent, sourceIn, leftBy, nextRound, values}
+use Rattle.graph_reader.specs.Held.{noLine, lineIn, Tabled}
 use Rattle.judge.specs.HeldRounds.{valuesIn, RoundHeld, sourced}
-use Rattle.judge.proofs.Readable.{Named, Source, Readable}
-use Rattle.judge.proofs.RoundTables.{named-source, round-same, location-same}
+use Rattle.consistent.proofs.Readable.{Named, Source, Readable}
+use Rattle.consistent.proofs.RoundTables.{named-source, round-same, location-same}
 
 pub zeros : (n k : ℕ) → _≡_ {A = ℕ} (getD (replicate n 0) k 0) 0
 zeros zero k = refl

@@ -8,12 +8,12 @@ use lib.ListN.{getD, replicate}
 use Rattle.program.specs.Program.{Program}
 use Rattle.machine.specs.declared.state.LastWrite.{LastWrite}
 use Rattle.machine.specs.declared.state.Machine.{Machine}
-use Rattle.machine.specs.Local.{placeOf, puts, next}
-use Rattle.machine.specs.State.{State, freshCell, threadOf}
+use Rattle.sc.specs.Local.{placeOf, puts, next}
+use Rattle.sc.specs.State.{State, freshCell, threadOf}
 use Rattle.machine.specs.Held.{Holds}
 use Rattle.judge.specs.declared.by_itself.Lone.{Lone}
-use Rattle.judge.specs.Consistent.{Values, localAt, locationOf, outOf}
-use Rattle.judge.specs.Judge.{orZero}
+use Rattle.consistent.specs.Consistent.{Values, localAt, locationOf, outOf}
+use Rattle.consistent.specs.Judge.{orZero}
 
 -- a state whose every location holds x and was not written
 unfoldable pub faced : State → ℕ → State

@@ -7,10 +7,10 @@ ghost use Prim.Native.Nat.{ℕ, _<_, _≤_};
 ghost use mathlib.Core.Bool.{true};
 ghost use mathlib.Core.List.{List};
 ghost use lib.ListN.{getD};
-ghost use Rattle.machine.specs.State.{State, may};
-ghost use Rattle.machine.specs.Graph.{Graph};
-ghost use Rattle.judge.specs.Consistent.{Values};
-ghost use Rattle.judge.specs.Judge.{fits};
+ghost use Rattle.sc.specs.State.{State, may};
+ghost use Rattle.sc.specs.Graph.{Graph};
+ghost use Rattle.consistent.specs.Consistent.{Values};
+ghost use Rattle.consistent.specs.Judge.{fits};
 ghost use Rattle.judge.specs.HeldWalk.{readAllowed, turnAllowed, Ranged, Drawn, Ordering, NoteOf};
 
 // A read: its source is the last write of its location, and it goes where the table says.

@@ -6,7 +6,7 @@ use machine::step;
 ghost use mathlib.Core.Path.{_≡_};
 ghost use Prim.Native.Nat.{_<_, _≤_};
 ghost use lib.ListN.{getD};
-ghost use Rattle.machine.specs.State.{State, place};
+ghost use Rattle.sc.specs.State.{State, place};
 ghost use Rattle.machine.specs.Held.{Holds};
 ghost use Rattle.judge.specs.HeldRounds.{facedMachine, MetAlone};
 

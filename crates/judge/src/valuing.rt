@@ -10,12 +10,12 @@ ghost use mathlib.Core.List.{List};
 ghost use lib.Dec.{eqb};
 ghost use lib.ListN.{length, getD};
 ghost use Rattle.program.specs.Program.{Program};
-ghost use Rattle.machine.specs.Graph.{Graph};
+ghost use Rattle.sc.specs.Graph.{Graph};
 ghost use Rattle.machine.specs.Held.{Loaded};
-ghost use Rattle.judge.specs.Consistent.{locationOf};
-ghost use Rattle.judge.specs.Judge.{values};
-ghost use Rattle.judge.specs.Reading.{parsed, readGraph};
-ghost use Rattle.judge.specs.Held.{Tabled};
+ghost use Rattle.consistent.specs.Consistent.{locationOf};
+ghost use Rattle.consistent.specs.Judge.{values};
+ghost use Rattle.consistent.specs.Reading.{parsed, readGraph};
+ghost use Rattle.graph_reader.specs.Held.{Tabled};
 ghost use Rattle.judge.specs.HeldRounds.{RoundHeld, sourced};
 
 // Of each access, sixteen a thread: where it goes and what it leaves there.

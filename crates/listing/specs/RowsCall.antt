@@ -11,8 +11,8 @@ use Rattle.schedules.specs.Order.{Schedule}
 use Rattle.schedules.specs.Found.{after}
 use Rattle.listing.specs.declared.row_calls.RowsAnswer.{RowsAnswer}
 use Rattle.listing.specs.declared.row_calls.RowsAnswer.the-variants.{Written, Refused}
-use Rattle.listing.specs.ListOf.{listOf}
-use Rattle.listing.specs.Rows.{rowsOf}
+use Rattle.list.specs.ListOf.{listOf}
+use Rattle.walker.specs.Rows.{rowsOf}
 
 -- the listed schedules that stand in such an output, behind the bound or from the first one on
 unfoldable pub fitting : Program → Option Schedule → List ℕ → List Schedule

@@ -9,28 +9,28 @@ use borrow.Author.Tests.{lt-ltb, le-ltb}
 use Rattle.lines.specs.Over.{over}
 use Rattle.program.specs.Program.{Program}
 use Rattle.program.specs.WellFormed.{WellFormed}
-use Rattle.program.specs.declared.file.Answer.{Answer}
-use Rattle.program.specs.declared.file.Verdict.the-variants as File
+use Rattle.decoder.specs.declared.file.Answer.{Answer}
+use Rattle.decoder.specs.declared.file.Verdict.the-variants as File
 use Rattle.program.specs.Decode.{Decoded, decode}
-use Rattle.program.specs.Compiled.{programOf, answerOf}
-use Rattle.program.proofs.Decoded.{decoded-refused, decoded-accepted, decoded-well-formed}
+use Rattle.decoder.specs.Compiled.{programOf, answerOf}
+use Rattle.decoder.proofs.Decoded.{decoded-refused, decoded-accepted, decoded-well-formed}
 use Rattle.schedules.specs.Order.{Schedule}
 use Rattle.schedules.specs.System.{Allowed, run}
 use Rattle.machine.specs.declared.graph_call.GraphAnswer.the-variants.{Written}
 use Rattle.machine.specs.declared.replaying.Run.{Run}
 use Rattle.machine.specs.declared.replaying.Verdict.the-variants.{Whole, Refused}
-use Rattle.machine.specs.State.{SC, start}
-use Rattle.machine.specs.Graph.{graphOf, graph}
-use Rattle.machine.specs.Text.{graphText, textOf}
-use Rattle.machine.specs.Replay.{replay}
-use Rattle.machine.specs.Notes.{Note, notes, Noted}
-use Rattle.machine.specs.NoteText.{noteFrames}
-use Rattle.machine.specs.GraphCall.{GraphSaid, texted, refusing, texting, graphAnswer, graphOn, graphFile, graphOutput}
+use Rattle.sc.specs.State.{SC, start}
+use Rattle.sc.specs.Graph.{graphOf, graph}
+use Rattle.sc.specs.Text.{graphText, textOf}
+use Rattle.sc.specs.Replay.{replay}
+use Rattle.graph_writer.specs.Notes.{Note, notes, Noted}
+use Rattle.graph_writer.specs.NoteText.{noteFrames}
+use Rattle.sc.specs.GraphCall.{GraphSaid, texted, refusing, texting, graphAnswer, graphOn, graphFile, graphOutput}
 use Rattle.machine.specs.GraphWord.{saidOf}
 use Rattle.machine.specs.Held.{HoldsRun}
-use Rattle.machine.proofs.NoteGraph.{notes-length}
+use Rattle.graph_writer.proofs.NoteGraph.{notes-length}
 use Rattle.machine.proofs.Verdicts.{verdict-whole, verdict-refused}
-use Rattle.machine.proofs.GraphWritten.{graph-written}
+use Rattle.graph_writer.proofs.GraphWritten.{graph-written}
 
 -- too short an output
 pub graph-short : (p : Program) (s : Schedule) (room : ℕ) → room < 512 → graphAnswer p s room ≡ refusing 22 0

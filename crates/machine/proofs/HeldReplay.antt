@@ -14,20 +14,20 @@ use Rattle.machine.specs.declared.state.Machine.{Machine}
 use Rattle.machine.specs.declared.stepping.Effect.{Effect}
 use Rattle.machine.specs.declared.stepping.Stepped.{Stepped}
 use Rattle.machine.specs.declared.replaying.Verdict.the-variants.{Whole, Refused}
-use Rattle.machine.specs.State.{State, place, step, may, SC, start}
-use Rattle.machine.specs.Notes.{Note, note, notes, noteBytes, Noted}
-use Rattle.machine.specs.Replay.{replayFrom, replay}
+use Rattle.sc.specs.State.{State, place, step, may, SC, start}
+use Rattle.graph_writer.specs.Notes.{Note, note, notes, noteBytes, Noted}
+use Rattle.sc.specs.Replay.{replayFrom, replay}
 use Rattle.machine.specs.Held.{threadAt, Holds, ReadyThread, Ready, HoldsStep, behind, Loaded, verdictOf, HoldsRun}
-use Rattle.machine.proofs.Steps.{may-range, run-threads}
-use Rattle.machine.proofs.Start.{start-threads}
-use Rattle.machine.proofs.Lawful.{lawful, start-24}
-use Rattle.machine.proofs.NoteGraph.{notes-length, notes-snoc}
-use Rattle.machine.proofs.Regular.{place-in, regular-run, regular-start}
-use Rattle.machine.proofs.Replay.{nil-full, nil-short, cons-goes, cons-stops}
+use Rattle.sc.proofs.Steps.{may-range, run-threads}
+use Rattle.sc.proofs.Start.{start-threads}
+use Rattle.sc.proofs.Lawful.{lawful, start-24}
+use Rattle.graph_writer.proofs.NoteGraph.{notes-length, notes-snoc}
+use Rattle.sc.proofs.Regular.{place-in, regular-run, regular-start}
+use Rattle.sc.proofs.Replay.{nil-full, nil-short, cons-goes, cons-stops}
 use Rattle.machine.proofs.HeldStart.{threads-held, short-held}
 use Rattle.machine.proofs.HeldAsking.{held-may, held-ended, ready-held}
 use Rattle.machine.proofs.HeldStep.{stored-step}
-use Rattle.machine.proofs.HeldNotes.{noted-none}
+use Rattle.graph_writer.proofs.HeldNotes.{noted-none}
 
 -- behind the first k bytes of s
 pub record Progress (code lengths : List ℕ) (p : Program) (s : Schedule) (m : Machine) (trail : List ℕ) (k : ℕ) : Type 0 where

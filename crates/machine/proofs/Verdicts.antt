@@ -9,8 +9,8 @@ use Rattle.schedules.specs.System.{run}
 use Rattle.machine.specs.declared.replaying.Verdict.{Verdict}
 use Rattle.machine.specs.declared.replaying.Verdict.the-variants.{Whole, Refused}
 use Rattle.machine.specs.declared.replaying.Run.{Run}
-use Rattle.machine.specs.State.{State, SC, start}
-use Rattle.machine.specs.Replay.{whole, refused, replay}
+use Rattle.sc.specs.State.{State, SC, start}
+use Rattle.sc.specs.Replay.{whole, refused, replay}
 use Rattle.machine.specs.Held.{verdictOf, HoldsRun}
 
 module _ (code lengths : List ℕ) (p : Program) (s : Schedule) (r : Run) (held : HoldsRun code lengths p s r) where

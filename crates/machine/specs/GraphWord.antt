@@ -2,7 +2,7 @@
 use lib.ListN.{length}
 use Rattle.machine.specs.declared.graph_call.GraphAnswer.{GraphAnswer}
 use Rattle.machine.specs.declared.graph_call.GraphAnswer.the-variants.{Written, Refused}
-use Rattle.machine.specs.GraphCall.{GraphSaid, texted, refusing}
+use Rattle.sc.specs.GraphCall.{GraphSaid, texted, refusing}
 
 unfoldable pub saidOf : GraphSaid → GraphAnswer
 saidOf (texted t) = Written (length t)

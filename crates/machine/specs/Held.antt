@@ -7,10 +7,10 @@ use lib.ListN.{length, getD, set, drop, take}
 use Rattle.program.specs.declared.instruction.Instruction.{Instruction}
 use Rattle.program.specs.Program.{Program}
 use Rattle.program.specs.WellFormed.{WellFormed}
-use Rattle.program.specs.Compiled.{tabulate, threadCode}
+use Rattle.decoder.specs.Compiled.{tabulate, threadCode}
 use Rattle.schedules.specs.Order.{Schedule}
 use Rattle.schedules.specs.System.{run, Allowed}
-use Rattle.machine.specs.declared.state.ThreadState.{ThreadState}
+use Rattle.accesses.specs.declared.thread.ThreadState.{ThreadState}
 use Rattle.machine.specs.declared.state.LastWrite.{LastWrite}
 use Rattle.machine.specs.declared.state.Machine.{Machine}
 use Rattle.machine.specs.declared.stepping.Effect.{Effect}
@@ -18,10 +18,10 @@ use Rattle.machine.specs.declared.stepping.Stepped.{Stepped}
 use Rattle.machine.specs.declared.replaying.Verdict.{Verdict}
 use Rattle.machine.specs.declared.replaying.Verdict.the-variants.{Whole, Refused}
 use Rattle.machine.specs.declared.replaying.Run.{Run}
-use Rattle.machine.specs.Local.{pending}
-use Rattle.machine.specs.State.{Event, Thread, State, threadOf, cellOf, latest, step, SC, start}
-use Rattle.machine.specs.Notes.{note, notes, noteBytes, Noted}
-use Rattle.machine.specs.Replay.{Replayed, whole, refused, replay}
+use Rattle.sc.specs.Local.{pending}
+use Rattle.sc.specs.State.{Event, Thread, State, threadOf, cellOf, latest, step, SC, start}
+use Rattle.graph_writer.specs.Notes.{note, notes, noteBytes, Noted}
+use Rattle.sc.specs.Replay.{Replayed, whole, refused, replay}
 
 -- what an array of threads, and one of last writes, reads as behind its end
 abbrev pub idle : ThreadState

@@ -1,13 +1,13 @@
 // The graph of a schedule, as text in front of a lent output.
-use crate::graph_text::write_graph;
 use crate::replaying::Verdict;
 use crate::replaying::replayed;
-use program::Compiled;
+use decoder::Compiled;
+use graph_writer::write_graph;
 ghost use mathlib.Core.Path.{_≡_};
 ghost use lib.ListN.{length};
 ghost use Rattle.program.specs.WellFormed.{WellFormed};
-ghost use Rattle.program.specs.Compiled.{programOf};
-ghost use Rattle.machine.specs.GraphCall.{graphAnswer, graphFile, graphOutput};
+ghost use Rattle.decoder.specs.Compiled.{programOf};
+ghost use Rattle.sc.specs.GraphCall.{graphAnswer, graphFile, graphOutput};
 ghost use Rattle.machine.specs.GraphWord.{saidOf};
 
 pub enum GraphAnswer {
@@ -45,11 +45,11 @@ pub fn graph(file: &[u8], schedule: &[u8], out: &mut [u8]) -> GraphAnswer
     ensures answer { λ r. ⌜ r ≡ saidOf (graphFile (now (file .entry)) (now (schedule .entry)) (length (now (out .entry)))) ⌝ }
     ensures output { λ r. ⌜ now (out .exit) ≡ graphOutput (graphFile (now (file .entry)) (now (schedule .entry)) (length (now (out .entry)))) (now (out .entry)) ⌝ }
 {
-    let a = program::decode(file);
+    let a = decoder::decode(file);
     let v = a.verdict;
     match v {
-        program::Verdict::Refused(n, k) => GraphAnswer::Refused(n, k),
-        program::Verdict::Accepted => {
+        decoder::Verdict::Refused(n, k) => GraphAnswer::Refused(n, k),
+        decoder::Verdict::Accepted => {
             let p = a.program;
             graph_of(p, schedule, out)
         }

@@ -1,15 +1,5 @@
-// Runs under sequential consistency: threads and memory, steps, graphs and their text.
+// The machine's functions: its state, a step, a schedule carried out, and the graph call.
 
-// The text of a graph, written from the notes of a run.
-mod graph_text;
-// A thread by itself: operands, and what an instruction that is no access does.
-mod local;
-// What an access does.
-mod accessing;
-// What the instruction in a row does.
-mod by_row;
-// A thread carried to its next access.
-mod settling;
 // The machine's state: threads, memory, last writes.
 mod state;
 // A step.
@@ -20,8 +10,6 @@ mod starting;
 mod asking;
 // What the code left to a thread could still do.
 mod ahead_of;
-// The notes of a run.
-mod noting;
 // A schedule carried out.
 mod replaying;
 // The graph call.
@@ -35,14 +23,12 @@ pub use asking::fails;
 pub use asking::may;
 pub use graph_call::GraphAnswer;
 pub use graph_call::graph;
-pub use noting::put_note;
 pub use replaying::Run;
 pub use replaying::Verdict;
 pub use replaying::replayed;
 pub use starting::started;
 pub use state::LastWrite;
 pub use state::Machine;
-pub use state::ThreadState;
 pub use stepping::Effect;
 pub use stepping::Stepped;
 pub use stepping::acted;

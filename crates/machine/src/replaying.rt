@@ -1,12 +1,12 @@
 // A schedule of any length carried out as far as it goes: whole, or refused by 20 at its first byte that may not step, or by 21 if it is not full.
 use crate::asking::ended_all;
-use crate::local::wide;
-use crate::noting::put_note;
 use crate::starting::started;
 use crate::state::LastWrite;
 use crate::state::Machine;
-use crate::state::ThreadState;
 use crate::stepping::acted;
+use accesses::ThreadState;
+use accesses::wide;
+use graph_writer::put_note;
 ghost use mathlib.Core.Path.{_≡_};
 ghost use Rattle.program.specs.Program.{Program};
 ghost use Rattle.machine.specs.Held.{Loaded, HoldsRun};

@@ -5,7 +5,7 @@ use mathlib.Core.Path.{_≡_, ap}
 use lib.ListN.{length}
 use Rattle.machine.specs.declared.graph_call.GraphAnswer.{GraphAnswer}
 use Rattle.machine.specs.declared.graph_call.GraphAnswer.the-variants.{Written, Refused}
-use Rattle.machine.specs.GraphCall.{GraphSaid, texted, refusing}
+use Rattle.sc.specs.GraphCall.{GraphSaid, texted, refusing}
 use Rattle.machine.specs.GraphWord.{saidOf}
 use Rattle.tarczolin.specs.Word as word
 use Rattle.tarczolin.specs.Graphed.{graphed}

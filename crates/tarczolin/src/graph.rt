@@ -4,7 +4,7 @@ use crate::word::refused;
 use machine::GraphAnswer;
 ghost use mathlib.Core.Path.{_≡_};
 ghost use lib.ListN.{length};
-ghost use Rattle.machine.specs.GraphCall.{graphFile, graphOutput};
+ghost use Rattle.sc.specs.GraphCall.{graphFile, graphOutput};
 ghost use Rattle.tarczolin.specs.Word.{wordOf};
 ghost use Rattle.tarczolin.specs.Graphed.{graphed};
 

@@ -4,7 +4,7 @@ use Prim.Native.Nat.{ℕ, _%_}
 use mathlib.Core.Path.{_≡_, _∙_, sym, ap}
 use borrow.Author.Tests.{not-true, not-false}
 use native.Mathlib.Omega.{arith}
-use Rattle.machine.specs.State.{State}
+use Rattle.sc.specs.State.{State}
 use Rattle.machine.proofs.HeldAsking.{ready-held}
 use Rattle.judge.specs.HeldRounds.{faced}
 use Rattle.judge.proofs.HeldAlone.{faced-held, met-ended, faced-near, met-still, met-writes}

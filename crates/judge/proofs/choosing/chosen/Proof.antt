@@ -7,10 +7,10 @@ use native.Mathlib.Omega.{arith}
 use Rattle.program.specs.Program.{Program}
 use Rattle.schedules.specs.Order.{Schedule}
 use Rattle.schedules.specs.System.{run}
-use Rattle.machine.specs.State.{SC, start}
-use Rattle.machine.specs.Graph.{Graph}
-use Rattle.judge.specs.Consistent.{locationOf}
-use Rattle.judge.specs.Judge.{values, fits}
+use Rattle.sc.specs.State.{SC, start}
+use Rattle.sc.specs.Graph.{Graph}
+use Rattle.consistent.specs.Consistent.{locationOf}
+use Rattle.consistent.specs.Judge.{values, fits}
 use Rattle.judge.specs.HeldWalk.{Walking}
 use Rattle.judge.proofs.WalkChoice.{chosen-one, chosen-none, passed-over}
 use Rattle.judge.proofs.choosing.chosen.Statement.{statement}

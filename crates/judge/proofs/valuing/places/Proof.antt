@@ -6,15 +6,15 @@ use native.Mathlib.Omega.{arith}
 use mathlib.Core.List.{List}
 use lib.ListN.{length}
 use Rattle.program.specs.Program.{Program}
-use Rattle.machine.specs.State.{Event}
-use Rattle.machine.specs.Graph.{Graph}
+use Rattle.sc.specs.State.{Event}
+use Rattle.sc.specs.Graph.{Graph}
 use Rattle.machine.specs.Held.{Loaded}
-use Rattle.judge.specs.Judge.{values}
-use Rattle.judge.specs.Reading.{parsed, readGraph}
-use Rattle.judge.specs.Held.{Tabled}
+use Rattle.consistent.specs.Judge.{values}
+use Rattle.consistent.specs.Reading.{parsed, readGraph}
+use Rattle.graph_reader.specs.Held.{Tabled}
 use Rattle.judge.specs.HeldRounds.{valuesIn}
-use Rattle.judge.proofs.Readable.{Named}
-use Rattle.judge.proofs.Parsed.{read-readable}
+use Rattle.consistent.proofs.Readable.{Named}
+use Rattle.consistent.proofs.Parsed.{read-readable}
 use Rattle.judge.proofs.HeldRoundTurns.{six-held}
 use Rattle.judge.proofs.HeldValues.{values-start, values-more, places-are}
 use Rattle.judge.proofs.valuing.places.Statement.{statement}

@@ -6,8 +6,8 @@ use native.Mathlib.Omega.{arith}
 use lib.ListN.{length, getD, length-set, getD-replicate}
 use Rattle.program.specs.Program.{Program}
 use Rattle.schedules.specs.System.{run}
-use Rattle.machine.specs.State.{SC, start}
-use Rattle.machine.specs.Graph.{Graph}
+use Rattle.sc.specs.State.{SC, start}
+use Rattle.sc.specs.Graph.{Graph}
 use Rattle.judge.specs.HeldYes.{Given}
 use Rattle.judge.proofs.HeldValues.{zeros}
 use Rattle.judge.proofs.WalkChoice.{walk-near, walk-ready}

@@ -2,10 +2,10 @@
 use borrow.Author.Needs.{needs}
 use mathlib.Core.Path.{_≡_, _∙_, sym, ap}
 use lib.ListN.{length}
-use Rattle.program.specs.Compiled.{programOf}
-use Rattle.machine.specs.GraphCall.{graphAnswer, graphFile, graphOutput}
+use Rattle.decoder.specs.Compiled.{programOf}
+use Rattle.sc.specs.GraphCall.{graphAnswer, graphFile, graphOutput}
 use Rattle.machine.specs.GraphWord.{saidOf}
-use Rattle.machine.specs.GraphCall.{GraphSaid}
+use Rattle.sc.specs.GraphCall.{GraphSaid}
 use Rattle.machine.proofs.GraphCalled.{file-refused, file-well-formed, file-answered}
 use Rattle.machine.proofs.graph_call.graph.Statement.{statement}
 use Rattle.machine.proofs.graph_call.graph.Tie as tie

@@ -4,10 +4,10 @@ use mathlib.Core.Path.{_≡_, _∙_, sym, ap, refl}
 use native.Mathlib.Omega.{arith}
 use mathlib.Core.List.{List}
 use lib.ListN.{length}
-use Rattle.program.specs.Compiled.{programOf}
-use Rattle.machine.specs.GraphCall.{graphAnswer, graphFile, graphOutput}
+use Rattle.decoder.specs.Compiled.{programOf}
+use Rattle.sc.specs.GraphCall.{graphAnswer, graphFile, graphOutput}
 use Rattle.machine.specs.GraphWord.{saidOf}
-use Rattle.machine.specs.GraphCall.{GraphSaid}
+use Rattle.sc.specs.GraphCall.{GraphSaid}
 use Rattle.machine.proofs.HeldStart.{loaded-compiled}
 use Rattle.machine.proofs.GraphCalled.{graph-short, graph-refused, graph-24, graph-answered}
 use Rattle.machine.proofs.graph_call.graph_of.Statement.{statement}

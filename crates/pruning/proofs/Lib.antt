@@ -1,0 +1,21 @@
+-- The laws, in the order in which they rest on each other.
+-- steps and reads by the bytes of their notes
+pub mod StepBytes
+-- R1 over the notes, one step back at a time
+pub mod GoingBack
+-- threads of one class stand in one line
+pub mod ClassGroups
+-- tests and filters over numbers, one number at a time
+pub mod Numbers
+-- a prefix as the arrays hold it: its start, a step more, who may step
+pub mod ReachedStep
+-- R1 behind such a prefix
+pub mod ReachedLate
+-- R2 by the notes: what a thread wrote
+pub mod SilentNotes
+-- R2 on the arrays of the search
+pub mod HeldTwins
+-- R2 as loops in code meet it
+pub mod TwinTurns
+-- R3 read off the machine
+pub mod HeldAsleep
