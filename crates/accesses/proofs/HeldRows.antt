@@ -10,8 +10,8 @@ use lib.Seq.{set-out}
 use borrow.Author.Tests.{ne-eqb}
 use Rattle.program.specs.declared.instruction.Instruction.{Instruction}
 use Rattle.program.specs.declared.instruction.Instruction.the-variants.{Store, Load, FetchAdd, CompareSwap, Assign, AddAssign, SkipUnless, Assert}
-use Rattle.decoder.specs.Compiled.{instructionAt}
-use Rattle.decoder.proofs.Rows.{row-store, row-load, row-fetch-add, row-compare-swap, row-no-access}
+use Rattle.rows.specs.Rows.{instructionAt}
+use Rattle.rows.proofs.Rows.{row-store, row-load, row-fetch-add, row-compare-swap, row-no-access}
 use Rattle.sc.specs.Local.{beginsWithAccess}
 use Rattle.accesses.specs.Turns.{standing, turnOf, accessing, accessOf}
 

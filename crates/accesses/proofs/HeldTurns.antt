@@ -9,8 +9,8 @@ use lib.ListN.{length, getD, drop, drop-of-length-le}
 use lib.Seq.{drop-cons, drop-drop}
 use Rattle.program.specs.declared.instruction.Instruction.{Instruction}
 use Rattle.program.specs.declared.instruction.Instruction.the-variants.{Store, Load, FetchAdd, CompareSwap, Assign, AddAssign, SkipUnless, Assert}
-use Rattle.decoder.specs.Compiled.{instructionAt, threadCode}
-use Rattle.decoder.proofs.Tabulate.{length-tabulate, getD-tabulate}
+use Rattle.rows.specs.Rows.{instructionAt, threadCode}
+use Rattle.rows.proofs.Tabulate.{length-tabulate, getD-tabulate}
 use Rattle.sc.specs.Local.{Local, eval, skipped, settle}
 use Rattle.accesses.specs.declared.local.Turn.{Turn}
 use Rattle.accesses.specs.Turns.{going, failing, turnOf, localOf}

@@ -5,7 +5,7 @@ use crate::local::with_register;
 use program::Instruction;
 use std::num::wrapping_add_u32;
 ghost use mathlib.Core.Path.{_≡_};
-ghost use lib.ListN.{getD, set};
+ghost use lib.ListN.{getD};
 ghost use Rattle.accesses.specs.Turns.{accessing, accessOf};
 
 // Its location, whether it reads (1 or 0), the registers behind it, whether it writes (1 or 0) and what.

@@ -10,14 +10,14 @@ use crate::local::register_at;
 use crate::local::value;
 use crate::local::wide;
 use crate::local::with_register;
-use decoder::operand_at;
 use program::Operand;
+use rows::operand_at;
 use std::num::wrapping_add_u32;
 ghost use mathlib.Core.Path.{_≡_};
 ghost use mathlib.Core.List.{[], _∷_};
 ghost use Prim.Native.Nat.{_<_};
 ghost use Rattle.program.specs.declared.instruction.Instruction.the-variants.{Assign, AddAssign, SkipUnless, Assert};
-ghost use Rattle.decoder.specs.Compiled.{instructionAt};
+ghost use Rattle.rows.specs.Rows.{instructionAt};
 ghost use Rattle.sc.specs.Local.{beginsWithAccess};
 ghost use Rattle.accesses.specs.Turns.{turnOf, accessOf};
 

@@ -1,7 +1,6 @@
 // A thread by itself: its four registers, the value of an operand, and what an instruction can do that is no access.
 use program::Operand;
 ghost use mathlib.Core.Path.{_≡_};
-ghost use Prim.Native.Nat.{_+_, _*_, _<_, _≤_};
 ghost use mathlib.Core.Bool.{cond};
 ghost use lib.Dec.{eqb};
 ghost use lib.ListN.{getD, set};

@@ -6,7 +6,7 @@ use crate::thread::ThreadState;
 ghost use mathlib.Core.Path.{_≡_};
 ghost use Prim.Native.Nat.{_+_, _*_, _<_, _≤_};
 ghost use lib.ListN.{drop};
-ghost use Rattle.decoder.specs.Compiled.{threadCode};
+ghost use Rattle.rows.specs.Rows.{threadCode};
 ghost use Rattle.sc.specs.Local.{settle};
 ghost use Rattle.accesses.specs.Turns.{localOf};
 

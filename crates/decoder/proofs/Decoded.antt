@@ -8,7 +8,8 @@ use Rattle.decoder.specs.declared.file.Compiled.{Compiled}
 use Rattle.decoder.specs.declared.file.Verdict.{Verdict}
 use Rattle.decoder.specs.declared.file.Verdict.the-variants.{Accepted, Refused}
 use Rattle.program.specs.Decode.{accepted, refused, decode}
-use Rattle.decoder.specs.Compiled.{tabulate, membersOf, programOf, answerOf, verdictOf}
+use Rattle.decoder.specs.Compiled.{membersOf, programOf, answerOf, verdictOf}
+use Rattle.rows.specs.Rows.{tabulate}
 use Rattle.program.proofs.AcceptedWellFormed.{accepted-well-formed}
 
 module _ (a : Answer) (file : List ℕ) (e : answerOf a ≡ decode file) where

@@ -12,7 +12,8 @@ use borrow.Author.Tests.{eqb-true, eqb-false, ltb-true, ltb-false}
 use Rattle.decoder.specs.declared.counts.Counts.{Counts}
 use Rattle.program.specs.Frames.{Frame, byte, known, declares, isAccess}
 use Rattle.program.specs.Decode.{Placed, Reading, threadAt, lastThread, allAccessesIn, frameRefusal, after}
-use Rattle.decoder.specs.Held.{Written, extendedCounts, noInstruction, frameAt, lineAt, Holds, Lined}
+use Rattle.decoder.specs.Held.{extendedCounts, noInstruction, frameAt, lineAt, Holds, Lined}
+use Rattle.rows.specs.Bytes.{Written}
 use Rattle.program.proofs.AccessCounts.{accesses-snoc, all-accesses-set}
 use Rattle.program.proofs.Sound.{passes}
 use Rattle.decoder.proofs.HeldAfter.{first-instruction, passes-extended}

@@ -3,7 +3,7 @@ use Prim.Native.Nat.{ℕ, _+_, _*_, _/_, _%_, _≤_, _<_}
 use native.Mathlib.Omega.{arith}
 use native.Mathlib.Nat.{div-add-mod'}
 use mathlib.Core.Path.{_≡_, refl, _∙_, ap, sym}
-use mathlib.Core.Bool.{Bool, true, false}
+use mathlib.Core.Bool.{true}
 use mathlib.Core.List.{List, [], _∷_}
 use lib.Dec.{eqb}
 use lib.ListN.{length, getD, length-map, List·getD-map}
@@ -16,7 +16,7 @@ use Rattle.decoder.specs.Held.{codeAgrees, noInstruction, frameAt, Bound
 use Rattle.program.proofs.Tests.{both, equal-tests}
 use Rattle.program.proofs.GroupLines.{framesOf, same-frames}
 use Rattle.program.proofs.FrameBytes.{sizes-same}
-use Rattle.decoder.proofs.Agree.{agree-true, agree-all}
+use Rattle.rows.proofs.Agree.{agree-true, agree-all}
 
 -- the same frames are the same code
 same-itself : (xs : List ℕ) → same xs xs ≡ true

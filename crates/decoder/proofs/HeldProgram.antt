@@ -10,13 +10,14 @@ use Rattle.program.specs.declared.instruction.Instruction.{Instruction}
 use Rattle.decoder.specs.declared.counts.Counts.{Counts}
 use Rattle.program.specs.Frames.{instruction}
 use Rattle.program.specs.Decode.{Placed, Reading, threadAt, programIn}
-use Rattle.decoder.specs.Compiled.{tabulate, rowAt, instructionAt, threadCode, membersOf, programOf}
+use Rattle.decoder.specs.Compiled.{membersOf, programOf}
+use Rattle.rows.specs.Rows.{tabulate, rowAt, instructionAt, threadCode}
 use Rattle.program.specs.WellFormed.{Everywhere, Ascending}
 use Rattle.decoder.specs.Held.{Holds, Grouped, noInstruction, frameAt}
 use Rattle.program.proofs.Everywhere.{everywhere-getD, everywhere-weaken}
 use Rattle.program.proofs.FrameBytes.{instruction-same}
-use Rattle.decoder.proofs.Rows.{row-byte}
-use Rattle.decoder.proofs.Tabulate.{tabulate-members}
+use Rattle.rows.proofs.Rows.{row-byte}
+use Rattle.rows.proofs.Tabulate.{tabulate-members}
 use Rattle.decoder.proofs.Classes.{select-members, class-among}
 
 -- the instruction of a placed frame

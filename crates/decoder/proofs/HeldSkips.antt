@@ -2,37 +2,20 @@
 use Prim.Native.Nat.{ℕ, suc, _+_, _*_, _-_, _≤_, _<_}
 use native.Mathlib.Numerals.{add-one}
 use native.Mathlib.Omega.{arith}
-use mathlib.Core.Path.{_≡_, refl, _∙_, ap, sym}
-use mathlib.Core.Bool.{Bool, true, false, cond, _||_, or-false}
+use mathlib.Core.Path.{_≡_, _∙_, ap, sym}
+use mathlib.Core.Bool.{cond}
 use mathlib.Core.List.{List, []}
 use lib.Dec.{eqb, ltb, lit<}
 use lib.ListN.{length, getD, drop, length-drop, drop-of-length-le}
 use lib.Seq.{drop-cons}
 use borrow.Author.Tests.{eq-eqb, ne-eqb, lt-ltb, le-ltb}
-use Rattle.program.specs.declared.kind.Kind.{Kind}
-use Rattle.program.specs.Kinds.{kinds, find, kindOf}
+use Rattle.program.specs.Kinds.{kindOf}
 use Rattle.program.specs.Frames.{Frame, byte, kind, skipOf}
-use Rattle.decoder.specs.Compiled.{rowAt}
+use Rattle.rows.specs.Rows.{rowAt}
 use Rattle.program.specs.Decode.{Placed, farSkip, firstFarSkip}
 use Rattle.decoder.specs.Held.{noInstruction, HeldThread}
-use Rattle.program.proofs.KindTable.{everyRow, kind-rule, kind-bounds, kind-byte}
-use Rattle.decoder.proofs.Rows.{row-byte}
-
--- only `22` skips
-skips : Kind → Bool
-skips k = eqb (k .skip) 0 || eqb (k .byte) 0x22
-
-pub no-skip : (f : Frame) → (byte f 0 ≡ 0x22 → ⊥) → skipOf f ≡ 0
-unfolding skipOf kind everyRow skips kinds
-no-skip f h =
-    let t : skips (kindOf (byte f 0)) ≡ true = kind-rule skips (byte f 0) refl refl in
-    let n : eqb (kindOf (byte f 0) .byte) 0x22 ≡ false = ap (λ (b : ℕ). eqb b 0x22) (kind-byte (byte f 0)) ∙ ne-eqb (byte f 0) 0x22 h in
-    let z : eqb (kindOf (byte f 0) .skip) 0 ≡ true = sym (or-false (eqb (kindOf (byte f 0) .skip) 0)) ∙ rw n at t in
-    rw z
-
-pub one-skip : (f : Frame) → byte f 0 ≡ 0x22 → skipOf f ≡ byte f 7
-unfolding skipOf kind kindOf find kinds
-one-skip f e = rw e
+use Rattle.program.proofs.KindTable.{kind-bounds}
+use Rattle.rows.proofs.Rows.{row-byte}
 
 skip-same : (f g : Frame) → ((j : ℕ) → j < 16 → byte f j ≡ byte g j) → skipOf f ≡ skipOf g
 unfolding skipOf kind

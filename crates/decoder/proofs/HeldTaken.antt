@@ -8,7 +8,8 @@ use Rattle.lines.specs.Frame.{pairs}
 use Rattle.decoder.specs.declared.counts.Counts.{Counts}
 use Rattle.program.specs.Frames.{byte}
 use Rattle.program.specs.Decode.{after}
-use Rattle.decoder.specs.Held.{openedCounts, groupedCounts, extendedCounts, Bounded, Written, Holds, Taken}
+use Rattle.decoder.specs.Held.{openedCounts, groupedCounts, extendedCounts, Bounded, Holds, Taken}
+use Rattle.rows.specs.Bytes.{Written}
 use Rattle.decoder.proofs.HeldAfter.{held-opened, lined-opened}
 use Rattle.decoder.proofs.HeldAfterGroup.{held-grouped, lined-grouped}
 use Rattle.decoder.proofs.HeldAfterInstruction.{held-extended, lined-extended}

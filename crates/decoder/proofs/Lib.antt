@@ -1,13 +1,8 @@
 -- The laws, in the order in which they rest on each other.
 -- what the decoder's answer says of the file
 pub mod Decoded
--- How the decoder's functions meet the definitions.
--- the sixteen bytes of a row, as they stand in the code
-pub mod Rows
 -- the length of the frame on a line
 pub mod Lengths
--- stretches of the code that agree
-pub mod Agree
 -- threads of the same code
 pub mod HeldCode
 -- members of a `02` line, by the counts
@@ -24,13 +19,11 @@ pub mod HeldAfterPlace
 pub mod HeldAfterInstruction
 -- skips beyond a thread's end, as the rows hold them
 pub mod HeldSkips
--- lists by their members' numbers
-pub mod Tabulate
 -- groups by the numbers of their members
 pub mod Classes
 -- the compiled program is the one that was read
 pub mod HeldProgram
--- bytes written into the code
+-- members marked
 pub mod HeldWrite
 -- what a line that passes leaves
 pub mod HeldTaken

@@ -1,35 +1,24 @@
 -- How the decoder's arrays and counts hold what has been read of a file. For the decoder's own functions: nothing here is needed to read `decode`.
-use Prim.Native.Nat.{ℕ, zero, suc, _+_, _-_, _*_, _≤_, _<_}
+use Prim.Native.Nat.{ℕ, suc, _+_, _-_, _*_, _≤_, _<_}
 use mathlib.Core.Path.{_≡_}
-use mathlib.Core.Logic.{_⊎_}
 use mathlib.Core.Bool.{Bool, true, false, cond, _&&_}
-use mathlib.Core.List.{List, [], _∷_, List·Memᴰ}
+use mathlib.Core.List.{List, [], _∷_}
 use lib.Dec.{eqb, ltb, leb}
 use lib.ListN.{length, getD, set, replicate}
 use Rattle.lines.specs.Frame.{pairs}
 use Rattle.decoder.specs.declared.counts.Counts.{Counts}
 use Rattle.program.specs.WellFormed.{Everywhere, Ascending, Apart}
 use Rattle.program.specs.Frames.{Frame, byte, known, declares}
+use Rattle.rows.specs.Bytes.{agree}
 use Rattle.program.specs.Decode.{Placed, Reading, threadAt, allAccessesIn, among, frameRefusal, after}
 
 -- before the first line
 abbrev pub nothing : Counts
 nothing = record { threads = 0; lengths = replicate 6 0; accesses = 0; groups = 0; class = replicate 6 0 }
 
--- whether the n bytes from a on and those from b on are the same
-unfoldable pub agree : List ℕ → ℕ → ℕ → ℕ → Bool
-agree code a b zero = true
-agree code a b (suc n) = eqb (getD code a 0) (getD code b 0) && agree code (a + 1) (b + 1) n
-
 -- whether threads t and u have the same number of instructions and the same bytes
 abbrev pub codeAgrees : List ℕ → List ℕ → ℕ → ℕ → Bool
 codeAgrees code lengths t u = eqb (getD lengths t 0) (getD lengths u 0) && agree code (t * 256) (u * 256) (getD lengths t 0 * 16)
-
--- n bytes of f from position at on, all else as it was
-pub record Written (old : List ℕ) (at : ℕ) (f : List ℕ) (n : ℕ) (new : List ℕ) : Type 0 where
-  pub size : length new ≡ length old
-  pub inside : (j : ℕ) → j < n → getD new (at + j) 0 ≡ getD f j 0
-  pub outside : (k : ℕ) → (k < at) ⊎ (at + n ≤ k) → getD new k 0 ≡ getD old k 0
 
 -- refusals 5 and 6 by the counts, for a thread and for an instruction
 abbrev pub openingRefusal : Counts → ℕ

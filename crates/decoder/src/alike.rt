@@ -1,12 +1,10 @@
 // Whether the members of a `02` line exist, ascend, stand in no earlier one and have the same code: refusal 8.
 use crate::counts::Counts;
 use crate::counts::is_free;
-use crate::field::field;
-use crate::row::same_bytes;
+use rows::field;
+use rows::same_bytes;
 ghost use mathlib.Core.Path.{_≡_};
 ghost use Prim.Native.Nat.{_+_, _*_, _<_, _≤_};
-ghost use mathlib.Core.Bool.{_&&_};
-ghost use lib.Dec.{eqb};
 ghost use lib.ListN.{getD, length, drop};
 ghost use Rattle.lines.specs.Frame.{pairs};
 ghost use Rattle.program.specs.Decode.{Reading, membersFit};

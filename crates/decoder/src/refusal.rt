@@ -1,9 +1,9 @@
 // The number by which a line's frame is refused: 3, 4, 5, 6 or 8, and 0 where it passes.
 use crate::alike::members_fit;
 use crate::counts::Counts;
-use crate::field::field;
-use crate::field::in_range;
-use crate::kinds::kind_of;
+use rows::field;
+use rows::in_range;
+use rows::kind_of;
 ghost use mathlib.Core.Path.{_≡_};
 ghost use Prim.Native.Nat.{_<_, _≤_};
 ghost use mathlib.Core.Bool.{_&&_};

@@ -1,5 +1,5 @@
 // The first skip that goes beyond its thread's end: refusal 7.
-use crate::row::skip_at;
+use rows::skip_at;
 ghost use mathlib.Core.Path.{_≡_};
 ghost use Prim.Native.Nat.{ℕ, _+_, _*_, _<_, _≤_};
 ghost use mathlib.Core.List.{List};

@@ -1,11 +1,11 @@
 // What has been read once a line has passed: a thread more, a group more, or an instruction more in the thread last opened.
 use crate::counts::Counts;
-use crate::field::field;
 use crate::refusal::is_access;
-use crate::row::put_row;
+use rows::field;
+use rows::put_row;
 ghost use mathlib.Core.Path.{_≡_};
-ghost use Prim.Native.Nat.{ℕ, _+_, _*_, _-_, _<_, _≤_};
-ghost use lib.ListN.{length, getD, set, drop, take};
+ghost use Prim.Native.Nat.{_+_, _*_, _-_, _<_, _≤_};
+ghost use lib.ListN.{length, drop};
 ghost use Rattle.lines.specs.Frame.{pairs};
 ghost use Rattle.decoder.specs.Held.{Bounded, marked, openedCounts, groupedCounts, extendedCounts, Passes, Taken};
 

@@ -27,7 +27,7 @@ use Rattle.list.specs.Answers.{failing, Counts}
 use Rattle.list.specs.Search.{sought}
 use Rattle.walker.specs.Bounds.{boundAt}
 use Rattle.walker.specs.Walked.{Numbered}
-use Rattle.pruning.specs.declared.permitted_numbers.Permitted.{Permitted}
+use Rattle.pruning.specs.declared.permitting.Permitted.{Permitted}
 use Rattle.walker.specs.Rows.{rowBytes, rowOf, Shown}
 use Rattle.listing.specs.Printed.{scheduleFrame, countFrame, printedFrames}
 use Rattle.list.proofs.Walk.{sought-on}

@@ -7,7 +7,7 @@ use crate::frames::steps_of;
 use decoder::Compiled;
 use decoder::Verdict;
 use pruning::Permitted;
-use pruning::permitted;
+use pruning::permitted_numbers;
 use walker::listed_rows;
 ghost use mathlib.Core.Path.{_≡_};
 ghost use mathlib.Core.Bool.{false};
@@ -67,7 +67,7 @@ pub(crate) fn begin(file: &[u8]) -> Listing
     let a = decoder::decode(file);
     let program = a.program;
     let class = program.class;
-    let numbers = permitted(class, program.groups);
+    let numbers = permitted_numbers(class, program.groups);
     let v = a.verdict;
     match v {
         Verdict::Refused(n, k) => unprinted(Stage::Refused(n, k), program, numbers),

@@ -3,7 +3,7 @@
 use Prim.Native.Nat.{ℕ, _+_, _*_, _≤_, _<_}
 use mathlib.Core.Path.{_≡_}
 use mathlib.Core.Logic.{_⊎_}
-use mathlib.Core.Bool.{Bool, true, false, cond, not}
+use mathlib.Core.Bool.{true, cond, not}
 use mathlib.Core.List.{List, [], _∷_, reverse}
 use lib.Dec.{eqb, ltb}
 use lib.ListN.{length, getD, set, replicate}
@@ -15,7 +15,7 @@ use Rattle.graph_reader.specs.declared.table.Table.{Table}
 use Rattle.graph_reader.specs.declared.text.Verdict.{Verdict}
 use Rattle.graph_reader.specs.declared.text.Verdict.the-variants.{Passed, Refused}
 use Rattle.consistent.specs.Consistent.{rowOf, orderOf}
-use Rattle.consistent.specs.Reading.{Frame, byteAt, isRead, writesIn, known, inRange, key, Reading, written, refusal, after, Parsed, parsed, refusedAt}
+use Rattle.consistent.specs.Reading.{Frame, byteAt, isRead, known, inRange, key, Reading, written, refusal, after, Parsed, parsed, refusedAt}
 
 -- what stands where a graph has no line: no event and no source
 unfoldable pub noLine : Event

@@ -8,7 +8,7 @@ ghost use mathlib.Core.Bool.{true};
 ghost use lib.ListN.{length};
 ghost use Rattle.lines.specs.Frame.{pairs};
 ghost use Rattle.schedules.specs.Lists.{all};
-ghost use Rattle.consistent.specs.Reading.{byteAt, writesIn, known, isEvent, inRange};
+ghost use Rattle.consistent.specs.Reading.{byteAt, writesIn, isEvent};
 ghost use Rattle.graph_reader.specs.Held.{readTable, markedBy, byteOr, Ordered, Passes, Taken};
 
 // With the source that a `40` line gives.

@@ -4,7 +4,6 @@ use crate::refusal::refusal;
 use crate::table::Table;
 use crate::table::empty;
 use crate::taken::taken;
-ghost use mathlib.Core.Path.{_≡_};
 ghost use Prim.Native.Nat.{_≤_};
 ghost use Rattle.consistent.specs.Reading.{readGraph};
 ghost use Rattle.graph_reader.specs.Held.{ReadAs};

@@ -6,7 +6,7 @@ use mathlib.Core.Path.{_≡_, refl, sym, ap, _∙_}
 use mathlib.Core.Logic.{inl}
 use mathlib.Core.List.{List, [], _∷_, _++_}
 use lib.ListN.{length, getD, length-append, List·getD-append}
-use Rattle.decoder.specs.Held.{Written}
+use Rattle.rows.specs.Bytes.{Written}
 use Rattle.graph_writer.specs.Notes.{Note, noNote, noteBytes, Noted}
 
 getD-last : (ns : List Note) (n d : Note) → getD (ns ++ (n ∷ [])) (length ns) d ≡ n

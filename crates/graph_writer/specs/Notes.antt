@@ -1,7 +1,7 @@
 -- What the code keeps of a run: a note of eight bytes for each step. Everything that a graph says can be read off the notes.
 use Prim.Native.Nat.{ℕ, _+_, _*_, _<_, _≤_}
 use mathlib.Core.Path.{_≡_}
-use mathlib.Core.Bool.{Bool, true, false, cond}
+use mathlib.Core.Bool.{Bool, false, cond}
 use mathlib.Core.List.{List, [], _∷_}
 use lib.ListN.{length, getD}
 use Rattle.schedules.specs.Order.{Schedule}

@@ -29,7 +29,7 @@ use Rattle.consistent.specs.Reading.{Parsed, parsed, refusedAt, readGraph}
 use Rattle.consistent.specs.Answer as spec
 use Rattle.graph_reader.specs.Held.{Tabled, ReadAs}
 use Rattle.judge.specs.Call.{outcomeOf, JudgedAs}
-use Rattle.judge.proofs.HeldRoundTurns.{six-held}
+use Rattle.rounds.proofs.HeldRoundTurns.{six-held}
 
 -- two arrays, compared number by number
 pub agree-more : (a b : List ℕ) (k : ℕ) → ((j : ℕ) → j < k → getD a j 0 ≡ getD b j 0) → getD a k 0 ≡ getD b k 0 → (j : ℕ) → j < k + 1 → getD a j 0 ≡ getD b j 0

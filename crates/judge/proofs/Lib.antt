@@ -1,8 +1,4 @@
 -- The laws, in the order in which they rest on each other.
--- the rounds' code: a thread by itself on the machine, a round access after access, the values of 24 rounds
-pub mod HeldAlone
-pub mod HeldRoundTurns
-pub mod HeldValues
 -- the walk's code: reads that wait, and whether a step fits, by the tables
 pub mod EntriesWait
 pub mod AllowedSteps

@@ -1,8 +1,6 @@
 -- What a reader of this crate must believe, in reading order.
 -- the answer as the call hands it over
 pub mod Call
--- how they hold a thread that runs by itself, and a round
-pub mod HeldRounds
 -- what the walk goes by
 pub mod HeldWalk
 -- what the walk leaves

@@ -1,11 +1,10 @@
 // Whether the graph allows a step, by the step's note.
-use crate::by_itself::wide;
 use crate::waiting::none_waits;
 use machine::Machine;
+use rounds::wide;
 ghost use mathlib.Core.Path.{_≡_};
 ghost use Prim.Native.Nat.{ℕ, _<_, _≤_};
 ghost use mathlib.Core.Bool.{true};
-ghost use mathlib.Core.List.{List};
 ghost use lib.ListN.{getD};
 ghost use Rattle.sc.specs.State.{State, may};
 ghost use Rattle.sc.specs.Graph.{Graph};

@@ -1,9 +1,9 @@
 // The judge: the walk, and the comparison of the graph that it made with the one that was given.
 use crate::comparing::same_counts;
 use crate::comparing::same_pairs;
-use crate::valuing::places;
 use crate::walking::walked;
 use machine::ended_all;
+use rounds::places;
 ghost use mathlib.Core.Path.{_≡_};
 ghost use mathlib.Core.Bool.{false};
 ghost use mathlib.Core.List.{List};

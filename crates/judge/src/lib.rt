@@ -1,9 +1,5 @@
-// The judge's functions: rounds, the walk, the comparison, and the call.
+// The judge's functions: the walk, the comparison, and the call.
 
-// A thread by itself.
-mod by_itself;
-// The rounds.
-mod valuing;
 // Reads that wait for a write.
 mod waiting;
 // Whether the graph allows a step.

@@ -5,7 +5,6 @@ use crate::making::with_source;
 use machine::Machine;
 use machine::started;
 use machine::step;
-ghost use mathlib.Core.Path.{_≡_};
 ghost use Rattle.program.specs.Program.{Program};
 ghost use Rattle.sc.specs.Graph.{Graph};
 ghost use Rattle.judge.specs.HeldYes.{Given, Walked};

@@ -18,10 +18,10 @@ use Rattle.schedules.proofs.First.{head-cons, head-keep}
 use Rattle.schedules.proofs.After.{after-none, offer-after}
 use Rattle.schedules.proofs.Offered as Offered
 use Rattle.schedules.proofs.Offered.{content-found, content-nomore, content-refused}
-use Rattle.machine.specs.Held.{HoldsRun}
-use Rattle.machine.proofs.Verdicts.{verdict-whole, verdict-refused}
-use Rattle.machine.specs.declared.replaying.Run.{Run}
-use Rattle.machine.specs.declared.replaying.Verdict.the-variants.{Whole, Refused}
+use Rattle.replay.specs.Carried.{HoldsRun}
+use Rattle.replay.proofs.Verdicts.{verdict-whole, verdict-refused}
+use Rattle.replay.specs.declared.replaying.Run.{Run}
+use Rattle.replay.specs.declared.replaying.Verdict.the-variants.{Whole, Refused}
 use Rattle.listing.specs.declared.calling.ListAnswer.{ListAnswer}
 use Rattle.list.specs.Answers.{startOf, continued, continueOf, failing, Violation, refused-by, violationBy, violationContent, violationOf}
 use Rattle.listing.specs.OnFile.{startOn, startFile, continueOn, continueFile, violationOn, violationFile}

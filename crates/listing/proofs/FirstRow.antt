@@ -12,7 +12,7 @@ use Rattle.lines.specs.Over.{over}
 use Rattle.lines.proofs.Over.{over-whole, over-more}
 use Rattle.program.specs.Program.{Program}
 use Rattle.program.specs.WellFormed.{WellFormed}
-use Rattle.decoder.proofs.Tabulate.{take-tabulate, tabulate-getD}
+use Rattle.rows.proofs.Tabulate.{take-tabulate, tabulate-getD}
 use Rattle.schedules.specs.Lists.{headOf}
 use Rattle.schedules.specs.Order.{Schedule}
 use Rattle.schedules.specs.Found.{after}

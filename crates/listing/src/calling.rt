@@ -1,12 +1,11 @@
 // The calls that give a schedule: start, continue, violation.
 use decoder::Compiled;
-use machine::Verdict;
-use machine::replayed;
 use pruning::permitted_numbers;
 use pruning::wide;
+use replay::Verdict;
+use replay::replayed;
 use walker::listed_rows;
 ghost use mathlib.Core.Path.{_≡_};
-ghost use mathlib.Core.List.{List};
 ghost use Prim.Native.Nat.{_+_, _≤_};
 ghost use lib.ListN.{length, take, drop};
 ghost use Rattle.lines.specs.Over.{over};

@@ -10,7 +10,7 @@ use lib.ListN.{getD, drop, List·getD-eq-default}
 use borrow.Author.Tests.{ltb-true}
 use Rattle.program.specs.declared.instruction.Instruction.{Instruction}
 use Rattle.program.specs.declared.instruction.Instruction.the-variants.{Store, Load, FetchAdd, CompareSwap, Assign, AddAssign, SkipUnless, Assert}
-use Rattle.decoder.specs.Compiled.{instructionAt, threadCode}
+use Rattle.rows.specs.Rows.{instructionAt, threadCode}
 use Rattle.schedules.specs.Lists.{any}
 use Rattle.accesses.specs.declared.accessing.Access.{Access}
 use Rattle.machine.specs.declared.state.Machine.{Machine}

@@ -1,23 +1,24 @@
 -- The state before the first step: each thread carried to its first access, memory at its initial values.
-use Prim.Native.Nat.{ℕ, zero, suc, _+_, _<_, _≤_}
+use Prim.Native.Nat.{ℕ, _+_, _<_, _≤_}
 use native.Mathlib.Omega.{arith}
 use native.Mathlib.Decide.{ℕ-discrete}
 use mathlib.Core.Path.{_≡_, refl, sym, ap, subst, _∙_}
 use mathlib.Core.Bool.{false}
-use mathlib.Core.List.{List, [], _∷_, map}
+use mathlib.Core.List.{List, []}
 use lib.ListN.{length, getD, set, drop, replicate, length-replicate, getD-replicate}
 use lib.Seq.{getD-set-same, getD-set-other}
 use Rattle.program.specs.declared.instruction.Instruction.{Instruction}
 use Rattle.program.specs.Program.{Program, codeOf, initial}
 use Rattle.program.specs.WellFormed.{WellFormed}
 use Rattle.decoder.specs.declared.file.Compiled.{Compiled}
-use Rattle.decoder.specs.Compiled.{threadCode, programOf}
-use Rattle.decoder.proofs.Tabulate.{length-tabulate, getD-tabulate}
+use Rattle.decoder.specs.Compiled.{programOf}
+use Rattle.rows.specs.Rows.{threadCode}
+use Rattle.rows.proofs.Tabulate.{length-tabulate, getD-tabulate}
 use Rattle.program.proofs.Everywhere.{everywhere-getD}
 use Rattle.accesses.specs.declared.thread.ThreadState.{ThreadState}
 use Rattle.machine.specs.declared.state.LastWrite.{LastWrite}
 use Rattle.sc.specs.Local.{Local, settle, begin}
-use Rattle.sc.specs.State.{Thread, noThread, threadOf, cellOf, latest, initialWrite, opened, start}
+use Rattle.sc.specs.State.{Thread, noThread, threadOf, latest, initialWrite, opened, start}
 use Rattle.accesses.specs.Turns.{localOf}
 use Rattle.machine.specs.Held.{idle, unwritten, eventOf, HoldsAt, Holds, Loaded}
 use Rattle.sc.proofs.Access.{begin-law}

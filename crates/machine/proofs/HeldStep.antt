@@ -13,7 +13,7 @@ use lib.ListN.{length, getD, set, drop, length-drop, length-set}
 use lib.Seq.{getD-set-other, getD-set-same, set-getD}
 use borrow.Author.Tests.{eq-eqb, ne-eqb, eqb-true}
 use Rattle.program.specs.declared.instruction.Instruction.{Instruction}
-use Rattle.decoder.specs.Compiled.{instructionAt, threadCode}
+use Rattle.rows.specs.Rows.{instructionAt, threadCode}
 use Rattle.accesses.specs.declared.accessing.Access.{Access}
 use Rattle.accesses.specs.declared.thread.ThreadState.{ThreadState}
 use Rattle.machine.specs.declared.state.LastWrite.{LastWrite}

@@ -7,9 +7,3 @@ pub mod HeldNext
 pub mod HeldStep
 -- the state before the first step
 pub mod HeldStart
--- a schedule carried out
-pub mod HeldReplay
--- what its verdict says of its replay
-pub mod Verdicts
--- what the graph call answers
-pub mod GraphCalled

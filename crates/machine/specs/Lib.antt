@@ -1,4 +1,2 @@
 -- What a reader of this crate must believe, in reading order.
--- its answer as the code gives it
-pub mod GraphWord
 pub mod Held

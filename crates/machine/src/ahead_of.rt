@@ -1,13 +1,13 @@
 // What the code left to a thread could still do: its next access, and whether it could meet another's.
 use accesses::accessed;
-use decoder::instruction_at;
 use program::Instruction;
+use rows::instruction_at;
 ghost use mathlib.Core.Path.{_≡_};
 ghost use mathlib.Core.Bool.{true};
 ghost use mathlib.Core.List.{List, [], _∷_};
 ghost use Prim.Native.Nat.{ℕ, _<_, _≤_};
 ghost use lib.ListN.{drop};
-ghost use Rattle.decoder.specs.Compiled.{threadCode};
+ghost use Rattle.rows.specs.Rows.{threadCode};
 ghost use Rattle.schedules.specs.Lists.{any};
 ghost use Rattle.machine.specs.declared.state.Machine.{Machine};
 ghost use Rattle.sc.specs.State.{State, threadOf, place, may};

@@ -1,4 +1,4 @@
-// The machine's functions: its state, a step, a schedule carried out, and the graph call.
+// The machine's functions: its state, the state before the first step, a step, and what may be asked of a state.
 
 // The machine's state: threads, memory, last writes.
 mod state;
@@ -10,10 +10,6 @@ mod starting;
 mod asking;
 // What the code left to a thread could still do.
 mod ahead_of;
-// A schedule carried out.
-mod replaying;
-// The graph call.
-mod graph_call;
 
 pub use ahead_of::NextAccess;
 pub use ahead_of::could_meet;
@@ -21,11 +17,6 @@ pub use ahead_of::next_access;
 pub use asking::ended_all;
 pub use asking::fails;
 pub use asking::may;
-pub use graph_call::GraphAnswer;
-pub use graph_call::graph;
-pub use replaying::Run;
-pub use replaying::Verdict;
-pub use replaying::replayed;
 pub use starting::started;
 pub use state::LastWrite;
 pub use state::Machine;

@@ -4,6 +4,8 @@
 pub mod AcceptedWellFormed
 -- the table of kinds, as rules for every first byte
 pub mod KindTable
+-- which frames skip
+pub mod Skips
 -- frames that agree on their first bytes
 pub mod FrameBytes
 -- frames of instructions

@@ -10,7 +10,7 @@ use borrow.Author.Tests.{eqb-true, eqb-false}
 use Rattle.decoder.specs.declared.file.Compiled.{Compiled}
 use Rattle.program.specs.Program.{Program}
 use Rattle.decoder.specs.Compiled.{membersOf, programOf}
-use Rattle.decoder.proofs.Tabulate.{in-tabulate, of-tabulate}
+use Rattle.rows.proofs.Tabulate.{in-tabulate, of-tabulate}
 use Rattle.decoder.proofs.Classes.{in-members, of-members}
 use Rattle.decoder.proofs.Decoded.{decoded-groups}
 use Rattle.list.specs.ListOf.{together}

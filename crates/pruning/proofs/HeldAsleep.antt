@@ -8,7 +8,7 @@ use native.Mathlib.Omega.{arith}
 use lib.ListN.{length, getD, drop}
 use borrow.Author.Tests.{eq-eqb, ne-eqb}
 use Rattle.program.specs.Program.{Program}
-use Rattle.decoder.specs.Compiled.{threadCode}
+use Rattle.rows.specs.Rows.{threadCode}
 use Rattle.schedules.specs.Lists.{upTo, any}
 use Rattle.schedules.specs.Order.{Schedule}
 use Rattle.schedules.specs.System.{run}

@@ -11,11 +11,5 @@ pub mod Numbers
 pub mod ReachedStep
 -- R1 behind such a prefix
 pub mod ReachedLate
--- R2 by the notes: what a thread wrote
-pub mod SilentNotes
--- R2 on the arrays of the search
-pub mod HeldTwins
--- R2 as loops in code meet it
-pub mod TwinTurns
 -- R3 read off the machine
 pub mod HeldAsleep

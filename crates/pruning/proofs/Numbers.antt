@@ -5,7 +5,7 @@ use mathlib.Core.Bool.{Bool, true, false}
 use mathlib.Core.List.{List, [], _∷_, _++_, append-assoc, append-nil, List·Memᴰ·not-nil}
 use native.Mathlib.Omega.{arith}
 use native.Mathlib.Numerals.{add-one}
-use lib.ListN.{length, getD, set, take}
+use lib.ListN.{length, set, take}
 use lib.Seq.{take-suc-set}
 use Rattle.schedules.specs.Lists.{upTo, all, keep}
 use Rattle.schedules.proofs.Lists.{upTo-suc, all-of, all-yes, all-no, keep-yes, keep-no}

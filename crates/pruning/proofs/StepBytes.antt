@@ -16,8 +16,7 @@ use Rattle.graph_writer.proofs.NoteGraph.{noted-thread, noted-location, noted-w
 use Rattle.graph_writer.proofs.NotesHeld.{note-thread, note-number, note-location, note-source, note-wrote}
 use Rattle.consistent.specs.Judge.{sameRead}
 use Rattle.consistent.proofs.Tests.{read-differs, read-sources, event-differs, event-numbers}
-use Rattle.pruning.specs.NotedSteps.{did, doing, actionAt}
-use Rattle.pruning.specs.HeldTwin.{readAt}
+use Rattle.pruning.specs.NotedSteps.{did, doing, actionAt, readAt}
 
 -- steps with the same parts are equal
 same-parts : (a b : Action) → a .thread ≡ b .thread → a .location ≡ b .location → a .wrote ≡ b .wrote → a ≡ b

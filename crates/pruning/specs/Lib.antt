@@ -5,7 +5,5 @@ pub mod NotedSteps
 pub mod ClassGroups
 -- a prefix of a run as the search's arrays hold it; for the code
 pub mod Reached
--- R2 as the code tests it
-pub mod HeldTwin
 -- whether a thread is asleep, read off the machine; for the code
 pub mod HeldSleep

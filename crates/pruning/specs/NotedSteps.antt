@@ -3,6 +3,7 @@ use Prim.Native.Nat.{ℕ}
 use mathlib.Core.Bool.{Bool}
 use mathlib.Core.List.{List, map}
 use Rattle.schedules.specs.Permutations.{moved}
+use Rattle.sc.specs.State.{Event}
 use Rattle.sc.specs.Trail.{Action}
 use Rattle.sc.specs.ExchangedTrail.{movedAction}
 use Rattle.graph_writer.specs.Notes.{Note}
@@ -27,3 +28,7 @@ actionsAt trail n = map did (notesAt trail n)
 -- what the step in place k does in the run exchanged by π
 abbrev pub exchangedAt : List ℕ → List ℕ → ℕ → Action
 exchangedAt π trail k = movedAction (moved π) (actionAt trail k)
+
+-- what the note in place k states of a read: the access's number and the write that it read from
+unfoldable pub readAt : List ℕ → ℕ → ℕ × Event
+readAt trail k = (noteAt trail k .number, noteAt trail k .source)

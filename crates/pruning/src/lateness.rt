@@ -1,7 +1,7 @@
 // R1: a step that could have been taken earlier, before one of a greater thread.
 ghost use mathlib.Core.Path.{_≡_};
 ghost use mathlib.Core.List.{List, map, reverse};
-ghost use Prim.Native.Nat.{ℕ, _<_, _≤_};
+ghost use Prim.Native.Nat.{_<_, _≤_};
 ghost use lib.ListN.{length};
 ghost use Rattle.sc.specs.Trail.{conflict};
 ghost use Rattle.graph_writer.specs.Notes.{Note, Noted};

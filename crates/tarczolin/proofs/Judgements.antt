@@ -3,7 +3,6 @@ use Prim.Native.Nat.{ℕ}
 use native.Mathlib.Omega.{arith}
 use mathlib.Core.Path.{_≡_, refl, ap}
 use lib.ListN.{length}
-use Rattle.judge.specs.declared.answering.Outcome.{Outcome}
 use Rattle.judge.specs.declared.answering.Outcome.the-variants.{Yes, No, Refused}
 use Rattle.consistent.specs.Answer.{Answer, consistent, inconsistent, refusing}
 use Rattle.judge.specs.Call.{outcomeOf}

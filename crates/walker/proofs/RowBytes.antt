@@ -9,7 +9,7 @@ use lib.ListN.{length, getD, set, take, length-map, length-take, List·getD-eq-d
 use lib.Seq.{take-suc, take-all}
 use Rattle.lines.specs.Over.{over}
 use Rattle.lines.proofs.Over.{over-snoc}
-use Rattle.decoder.proofs.Tabulate.{length-tabulate, getD-tabulate}
+use Rattle.rows.proofs.Tabulate.{length-tabulate, getD-tabulate}
 use Rattle.schedules.specs.Lists.{upTo}
 use Rattle.schedules.specs.Order.{Schedule}
 use Rattle.schedules.proofs.Lists.{upTo-length}

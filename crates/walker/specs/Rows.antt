@@ -7,7 +7,7 @@ use mathlib.Core.List.{List, _∷_, flatMap}
 use lib.ListN.{length, getD}
 use Rattle.lines.specs.Over.{over}
 use Rattle.program.specs.Program.{Program}
-use Rattle.decoder.specs.Compiled.{tabulate}
+use Rattle.rows.specs.Rows.{tabulate}
 use Rattle.schedules.specs.Order.{Schedule}
 use Rattle.list.specs.Answers.{failing}
 

@@ -2,7 +2,7 @@
 use borrow.Author.Needs.{needs}
 use mathlib.Core.Path.{_∙_}
 use borrow.Author.Tests.{eq-eqb, ne-eqb}
-use Rattle.decoder.proofs.Rows.{row-store, row-load, row-fetch-add, row-compare-swap}
+use Rattle.rows.proofs.Rows.{row-store, row-load, row-fetch-add, row-compare-swap}
 use Rattle.sc.specs.Local.{sum32}
 use Rattle.accesses.proofs.HeldRows.{access-none}
 use Rattle.accesses.proofs.by_row.accessed_at.Statement.{statement}

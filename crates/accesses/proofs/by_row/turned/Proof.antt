@@ -1,8 +1,8 @@
 -- One line for each way through `turned`.
 use borrow.Author.Needs.{needs}
 use mathlib.Core.Path.{sym, _∙_}
-use Rattle.decoder.proofs.Rows.{row-assign, row-add-assign, row-skip, row-assert, row-other}
-use Rattle.decoder.specs.Compiled.{instructionAt}
+use Rattle.rows.proofs.Rows.{row-assign, row-add-assign, row-skip, row-assert, row-other}
+use Rattle.rows.specs.Rows.{instructionAt}
 use Rattle.accesses.proofs.HeldRows.{access-turn, not-store, not-load, not-fetch-add, not-compare-swap}
 use Rattle.accesses.proofs.by_row.turned.Statement.{statement}
 use Rattle.accesses.proofs.by_row.turned.Tie as tie

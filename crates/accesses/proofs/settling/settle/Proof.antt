@@ -4,7 +4,7 @@ use borrow.Author.Needs.{needs}
 use Prim.Native.Nat.{_≤_, _-_, _+_, _*_}
 use mathlib.Core.Path.{_≡_, refl}
 use lib.ListN.{drop}
-use Rattle.decoder.specs.Compiled.{instructionAt, threadCode}
+use Rattle.rows.specs.Rows.{instructionAt, threadCode}
 use Rattle.sc.specs.Local.{settle}
 use Rattle.accesses.proofs.HeldTurns.{loop-ends, loop-stands, loop-fails, loop-goes}
 use Rattle.accesses.proofs.settling.settle.Statement.{statement}

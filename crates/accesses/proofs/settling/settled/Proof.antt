@@ -3,7 +3,7 @@ use borrow.Author.Needs.{needs}
 use Prim.Native.Nat.{_+_, _*_}
 use mathlib.Core.Path.{_≡_, refl, sym, ap, _∙_}
 use lib.ListN.{length}
-use Rattle.decoder.specs.Compiled.{instructionAt}
+use Rattle.rows.specs.Rows.{instructionAt}
 use Rattle.accesses.specs.declared.local.Turn.{Turn}
 use Rattle.accesses.specs.Turns.{turnOf}
 use Rattle.accesses.proofs.HeldRows.{same-four, access-turn}

@@ -1,10 +1,10 @@
 -- `all_events` takes the writes one after the other. The invariant: what is left decides.
 use borrow.Author.Needs.{needs}
-use Prim.Native.Nat.{_≤_, _%_, _-_}
-use mathlib.Core.Path.{_≡_, refl, _∙_, sym, ap}
+use Prim.Native.Nat.{_%_, _-_}
+use mathlib.Core.Path.{_≡_, refl, _∙_, sym}
 use borrow.Author.Tests.{not-true, not-false}
 use native.Mathlib.Omega.{arith}
-use lib.ListN.{length, drop}
+use lib.ListN.{drop}
 use Rattle.lines.specs.Frame.{pairs}
 use Rattle.schedules.specs.Lists.{all}
 use Rattle.sc.specs.Text.{eventsIn}

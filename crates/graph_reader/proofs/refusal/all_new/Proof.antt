@@ -1,7 +1,7 @@
 -- `all_new` takes the writes one after the other and marks each. The invariant: what is left decides, beside the marks so far.
 use borrow.Author.Needs.{needs}
-use Prim.Native.Nat.{_≤_, _%_, _-_, _*_, _+_}
-use mathlib.Core.Path.{_≡_, refl, _∙_, sym, ap}
+use Prim.Native.Nat.{_%_, _-_, _*_, _+_}
+use mathlib.Core.Path.{_≡_, refl, _∙_, sym}
 use mathlib.Core.Bool.{true}
 use mathlib.Core.List.{List, [], _∷_}
 use native.Mathlib.Omega.{arith}

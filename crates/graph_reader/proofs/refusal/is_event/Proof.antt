@@ -1,5 +1,4 @@
 -- `is_event` compares both numbers.
-use borrow.Author.Needs.{needs}
 use borrow.Author.Tests.{le-ltb, lt-ltb}
 use Rattle.consistent.specs.Reading.{isEvent}
 use Rattle.graph_reader.proofs.refusal.is_event.Statement.{statement}

@@ -2,7 +2,6 @@
 use borrow.Author.Needs.{needs}
 use borrow.Author.Tests.{eq-eqb, ne-eqb}
 use mathlib.Core.Path.{_∙_}
-use mathlib.Core.Bool.{and-false}
 use Rattle.consistent.specs.Reading.{isSource}
 use Rattle.sc.specs.State.{initialWrite}
 use Rattle.consistent.specs.Judge.{sameEvent}

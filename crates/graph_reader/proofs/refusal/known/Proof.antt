@@ -1,7 +1,7 @@
 -- `known` goes by the first byte, then by the length.
 use borrow.Author.Needs.{needs}
 use borrow.Author.Tests.{eq-eqb, ne-eqb, lt-leb, le-leb}
-use mathlib.Core.Path.{_∙_, sym, ap}
+use mathlib.Core.Path.{_∙_, sym}
 use Rattle.consistent.specs.Reading.{known, isRead}
 use Rattle.graph_reader.proofs.refusal.known.Statement.{statement}
 use Rattle.graph_reader.proofs.refusal.known.Tie as tie

@@ -1,7 +1,6 @@
 -- `rank` goes by the first byte.
 use borrow.Author.Needs.{needs}
 use borrow.Author.Tests.{eq-eqb, ne-eqb}
-use mathlib.Core.Path.{_∙_, sym, ap}
 use native.Mathlib.Omega.{arith}
 use Rattle.consistent.specs.Reading.{isRead}
 use Rattle.graph_reader.specs.Held.{rankOf}

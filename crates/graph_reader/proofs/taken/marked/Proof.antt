@@ -1,7 +1,7 @@
 -- `marked` takes the writes one after the other. The invariant: what is left is still to be marked.
 use borrow.Author.Needs.{needs}
-use Prim.Native.Nat.{_≤_, _%_, _-_, _*_, _+_}
-use mathlib.Core.Path.{_≡_, refl, _∙_, sym, ap}
+use Prim.Native.Nat.{_%_, _-_, _*_, _+_}
+use mathlib.Core.Path.{_≡_, refl, _∙_, sym}
 use mathlib.Core.Bool.{true}
 use native.Mathlib.Omega.{arith}
 use lib.ListN.{length, drop, length-set}

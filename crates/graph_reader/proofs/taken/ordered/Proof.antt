@@ -1,6 +1,6 @@
 -- `ordered` puts 24 entries. The invariant: the first q are put.
 use borrow.Author.Needs.{needs}
-use Prim.Native.Nat.{ℕ, _≤_, _<_, _+_, _*_, _-_}
+use Prim.Native.Nat.{ℕ, _≤_, _+_, _*_, _-_}
 use mathlib.Core.Path.{_≡_, _∙_, sym, ap₂}
 use native.Mathlib.Omega.{arith}
 use lib.ListN.{length}

@@ -1,12 +1,12 @@
 -- `taken` adds the line in one of two ways, and the table goes on holding what has been read.
 use borrow.Author.Needs.{needs}
-use Prim.Native.Nat.{_<_, _≤_, _-_, _/_}
-use mathlib.Core.Path.{_≡_, _∙_, sym, ap, subst}
+use Prim.Native.Nat.{_-_}
+use mathlib.Core.Path.{_≡_, sym, subst}
 use native.Mathlib.Omega.{arith}
-use lib.ListN.{length, set}
+use lib.ListN.{length}
 use Rattle.lines.specs.Frame.{pairs}
 use Rattle.graph_reader.specs.declared.table.Table.{Table}
-use Rattle.consistent.specs.Reading.{Reading, refusal, after}
+use Rattle.consistent.specs.Reading.{after}
 use Rattle.graph_reader.specs.Held.{Holds}
 use Rattle.graph_reader.proofs.Ranks.{is-read, not-read, read-range, write-range, write-shape, events-six}
 use Rattle.graph_reader.proofs.HeldAfter.{held-read}

@@ -1,9 +1,6 @@
 -- `with_read` puts one entry.
 use borrow.Author.Needs.{needs}
-use Prim.Native.Nat.{_+_, _*_}
-use mathlib.Core.Path.{_∙_, sym}
 use native.Mathlib.Omega.{arith}
-use Rattle.lines.specs.Frame.{pairs}
 use Rattle.graph_reader.proofs.taken.with_read.Statement.{statement}
 use Rattle.graph_reader.proofs.taken.with_read.Tie as tie
 

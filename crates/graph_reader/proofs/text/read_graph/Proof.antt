@@ -1,7 +1,6 @@
 -- `read_graph` reads the lines in order. The invariant: what has been read and what is left make the answer.
 use borrow.Author.Needs.{needs}
-use Prim.Native.Nat.{_≤_, _<_, _-_, _+_}
-use mathlib.Core.Path.{_≡_, _∙_, sym}
+use Prim.Native.Nat.{_≤_, _-_}
 use native.Mathlib.Omega.{arith}
 use lib.ListN.{length}
 use Rattle.graph_reader.proofs.HeldText.{Progress, progress-start, before-end, read-done, read-unended, read-broken, read-size, read-refused, read-passes, read-more}

@@ -4,8 +4,8 @@ use Prim.Native.Nat.{ℕ, _≤_, _-_, _*_}
 use mathlib.Core.Path.{_≡_, refl, subst}
 use native.Mathlib.Omega.{arith}
 use lib.ListN.{length, length-set}
-use Rattle.decoder.specs.Held.{Written}
-use Rattle.decoder.proofs.HeldWrite.{written-none, written-more}
+use Rattle.rows.specs.Bytes.{Written}
+use Rattle.rows.proofs.Written.{written-none, written-more}
 use Rattle.graph_writer.proofs.HeldNotes.{noted-more}
 use Rattle.graph_writer.proofs.noting.put_note.Statement.{statement}
 use Rattle.graph_writer.proofs.noting.put_note.Tie as tie

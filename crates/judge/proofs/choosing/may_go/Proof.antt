@@ -1,7 +1,6 @@
 -- `may_go` lets the machine step and asks of the note.
 use borrow.Author.Needs.{needs}
 use mathlib.Core.Path.{_∙_, sym}
-use native.Mathlib.Omega.{arith}
 use borrow.Author.Tests.{not-true, not-false}
 use Rattle.schedules.specs.System.{run}
 use Rattle.sc.specs.State.{SC, start}

@@ -1,6 +1,6 @@
 -- `continue_from` decodes the file first.
 use borrow.Author.Needs.{needs}
-use mathlib.Core.Path.{_≡_, sym, ap, _∙_}
+use mathlib.Core.Path.{sym, ap, _∙_}
 use Rattle.decoder.specs.Compiled.{programOf}
 use Rattle.schedules.specs.Calls.{Result}
 use Rattle.listing.specs.Said.{said}

@@ -1,9 +1,9 @@
 -- `turn` and `walk` call each other, with one step fewer left each time round. `walk`'s invariant: what the threads from t on add completes
 -- the whole.
 use borrow.Author.Needs.{needs}
-use Prim.Native.Nat.{ℕ, _<_, _≤_, _-_, _*_, _+_}
+use Prim.Native.Nat.{ℕ, _<_, _≤_, _-_, _+_}
 use mathlib.Core.Path.{_≡_, refl, sym, ap, subst, _∙_}
-use mathlib.Core.List.{List, [], _∷_, _++_}
+use mathlib.Core.List.{[], _∷_, _++_}
 use mathlib.Core.Option.{Option}
 use mathlib.Core.Logic.{⊎-elim}
 use native.Mathlib.Omega.{arith}
@@ -14,7 +14,7 @@ use Rattle.schedules.specs.Order.{Schedule}
 use Rattle.machine.specs.Held.{threadAt, ReadyThread, behind}
 use Rattle.machine.proofs.HeldStep.{stored-step}
 use Rattle.walker.specs.Bounds.{boundAt}
-use Rattle.walker.specs.Walked.{Adds, foundBehind}
+use Rattle.walker.specs.Walked.{foundBehind}
 use Rattle.pruning.proofs.ReachedStep.{reached-trail, reached-back, reached-may-yes, reached-able, reached-most}
 use Rattle.walker.proofs.AddedRows.{adds-none, adds-same}
 use Rattle.walker.proofs.WalkTurns.{with-twin, with-late, with-asleep, with-live, turn-late, turn-next, behind-bound, behind-end, behind-stuck, Left, left-start, left-next, left-skip, left-joined, left-over, left-full}
@@ -30,7 +30,7 @@ use Rattle.walker.proofs.ending.at_end.Reads as at-end-reads
 use Rattle.pruning.proofs.late.Reads as late-reads
 use Rattle.pruning.proofs.wide.Reads as wide-reads
 use Rattle.pruning.proofs.some_asleep.Reads as some-asleep-reads
-use Rattle.pruning.proofs.has_smaller_twin.Reads as has-smaller-twin-reads
+use Rattle.twins.proofs.has_smaller_twin.Reads as has-smaller-twin-reads
 use Rattle.machine.proofs.ended_all.Reads as ended-all-reads
 use Rattle.graph_writer.proofs.put_note.Reads as put-note-reads
 use Rattle.machine.proofs.acted.Reads as acted-reads
