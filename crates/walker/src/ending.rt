@@ -1,5 +1,5 @@
 // What the search does at a full schedule.
-use crate::rows::put_row;
+use crate::putting::put_row;
 use crate::testing::is_unbeaten;
 use machine::Machine;
 use machine::fails;

@@ -5,7 +5,7 @@ mod least_order;
 // The test at a full schedule.
 mod testing;
 // A listed schedule as a row of bytes.
-mod rows;
+mod putting;
 // The bound of a search.
 mod bounds;
 // What the search does at a full schedule.

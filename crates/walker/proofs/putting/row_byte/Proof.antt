@@ -1,8 +1,8 @@
 -- `row_byte` by the byte's place.
 use borrow.Author.Needs.{needs}
 use Rattle.walker.proofs.RowBytes.{threads-length, row-head, row-flag, row-thread, row-end}
-use Rattle.walker.proofs.rows.row_byte.Statement.{statement}
-use Rattle.walker.proofs.rows.row_byte.Tie as tie
+use Rattle.walker.proofs.putting.row_byte.Statement.{statement}
+use Rattle.walker.proofs.putting.row_byte.Tie as tie
 
 returns : tie.Need-returns
 returns c = let a = c .before .args in row-head _ (a .fails) (a .steps) (a .k) (threads-length (a .trail .now) 0 (a .steps)) (c .if1 .taken)

@@ -8,8 +8,8 @@ use Rattle.lines.proofs.Over.{over-nil}
 use Rattle.walker.specs.LeftSteps.{threadsAt}
 use Rattle.walker.specs.Rows.{rowBytes}
 use Rattle.walker.proofs.RowBytes.{row-more, row-whole}
-use Rattle.walker.proofs.rows.put_row.Statement.{statement}
-use Rattle.walker.proofs.rows.put_row.Tie as tie
+use Rattle.walker.proofs.putting.put_row.Statement.{statement}
+use Rattle.walker.proofs.putting.put_row.Tie as tie
 
 abbrev Inv-loop : tie.InvT-loop
 Inv-loop out₀ trail steps fails k₀ out k = (length out ≡ length out₀) × (out ≡ over (take k (rowBytes (threadsAt trail 0 steps) fails)) out₀)
