@@ -4,8 +4,8 @@ use mathlib.Core.List.{List·Memᴰ}
 use lib.Dec.{eqb}
 use borrow.Author.Tests.{eqb-true}
 use Rattle.schedules.proofs.Lists.{all-at}
-use Rattle.machine.specs.Text.{textOf}
-use Rattle.judge.proofs.Tests.{same-list-is}
+use Rattle.sc.specs.Text.{textOf}
+use Rattle.consistent.proofs.Tests.{same-list-is}
 use Rattle.listing.specs.Printed.{printed}
 use Rattle.cases.specs.Rows.{Row, rows}
 use Rattle.cases.specs.Table.{computed, right, all-right}

@@ -1,9 +1,9 @@
 -- Document 01's two graph texts, answered by the judge from the bytes of the file and of the text: no; and yes, with the least schedule.
 use mathlib.Core.Path.{_≡_, refl}
 use mathlib.Core.List.{List, [], _∷_, map}
-use Rattle.machine.specs.Text.{textOf}
-use Rattle.judge.specs.Answer.{Answer, consistent, inconsistent, answerFor, judgeFile}
-use Rattle.judge.specs.TextExamples.{answering}
+use Rattle.sc.specs.Text.{textOf}
+use Rattle.consistent.specs.Answer.{Answer, consistent, inconsistent, answerFor, judgeFile}
+use Rattle.consistent.proofs.TextExamples.{answering}
 use Rattle.cases.specs.Rows.{Frame, buffering}
 use Rattle.cases.specs.Table.{computed}
 

@@ -14,13 +14,13 @@ use Rattle.program.specs.Decode.{fresh, threadAt, lastThread, inPlace, accesses
 use Rattle.program.specs.WellFormed.{accesses}
 use Rattle.schedules.specs.Lists.{all}
 use Rattle.schedules.specs.Computing.{computing}
-use Rattle.machine.specs.State.{size, accessesLeft}
-use Rattle.machine.specs.Exchange.{movedEvent, movedRead, movedReads, movedWrites}
-use Rattle.machine.specs.Text.{textOf}
-use Rattle.machine.specs.Examples.{seen}
-use Rattle.judge.specs.Judge.{sameEvent, sameRead, sameList}
-use Rattle.listing.specs.ListOf.{together, permits, permitted, turns, alikeBy, alike, listOf}
-use Rattle.listing.specs.Answers.{failing, countOf}
+use Rattle.sc.specs.State.{size, accessesLeft}
+use Rattle.sc.specs.Exchange.{movedEvent, movedRead, movedReads, movedWrites}
+use Rattle.sc.specs.Text.{textOf}
+use Rattle.sc.proofs.Examples.{seen}
+use Rattle.consistent.specs.Judge.{sameEvent, sameRead, sameList}
+use Rattle.list.specs.ListOf.{together, permits, permitted, turns, alikeBy, alike, listOf}
+use Rattle.list.specs.Answers.{failing, countOf}
 use Rattle.listing.specs.Printed.{bytesOf, flag, scheduleFrame, countFrame, printedFrames, printed}
 use Rattle.cases.specs.Rows.{Row, rows}
 

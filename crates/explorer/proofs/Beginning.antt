@@ -8,23 +8,23 @@ use lib.ListN.{length, take, drop}
 use Rattle.program.specs.Program.{Program}
 use Rattle.program.specs.WellFormed.{WellFormed}
 use Rattle.program.specs.Decode.{Decoded, decode}
-use Rattle.program.specs.Compiled.{programOf, answerOf}
-use Rattle.program.specs.declared.file.Compiled.{Compiled}
-use Rattle.program.specs.declared.file.Answer.{Answer}
-use Rattle.program.specs.declared.file.Verdict.the-variants as File
+use Rattle.decoder.specs.Compiled.{programOf, answerOf}
+use Rattle.decoder.specs.declared.file.Compiled.{Compiled}
+use Rattle.decoder.specs.declared.file.Answer.{Answer}
+use Rattle.decoder.specs.declared.file.Verdict.the-variants as File
 use Rattle.schedules.specs.Lists.{upTo, keep}
 use Rattle.schedules.specs.Order.{Schedule}
 use Rattle.schedules.specs.Found.{after}
 use Rattle.schedules.specs.Permutations.{permutationOf}
-use Rattle.machine.specs.Text.{textOf}
-use Rattle.machine.proofs.Lawful.{fits-64-bits}
-use Rattle.listing.specs.ListOf.{permits, listOf}
-use Rattle.listing.specs.Answers.{failing, Counts, countOf}
-use Rattle.listing.specs.ClassGroups.{groupsOf}
-use Rattle.listing.specs.Bounds.{boundAt}
+use Rattle.sc.specs.Text.{textOf}
+use Rattle.sc.proofs.Lawful.{fits-64-bits}
+use Rattle.list.specs.ListOf.{permits, listOf}
+use Rattle.list.specs.Answers.{failing, Counts, countOf}
+use Rattle.pruning.specs.ClassGroups.{groupsOf}
+use Rattle.walker.specs.Bounds.{boundAt}
 use Rattle.listing.specs.Printed.{scheduleFrame, countFrame, printedFrames, printed}
-use Rattle.listing.proofs.TheList.{list-length}
-use Rattle.program.proofs.Decoded.{decoded-refused, decoded-accepted, decoded-well-formed}
+use Rattle.list.proofs.TheList.{list-length}
+use Rattle.decoder.proofs.Decoded.{decoded-refused, decoded-accepted, decoded-well-formed}
 use Rattle.explorer.specs.declared.pieces.Stage.{Stage}
 use Rattle.explorer.specs.declared.pieces.Stage.the-variants.{Refused, Walking}
 use Rattle.explorer.specs.declared.pieces.Listing.{Listing}

@@ -9,8 +9,8 @@ use lib.ListN.{length, take}
 use lib.Seq.{take-all, length-take-le}
 use borrow.Author.Tests.{leb-true, leb-false}
 use Rattle.program.specs.Decode.{Decoded, decode}
-use Rattle.program.proofs.HeldFile.{too-large}
-use Rattle.machine.specs.Text.{textOf}
+use Rattle.decoder.proofs.HeldFile.{too-large}
+use Rattle.sc.specs.Text.{textOf}
 use Rattle.listing.specs.Printed.{printedFrames, printed}
 use Rattle.explorer.specs.declared.pieces.Listing.{Listing}
 use Rattle.explorer.specs.Pieces.{rest, Begun, Next, Handed, joined}

@@ -17,11 +17,11 @@ use Rattle.program.proofs.Everywhere.{everywhere-getD}
 use Rattle.schedules.specs.Lists.{keep}
 use Rattle.schedules.specs.Order.{Schedule}
 use Rattle.schedules.proofs.Kept.{keep-append}
-use Rattle.machine.specs.Text.{textOf}
-use Rattle.machine.specs.NoteText.{Wrote}
-use Rattle.machine.proofs.WrittenLines.{wrote-one, wrote-more}
-use Rattle.listing.specs.Answers.{failing, Counts}
-use Rattle.listing.specs.Rows.{rowBytes, rowOf, Shown}
+use Rattle.sc.specs.Text.{textOf}
+use Rattle.graph_writer.specs.NoteText.{Wrote}
+use Rattle.graph_writer.proofs.WrittenLines.{wrote-one, wrote-more}
+use Rattle.list.specs.Answers.{failing, Counts}
+use Rattle.walker.specs.Rows.{rowBytes, rowOf, Shown}
 use Rattle.listing.specs.Printed.{bytesOf, scheduleFrame, countFrame, printedFrames}
 use Rattle.explorer.specs.Pieces.{Short}
 use Rattle.listing.proofs.CountedRows.{row-shown}

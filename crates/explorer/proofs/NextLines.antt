@@ -11,26 +11,26 @@ use borrow.Rule.Slice.PartMut.{midOf, putMid}
 use Rattle.lines.proofs.Over.{take-over, length-over}
 use Rattle.program.specs.Program.{Program}
 use Rattle.program.specs.WellFormed.{WellFormed, Everywhere}
-use Rattle.program.specs.Compiled.{programOf}
+use Rattle.decoder.specs.Compiled.{programOf}
 use Rattle.program.specs.Decode.{refused}
-use Rattle.program.specs.declared.file.Compiled.{Compiled}
+use Rattle.decoder.specs.declared.file.Compiled.{Compiled}
 use Rattle.program.proofs.Everywhere.{everywhere-all, everywhere-getD}
 use Rattle.schedules.specs.Lists.{keep}
 use Rattle.schedules.specs.Order.{Schedule}
 use Rattle.schedules.specs.Found.{after}
 use Rattle.schedules.proofs.Kept.{keep-length, keep-append}
-use Rattle.machine.specs.Text.{textOf}
-use Rattle.machine.specs.NoteText.{Wrote}
-use Rattle.machine.proofs.WrittenLines.{wrote-whole, wrote-more}
-use Rattle.listing.specs.ListOf.{listOf}
-use Rattle.listing.specs.Answers.{failing, Counts}
-use Rattle.listing.specs.Search.{sought}
-use Rattle.listing.specs.Bounds.{boundAt}
-use Rattle.listing.specs.Walked.{Numbered}
-use Rattle.listing.specs.declared.permitted_numbers.Permitted.{Permitted}
-use Rattle.listing.specs.Rows.{rowBytes, rowOf, Shown}
+use Rattle.sc.specs.Text.{textOf}
+use Rattle.graph_writer.specs.NoteText.{Wrote}
+use Rattle.graph_writer.proofs.WrittenLines.{wrote-whole, wrote-more}
+use Rattle.list.specs.ListOf.{listOf}
+use Rattle.list.specs.Answers.{failing, Counts}
+use Rattle.list.specs.Search.{sought}
+use Rattle.walker.specs.Bounds.{boundAt}
+use Rattle.walker.specs.Walked.{Numbered}
+use Rattle.pruning.specs.declared.permitting.Permitted.{Permitted}
+use Rattle.walker.specs.Rows.{rowBytes, rowOf, Shown}
 use Rattle.listing.specs.Printed.{scheduleFrame, countFrame, printedFrames}
-use Rattle.listing.proofs.Walk.{sought-on}
+use Rattle.list.proofs.Walk.{sought-on}
 use Rattle.listing.proofs.FirstRow.{sought-24}
 use Rattle.listing.proofs.CountedRows.{row-shown}
 use Rattle.explorer.specs.declared.pieces.Stage.{Stage}

@@ -10,8 +10,8 @@ use Rattle.lines.specs.Over.{over}
 use Rattle.lines.proofs.Over.{over-whole}
 use Rattle.program.specs.Program.{Program}
 use Rattle.schedules.specs.Order.{Schedule}
-use Rattle.listing.specs.Answers.{failing}
-use Rattle.listing.specs.Rows.{rowBytes}
+use Rattle.list.specs.Answers.{failing}
+use Rattle.walker.specs.Rows.{rowBytes}
 use Rattle.listing.specs.Printed.{flag, scheduleFrame}
 use Rattle.listing.proofs.FirstRow.{row-steps}
 

@@ -3,17 +3,17 @@ use Prim.Native.Nat.{ℕ, _+_, _≤_, _<_, _^_}
 use mathlib.Core.Path.{_≡_}
 use mathlib.Core.List.{List, [], _∷_, _++_, map}
 use lib.ListN.{length, take, drop}
-use Rattle.program.specs.Compiled.{programOf}
+use Rattle.decoder.specs.Compiled.{programOf}
 use Rattle.program.specs.WellFormed.{WellFormed, Everywhere}
 use Rattle.program.specs.Decode.{refused}
 use Rattle.schedules.specs.Lists.{keep}
 use Rattle.schedules.specs.Order.{Schedule}
 use Rattle.schedules.specs.Found.{after}
-use Rattle.machine.specs.Text.{textOf}
-use Rattle.listing.specs.ListOf.{listOf}
-use Rattle.listing.specs.Answers.{failing, Counts}
-use Rattle.listing.specs.Bounds.{boundAt}
-use Rattle.listing.specs.Walked.{Numbered}
+use Rattle.sc.specs.Text.{textOf}
+use Rattle.list.specs.ListOf.{listOf}
+use Rattle.list.specs.Answers.{failing, Counts}
+use Rattle.walker.specs.Bounds.{boundAt}
+use Rattle.walker.specs.Walked.{Numbered}
 use Rattle.listing.specs.Printed.{scheduleFrame, countFrame, printedFrames, printed}
 use Rattle.explorer.specs.declared.Input.{Input}
 use Rattle.explorer.specs.declared.Input.the-variants.{Bytes, Failed}

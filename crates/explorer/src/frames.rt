@@ -9,9 +9,9 @@ ghost use Rattle.program.specs.Program.{Program};
 ghost use Rattle.program.specs.Decode.{refused};
 ghost use Rattle.schedules.specs.Lists.{keep};
 ghost use Rattle.schedules.specs.Order.{Schedule};
-ghost use Rattle.machine.specs.NoteText.{Wrote};
-ghost use Rattle.listing.specs.Answers.{failing};
-ghost use Rattle.listing.specs.Rows.{rowBytes, Shown};
+ghost use Rattle.graph_writer.specs.NoteText.{Wrote};
+ghost use Rattle.list.specs.Answers.{failing};
+ghost use Rattle.walker.specs.Rows.{rowBytes, Shown};
 ghost use Rattle.listing.specs.Printed.{scheduleFrame, countFrame, printedFrames};
 ghost use Rattle.explorer.specs.Pieces.{Short};
 

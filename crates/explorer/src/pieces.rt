@@ -4,11 +4,11 @@ use crate::frames::refusal_line;
 use crate::frames::row_at;
 use crate::frames::schedule_lines;
 use crate::frames::steps_of;
-use listing::Permitted;
-use listing::listed_rows;
-use listing::permitted;
-use program::Compiled;
-use program::Verdict;
+use decoder::Compiled;
+use decoder::Verdict;
+use pruning::Permitted;
+use pruning::permitted_numbers;
+use walker::listed_rows;
 ghost use mathlib.Core.Path.{_≡_};
 ghost use mathlib.Core.Bool.{false};
 ghost use Prim.Native.Nat.{_≤_};
@@ -64,10 +64,10 @@ fn unprinted(stage: Stage, program: Compiled, permitted: Permitted) -> Listing
 pub(crate) fn begin(file: &[u8]) -> Listing
     ensures { λ r. ⌜ Begun (now (file .entry)) r ⌝ }
 {
-    let a = program::decode(file);
+    let a = decoder::decode(file);
     let program = a.program;
     let class = program.class;
-    let numbers = permitted(class, program.groups);
+    let numbers = permitted_numbers(class, program.groups);
     let v = a.verdict;
     match v {
         Verdict::Refused(n, k) => unprinted(Stage::Refused(n, k), program, numbers),

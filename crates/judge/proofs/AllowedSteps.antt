@@ -10,16 +10,16 @@ use lib.Dec.{eqb}
 use lib.ListN.{length, getD}
 use Rattle.schedules.specs.Lists.{any}
 use Rattle.machine.specs.declared.state.Machine.{Machine}
-use Rattle.machine.specs.Local.{placeOf, takes, puts}
-use Rattle.machine.specs.State.{Event, initialWrite, Cell, State, threadOf, cellOf, latest, place, may}
-use Rattle.machine.specs.Graph.{Graph}
-use Rattle.machine.specs.Trail.{given, writes}
-use Rattle.machine.specs.Notes.{note, noteBytes}
-use Rattle.judge.specs.Consistent.{rowOf, orderOf, Values}
-use Rattle.judge.specs.Judge.{sameEvent, sameRead, noneWaits, turnOf, readFits, writeFits, fits}
-use Rattle.judge.specs.Held.{noLine}
+use Rattle.sc.specs.Local.{placeOf, takes, puts}
+use Rattle.sc.specs.State.{Event, initialWrite, Cell, State, threadOf, cellOf, latest, place, may}
+use Rattle.sc.specs.Graph.{Graph}
+use Rattle.sc.specs.Trail.{given, writes}
+use Rattle.graph_writer.specs.Notes.{note, noteBytes}
+use Rattle.consistent.specs.Consistent.{rowOf, orderOf, Values}
+use Rattle.consistent.specs.Judge.{sameEvent, sameRead, noneWaits, turnOf, readFits, writeFits, fits}
+use Rattle.graph_reader.specs.Held.{noLine}
 use Rattle.judge.specs.HeldWalk.{Drawn, Ordering, Ranged, NoteOf, readAllowed, turnAllowed}
-use Rattle.judge.proofs.TabledGraph.{read-test}
+use Rattle.graph_reader.proofs.TabledGraph.{read-test}
 
 -- what stands behind a list's end does not matter to an event that is neither
 default-free : (ws : List Event) (k : ℕ) (a b e : Event) → sameEvent a e ≡ sameEvent b e → sameEvent (getD ws k a) e ≡ sameEvent (getD ws k b) e

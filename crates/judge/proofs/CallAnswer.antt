@@ -10,26 +10,26 @@ use lib.ListN.{length, getD, set, take}
 use lib.Seq.{ext-getD, take-suc, length-take-le}
 use Rattle.lines.specs.Over.{over}
 use Rattle.lines.proofs.Over.{over-snoc}
-use Rattle.program.specs.declared.file.Answer as program-answer
-use Rattle.program.specs.declared.file.Verdict.the-variants as program-verdict
+use Rattle.decoder.specs.declared.file.Answer as program-answer
+use Rattle.decoder.specs.declared.file.Verdict.the-variants as program-verdict
 use Rattle.program.specs.Program.{Program}
 use Rattle.program.specs.Decode.{Decoded, accepted, decode}
-use Rattle.program.specs.Compiled.{programOf, verdictOf, answerOf}
+use Rattle.decoder.specs.Compiled.{programOf, verdictOf, answerOf}
 use Rattle.program.proofs.AcceptedWellFormed.{accepted-well-formed}
-use Rattle.machine.specs.Graph.{Graph}
+use Rattle.sc.specs.Graph.{Graph}
 use Rattle.machine.specs.Held.{Loaded}
 use Rattle.machine.proofs.HeldStart.{threads-held}
-use Rattle.judge.specs.declared.table.Table.{Table}
-use Rattle.judge.specs.declared.text.Verdict.{Verdict}
-use Rattle.judge.specs.declared.text.Verdict.the-variants.{Passed, Refused}
+use Rattle.graph_reader.specs.declared.table.Table.{Table}
+use Rattle.graph_reader.specs.declared.text.Verdict.{Verdict}
+use Rattle.graph_reader.specs.declared.text.Verdict.the-variants.{Passed, Refused}
 use Rattle.judge.specs.declared.answering.Outcome.{Outcome}
 use Rattle.judge.specs.declared.answering.Outcome.the-variants as outcome
-use Rattle.judge.specs.Judge.{judge}
-use Rattle.judge.specs.Reading.{Parsed, parsed, refusedAt, readGraph}
-use Rattle.judge.specs.Answer as spec
-use Rattle.judge.specs.Held.{Tabled, ReadAs}
+use Rattle.consistent.specs.Judge.{judge}
+use Rattle.consistent.specs.Reading.{Parsed, parsed, refusedAt, readGraph}
+use Rattle.consistent.specs.Answer as spec
+use Rattle.graph_reader.specs.Held.{Tabled, ReadAs}
 use Rattle.judge.specs.Call.{outcomeOf, JudgedAs}
-use Rattle.judge.proofs.HeldRoundTurns.{six-held}
+use Rattle.rounds.proofs.HeldRoundTurns.{six-held}
 
 -- two arrays, compared number by number
 pub agree-more : (a b : List ℕ) (k : ℕ) → ((j : ℕ) → j < k → getD a j 0 ≡ getD b j 0) → getD a k 0 ≡ getD b k 0 → (j : ℕ) → j < k + 1 → getD a j 0 ≡ getD b j 0

@@ -13,14 +13,14 @@ use Rattle.program.proofs.Tests.{both}
 use Rattle.schedules.specs.Lists.{all, upTo}
 use Rattle.schedules.proofs.Lists.{in-upTo, of-upTo, all-at, all-of}
 use Rattle.machine.specs.declared.state.Machine.{Machine}
-use Rattle.machine.specs.State.{Event, State, threadOf}
-use Rattle.machine.specs.Graph.{Graph}
-use Rattle.judge.specs.Consistent.{rowOf, Values}
-use Rattle.judge.specs.Judge.{sameEvent, waits, noneWaits}
-use Rattle.judge.specs.Held.{noLine, lineIn}
+use Rattle.sc.specs.State.{Event, State, threadOf}
+use Rattle.sc.specs.Graph.{Graph}
+use Rattle.consistent.specs.Consistent.{rowOf, Values}
+use Rattle.consistent.specs.Judge.{sameEvent, waits, noneWaits}
+use Rattle.graph_reader.specs.Held.{noLine, lineIn}
 use Rattle.judge.specs.HeldWalk.{waitsAt, Drawn}
-use Rattle.judge.proofs.Tests.{not-of}
-use Rattle.judge.proofs.TabledGraph.{line-of, of-line}
+use Rattle.consistent.proofs.Tests.{not-of}
+use Rattle.graph_reader.proofs.TabledGraph.{line-of, of-line}
 
 module _ (pairs places : List ℕ) (n : ℕ) (m : Machine) (g : Graph) (place : Values) (σ : State) (D : Drawn pairs places n m g place σ) (l u j t d : ℕ) where
   arranged : (a b c x y : Bool) → (a && (b && (c && (x && y)))) ≡ ((a && b) && (c && (y && x)))

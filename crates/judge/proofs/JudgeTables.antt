@@ -15,23 +15,23 @@ use Rattle.program.specs.WellFormed.{WellFormed}
 use Rattle.schedules.specs.Order.{Schedule}
 use Rattle.schedules.specs.System.{ended}
 use Rattle.schedules.proofs.Runs.{allowed-full}
-use Rattle.machine.specs.State.{Event, State, SC, start}
-use Rattle.machine.specs.Graph.{Graph, graphOf, graph, endOf, Full}
+use Rattle.sc.specs.State.{Event, State, SC, start}
+use Rattle.sc.specs.Graph.{Graph, graphOf, graph, endOf, Full}
 use Rattle.machine.specs.Held.{Loaded}
 use Rattle.machine.proofs.HeldStart.{threads-held}
 use Rattle.judge.specs.declared.walking.Walk.{Walk}
-use Rattle.judge.specs.Consistent.{rowOf, orderOf}
-use Rattle.judge.specs.Judge.{sameGraph, walk, judge}
-use Rattle.judge.specs.Reading.{parsed, readGraph}
-use Rattle.judge.specs.Held.{noLine, lineIn, Entry, Tabled}
+use Rattle.consistent.specs.Consistent.{rowOf, orderOf}
+use Rattle.consistent.specs.Judge.{sameGraph, walk, judge}
+use Rattle.consistent.specs.Reading.{parsed, readGraph}
+use Rattle.graph_reader.specs.Held.{noLine, lineIn, Entry, Tabled}
 use Rattle.judge.specs.HeldYes.{Walked}
 use Rattle.judge.specs.Call.{JudgedAs}
-use Rattle.judge.proofs.Tests.{same-graph-is, is-same-graph}
-use Rattle.judge.proofs.Readable.{Readable}
-use Rattle.judge.proofs.Parsed.{read-readable}
-use Rattle.judge.proofs.RunRead.{run-readable}
-use Rattle.judge.proofs.HeldRoundTurns.{six-held}
-use Rattle.judge.proofs.TabledGraph.{tabled-same}
+use Rattle.consistent.proofs.Tests.{same-graph-is, is-same-graph}
+use Rattle.consistent.proofs.Readable.{Readable}
+use Rattle.consistent.proofs.Parsed.{read-readable}
+use Rattle.consistent.proofs.RunRead.{run-readable}
+use Rattle.rounds.proofs.HeldRoundTurns.{six-held}
+use Rattle.graph_reader.proofs.TabledGraph.{tabled-same}
 
 -- a graph has one table
 module _ (a b ca cb : List ℕ) (g : Graph) (T : Tabled a ca g) (S : Tabled b cb g) where

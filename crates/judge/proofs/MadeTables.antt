@@ -11,18 +11,18 @@ use borrow.Author.Tests.{eq-eqb, ne-eqb}
 use lib.Dec.{eqb}
 use lib.ListN.{length, getD, set, length-reverse}
 use lib.Seq.{getD-set-same, getD-set-other}
-use Rattle.machine.specs.Local.{takes, puts}
-use Rattle.machine.specs.State.{Event, Thread, Cell, State, noted, advanced, threadOf, cellOf, latest, place, step}
-use Rattle.machine.specs.Graph.{graphOf}
-use Rattle.machine.specs.Trail.{given, writes}
-use Rattle.machine.specs.Notes.{note, noteBytes}
-use Rattle.machine.proofs.Steps.{thread-own, thread-other, cell-other}
-use Rattle.machine.proofs.Change.{Change, kept, wrote, change, wrote-own}
-use Rattle.machine.proofs.Rows.{row-at, order-at}
-use Rattle.judge.specs.Consistent.{rowOf}
-use Rattle.judge.specs.Held.{noLine, lineIn, Entry, put, Tabled}
+use Rattle.sc.specs.Local.{takes, puts}
+use Rattle.sc.specs.State.{Event, Thread, Cell, State, noted, advanced, threadOf, cellOf, latest, place, step}
+use Rattle.sc.specs.Graph.{graphOf}
+use Rattle.sc.specs.Trail.{given, writes}
+use Rattle.graph_writer.specs.Notes.{note, noteBytes}
+use Rattle.sc.proofs.Steps.{thread-own, thread-other, cell-other}
+use Rattle.sc.proofs.Change.{Change, kept, wrote, change, wrote-own}
+use Rattle.sc.proofs.Rows.{row-at, order-at}
+use Rattle.consistent.specs.Consistent.{rowOf}
+use Rattle.graph_reader.specs.Held.{noLine, lineIn, Entry, put, Tabled}
 use Rattle.judge.specs.HeldWalk.{NoteOf, sourceAdded, eventAdded, countAdded}
-use Rattle.judge.proofs.Entries.{length-put, entry-put, entry-kept}
+use Rattle.graph_reader.proofs.Entries.{length-put, entry-put, entry-kept}
 
 -- one write more stands behind the others
 getD-last : (ws : List Event) (e : Event) (k : ℕ) → getD (ws ++ (e ∷ [])) k noLine ≡ cond (eqb k (length ws)) e (getD ws k noLine)

@@ -15,21 +15,21 @@ use Rattle.schedules.specs.Order.{Schedule}
 use Rattle.schedules.specs.System.{run}
 use Rattle.schedules.proofs.Lists.{first-yes, first-no}
 use Rattle.machine.specs.declared.state.Machine.{Machine}
-use Rattle.machine.specs.State.{Event, initialWrite, Thread, State, noThread, threadOf, cellOf, latest, place, may, SC, start}
-use Rattle.machine.specs.Graph.{Graph}
-use Rattle.machine.specs.Notes.{note, noteBytes}
+use Rattle.sc.specs.State.{Event, initialWrite, Thread, State, noThread, threadOf, cellOf, latest, place, may, SC, start}
+use Rattle.sc.specs.Graph.{Graph}
+use Rattle.graph_writer.specs.Notes.{note, noteBytes}
 use Rattle.machine.specs.Held.{Ready}
-use Rattle.machine.proofs.Steps.{missing, may-small, may-range, run-threads}
-use Rattle.machine.proofs.Start.{start-threads}
-use Rattle.machine.proofs.Regular.{Regular, regular-run, regular-start}
+use Rattle.sc.proofs.Steps.{missing, may-small, may-range, run-threads}
+use Rattle.sc.proofs.Start.{start-threads}
+use Rattle.sc.proofs.Regular.{Regular, regular-run, regular-start}
 use Rattle.machine.proofs.HeldAsking.{ready-held}
 use Rattle.machine.proofs.HeldStart.{threads-held, short-held}
-use Rattle.judge.specs.Consistent.{locationOf}
-use Rattle.judge.specs.Judge.{values, fits}
+use Rattle.consistent.specs.Consistent.{locationOf}
+use Rattle.consistent.specs.Judge.{values, fits}
 use Rattle.judge.specs.HeldWalk.{Drawn, Ordering, Ranged, NoteOf, Walking, threadOr, nextOf}
-use Rattle.judge.proofs.Readable.{Readable}
-use Rattle.judge.proofs.Parsed.{read-readable}
-use Rattle.judge.proofs.HeldRoundTurns.{six-held, near-held}
+use Rattle.consistent.proofs.Readable.{Readable}
+use Rattle.consistent.proofs.Parsed.{read-readable}
+use Rattle.rounds.proofs.HeldRoundTurns.{six-held, near-held}
 
 -- ---- the first of the numbers from a on
 first-at : (f : ℕ → Bool) (n a t : ℕ) → ((u : ℕ) → a ≤ u → u < t → f u ≡ false) → a ≤ t → t < a + n → f t ≡ true → first f (upTo a n) ≡ some t

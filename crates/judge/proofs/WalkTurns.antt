@@ -21,16 +21,16 @@ use Rattle.schedules.proofs.Lists.{upTo-ascends}
 use Rattle.schedules.proofs.Greedy.{FirstIs, found-at, nowhere, first-is}
 use Rattle.machine.specs.declared.state.Machine.{Machine}
 use Rattle.machine.specs.declared.stepping.Stepped.{Stepped}
-use Rattle.machine.specs.State.{Event, State, step, may, SC, start}
-use Rattle.machine.specs.Graph.{Graph, graphOf}
+use Rattle.sc.specs.State.{Event, State, step, may, SC, start}
+use Rattle.sc.specs.Graph.{Graph, graphOf}
 use Rattle.machine.specs.Held.{Holds, HoldsStep}
-use Rattle.machine.proofs.Steps.{may-range, may-small}
-use Rattle.machine.proofs.Start.{start-writes, start-history}
-use Rattle.machine.proofs.Regular.{Regular}
-use Rattle.machine.proofs.Rows.{row-at, order-at}
-use Rattle.judge.specs.Consistent.{locationOf}
-use Rattle.judge.specs.Judge.{values, fits, walk}
-use Rattle.judge.specs.Held.{noLine, lineIn, Entry, Tabled}
+use Rattle.sc.proofs.Steps.{may-range, may-small}
+use Rattle.sc.proofs.Start.{start-writes, start-history}
+use Rattle.sc.proofs.Regular.{Regular}
+use Rattle.sc.proofs.Rows.{row-at, order-at}
+use Rattle.consistent.specs.Consistent.{locationOf}
+use Rattle.consistent.specs.Judge.{values, fits, walk}
+use Rattle.graph_reader.specs.Held.{noLine, lineIn, Entry, Tabled}
 use Rattle.judge.specs.HeldWalk.{Ranged, Walking, threadOr, nextOf, sourceAdded, eventAdded, countAdded}
 use Rattle.judge.specs.HeldYes.{Given, Walked}
 use Rattle.judge.proofs.MadeTables.{made-step}

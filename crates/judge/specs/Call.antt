@@ -8,7 +8,7 @@ use lib.ListN.{length, take}
 use Rattle.schedules.specs.Order.{Schedule}
 use Rattle.judge.specs.declared.answering.Outcome.{Outcome}
 use Rattle.judge.specs.declared.answering.Outcome.the-variants.{Yes, No, Refused}
-use Rattle.judge.specs.Answer.{Answer, consistent, inconsistent, refusing}
+use Rattle.consistent.specs.Answer.{Answer, consistent, inconsistent, refusing}
 
 unfoldable pub outcomeOf : Answer → Outcome
 outcomeOf (consistent s) = Yes (length s)

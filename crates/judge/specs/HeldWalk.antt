@@ -1,7 +1,6 @@
 -- What the walk goes by: the graph's table, the places of the accesses, and the machine. For the judge's own functions.
-use Prim.Native.Nat.{ℕ, _+_, _*_, _/_, _%_, _<_, _≤_}
+use Prim.Native.Nat.{ℕ, _+_, _*_, _/_, _%_, _<_}
 use mathlib.Core.Path.{_≡_}
-use mathlib.Core.Logic.{_≢_}
 use mathlib.Core.Bool.{Bool, true, cond, not, _&&_}
 use mathlib.Core.Option.{Option, none, some}
 use mathlib.Core.List.{List, reverse, List·Memᴰ}
@@ -12,14 +11,14 @@ use Rattle.schedules.specs.Lists.{first, upTo}
 use Rattle.schedules.specs.Order.{Schedule}
 use Rattle.schedules.specs.System.{run, Allowed}
 use Rattle.machine.specs.declared.state.Machine.{Machine}
-use Rattle.machine.specs.State.{Event, State, threadOf, cellOf, SC, start}
-use Rattle.machine.specs.Graph.{Graph}
-use Rattle.machine.specs.Notes.{note, noteBytes}
+use Rattle.sc.specs.State.{Event, State, threadOf, cellOf, SC, start}
+use Rattle.sc.specs.Graph.{Graph}
+use Rattle.graph_writer.specs.Notes.{note, noteBytes}
 use Rattle.machine.specs.Held.{threadAt, Holds, Loaded}
-use Rattle.judge.specs.Consistent.{rowOf, orderOf, Values, Descends, locationOf}
-use Rattle.judge.specs.Judge.{values, fits}
-use Rattle.judge.specs.Reading.{parsed, readGraph}
-use Rattle.judge.specs.Held.{noLine, lineIn, Entry, put, Tabled}
+use Rattle.consistent.specs.Consistent.{rowOf, orderOf, Values, Descends, locationOf}
+use Rattle.consistent.specs.Judge.{values, fits}
+use Rattle.consistent.specs.Reading.{parsed, readGraph}
+use Rattle.graph_reader.specs.Held.{noLine, lineIn, Entry, put, Tabled}
 
 -- the read in entry k, other than (t, d), takes from (u, j) at location l and is not yet done
 abbrev pub waitsAt : List ℕ → List ℕ → Machine → ℕ → ℕ → ℕ → ℕ → ℕ → ℕ → Bool

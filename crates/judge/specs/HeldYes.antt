@@ -5,14 +5,14 @@ use mathlib.Core.List.{List}
 use lib.ListN.{length, getD}
 use Rattle.program.specs.Program.{Program}
 use Rattle.schedules.specs.System.{Allowed}
-use Rattle.machine.specs.State.{SC, start}
-use Rattle.machine.specs.Graph.{Graph, graphOf, endOf}
+use Rattle.sc.specs.State.{SC, start}
+use Rattle.sc.specs.Graph.{Graph, graphOf, endOf}
 use Rattle.machine.specs.Held.{Holds, Loaded}
 use Rattle.judge.specs.declared.walking.Walk.{Walk}
-use Rattle.judge.specs.Consistent.{locationOf}
-use Rattle.judge.specs.Judge.{values, walk}
-use Rattle.judge.specs.Reading.{parsed, readGraph}
-use Rattle.judge.specs.Held.{Tabled}
+use Rattle.consistent.specs.Consistent.{locationOf}
+use Rattle.consistent.specs.Judge.{values, walk}
+use Rattle.consistent.specs.Reading.{parsed, readGraph}
+use Rattle.graph_reader.specs.Held.{Tabled}
 
 -- the program, and the graph that was read, stand in their tables
 pub record Given (code lengths : List ℕ) (n : ℕ) (pairs table : List ℕ) (p : Program) (g : Graph) : Type 0 where

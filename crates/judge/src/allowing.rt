@@ -1,16 +1,15 @@
 // Whether the graph allows a step, by the step's note.
-use crate::by_itself::wide;
 use crate::waiting::none_waits;
 use machine::Machine;
+use rounds::wide;
 ghost use mathlib.Core.Path.{_≡_};
 ghost use Prim.Native.Nat.{ℕ, _<_, _≤_};
 ghost use mathlib.Core.Bool.{true};
-ghost use mathlib.Core.List.{List};
 ghost use lib.ListN.{getD};
-ghost use Rattle.machine.specs.State.{State, may};
-ghost use Rattle.machine.specs.Graph.{Graph};
-ghost use Rattle.judge.specs.Consistent.{Values};
-ghost use Rattle.judge.specs.Judge.{fits};
+ghost use Rattle.sc.specs.State.{State, may};
+ghost use Rattle.sc.specs.Graph.{Graph};
+ghost use Rattle.consistent.specs.Consistent.{Values};
+ghost use Rattle.consistent.specs.Judge.{fits};
 ghost use Rattle.judge.specs.HeldWalk.{readAllowed, turnAllowed, Ranged, Drawn, Ordering, NoteOf};
 
 // A read: its source is the last write of its location, and it goes where the table says.

@@ -1,12 +1,12 @@
 // The call `judge`: a program file, a graph text and an output.
 use crate::judging::judged;
-use crate::text::Verdict;
-use crate::text::read_graph;
+use graph_reader::Verdict;
+use graph_reader::read_graph;
 ghost use mathlib.Core.Path.{_≡_};
 ghost use Prim.Native.Nat.{_≤_};
 ghost use lib.ListN.{length, take};
 ghost use Rattle.lines.specs.Over.{over};
-ghost use Rattle.judge.specs.Answer.{judgeFile, outputAfter};
+ghost use Rattle.consistent.specs.Answer.{judgeFile, outputAfter};
 ghost use Rattle.judge.specs.Call.{outcomeOf};
 
 pub enum Outcome {
@@ -34,11 +34,11 @@ pub fn judge(file: &[u8], text: &[u8], out: &mut [u8]) -> Outcome
     ensures answer { λ r. ⌜ r ≡ outcomeOf (judgeFile (now (file .entry)) (now (text .entry)) (length (now (out .entry)))) ⌝ }
     ensures output { λ r. ⌜ now (out .exit) ≡ outputAfter (judgeFile (now (file .entry)) (now (text .entry)) (length (now (out .entry)))) (now (out .entry)) ⌝ }
 {
-    let a = program::decode(file);
+    let a = decoder::decode(file);
     let v = a.verdict;
     match v {
-        program::Verdict::Refused(number, place) => Outcome::Refused(number, place),
-        program::Verdict::Accepted => {
+        decoder::Verdict::Refused(number, place) => Outcome::Refused(number, place),
+        decoder::Verdict::Accepted => {
             if out.len() < 24 {
                 return Outcome::Refused(22, 0);
             }

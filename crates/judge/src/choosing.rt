@@ -9,10 +9,10 @@ ghost use lib.ListN.{getD};
 ghost use Rattle.program.specs.Program.{Program};
 ghost use Rattle.schedules.specs.Order.{Schedule};
 ghost use Rattle.schedules.specs.System.{run};
-ghost use Rattle.machine.specs.State.{SC, start};
-ghost use Rattle.machine.specs.Graph.{Graph};
-ghost use Rattle.judge.specs.Consistent.{locationOf};
-ghost use Rattle.judge.specs.Judge.{values, fits};
+ghost use Rattle.sc.specs.State.{SC, start};
+ghost use Rattle.sc.specs.Graph.{Graph};
+ghost use Rattle.consistent.specs.Consistent.{locationOf};
+ghost use Rattle.consistent.specs.Judge.{values, fits};
 ghost use Rattle.judge.specs.HeldWalk.{Walking, threadOr, nextOf};
 
 // Whether thread t may step and the graph allows its next access.

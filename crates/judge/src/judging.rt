@@ -1,19 +1,19 @@
 // The judge: the walk, and the comparison of the graph that it made with the one that was given.
 use crate::comparing::same_counts;
 use crate::comparing::same_pairs;
-use crate::valuing::places;
 use crate::walking::walked;
 use machine::ended_all;
+use rounds::places;
 ghost use mathlib.Core.Path.{_≡_};
 ghost use mathlib.Core.Bool.{false};
 ghost use mathlib.Core.List.{List};
 ghost use Prim.Native.Nat.{ℕ};
 ghost use Rattle.program.specs.Program.{Program};
-ghost use Rattle.machine.specs.Graph.{Graph};
+ghost use Rattle.sc.specs.Graph.{Graph};
 ghost use Rattle.machine.specs.Held.{Loaded};
-ghost use Rattle.judge.specs.Judge.{judge};
-ghost use Rattle.judge.specs.Reading.{parsed, readGraph};
-ghost use Rattle.judge.specs.Held.{Tabled};
+ghost use Rattle.consistent.specs.Judge.{judge};
+ghost use Rattle.consistent.specs.Reading.{parsed, readGraph};
+ghost use Rattle.graph_reader.specs.Held.{Tabled};
 ghost use Rattle.judge.specs.Call.{JudgedAs};
 
 // Whether the answer is yes, and then the schedule in the first bytes, so many.

@@ -1,5 +1,5 @@
 // The table of the graph that the walk has made so far.
-use crate::by_itself::wide;
+use rounds::wide;
 ghost use mathlib.Core.Path.{_≡_};
 ghost use Prim.Native.Nat.{ℕ, _<_};
 ghost use lib.ListN.{getD};

@@ -1,14 +1,12 @@
 // Whether some read still waits for the last write of a location.
-use crate::by_itself::wide;
 use machine::Machine;
+use rounds::wide;
 ghost use mathlib.Core.Path.{_≡_};
-ghost use Prim.Native.Nat.{ℕ, _<_, _≤_};
-ghost use mathlib.Core.List.{List};
-ghost use Rattle.machine.specs.State.{State};
-ghost use Rattle.machine.specs.Graph.{Graph};
-ghost use Rattle.machine.specs.Held.{Holds};
-ghost use Rattle.judge.specs.Consistent.{Values};
-ghost use Rattle.judge.specs.Judge.{noneWaits};
+ghost use Prim.Native.Nat.{_<_, _≤_};
+ghost use Rattle.sc.specs.State.{State};
+ghost use Rattle.sc.specs.Graph.{Graph};
+ghost use Rattle.consistent.specs.Consistent.{Values};
+ghost use Rattle.consistent.specs.Judge.{noneWaits};
 ghost use Rattle.judge.specs.HeldWalk.{waitsAt, Drawn};
 
 // Whether the read in entry k, other than access d of thread t, takes from (u, j) at location l and is not yet done.

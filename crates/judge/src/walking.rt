@@ -5,9 +5,8 @@ use crate::making::with_source;
 use machine::Machine;
 use machine::started;
 use machine::step;
-ghost use mathlib.Core.Path.{_≡_};
 ghost use Rattle.program.specs.Program.{Program};
-ghost use Rattle.machine.specs.Graph.{Graph};
+ghost use Rattle.sc.specs.Graph.{Graph};
 ghost use Rattle.judge.specs.HeldYes.{Given, Walked};
 
 // The steps, how many they are, the machine behind them, and the table of the graph that they made.

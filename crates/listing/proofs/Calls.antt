@@ -17,15 +17,15 @@ use Rattle.schedules.specs.Calls.{Answer, found, nomore, offer, turn, short, Re
 use Rattle.schedules.proofs.Calls.{called-found, called-nomore, dialogue-answers}
 use Rattle.schedules.proofs.Offered.{offer-in, offer-next, turn-short, last-turn}
 use Rattle.schedules.proofs.First.{first-none, next-first}
-use Rattle.machine.specs.Graph.{endOf, Full}
-use Rattle.machine.specs.Replay.{whole, replay}
-use Rattle.machine.proofs.Replay.{replay-whole}
-use Rattle.listing.specs.ListOf.{listOf}
-use Rattle.listing.specs.Answers.{startOf, continued, continueOf}
+use Rattle.sc.specs.Graph.{endOf, Full}
+use Rattle.sc.specs.Replay.{whole, replay}
+use Rattle.sc.proofs.Replay.{replay-whole}
+use Rattle.list.specs.ListOf.{listOf}
+use Rattle.list.specs.Answers.{startOf, continued, continueOf}
 use Rattle.listing.specs.OnFile.{startOn, continueOn}
 use Rattle.listing.specs.Demand3.{call, Called}
-use Rattle.listing.proofs.FirstIn.{FirstIn, first-in, in-first, none-first}
-use Rattle.listing.proofs.TheList.{list-exact, list-ascends}
+use Rattle.list.proofs.FirstIn.{FirstIn, first-in, in-first, none-first}
+use Rattle.list.proofs.TheList.{list-exact, list-ascends}
 
 module _ (p : Program) where
   -- a continue from a full schedule

@@ -5,7 +5,7 @@ use mathlib.Core.List.{List}
 use Rattle.program.specs.Program.{Program}
 use Rattle.program.specs.Decode.{Decoded, accepted, refused, decode}
 use Rattle.listing.specs.declared.counting.CountAnswer.the-variants.{Counted, Refused}
-use Rattle.listing.specs.Answers.{countOf}
+use Rattle.list.specs.Answers.{countOf}
 use Rattle.listing.specs.OnFile.{countOn, countFile}
 use Rattle.listing.specs.CountWord.{countSaid}
 

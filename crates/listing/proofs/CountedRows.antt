@@ -17,14 +17,14 @@ use Rattle.schedules.specs.Found.{after}
 use Rattle.schedules.proofs.Lists.{keep-yes, keep-no}
 use Rattle.schedules.proofs.Kept.{keep-length, keep-append}
 use Rattle.schedules.proofs.After.{after-none}
-use Rattle.listing.specs.ListOf.{listOf}
-use Rattle.listing.specs.Answers.{failing, countOf}
-use Rattle.listing.specs.Search.{sought}
-use Rattle.listing.specs.Bounds.{boundAt}
-use Rattle.listing.specs.Rows.{rowOf, rowBytes, rowsOf, Shown}
-use Rattle.listing.proofs.Walk.{sought-on}
-use Rattle.listing.proofs.RowBytes.{row-length}
-use Rattle.listing.proofs.AddedRows.{rows-length}
+use Rattle.list.specs.ListOf.{listOf}
+use Rattle.list.specs.Answers.{failing, countOf}
+use Rattle.list.specs.Search.{sought}
+use Rattle.walker.specs.Bounds.{boundAt}
+use Rattle.walker.specs.Rows.{rowOf, rowBytes, rowsOf, Shown}
+use Rattle.list.proofs.Walk.{sought-on}
+use Rattle.walker.proofs.RowBytes.{row-length}
+use Rattle.walker.proofs.AddedRows.{rows-length}
 use Rattle.listing.proofs.FirstRow.{row-steps, row-count, sought-24}
 
 -- ---- rows read back

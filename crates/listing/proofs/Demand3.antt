@@ -12,16 +12,16 @@ use Rattle.program.proofs.AcceptedWellFormed.{accepted-well-formed}
 use Rattle.schedules.specs.Lists.{keep}
 use Rattle.schedules.proofs.SomeRun.{some-full}
 use Rattle.schedules.proofs.Calls.{due-at}
-use Rattle.machine.specs.State.{SC, start, size}
-use Rattle.machine.proofs.Lawful.{lawful, at-most-24, fits-64-bits}
-use Rattle.listing.specs.ListOf.{listOf}
-use Rattle.listing.specs.Answers.{failing, countOf, violationOf}
+use Rattle.sc.specs.State.{SC, start, size}
+use Rattle.sc.proofs.Lawful.{lawful, at-most-24, fits-64-bits}
+use Rattle.list.specs.ListOf.{listOf}
+use Rattle.list.specs.Answers.{failing, countOf, violationOf}
 use Rattle.listing.specs.OnFile.{counted, countOn, violationOn}
 use Rattle.listing.specs.Demand3.{Demand3}
-use Rattle.listing.proofs.TheList.{list-exact, list-ascends, list-length}
-use Rattle.listing.proofs.Outcome.{alike-fails, alike-memory, one-each, none-fails-at-all}
+use Rattle.list.proofs.TheList.{list-exact, list-ascends, list-length}
+use Rattle.list.proofs.Outcome.{alike-fails, alike-memory, one-each, none-fails-at-all}
 use Rattle.listing.proofs.Calls.{continue-file, continue-least, continue-none, calls-due}
-use Rattle.listing.proofs.Violations as Violations
+use Rattle.list.proofs.Violations as Violations
 
 -- what holds of an equal answer
 along : {A : Type 0} {a b x : A} {Q : Type 0} → a ≡ b → (b ≡ x) ↔ Q → (a ≡ x) ↔ Q

@@ -18,18 +18,18 @@ use Rattle.schedules.proofs.First.{head-cons, head-keep}
 use Rattle.schedules.proofs.After.{after-none, offer-after}
 use Rattle.schedules.proofs.Offered as Offered
 use Rattle.schedules.proofs.Offered.{content-found, content-nomore, content-refused}
-use Rattle.machine.specs.Held.{HoldsRun}
-use Rattle.machine.proofs.Verdicts.{verdict-whole, verdict-refused}
-use Rattle.machine.specs.declared.replaying.Run.{Run}
-use Rattle.machine.specs.declared.replaying.Verdict.the-variants.{Whole, Refused}
+use Rattle.replay.specs.Carried.{HoldsRun}
+use Rattle.replay.proofs.Verdicts.{verdict-whole, verdict-refused}
+use Rattle.replay.specs.declared.replaying.Run.{Run}
+use Rattle.replay.specs.declared.replaying.Verdict.the-variants.{Whole, Refused}
 use Rattle.listing.specs.declared.calling.ListAnswer.{ListAnswer}
-use Rattle.listing.specs.Answers.{startOf, continued, continueOf, failing, Violation, refused-by, violationBy, violationContent, violationOf}
+use Rattle.list.specs.Answers.{startOf, continued, continueOf, failing, Violation, refused-by, violationBy, violationContent, violationOf}
 use Rattle.listing.specs.OnFile.{startOn, startFile, continueOn, continueFile, violationOn, violationFile}
 use Rattle.listing.specs.Said.{said, violationSaid}
-use Rattle.listing.specs.ListOf.{listOf}
-use Rattle.listing.specs.Search.{sought}
-use Rattle.listing.specs.Bounds.{boundAt}
-use Rattle.listing.specs.Rows.{rowOf, Shown}
+use Rattle.list.specs.ListOf.{listOf}
+use Rattle.list.specs.Search.{sought}
+use Rattle.walker.specs.Bounds.{boundAt}
+use Rattle.walker.specs.Rows.{rowOf, Shown}
 use Rattle.listing.proofs.FirstRow.{row-steps, row-count, sought-24, First, first-some}
 
 -- an answer is said, and the output is what it leaves

@@ -12,19 +12,19 @@ use Rattle.lines.specs.Over.{over}
 use Rattle.lines.proofs.Over.{over-whole, over-more}
 use Rattle.program.specs.Program.{Program}
 use Rattle.program.specs.WellFormed.{WellFormed}
-use Rattle.program.proofs.Tabulate.{take-tabulate, tabulate-getD}
+use Rattle.rows.proofs.Tabulate.{take-tabulate, tabulate-getD}
 use Rattle.schedules.specs.Lists.{headOf}
 use Rattle.schedules.specs.Order.{Schedule}
 use Rattle.schedules.specs.Found.{after}
 use Rattle.schedules.proofs.Lists.{of-keep}
 use Rattle.schedules.proofs.After.{of-after, head-nil}
-use Rattle.machine.proofs.Lawful.{at-most-24}
-use Rattle.listing.specs.Answers.{failing}
-use Rattle.listing.specs.ListOf.{listOf}
-use Rattle.listing.specs.Search.{sought}
-use Rattle.listing.specs.Rows.{rowBytes, rowOf, rowsOf, Shown}
-use Rattle.listing.proofs.TheList.{list-exact}
-use Rattle.listing.proofs.RowBytes.{row-length}
+use Rattle.sc.proofs.Lawful.{at-most-24}
+use Rattle.list.specs.Answers.{failing}
+use Rattle.list.specs.ListOf.{listOf}
+use Rattle.list.specs.Search.{sought}
+use Rattle.walker.specs.Rows.{rowBytes, rowOf, rowsOf, Shown}
+use Rattle.list.proofs.TheList.{list-exact}
+use Rattle.walker.proofs.RowBytes.{row-length}
 
 -- a row holds its schedule behind two bytes, of which the first is its length
 pub row-steps : (s : Schedule) (f : Bool) → length s ≤ 24 → take (length s) (drop 2 (rowBytes s f)) ≡ s

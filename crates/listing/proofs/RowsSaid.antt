@@ -8,7 +8,7 @@ use Rattle.program.specs.Decode.{Decoded, accepted, refused, decode}
 use Rattle.schedules.specs.Order.{Schedule}
 use Rattle.listing.specs.declared.row_calls.RowsAnswer.{RowsAnswer}
 use Rattle.listing.specs.declared.row_calls.RowsAnswer.the-variants.{Written, Refused}
-use Rattle.listing.specs.Rows.{Shown}
+use Rattle.walker.specs.Rows.{Shown}
 use Rattle.listing.specs.RowsCall.{fitting, rowsSaid, rowsOutput}
 
 module _ (file out : List ℕ) (o : Option Schedule) where

@@ -13,11 +13,11 @@ use Rattle.program.specs.Program.{Program}
 use Rattle.schedules.specs.Lists.{keep, Ascends}
 use Rattle.schedules.specs.Order.{Schedule, less}
 use Rattle.schedules.specs.Calls.{found, nomore, turn, short, Result, result, called, last, due, served, member}
-use Rattle.machine.specs.State.{memoryOf}
-use Rattle.machine.specs.Graph.{endOf, Full}
-use Rattle.listing.specs.Alike.{Alike, Listed}
-use Rattle.listing.specs.ListOf.{listOf}
-use Rattle.listing.specs.Answers.{failing, fails-first, none-fails, refused-by}
+use Rattle.sc.specs.State.{memoryOf}
+use Rattle.sc.specs.Graph.{endOf, Full}
+use Rattle.list.specs.Alike.{Alike, Listed}
+use Rattle.list.specs.ListOf.{listOf}
+use Rattle.list.specs.Answers.{failing, fails-first, none-fails, refused-by}
 use Rattle.listing.specs.OnFile.{startFile, continueFile, counted, countFile, violationFile}
 
 -- s is in the list of p

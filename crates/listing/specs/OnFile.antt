@@ -6,7 +6,7 @@ use Rattle.program.specs.Decode.{Decoded, accepted, decode}
 use Rattle.program.specs.Decode as File
 use Rattle.schedules.specs.Order.{Schedule}
 use Rattle.schedules.specs.Calls.{refused, Result, result}
-use Rattle.listing.specs.Answers.{startOf, continueOf, Counts, countOf, Violation, refused-by, violationContent, violationOf}
+use Rattle.list.specs.Answers.{startOf, continueOf, Counts, countOf, Violation, refused-by, violationContent, violationOf}
 
 unfoldable pub startOn : Decoded → List ℕ → Result
 startOn (accepted p) out = startOf p out

@@ -6,9 +6,9 @@ use mathlib.Core.List.{List, [], _∷_, _++_, map}
 use Rattle.program.specs.Program.{Program}
 use Rattle.program.specs.Decode.{Decoded, accepted, refused, decode}
 use Rattle.schedules.specs.Order.{Schedule}
-use Rattle.machine.specs.Text.{textOf}
-use Rattle.listing.specs.ListOf.{listOf}
-use Rattle.listing.specs.Answers.{failing, Counts, countOf}
+use Rattle.sc.specs.Text.{textOf}
+use Rattle.list.specs.ListOf.{listOf}
+use Rattle.list.specs.Answers.{failing, Counts, countOf}
 
 -- so many bytes of a number, most significant first
 unfoldable pub bytesOf : ℕ → ℕ → List ℕ

@@ -2,17 +2,17 @@
 -- the file is refused, and no byte changes.
 use Prim.Native.Nat.{ℕ, _/_}
 use mathlib.Core.List.{List}
-use mathlib.Core.Option.{Option, none, some}
+use mathlib.Core.Option.{Option}
 use lib.ListN.{length, take}
 use Rattle.lines.specs.Over.{over}
 use Rattle.program.specs.Program.{Program}
-use Rattle.program.specs.Decode.{Decoded, accepted, refused, decode}
+use Rattle.program.specs.Decode.{Decoded, accepted, refused}
 use Rattle.schedules.specs.Order.{Schedule}
 use Rattle.schedules.specs.Found.{after}
 use Rattle.listing.specs.declared.row_calls.RowsAnswer.{RowsAnswer}
 use Rattle.listing.specs.declared.row_calls.RowsAnswer.the-variants.{Written, Refused}
-use Rattle.listing.specs.ListOf.{listOf}
-use Rattle.listing.specs.Rows.{rowsOf}
+use Rattle.list.specs.ListOf.{listOf}
+use Rattle.walker.specs.Rows.{rowsOf}
 
 -- the listed schedules that stand in such an output, behind the bound or from the first one on
 unfoldable pub fitting : Program → Option Schedule → List ℕ → List Schedule

@@ -1,23 +1,22 @@
 // The calls that give a schedule: start, continue, violation.
-use crate::listed::listed_rows;
-use crate::permitted_numbers::permitted_numbers;
-use crate::permitted_numbers::wide;
-use machine::Verdict;
-use machine::replayed;
-use program::Compiled;
+use decoder::Compiled;
+use pruning::permitted_numbers;
+use pruning::wide;
+use replay::Verdict;
+use replay::replayed;
+use walker::listed_rows;
 ghost use mathlib.Core.Path.{_≡_};
-ghost use mathlib.Core.List.{List};
 ghost use Prim.Native.Nat.{_+_, _≤_};
 ghost use lib.ListN.{length, take, drop};
 ghost use Rattle.lines.specs.Over.{over};
 ghost use Rattle.program.specs.WellFormed.{WellFormed};
-ghost use Rattle.program.specs.Compiled.{programOf};
+ghost use Rattle.decoder.specs.Compiled.{programOf};
 ghost use Rattle.schedules.specs.Lists.{headOf};
 ghost use Rattle.schedules.specs.Calls.{turn, short, content};
 ghost use Rattle.schedules.specs.Found.{after};
-ghost use Rattle.listing.specs.Search.{sought};
-ghost use Rattle.listing.specs.Bounds.{boundAt};
-ghost use Rattle.listing.specs.Answers.{continueOf};
+ghost use Rattle.list.specs.Search.{sought};
+ghost use Rattle.walker.specs.Bounds.{boundAt};
+ghost use Rattle.list.specs.Answers.{continueOf};
 ghost use Rattle.listing.specs.OnFile.{startFile, continueFile, violationFile};
 ghost use Rattle.listing.specs.Said.{said, violationSaid};
 
@@ -93,11 +92,11 @@ pub fn start(file: &[u8], out: &mut [u8]) -> ListAnswer
     ensures answer { λ r. ⌜ r ≡ said (startFile (now (file .entry)) (now (out .entry)) .0) ⌝ }
     ensures output { λ r. ⌜ now (out .exit) ≡ startFile (now (file .entry)) (now (out .entry)) .1 ⌝ }
 {
-    let a = program::decode(file);
+    let a = decoder::decode(file);
     let v = a.verdict;
     match v {
-        program::Verdict::Refused(n, k) => ListAnswer::Refused(n, k),
-        program::Verdict::Accepted => {
+        decoder::Verdict::Refused(n, k) => ListAnswer::Refused(n, k),
+        decoder::Verdict::Accepted => {
             let p = a.program;
             next_listed(p, false, file, false, out)
         }
@@ -109,11 +108,11 @@ pub fn continue_from(file: &[u8], schedule: &[u8], out: &mut [u8]) -> ListAnswer
     ensures answer { λ r. ⌜ r ≡ said (continueFile (now (file .entry)) (now (schedule .entry)) (now (out .entry)) .0) ⌝ }
     ensures output { λ r. ⌜ now (out .exit) ≡ continueFile (now (file .entry)) (now (schedule .entry)) (now (out .entry)) .1 ⌝ }
 {
-    let a = program::decode(file);
+    let a = decoder::decode(file);
     let v = a.verdict;
     match v {
-        program::Verdict::Refused(n, k) => ListAnswer::Refused(n, k),
-        program::Verdict::Accepted => {
+        decoder::Verdict::Refused(n, k) => ListAnswer::Refused(n, k),
+        decoder::Verdict::Accepted => {
             let p = a.program;
             continued(p, schedule, out)
         }
@@ -125,11 +124,11 @@ pub fn violation(file: &[u8], out: &mut [u8]) -> ListAnswer
     ensures answer { λ r. ⌜ r ≡ violationSaid (violationFile (now (file .entry)) (now (out .entry)) .0) ⌝ }
     ensures output { λ r. ⌜ now (out .exit) ≡ violationFile (now (file .entry)) (now (out .entry)) .1 ⌝ }
 {
-    let a = program::decode(file);
+    let a = decoder::decode(file);
     let v = a.verdict;
     match v {
-        program::Verdict::Refused(n, k) => ListAnswer::Refused(n, k),
-        program::Verdict::Accepted => {
+        decoder::Verdict::Refused(n, k) => ListAnswer::Refused(n, k),
+        decoder::Verdict::Accepted => {
             let p = a.program;
             next_listed(p, true, file, false, out)
         }

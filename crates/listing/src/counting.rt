@@ -1,19 +1,19 @@
 // How many schedules are listed, and how many of these fail.
-use crate::listed::listed_rows;
-use crate::permitted_numbers::permitted_numbers;
-use crate::permitted_numbers::wide;
-use program::Compiled;
+use decoder::Compiled;
+use pruning::permitted_numbers;
+use pruning::wide;
+use walker::listed_rows;
 ghost use mathlib.Core.Path.{_≡_};
 ghost use mathlib.Core.List.{List};
 ghost use Prim.Native.Nat.{ℕ, _≤_};
 ghost use lib.ListN.{length};
 ghost use Rattle.program.specs.Program.{Program};
 ghost use Rattle.program.specs.WellFormed.{WellFormed};
-ghost use Rattle.program.specs.Compiled.{programOf};
+ghost use Rattle.decoder.specs.Compiled.{programOf};
 ghost use Rattle.schedules.specs.Lists.{keep};
 ghost use Rattle.schedules.specs.Order.{Schedule};
-ghost use Rattle.listing.specs.Answers.{failing, countOf};
-ghost use Rattle.listing.specs.Rows.{Shown};
+ghost use Rattle.list.specs.Answers.{failing, countOf};
+ghost use Rattle.walker.specs.Rows.{Shown};
 ghost use Rattle.listing.specs.OnFile.{countFile};
 ghost use Rattle.listing.specs.CountWord.{countSaid};
 
@@ -83,11 +83,11 @@ fn counts(program: Compiled) -> Tally
 pub fn count(file: &[u8]) -> CountAnswer
     ensures { λ r. ⌜ r ≡ countSaid (countFile (now (file .entry))) ⌝ }
 {
-    let a = program::decode(file);
+    let a = decoder::decode(file);
     let v = a.verdict;
     match v {
-        program::Verdict::Refused(n, k) => CountAnswer::Refused(n, k),
-        program::Verdict::Accepted => {
+        decoder::Verdict::Refused(n, k) => CountAnswer::Refused(n, k),
+        decoder::Verdict::Accepted => {
             let p = a.program;
             let c = counts(p);
             CountAnswer::Counted(c.listed, c.failing)

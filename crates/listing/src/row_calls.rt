@@ -1,18 +1,14 @@
 // Listed schedules of a program file by rows: from the first one on, or behind a schedule.
-use crate::listed::listed_rows;
-use crate::permitted_numbers::permitted_numbers;
-use program::Compiled;
+use decoder::Compiled;
+use pruning::permitted_numbers;
+use walker::listed_rows;
 ghost use mathlib.Core.Path.{_≡_};
 ghost use mathlib.Core.Option.{none, some};
-ghost use Prim.Native.Nat.{_/_};
-ghost use lib.ListN.{length, take};
 ghost use Rattle.program.specs.WellFormed.{WellFormed};
-ghost use Rattle.program.specs.Compiled.{programOf};
+ghost use Rattle.decoder.specs.Compiled.{programOf};
 ghost use Rattle.program.specs.Decode.{decode};
-ghost use Rattle.schedules.specs.Found.{after};
-ghost use Rattle.listing.specs.Search.{sought};
-ghost use Rattle.listing.specs.Bounds.{boundAt};
-ghost use Rattle.listing.specs.Rows.{Shown};
+ghost use Rattle.walker.specs.Bounds.{boundAt};
+ghost use Rattle.walker.specs.Rows.{Shown};
 ghost use Rattle.listing.specs.RowsCall.{fitting, rowsSaid, rowsOutput};
 
 pub enum RowsAnswer {
@@ -37,11 +33,11 @@ pub fn first_rows(file: &[u8], out: &mut [u8]) -> RowsAnswer
     ensures answer { λ r. ⌜ r ≡ rowsSaid (decode (now (file .entry))) none (now (out .entry)) ⌝ }
     ensures output { λ r. ⌜ now (out .exit) ≡ rowsOutput (decode (now (file .entry))) none (now (out .entry)) ⌝ }
 {
-    let a = program::decode(file);
+    let a = decoder::decode(file);
     let v = a.verdict;
     match v {
-        program::Verdict::Refused(n, k) => RowsAnswer::Refused(n, k),
-        program::Verdict::Accepted => {
+        decoder::Verdict::Refused(n, k) => RowsAnswer::Refused(n, k),
+        decoder::Verdict::Accepted => {
             let p = a.program;
             RowsAnswer::Written(rows_of(p, file, false, out))
         }
@@ -53,11 +49,11 @@ pub fn next_rows(file: &[u8], schedule: &[u8], out: &mut [u8]) -> RowsAnswer
     ensures answer { λ r. ⌜ r ≡ rowsSaid (decode (now (file .entry))) (some (now (schedule .entry))) (now (out .entry)) ⌝ }
     ensures output { λ r. ⌜ now (out .exit) ≡ rowsOutput (decode (now (file .entry))) (some (now (schedule .entry))) (now (out .entry)) ⌝ }
 {
-    let a = program::decode(file);
+    let a = decoder::decode(file);
     let v = a.verdict;
     match v {
-        program::Verdict::Refused(n, k) => RowsAnswer::Refused(n, k),
-        program::Verdict::Accepted => {
+        decoder::Verdict::Refused(n, k) => RowsAnswer::Refused(n, k),
+        decoder::Verdict::Accepted => {
             let p = a.program;
             RowsAnswer::Written(rows_of(p, schedule, true, out))
         }

@@ -11,13 +11,13 @@ use borrow.Author.Tests.{lt-ltb, le-ltb}
 use Rattle.schedules.specs.System.{ended}
 use Rattle.schedules.proofs.Runs.{ended-of, not-ended}
 use Rattle.machine.specs.declared.state.Machine.{Machine}
-use Rattle.machine.specs.State.{State, noThread, threadOf, may, SC, failedOf, fails}
+use Rattle.sc.specs.State.{State, noThread, threadOf, may, SC, failedOf, fails}
 use Rattle.machine.specs.Held.{threadAt, Holds, Ready}
-use Rattle.machine.proofs.Access.{nothing-pending}
-use Rattle.machine.proofs.Steps.{may-of, may-small, may-pending, missing}
-use Rattle.machine.proofs.Lawful.{lawful}
-use Rattle.machine.proofs.Failing.{fails-at, fails-of}
-use Rattle.machine.proofs.HeldTurns.{length-code, code-end}
+use Rattle.sc.proofs.Access.{nothing-pending}
+use Rattle.sc.proofs.Steps.{may-of, may-small, may-pending, missing}
+use Rattle.sc.proofs.Lawful.{lawful}
+use Rattle.sc.proofs.Failing.{fails-at, fails-of}
+use Rattle.accesses.proofs.HeldTurns.{length-code, code-end}
 
 -- what holds below t and at t holds below t + 1
 pub one-more : (P : ℕ → Type 0) (t : ℕ) → ((u : ℕ) → u < t → P u) → P t → (u : ℕ) → u < t + 1 → P u

@@ -10,20 +10,20 @@ use lib.ListN.{getD, drop, List·getD-eq-default}
 use borrow.Author.Tests.{ltb-true}
 use Rattle.program.specs.declared.instruction.Instruction.{Instruction}
 use Rattle.program.specs.declared.instruction.Instruction.the-variants.{Store, Load, FetchAdd, CompareSwap, Assign, AddAssign, SkipUnless, Assert}
-use Rattle.program.specs.Compiled.{instructionAt, threadCode}
+use Rattle.rows.specs.Rows.{instructionAt, threadCode}
 use Rattle.schedules.specs.Lists.{any}
-use Rattle.machine.specs.declared.accessing.Access.{Access}
+use Rattle.accesses.specs.declared.accessing.Access.{Access}
 use Rattle.machine.specs.declared.state.Machine.{Machine}
-use Rattle.machine.specs.Local.{Local, beginsWithAccess, firstPlace, firstPuts, pending, placeOf, puts}
-use Rattle.machine.specs.State.{Cell, State, freshCell, threadOf, cellOf, place, may}
-use Rattle.machine.specs.Trail.{given, writes}
-use Rattle.machine.specs.Ahead.{firstMayPut, mayPut, couldConflict, couldMeet}
-use Rattle.machine.specs.Turns.{accessOf}
+use Rattle.sc.specs.Local.{Local, beginsWithAccess, firstPlace, firstPuts, pending, placeOf, puts}
+use Rattle.sc.specs.State.{Cell, State, freshCell, threadOf, cellOf, place, may}
+use Rattle.sc.specs.Trail.{given, writes}
+use Rattle.sc.specs.Ahead.{firstMayPut, mayPut, couldConflict, couldMeet}
+use Rattle.accesses.specs.Turns.{accessOf}
 use Rattle.machine.specs.Held.{threadAt, Holds}
-use Rattle.machine.proofs.Steps.{may-small, may-pending, may-range}
-use Rattle.machine.proofs.NotesHeld.{flag}
-use Rattle.machine.proofs.HeldTurns.{code-at, code-end}
-use Rattle.machine.proofs.HeldAccess.{Meets, access-meets}
+use Rattle.sc.proofs.Steps.{may-small, may-pending, may-range}
+use Rattle.graph_writer.proofs.NotesHeld.{flag}
+use Rattle.accesses.proofs.HeldTurns.{code-at, code-end}
+use Rattle.accesses.proofs.HeldAccess.{Meets, access-meets}
 use Rattle.machine.proofs.HeldAsking.{may-held}
 
 -- ---- a loop over the code that is left

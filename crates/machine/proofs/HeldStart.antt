@@ -1,41 +1,31 @@
 -- The state before the first step: each thread carried to its first access, memory at its initial values.
-use Prim.Native.Nat.{ℕ, zero, suc, _+_, _<_, _≤_}
+use Prim.Native.Nat.{ℕ, _+_, _<_, _≤_}
 use native.Mathlib.Omega.{arith}
 use native.Mathlib.Decide.{ℕ-discrete}
 use mathlib.Core.Path.{_≡_, refl, sym, ap, subst, _∙_}
 use mathlib.Core.Bool.{false}
-use mathlib.Core.List.{List, [], _∷_, map}
+use mathlib.Core.List.{List, []}
 use lib.ListN.{length, getD, set, drop, replicate, length-replicate, getD-replicate}
 use lib.Seq.{getD-set-same, getD-set-other}
 use Rattle.program.specs.declared.instruction.Instruction.{Instruction}
 use Rattle.program.specs.Program.{Program, codeOf, initial}
 use Rattle.program.specs.WellFormed.{WellFormed}
-use Rattle.program.specs.declared.file.Compiled.{Compiled}
-use Rattle.program.specs.Compiled.{threadCode, programOf}
-use Rattle.program.proofs.Tabulate.{length-tabulate, getD-tabulate}
+use Rattle.decoder.specs.declared.file.Compiled.{Compiled}
+use Rattle.decoder.specs.Compiled.{programOf}
+use Rattle.rows.specs.Rows.{threadCode}
+use Rattle.rows.proofs.Tabulate.{length-tabulate, getD-tabulate}
 use Rattle.program.proofs.Everywhere.{everywhere-getD}
-use Rattle.machine.specs.declared.state.ThreadState.{ThreadState}
+use Rattle.accesses.specs.declared.thread.ThreadState.{ThreadState}
 use Rattle.machine.specs.declared.state.LastWrite.{LastWrite}
-use Rattle.machine.specs.Local.{Local, settle, begin}
-use Rattle.machine.specs.State.{Thread, noThread, freshCell, threadOf, cellOf, latest, initialWrite, opened, start}
-use Rattle.machine.specs.Turns.{localOf}
+use Rattle.sc.specs.Local.{Local, settle, begin}
+use Rattle.sc.specs.State.{Thread, noThread, threadOf, latest, initialWrite, opened, start}
+use Rattle.accesses.specs.Turns.{localOf}
 use Rattle.machine.specs.Held.{idle, unwritten, eventOf, HoldsAt, Holds, Loaded}
-use Rattle.machine.proofs.Access.{begin-law}
-use Rattle.machine.proofs.Steps.{missing}
-use Rattle.machine.proofs.Start.{start-threads, start-cells, start-thread, start-writes}
-use Rattle.machine.proofs.HeldTurns.{length-code, code-end}
+use Rattle.sc.proofs.Access.{begin-law}
+use Rattle.sc.proofs.Steps.{missing}
+use Rattle.sc.proofs.Start.{start-threads, start-cells, start-thread, start-value, start-writes}
+use Rattle.accesses.proofs.HeldTurns.{length-code, code-end}
 use Rattle.machine.proofs.HeldStep.{settled-pending}
-
--- a location starts with its initial value
-fresh-value : (vs : List ℕ) (l : ℕ) → getD (map freshCell vs) l (freshCell 0) .value ≡ getD vs l 0
-unfolding freshCell
-fresh-value [] l = refl
-fresh-value (v ∷ vs) zero = refl
-fresh-value (v ∷ vs) (suc l) = fresh-value vs l
-
-pub start-value : (p : Program) (l : ℕ) → cellOf (start p) l .value ≡ getD (initial p) l 0
-unfolding cellOf start
-start-value p l = fresh-value (initial p) l
 
 -- the rows of an accepted program
 pub loaded-compiled : (c : Compiled) → WellFormed (programOf c) → Loaded (c .code) (c .lengths) (c .threads) (programOf c)

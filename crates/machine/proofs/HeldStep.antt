@@ -13,22 +13,22 @@ use lib.ListN.{length, getD, set, drop, length-drop, length-set}
 use lib.Seq.{getD-set-other, getD-set-same, set-getD}
 use borrow.Author.Tests.{eq-eqb, ne-eqb, eqb-true}
 use Rattle.program.specs.declared.instruction.Instruction.{Instruction}
-use Rattle.program.specs.Compiled.{instructionAt, threadCode}
-use Rattle.machine.specs.declared.accessing.Access.{Access}
-use Rattle.machine.specs.declared.state.ThreadState.{ThreadState}
+use Rattle.rows.specs.Rows.{instructionAt, threadCode}
+use Rattle.accesses.specs.declared.accessing.Access.{Access}
+use Rattle.accesses.specs.declared.thread.ThreadState.{ThreadState}
 use Rattle.machine.specs.declared.state.LastWrite.{LastWrite}
 use Rattle.machine.specs.declared.state.Machine.{Machine}
 use Rattle.machine.specs.declared.stepping.Effect.{Effect}
-use Rattle.machine.specs.Local.{Local, settle, firstTakes, firstPuts, firstNext, pending, takes, puts, next}
-use Rattle.machine.specs.State.{Thread, Cell, State, threadOf, cellOf, place, latest, advanced, step, may}
-use Rattle.machine.specs.Trail.{writes}
-use Rattle.machine.specs.Notes.{note, noteBytes}
-use Rattle.machine.specs.Turns.{accessOf, localOf}
+use Rattle.sc.specs.Local.{Local, settle, firstTakes, firstPuts, firstNext, pending, takes, puts, next}
+use Rattle.sc.specs.State.{Thread, Cell, State, threadOf, cellOf, place, latest, advanced, step, may}
+use Rattle.sc.specs.Trail.{writes}
+use Rattle.graph_writer.specs.Notes.{note, noteBytes}
+use Rattle.accesses.specs.Turns.{accessOf, localOf}
 use Rattle.machine.specs.Held.{idle, unwritten, threadAt, lastAt, eventOf, HoldsThread, Holds, HoldsStep, threadBehind, behind}
-use Rattle.machine.proofs.Access.{Settled, settle-law}
-use Rattle.machine.proofs.Steps.{may-small, may-range, cell-other, step-threads, step-cells}
-use Rattle.machine.proofs.Change.{thread-cases, noted-done, wrote-own, Change, kept, wrote, change}
-use Rattle.machine.proofs.HeldAccess.{Meets}
+use Rattle.sc.proofs.Access.{Settled, settle-law}
+use Rattle.sc.proofs.Steps.{may-small, may-range, cell-other, step-threads, step-cells}
+use Rattle.sc.proofs.Change.{thread-cases, noted-done, wrote-own, Change, kept, wrote, change}
+use Rattle.accesses.proofs.HeldAccess.{Meets}
 use Rattle.machine.proofs.HeldNext.{next-rest, next-meets, next-place, next-value, next-wrote}
 
 -- settled code of which something is left begins with an access

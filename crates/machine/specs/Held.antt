@@ -3,25 +3,19 @@ use Prim.Native.Nat.{ℕ, _<_, _≤_}
 use mathlib.Core.Path.{_≡_}
 use mathlib.Core.Bool.{true, false}
 use mathlib.Core.List.{List, []}
-use lib.ListN.{length, getD, set, drop, take}
+use lib.ListN.{length, getD, set, drop}
 use Rattle.program.specs.declared.instruction.Instruction.{Instruction}
 use Rattle.program.specs.Program.{Program}
 use Rattle.program.specs.WellFormed.{WellFormed}
-use Rattle.program.specs.Compiled.{tabulate, threadCode}
-use Rattle.schedules.specs.Order.{Schedule}
-use Rattle.schedules.specs.System.{run, Allowed}
-use Rattle.machine.specs.declared.state.ThreadState.{ThreadState}
+use Rattle.rows.specs.Rows.{tabulate, threadCode}
+use Rattle.accesses.specs.declared.thread.ThreadState.{ThreadState}
 use Rattle.machine.specs.declared.state.LastWrite.{LastWrite}
 use Rattle.machine.specs.declared.state.Machine.{Machine}
 use Rattle.machine.specs.declared.stepping.Effect.{Effect}
 use Rattle.machine.specs.declared.stepping.Stepped.{Stepped}
-use Rattle.machine.specs.declared.replaying.Verdict.{Verdict}
-use Rattle.machine.specs.declared.replaying.Verdict.the-variants.{Whole, Refused}
-use Rattle.machine.specs.declared.replaying.Run.{Run}
-use Rattle.machine.specs.Local.{pending}
-use Rattle.machine.specs.State.{Event, Thread, State, threadOf, cellOf, latest, step, SC, start}
-use Rattle.machine.specs.Notes.{note, notes, noteBytes, Noted}
-use Rattle.machine.specs.Replay.{Replayed, whole, refused, replay}
+use Rattle.sc.specs.Local.{pending}
+use Rattle.sc.specs.State.{Event, Thread, State, threadOf, cellOf, latest, step}
+use Rattle.graph_writer.specs.Notes.{note, noteBytes}
 
 -- what an array of threads, and one of last writes, reads as behind its end
 abbrev pub idle : ThreadState
@@ -98,17 +92,3 @@ behind m t e = record {
   machine = record { threads = set (m .threads) t (threadBehind e); memory = set (m .memory) (e .place) (e .value); last = set (m .last) (e .place) (lastBehind e) };
   note = e .note;
 }
-
--- a verdict on a schedule that led to this state
-unfoldable pub verdictOf : Verdict → State → Replayed
-verdictOf Whole σ = whole σ
-verdictOf (Refused n k) σ = refused n k
-
--- what carrying out a schedule leaves: the steps that were made, each of which might be, the state behind them, their notes, and the answer
-pub record HoldsRun (code lengths : List ℕ) (p : Program) (s : Schedule) (r : Run) : Type 0 where
-  pub counted : r .steps ≤ length s
-  pub allowed : Allowed SC (start p) (take (r .steps) s)
-  pub holds : Holds code lengths (r .machine) (run SC (start p) (take (r .steps) s))
-  pub noted : Noted (r .trail) (notes (start p) (take (r .steps) s))
-  pub answer : verdictOf (r .verdict) (run SC (start p) (take (r .steps) s)) ≡ replay p s
-  pub all : r .verdict ≡ Whole → take (r .steps) s ≡ s

@@ -1,18 +1,18 @@
 // What the code left to a thread could still do: its next access, and whether it could meet another's.
-use crate::accessing::accessed;
+use accesses::accessed;
 use program::Instruction;
-use program::instruction_at;
+use rows::instruction_at;
 ghost use mathlib.Core.Path.{_≡_};
 ghost use mathlib.Core.Bool.{true};
 ghost use mathlib.Core.List.{List, [], _∷_};
 ghost use Prim.Native.Nat.{ℕ, _<_, _≤_};
 ghost use lib.ListN.{drop};
-ghost use Rattle.program.specs.Compiled.{threadCode};
+ghost use Rattle.rows.specs.Rows.{threadCode};
 ghost use Rattle.schedules.specs.Lists.{any};
 ghost use Rattle.machine.specs.declared.state.Machine.{Machine};
-ghost use Rattle.machine.specs.State.{State, threadOf, place, may};
-ghost use Rattle.machine.specs.Trail.{writes};
-ghost use Rattle.machine.specs.Ahead.{firstMayPut, mayPut, couldConflict};
+ghost use Rattle.sc.specs.State.{State, threadOf, place, may};
+ghost use Rattle.sc.specs.Trail.{writes};
+ghost use Rattle.sc.specs.Ahead.{firstMayPut, mayPut, couldConflict};
 ghost use Rattle.machine.specs.Held.{threadAt, Holds};
 
 // A thread's next access: its location, whether it writes as memory stands, and whether it is of a kind that could write.

@@ -4,7 +4,7 @@ ghost use mathlib.Core.Path.{_≡_};
 ghost use mathlib.Core.List.{List};
 ghost use Prim.Native.Nat.{ℕ};
 ghost use Rattle.schedules.specs.System.{ended};
-ghost use Rattle.machine.specs.State.{State, SC, may, fails};
+ghost use Rattle.sc.specs.State.{State, SC, may, fails};
 ghost use Rattle.machine.specs.Held.{Holds};
 
 // Whether t names a thread that has not ended. Each thread is named by a constant, so that a caller's machine is read where it lies.

@@ -1,12 +1,12 @@
 // The state before the first step: each thread carried to its first access, memory at its initial values.
-use crate::settling::settle;
 use crate::state::LastWrite;
 use crate::state::Machine;
-use crate::state::ThreadState;
+use accesses::ThreadState;
+use accesses::settle;
 ghost use Prim.Native.Nat.{_<_, _≤_};
 ghost use lib.ListN.{getD};
 ghost use Rattle.program.specs.Program.{Program};
-ghost use Rattle.machine.specs.State.{start};
+ghost use Rattle.sc.specs.State.{start};
 ghost use Rattle.machine.specs.Held.{Loaded, HoldsAt, Holds};
 
 // Thread t before its first step; one that does not exist stands at its end.

@@ -1,15 +1,15 @@
 // A step: a thread's next access, then its instructions up to the next one.
-use crate::by_row::accessed_at;
-use crate::local::wide;
-use crate::settling::settled;
 use crate::state::LastWrite;
 use crate::state::Machine;
-use crate::state::ThreadState;
+use accesses::ThreadState;
+use accesses::accessed_at;
+use accesses::settled;
+use accesses::wide;
 ghost use mathlib.Core.Path.{_≡_};
 ghost use mathlib.Core.Bool.{true, cond};
 ghost use Prim.Native.Nat.{_<_};
 ghost use lib.Dec.{eqb};
-ghost use Rattle.machine.specs.State.{State, place, may};
+ghost use Rattle.sc.specs.State.{State, place, may};
 ghost use Rattle.machine.specs.Held.{threadAt, Holds, ReadyThread, Ready, HoldsStep, behind};
 
 // What a step changes: its thread, and at its place the value and the last write, as they are behind it; and the step's note. Single bytes that

@@ -1,10 +1,11 @@
+-- The laws, in the order in which they rest on each other.
 -- Laws about the definitions, each file named after what it says. First what the crates above cite.
 -- every accepted program is well formed
 pub mod AcceptedWellFormed
--- what the decoder's answer says of the file
-pub mod Decoded
 -- the table of kinds, as rules for every first byte
 pub mod KindTable
+-- which frames skip
+pub mod Skips
 -- frames that agree on their first bytes
 pub mod FrameBytes
 -- frames of instructions
@@ -23,40 +24,3 @@ pub mod SoundProgram
 pub mod Everywhere
 -- what tests tell
 pub mod Tests
--- How the decoder's functions meet the definitions.
--- the sixteen bytes of a row, as they stand in the code
-pub mod Rows
--- the length of the frame on a line
-pub mod Lengths
--- stretches of the code that agree
-pub mod Agree
--- threads of the same code
-pub mod HeldCode
--- members of a `02` line, by the counts
-pub mod HeldMembers
--- the number of a refusal, by the counts
-pub mod RefusalByCounts
--- before the first line, and with a thread more
-pub mod HeldAfter
--- with a group more
-pub mod HeldAfterGroup
--- the places of instructions in the code
-pub mod HeldAfterPlace
--- with an instruction more
-pub mod HeldAfterInstruction
--- skips beyond a thread's end, as the rows hold them
-pub mod HeldSkips
--- lists by their members' numbers
-pub mod Tabulate
--- groups by the numbers of their members
-pub mod Classes
--- the compiled program is the one that was read
-pub mod HeldProgram
--- bytes written into the code
-pub mod HeldWrite
--- what a line that passes leaves
-pub mod HeldTaken
--- after the last line
-pub mod HeldFinish
--- the lines of a file, one after the other
-pub mod HeldFile

@@ -17,3 +17,9 @@ second false b e h = e
 pub neither : (a b : Bool) → (a || b) ≡ false → (a ≡ false) × (b ≡ false)
 neither true b e = absurd (false≢true (sym e))
 neither false b e = (refl, e)
+
+-- two tests that follow from each other are one
+pub equal-tests : (a b : Bool) → (a ≡ true → b ≡ true) → (b ≡ true → a ≡ true) → a ≡ b
+equal-tests true b f g = sym (f refl)
+equal-tests false true f g = g refl
+equal-tests false false f g = refl

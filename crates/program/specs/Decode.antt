@@ -1,11 +1,11 @@
 -- Program files: document 01's "Program file" with its refusals 1 to 9.
 -- 1 comes first; then the lines in order, each by 2, 3, 4, 5, 6, 8; then 9; then 7 at the earliest line. A file that gets none of these is an accepted program.
-use Prim.Native.Nat.{ℕ, zero, suc, _+_, _-_}
+use Prim.Native.Nat.{ℕ, _+_, _-_}
 use mathlib.Core.Bool.{Bool, true, false, cond, not, _&&_, _||_}
 use mathlib.Core.List.{List, [], _∷_, _++_, map}
 use mathlib.Core.Option.{Option, none, some}
 use lib.ListN.{length, getD, set, drop}
-use lib.Dec.{eqb, ltb, leb}
+use lib.Dec.{eqb, ltb}
 use Rattle.lines.specs.Frame.{frame}
 use Rattle.lines.specs.TextLines.{TextLine, split}
 use Rattle.program.specs.Program.{Program}

@@ -1,7 +1,7 @@
 -- What a frame of a program file says: whether its kind and length are known, whether its fields are in range, and which instruction it is.
 use Prim.Native.Nat.{ℕ, _+_, _*_}
-use mathlib.Core.Bool.{Bool, true, false, cond, _&&_, _||_}
-use mathlib.Core.List.{List, []}
+use mathlib.Core.Bool.{Bool, cond, _&&_, _||_}
+use mathlib.Core.List.{List}
 use lib.ListN.{length, getD}
 use lib.Dec.{eqb, ltb, leb}
 use Rattle.program.specs.declared.instruction.Operand.{Operand}

@@ -7,9 +7,5 @@ pub mod Kinds
 pub mod Frames
 -- program files, line by line, with refusals 1 to 9
 pub mod Decode
--- the decoder's answer, read as an accepted program or a refusal
-pub mod Compiled
 -- what holds of every accepted program
 pub mod WellFormed
--- how the decoder's arrays hold what has been read; for its own functions
-pub mod Held

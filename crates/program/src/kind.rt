@@ -1,6 +1,4 @@
 // The kinds of frame: how long a kind's frames are and where its fields stand.
-ghost use mathlib.Core.Path.{_≡_};
-ghost use Rattle.program.specs.Kinds.{row, kindOf};
 
 // A row of the table of kinds. Positions are counted from the frame's first byte; 0: the kind has no such field.
 pub struct Kind {
@@ -12,89 +10,4 @@ pub struct Kind {
     pub first: usize,
     pub second: usize,
     pub skip: usize,
-}
-
-// An instruction of one length, without a skip.
-fn plain(
-    byte: usize,
-    size: usize,
-    register: usize,
-    location: usize,
-    first: usize,
-    second: usize,
-) -> Kind
-    ensures { λ r. ⌜ r ≡ row byte size size register location first second 0 ⌝ }
-{
-    Kind {
-        byte: byte,
-        least: size,
-        most: size,
-        register: register,
-        location: location,
-        first: first,
-        second: second,
-        skip: 0,
-    }
-}
-
-// A kind without fields.
-fn bare(byte: usize, least: usize, most: usize) -> Kind
-    ensures { λ r. ⌜ r ≡ row byte least most 0 0 0 0 0 ⌝ }
-{
-    Kind {
-        byte: byte,
-        least: least,
-        most: most,
-        register: 0,
-        location: 0,
-        first: 0,
-        second: 0,
-        skip: 0,
-    }
-}
-
-// The kind that a first byte names; for an unknown byte one that no length fits.
-pub(crate) fn kind_of(b: usize) -> Kind
-    ensures { λ r. ⌜ r ≡ kindOf b ⌝ }
-{
-    if b == 0x01 {
-        return bare(0x01, 1, 1);
-    }
-    if b == 0x02 {
-        return bare(0x02, 3, 7);
-    }
-    if b == 0x10 {
-        return plain(0x10, 7, 0, 1, 2, 0);
-    }
-    if b == 0x11 {
-        return plain(0x11, 3, 1, 2, 0, 0);
-    }
-    if b == 0x12 {
-        return plain(0x12, 8, 1, 2, 3, 0);
-    }
-    if b == 0x13 {
-        return plain(0x13, 13, 1, 2, 3, 8);
-    }
-    if b == 0x20 {
-        return plain(0x20, 7, 1, 0, 2, 0);
-    }
-    if b == 0x21 {
-        return plain(0x21, 7, 1, 0, 2, 0);
-    }
-    if b == 0x22 {
-        return Kind {
-            byte: 0x22,
-            least: 8,
-            most: 8,
-            register: 1,
-            location: 0,
-            first: 2,
-            second: 0,
-            skip: 7,
-        };
-    }
-    if b == 0x23 {
-        return plain(0x23, 7, 1, 0, 2, 0);
-    }
-    bare(b, 1, 0)
 }

@@ -1,31 +1,10 @@
-// Program files read exactly: document 01's "Program file" and its refusals 1 to 9.
+// Program files: what they say and when they are refused (document 01's "Program file", refusals 1 to 9). Definitions and laws; no functions.
 
 // The instructions of a thread.
 mod instruction;
 // The kinds of frame: their lengths and where their fields stand.
 mod kind;
-// The fields of a line's frame, and whether they are in range.
-mod field;
-// What has been read of a file so far, as counts.
-mod counts;
-// The instructions that a program keeps, a row of sixteen bytes each.
-mod row;
-// Whether threads may be declared alike.
-mod alike;
-// The number by which a line is refused.
-mod refusal;
-// What has been read once a line has passed.
-mod taken;
-// Skips beyond a thread's end.
-mod skip;
-// The whole file.
-mod file;
 
-pub use file::Answer;
-pub use file::Compiled;
-pub use file::Verdict;
-pub use file::decode;
 pub use instruction::Instruction;
 pub use instruction::Operand;
-pub use row::instruction_at;
-pub use row::operand_at;
+pub use kind::Kind;

@@ -1,10 +1,10 @@
 -- What the decoder's answer says of a file, by its verdict.
 use Prim.Native.Nat.{ℕ}
 use mathlib.Core.Path.{_≡_, _∙_, sym, ap}
-use Rattle.program.specs.declared.file.Answer.{Answer}
-use Rattle.program.specs.declared.file.Verdict.the-variants.{Accepted, Refused}
+use Rattle.decoder.specs.declared.file.Answer.{Answer}
+use Rattle.decoder.specs.declared.file.Verdict.the-variants.{Accepted, Refused}
 use Rattle.program.specs.Decode.{Decoded}
-use Rattle.program.specs.Compiled.{answerOf, verdictOf}
+use Rattle.decoder.specs.Compiled.{answerOf, verdictOf}
 use Rattle.tarczolin.specs.Word as word
 use Rattle.tarczolin.specs.Check.{checked}
 

@@ -3,10 +3,9 @@ use Prim.Native.Nat.{ℕ}
 use native.Mathlib.Omega.{arith}
 use mathlib.Core.Path.{_≡_, ap}
 use lib.ListN.{length}
-use Rattle.machine.specs.declared.graph_call.GraphAnswer.{GraphAnswer}
-use Rattle.machine.specs.declared.graph_call.GraphAnswer.the-variants.{Written, Refused}
-use Rattle.machine.specs.GraphCall.{GraphSaid, texted, refusing}
-use Rattle.machine.specs.GraphWord.{saidOf}
+use Rattle.replay.specs.declared.graph_call.GraphAnswer.the-variants.{Written, Refused}
+use Rattle.sc.specs.GraphCall.{GraphSaid, texted, refusing}
+use Rattle.replay.specs.GraphWord.{saidOf}
 use Rattle.tarczolin.specs.Word as word
 use Rattle.tarczolin.specs.Graphed.{graphed}
 

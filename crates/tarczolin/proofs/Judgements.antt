@@ -3,9 +3,8 @@ use Prim.Native.Nat.{ℕ}
 use native.Mathlib.Omega.{arith}
 use mathlib.Core.Path.{_≡_, refl, ap}
 use lib.ListN.{length}
-use Rattle.judge.specs.declared.answering.Outcome.{Outcome}
 use Rattle.judge.specs.declared.answering.Outcome.the-variants.{Yes, No, Refused}
-use Rattle.judge.specs.Answer.{Answer, consistent, inconsistent, refusing}
+use Rattle.consistent.specs.Answer.{Answer, consistent, inconsistent, refusing}
 use Rattle.judge.specs.Call.{outcomeOf}
 use Rattle.tarczolin.specs.Word as word
 use Rattle.tarczolin.specs.Judged.{judged}

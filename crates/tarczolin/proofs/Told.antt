@@ -1,7 +1,7 @@
 -- What the listing's answers say.
 use mathlib.Core.Path.{_≡_, refl}
 use Rattle.schedules.specs.Calls.{Answer, found, nomore, refused}
-use Rattle.listing.specs.Answers.{Violation, fails-first, none-fails, refused-by}
+use Rattle.list.specs.Answers.{Violation, fails-first, none-fails, refused-by}
 use Rattle.listing.specs.Said.{said, violationSaid}
 use Rattle.tarczolin.specs.Listed.{listed, violated, toldOf}
 

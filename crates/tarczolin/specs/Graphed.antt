@@ -1,6 +1,6 @@
 -- What the graph call says: answered, with the text's length, or the refusal.
 use lib.ListN.{length}
-use Rattle.machine.specs.GraphCall.{GraphSaid, texted, refusing}
+use Rattle.sc.specs.GraphCall.{GraphSaid, texted, refusing}
 use Rattle.tarczolin.specs.Word as word
 
 unfoldable pub graphed : GraphSaid → word.Said

@@ -1,6 +1,6 @@
 -- What the judge says: answered, with the schedule's length; nothing for no; or the refusal.
 use lib.ListN.{length}
-use Rattle.judge.specs.Answer.{Answer, consistent, inconsistent, refusing}
+use Rattle.consistent.specs.Answer.{Answer, consistent, inconsistent, refusing}
 use Rattle.tarczolin.specs.Word as word
 
 unfoldable pub judged : Answer → word.Said

@@ -1,7 +1,7 @@
 // Whether a file is a program.
 use crate::word::answered;
 use crate::word::refused;
-use program::Verdict;
+use decoder::Verdict;
 ghost use mathlib.Core.Path.{_≡_};
 ghost use Rattle.program.specs.Decode.{decode};
 ghost use Rattle.tarczolin.specs.Word.{wordOf};
@@ -12,7 +12,7 @@ ghost use Rattle.tarczolin.specs.Check.{checked};
 pub extern "C" fn tarczolin_check(file: &[u8]) -> u64
     ensures { λ w. ⌜ w ≡ wordOf (checked (decode (now (file .entry)))) ⌝ }
 {
-    let a = program::decode(file);
+    let a = decoder::decode(file);
     let v = a.verdict;
     match v {
         Verdict::Accepted => answered(0),

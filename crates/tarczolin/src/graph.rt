@@ -1,10 +1,10 @@
 // The graph of a schedule.
 use crate::word::answered;
 use crate::word::refused;
-use machine::GraphAnswer;
+use replay::GraphAnswer;
 ghost use mathlib.Core.Path.{_≡_};
 ghost use lib.ListN.{length};
-ghost use Rattle.machine.specs.GraphCall.{graphFile, graphOutput};
+ghost use Rattle.sc.specs.GraphCall.{graphFile, graphOutput};
 ghost use Rattle.tarczolin.specs.Word.{wordOf};
 ghost use Rattle.tarczolin.specs.Graphed.{graphed};
 
@@ -14,7 +14,7 @@ pub extern "C" fn tarczolin_graph(file: &[u8], schedule: &[u8], out: &mut [u8]) 
     ensures answer { λ w. ⌜ w ≡ wordOf (graphed (graphFile (now (file .entry)) (now (schedule .entry)) (length (now (out .entry))))) ⌝ }
     ensures output { λ w. ⌜ now (out .exit) ≡ graphOutput (graphFile (now (file .entry)) (now (schedule .entry)) (length (now (out .entry)))) (now (out .entry)) ⌝ }
 {
-    let a = machine::graph(file, schedule, out);
+    let a = replay::graph(file, schedule, out);
     match a {
         GraphAnswer::Written(n) => answered(n),
         GraphAnswer::Refused(number, place) => refused(number, place),

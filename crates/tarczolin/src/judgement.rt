@@ -5,7 +5,7 @@ use crate::word::refused;
 use judge::Outcome;
 ghost use mathlib.Core.Path.{_≡_};
 ghost use lib.ListN.{length};
-ghost use Rattle.judge.specs.Answer.{judgeFile, outputAfter};
+ghost use Rattle.consistent.specs.Answer.{judgeFile, outputAfter};
 ghost use Rattle.tarczolin.specs.Word.{wordOf};
 ghost use Rattle.tarczolin.specs.Judged.{judged};
 

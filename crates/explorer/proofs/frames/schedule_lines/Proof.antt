@@ -10,10 +10,10 @@ use borrow.Rule.Slice.PartMut.{midOf, putMid, mid-len}
 use Rattle.program.specs.Program.{Program}
 use Rattle.schedules.specs.Lists.{keep}
 use Rattle.schedules.specs.Order.{Schedule}
-use Rattle.machine.specs.NoteText.{Wrote}
-use Rattle.machine.proofs.WrittenLines.{wrote-none}
-use Rattle.listing.specs.Answers.{failing}
-use Rattle.listing.specs.Rows.{Shown}
+use Rattle.graph_writer.specs.NoteText.{Wrote}
+use Rattle.graph_writer.proofs.WrittenLines.{wrote-none}
+use Rattle.list.specs.Answers.{failing}
+use Rattle.walker.specs.Rows.{Shown}
 use Rattle.listing.specs.Printed.{scheduleFrame}
 use Rattle.explorer.specs.Pieces.{Short}
 use Rattle.explorer.proofs.LineTurns.{lines-more}

@@ -7,7 +7,7 @@ use mathlib.Core.List.{List}
 use native.Mathlib.Omega.{arith}
 use lib.ListN.{length, getD}
 use Rattle.schedules.specs.Order.{Schedule}
-use Rattle.listing.specs.Rows.{rowBytes}
+use Rattle.walker.specs.Rows.{rowBytes}
 use Rattle.listing.proofs.FirstRow.{row-count}
 use Rattle.explorer.proofs.frames.steps_of.Statement.{statement}
 use Rattle.explorer.proofs.frames.steps_of.Tie as tie

@@ -6,12 +6,12 @@ use mathlib.Core.List.{List, map}
 use native.Mathlib.Omega.{arith}
 use lib.ListN.{length, take, drop, replicate, length-replicate}
 use borrow.Rule.Slice.PartMut.{midOf, putMid, mid-len}
-use Rattle.program.specs.Compiled.{programOf}
+use Rattle.decoder.specs.Compiled.{programOf}
 use Rattle.schedules.specs.Lists.{keep}
-use Rattle.machine.specs.NoteText.{Wrote}
-use Rattle.machine.proofs.WrittenLines.{wrote-within}
-use Rattle.listing.specs.Answers.{failing}
-use Rattle.listing.specs.Rows.{Shown}
+use Rattle.graph_writer.specs.NoteText.{Wrote}
+use Rattle.graph_writer.proofs.WrittenLines.{wrote-within}
+use Rattle.list.specs.Answers.{failing}
+use Rattle.walker.specs.Rows.{Shown}
 use Rattle.listing.specs.Printed.{scheduleFrame}
 use Rattle.explorer.specs.declared.pieces.Listing.{Listing}
 use Rattle.explorer.specs.Pieces.{left, Next}

@@ -1,7 +1,6 @@
 -- `allowed` asks for the read, then for the write.
 use borrow.Author.Needs.{needs}
-use mathlib.Core.Path.{_∙_, sym, ap}
-use native.Mathlib.Omega.{arith}
+use mathlib.Core.Path.{_∙_, sym}
 use borrow.Author.Tests.{eq-eqb, ne-eqb, not-true, not-false}
 use Rattle.judge.proofs.AllowedSteps.{fits-by}
 use Rattle.judge.proofs.allowing.allowed.Statement.{statement}

@@ -1,6 +1,5 @@
 -- `read_allowed` compares an entry with the last write.
 use borrow.Author.Needs.{needs}
-use mathlib.Core.Path.{_∙_, sym}
 use native.Mathlib.Omega.{arith}
 use borrow.Author.Tests.{eq-eqb, ne-eqb}
 use Rattle.judge.proofs.allowing.read_allowed.Statement.{statement}

@@ -1,6 +1,5 @@
 -- `turn_allowed` compares the entry whose turn it is with the step.
 use borrow.Author.Needs.{needs}
-use mathlib.Core.Path.{_∙_, sym}
 use native.Mathlib.Omega.{arith}
 use borrow.Author.Tests.{eq-eqb, ne-eqb}
 use Rattle.judge.proofs.allowing.turn_allowed.Statement.{statement}

@@ -1,12 +1,9 @@
 -- `judge` refuses in order, then hands over what the judge finds.
 use borrow.Author.Needs.{needs}
-use Prim.Native.Nat.{_≤_}
-use mathlib.Core.Path.{_≡_, _∙_, sym}
-use native.Mathlib.Omega.{arith}
+use mathlib.Core.Path.{_≡_}
 use borrow.Author.Tests.{not-true, not-false}
 use lib.ListN.{length}
-use Rattle.program.specs.Compiled.{programOf}
-use Rattle.judge.specs.Answer.{judgeFile}
+use Rattle.decoder.specs.Compiled.{programOf}
 use Rattle.judge.proofs.CallAnswer.{says-refused, says-no, says-yes, call-refused, call-loaded, call-few, call-short, call-line, call-read, call-no, call-yes}
 use Rattle.judge.proofs.answering.judge.Statement.{statement}
 use Rattle.judge.proofs.answering.judge.Tie as tie

@@ -1,9 +1,9 @@
 -- `put` stores one byte after the other. The invariant: the bytes so far stand over the front.
 use borrow.Author.Needs.{needs}
-use Prim.Native.Nat.{ℕ, _≤_, _<_, _-_}
+use Prim.Native.Nat.{_≤_, _-_}
 use mathlib.Core.Path.{_≡_, _∙_, sym}
 use native.Mathlib.Omega.{arith}
-use lib.ListN.{length, getD, take, length-set}
+use lib.ListN.{length, take, length-set}
 use Rattle.lines.specs.Over.{over}
 use Rattle.lines.proofs.Over.{over-nil}
 use Rattle.judge.proofs.CallAnswer.{put-more}

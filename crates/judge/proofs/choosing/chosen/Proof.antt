@@ -1,16 +1,16 @@
 -- `chosen` asks one thread after the other. The invariant: none so far fits.
 use borrow.Author.Needs.{needs}
-use Prim.Native.Nat.{ℕ, _≤_, _<_, _-_, _+_}
+use Prim.Native.Nat.{ℕ, _≤_, _<_, _-_}
 use mathlib.Core.Path.{_≡_, _∙_, sym}
 use mathlib.Core.Bool.{false}
 use native.Mathlib.Omega.{arith}
 use Rattle.program.specs.Program.{Program}
 use Rattle.schedules.specs.Order.{Schedule}
 use Rattle.schedules.specs.System.{run}
-use Rattle.machine.specs.State.{SC, start}
-use Rattle.machine.specs.Graph.{Graph}
-use Rattle.judge.specs.Consistent.{locationOf}
-use Rattle.judge.specs.Judge.{values, fits}
+use Rattle.sc.specs.State.{SC, start}
+use Rattle.sc.specs.Graph.{Graph}
+use Rattle.consistent.specs.Consistent.{locationOf}
+use Rattle.consistent.specs.Judge.{values, fits}
 use Rattle.judge.specs.HeldWalk.{Walking}
 use Rattle.judge.proofs.WalkChoice.{chosen-one, chosen-none, passed-over}
 use Rattle.judge.proofs.choosing.chosen.Statement.{statement}

@@ -1,12 +1,11 @@
 -- `may_go` lets the machine step and asks of the note.
 use borrow.Author.Needs.{needs}
 use mathlib.Core.Path.{_∙_, sym}
-use native.Mathlib.Omega.{arith}
 use borrow.Author.Tests.{not-true, not-false}
 use Rattle.schedules.specs.System.{run}
-use Rattle.machine.specs.State.{SC, start}
-use Rattle.judge.specs.Consistent.{locationOf}
-use Rattle.judge.specs.Judge.{values}
+use Rattle.sc.specs.State.{SC, start}
+use Rattle.consistent.specs.Consistent.{locationOf}
+use Rattle.consistent.specs.Judge.{values}
 use Rattle.judge.proofs.WalkChoice.{walk-drawn, walk-ordering, walk-below, walk-ready, walk-near, walk-ranged, walk-unmarked, walk-six, ended-over}
 use Rattle.judge.proofs.choosing.may_go.Statement.{statement}
 use Rattle.judge.proofs.choosing.may_go.Tie as tie

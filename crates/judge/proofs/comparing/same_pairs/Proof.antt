@@ -1,7 +1,7 @@
 -- `same_pairs` compares number by number. The invariant: those so far agree.
 use borrow.Author.Needs.{needs}
 use Prim.Native.Nat.{ℕ, _≤_, _<_, _-_}
-use mathlib.Core.Path.{_≡_, _∙_}
+use mathlib.Core.Path.{_≡_}
 use native.Mathlib.Omega.{arith}
 use lib.ListN.{length, getD}
 use Rattle.judge.proofs.CallAnswer.{agree-more, differ, agree}

@@ -2,10 +2,9 @@
 use borrow.Author.Needs.{needs}
 use mathlib.Core.Path.{_≡_, _∙_, sym, subst}
 use mathlib.Core.Bool.{Bool}
-use native.Mathlib.Omega.{arith}
 use borrow.Author.Tests.{not-true, not-false}
 use lib.ListN.{length}
-use Rattle.judge.specs.Judge.{judge}
+use Rattle.consistent.specs.Judge.{judge}
 use Rattle.judge.specs.Call.{JudgedAs}
 use Rattle.judge.proofs.JudgeTables.{answer-running, answer-pairs, answer-counts, answer-yes}
 use Rattle.judge.proofs.judging.judged.Statement.{statement}

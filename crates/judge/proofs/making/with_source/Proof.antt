@@ -1,6 +1,5 @@
 -- `with_source` puts one entry, if the step reads.
 use borrow.Author.Needs.{needs}
-use mathlib.Core.Path.{_∙_, sym}
 use native.Mathlib.Omega.{arith}
 use borrow.Author.Tests.{eq-eqb, ne-eqb}
 use Rattle.judge.proofs.making.with_source.Statement.{statement}

@@ -1,7 +1,5 @@
 -- `waits` asks five things of an entry.
 use borrow.Author.Needs.{needs}
-use mathlib.Core.Path.{_∙_, sym}
-use native.Mathlib.Omega.{arith}
 use borrow.Author.Tests.{eq-eqb, ne-eqb, lt-ltb, le-ltb}
 use Rattle.judge.proofs.waiting.waits.Statement.{statement}
 use Rattle.judge.proofs.waiting.waits.Tie as tie

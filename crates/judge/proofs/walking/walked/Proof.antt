@@ -1,15 +1,15 @@
 -- `walked` takes the chosen thread again and again. The invariant: what has been walked and what is left make the walk.
 use borrow.Author.Needs.{needs}
-use Prim.Native.Nat.{ℕ, _≤_, _<_, _-_, _+_}
-use mathlib.Core.Path.{_≡_, _∙_, sym}
+use Prim.Native.Nat.{ℕ, _≤_, _-_}
+use mathlib.Core.Path.{_≡_, _∙_}
 use native.Mathlib.Omega.{arith}
-use lib.ListN.{length, getD, length-set, getD-replicate}
+use lib.ListN.{length, getD, length-set}
 use Rattle.program.specs.Program.{Program}
 use Rattle.schedules.specs.System.{run}
-use Rattle.machine.specs.State.{SC, start}
-use Rattle.machine.specs.Graph.{Graph}
+use Rattle.sc.specs.State.{SC, start}
+use Rattle.sc.specs.Graph.{Graph}
 use Rattle.judge.specs.HeldYes.{Given}
-use Rattle.judge.proofs.HeldValues.{zeros}
+use Rattle.rounds.proofs.HeldValues.{zeros}
 use Rattle.judge.proofs.WalkChoice.{walk-near, walk-ready}
 use Rattle.judge.proofs.WalkTurns.{Progress, walk-start, walk-on, walk-whole, walk-stops, walk-may, walk-note, walk-more, few-more}
 use Rattle.judge.proofs.walking.walked.Statement.{statement}

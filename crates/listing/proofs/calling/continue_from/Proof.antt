@@ -1,10 +1,10 @@
 -- `continue_from` decodes the file first.
 use borrow.Author.Needs.{needs}
-use mathlib.Core.Path.{_≡_, sym, ap, _∙_}
-use Rattle.program.specs.Compiled.{programOf}
+use mathlib.Core.Path.{sym, ap, _∙_}
+use Rattle.decoder.specs.Compiled.{programOf}
 use Rattle.schedules.specs.Calls.{Result}
 use Rattle.listing.specs.Said.{said}
-use Rattle.program.proofs.Decoded.{decoded-refused, decoded-accepted, decoded-well-formed}
+use Rattle.decoder.proofs.Decoded.{decoded-refused, decoded-accepted, decoded-well-formed}
 use Rattle.listing.proofs.FileCalls.{continue-file, continue-file-refused}
 use Rattle.listing.proofs.calling.continue_from.Statement.{statement}
 use Rattle.listing.proofs.calling.continue_from.Tie as tie

@@ -1,7 +1,7 @@
 -- `continued` carries the schedule out first.
 use borrow.Author.Needs.{needs}
-use mathlib.Core.Path.{_≡_, sym, ap, _∙_}
-use Rattle.program.specs.Compiled.{programOf}
+use mathlib.Core.Path.{sym, ap, _∙_}
+use Rattle.decoder.specs.Compiled.{programOf}
 use Rattle.schedules.specs.Calls.{Result}
 use Rattle.listing.specs.Said.{said}
 use Rattle.machine.proofs.HeldStart.{loaded-compiled}

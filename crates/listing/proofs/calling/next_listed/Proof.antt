@@ -3,10 +3,10 @@ use borrow.Author.Needs.{needs}
 use mathlib.Core.Path.{refl, sym, ap, _∙_}
 use native.Mathlib.Omega.{arith}
 use Rattle.lines.specs.Over.{over}
-use Rattle.program.specs.Compiled.{programOf}
+use Rattle.decoder.specs.Compiled.{programOf}
 use Rattle.schedules.specs.Calls.{Answer, content}
-use Rattle.listing.specs.Bounds.{boundAt}
-use Rattle.listing.specs.Search.{sought}
+use Rattle.walker.specs.Bounds.{boundAt}
+use Rattle.list.specs.Search.{sought}
 use Rattle.schedules.specs.Found.{after}
 use Rattle.schedules.proofs.Offered.{content-found, content-nomore, content-refused}
 use Rattle.listing.specs.Said.{said}

@@ -1,9 +1,9 @@
 -- `start` decodes the file first.
 use borrow.Author.Needs.{needs}
-use mathlib.Core.Path.{_≡_, sym, ap, _∙_}
-use Rattle.program.specs.Compiled.{programOf}
+use mathlib.Core.Path.{sym, ap, _∙_}
+use Rattle.decoder.specs.Compiled.{programOf}
 use Rattle.listing.specs.Said.{said}
-use Rattle.program.proofs.Decoded.{decoded-refused, decoded-accepted, decoded-well-formed}
+use Rattle.decoder.proofs.Decoded.{decoded-refused, decoded-accepted, decoded-well-formed}
 use Rattle.listing.proofs.FileCalls.{start-refused, start-refused-out, start-answered, start-output}
 use Rattle.listing.proofs.calling.start.Statement.{statement}
 use Rattle.listing.proofs.calling.start.Tie as tie

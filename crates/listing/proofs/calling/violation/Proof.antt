@@ -1,12 +1,12 @@
 -- `violation` decodes the file first.
 use borrow.Author.Needs.{needs}
-use mathlib.Core.Path.{_≡_, sym, ap, _∙_}
+use mathlib.Core.Path.{sym, ap, _∙_}
 use mathlib.Core.List.{List}
 use Prim.Native.Nat.{ℕ}
-use Rattle.program.specs.Compiled.{programOf}
-use Rattle.listing.specs.Answers.{Violation}
+use Rattle.decoder.specs.Compiled.{programOf}
+use Rattle.list.specs.Answers.{Violation}
 use Rattle.listing.specs.Said.{violationSaid}
-use Rattle.program.proofs.Decoded.{decoded-refused, decoded-accepted, decoded-well-formed}
+use Rattle.decoder.proofs.Decoded.{decoded-refused, decoded-accepted, decoded-well-formed}
 use Rattle.listing.proofs.FileCalls.{violation-refused, violation-said, violation-output}
 use Rattle.listing.proofs.calling.violation.Statement.{statement}
 use Rattle.listing.proofs.calling.violation.Tie as tie

@@ -1,6 +1,6 @@
 -- `count` decodes the file first.
 use borrow.Author.Needs.{needs}
-use Rattle.program.proofs.Decoded.{decoded-refused, decoded-accepted, decoded-well-formed}
+use Rattle.decoder.proofs.Decoded.{decoded-refused, decoded-accepted, decoded-well-formed}
 use Rattle.listing.proofs.CountCalled.{count-refused, count-answered}
 use Rattle.listing.proofs.counting.count.Statement.{statement}
 use Rattle.listing.proofs.counting.count.Tie as tie

@@ -5,10 +5,10 @@ use mathlib.Core.Path.{refl}
 use native.Mathlib.Omega.{arith}
 use lib.ListN.{length}
 use Rattle.program.specs.WellFormed.{WellFormed}
-use Rattle.program.specs.Compiled.{programOf}
-use Rattle.machine.proofs.Lawful.{fits-64-bits}
-use Rattle.listing.specs.ListOf.{listOf}
-use Rattle.listing.proofs.TheList.{list-length}
+use Rattle.decoder.specs.Compiled.{programOf}
+use Rattle.sc.proofs.Lawful.{fits-64-bits}
+use Rattle.list.specs.ListOf.{listOf}
+use Rattle.list.proofs.TheList.{list-length}
 use Rattle.listing.proofs.CountedRows.{Counting, counting-start, counting-64, counting-size, counting-within, counting-fails}
 use Rattle.listing.proofs.CountedRows.{counting-over, counting-part, counting-next}
 use Rattle.listing.proofs.counting.counts.Statement.{statement}

@@ -10,8 +10,8 @@ use Rattle.program.specs.Program.{Program}
 use Rattle.schedules.specs.Lists.{keep}
 use Rattle.schedules.specs.Order.{Schedule}
 use Rattle.schedules.proofs.Kept.{keep-length}
-use Rattle.listing.specs.Answers.{failing}
-use Rattle.listing.specs.Rows.{Shown}
+use Rattle.list.specs.Answers.{failing}
+use Rattle.walker.specs.Rows.{Shown}
 use Rattle.listing.proofs.CountedRows.{fails-more, fails-same, fails-all}
 use Rattle.listing.proofs.counting.failing_in.Statement.{statement}
 use Rattle.listing.proofs.counting.failing_in.Tie as tie

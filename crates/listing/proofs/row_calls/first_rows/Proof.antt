@@ -1,9 +1,9 @@
 -- `first_rows` decodes the file first.
 use borrow.Author.Needs.{needs}
 use mathlib.Core.Option.{none}
-use Rattle.program.specs.Compiled.{programOf}
-use Rattle.listing.specs.Bounds.{boundAt}
-use Rattle.program.proofs.Decoded.{decoded-refused, decoded-accepted, decoded-well-formed}
+use Rattle.decoder.specs.Compiled.{programOf}
+use Rattle.walker.specs.Bounds.{boundAt}
+use Rattle.decoder.proofs.Decoded.{decoded-refused, decoded-accepted, decoded-well-formed}
 use Rattle.listing.proofs.RowsSaid.{rows-refused, rows-written}
 use Rattle.listing.proofs.row_calls.first_rows.Statement.{statement}
 use Rattle.listing.proofs.row_calls.first_rows.Tie as tie

@@ -1,6 +1,6 @@
 -- `rows_of` finds the permitted permutations first.
 use borrow.Author.Needs.{needs}
-use Rattle.listing.specs.Search.{sought}
+use Rattle.list.specs.Search.{sought}
 use Rattle.listing.specs.RowsCall.{fitting}
 use Rattle.listing.proofs.row_calls.rows_of.Statement.{statement}
 use Rattle.listing.proofs.row_calls.rows_of.Tie as tie

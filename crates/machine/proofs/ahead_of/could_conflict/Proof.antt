@@ -1,7 +1,7 @@
 -- `could_conflict` compares the locations of accesses; two reads do not conflict.
 use borrow.Author.Needs.{needs}
 use borrow.Author.Tests.{eq-eqb, ne-eqb}
-use Rattle.machine.specs.Ahead.{couldConflict}
+use Rattle.sc.specs.Ahead.{couldConflict}
 use Rattle.machine.proofs.ahead_of.could_conflict.Statement.{statement}
 use Rattle.machine.proofs.ahead_of.could_conflict.Tie as tie
 

@@ -4,9 +4,9 @@ use Prim.Native.Nat.{_≤_, _-_}
 use mathlib.Core.Path.{_≡_, refl, sym, ap, _∙_}
 use native.Mathlib.Omega.{arith}
 use lib.ListN.{drop}
-use Rattle.program.specs.Compiled.{threadCode}
+use Rattle.rows.specs.Rows.{threadCode}
 use Rattle.schedules.specs.Lists.{any}
-use Rattle.machine.specs.Ahead.{couldConflict}
+use Rattle.sc.specs.Ahead.{couldConflict}
 use Rattle.machine.proofs.HeldNext.{meets-none, meets-here, meets-later}
 use Rattle.machine.proofs.ahead_of.could_meet.Statement.{statement}
 use Rattle.machine.proofs.ahead_of.could_meet.Tie as tie

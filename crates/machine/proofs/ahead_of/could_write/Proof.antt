@@ -1,6 +1,6 @@
 -- `could_write` tells by the kind of instruction.
 use borrow.Author.Needs.{needs}
-use Rattle.machine.specs.Ahead.{firstMayPut}
+use Rattle.sc.specs.Ahead.{firstMayPut}
 use Rattle.machine.proofs.ahead_of.could_write.Statement.{statement}
 use Rattle.machine.proofs.ahead_of.could_write.Tie as tie
 

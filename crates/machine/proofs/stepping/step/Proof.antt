@@ -1,7 +1,6 @@
 -- A step: what it changes is stored in the machine.
 use borrow.Author.Needs.{needs}
-use Prim.Native.Nat.{ℕ, _<_}
-use native.Mathlib.Omega.{arith}
+use Prim.Native.Nat.{ℕ}
 use mathlib.Core.Path.{sym, subst}
 use Rattle.machine.specs.Held.{threadAt, ReadyThread}
 use Rattle.machine.proofs.HeldStep.{stored-step}

@@ -1,0 +1,8 @@
+-- The laws, in the order in which they rest on each other.
+-- How the machine's functions meet the definitions.
+-- registers chosen one by one, and rows by their first byte
+pub mod HeldRows
+-- settling by turns
+pub mod HeldTurns
+-- an access as the code does it
+pub mod HeldAccess

@@ -1,0 +1,142 @@
+// What the instruction in a row does, read off the row's bytes: in the search's path no instruction is made.
+use crate::accessing::Access;
+use crate::accessing::done;
+use crate::accessing::found;
+use crate::local::Turn;
+use crate::local::failed;
+use crate::local::left;
+use crate::local::passed;
+use crate::local::register_at;
+use crate::local::value;
+use crate::local::wide;
+use crate::local::with_register;
+use program::Operand;
+use rows::operand_at;
+use std::num::wrapping_add_u32;
+ghost use mathlib.Core.Path.{_≡_};
+ghost use mathlib.Core.List.{[], _∷_};
+ghost use Prim.Native.Nat.{_<_};
+ghost use Rattle.program.specs.declared.instruction.Instruction.the-variants.{Assign, AddAssign, SkipUnless, Assert};
+ghost use Rattle.rows.specs.Rows.{instructionAt};
+ghost use Rattle.sc.specs.Local.{beginsWithAccess};
+ghost use Rattle.accesses.specs.Turns.{turnOf, accessOf};
+
+// Whether it is an access.
+pub(crate) fn is_access(code: &[u8; 1536], row: usize) -> bool
+    requires { ⌜ row < 96 ⌝ }
+    ensures { λ r. ⌜ r ≡ beginsWithAccess (instructionAt (now (code .entry)) row ∷ []) ⌝ }
+{
+    let b = code[row * 16];
+    if b == 0x10 {
+        return true;
+    }
+    if b == 0x11 {
+        return true;
+    }
+    if b == 0x12 {
+        return true;
+    }
+    if b == 0x13 {
+        return true;
+    }
+    false
+}
+
+// An operand into a register.
+fn assigned(registers: [u32; 4], r: u8, p: Operand) -> Turn
+    ensures { λ s. ⌜ s ≡ turnOf (Assign r p) registers ⌝ }
+{
+    let v = value(p, registers);
+    passed(with_register(registers, wide(r), v), 0)
+}
+
+// An operand added to a register.
+fn added(registers: [u32; 4], r: u8, p: Operand) -> Turn
+    ensures { λ s. ⌜ s ≡ turnOf (AddAssign r p) registers ⌝ }
+{
+    let k = wide(r);
+    let v = wrapping_add_u32(register_at(registers, k), value(p, registers));
+    passed(with_register(registers, k, v), 0)
+}
+
+// A skip of n instructions unless the register is the operand.
+fn skipping(registers: [u32; 4], r: u8, p: Operand, n: u8) -> Turn
+    ensures { λ s. ⌜ s ≡ turnOf (SkipUnless r p n) registers ⌝ }
+{
+    if register_at(registers, wide(r)) == value(p, registers) {
+        return passed(registers, 0);
+    }
+    passed(registers, n)
+}
+
+// An assertion that the register is the operand.
+fn asserted(registers: [u32; 4], r: u8, p: Operand) -> Turn
+    ensures { λ s. ⌜ s ≡ turnOf (Assert r p) registers ⌝ }
+{
+    if register_at(registers, wide(r)) == value(p, registers) {
+        return passed(registers, 0);
+    }
+    failed(registers)
+}
+
+// Carries it out unless it is an access.
+pub(crate) fn turned(code: &[u8; 1536], row: usize, registers: [u32; 4]) -> Turn
+    requires { ⌜ row < 96 ⌝ }
+    ensures { λ s. ⌜ s ≡ turnOf (instructionAt (now (code .entry)) row) registers ⌝ }
+{
+    if is_access(code, row) {
+        return left(registers);
+    }
+    let at = row * 16;
+    let b = code[at];
+    let r = code[at + 1];
+    if b == 0x20 {
+        return assigned(registers, r, operand_at(code, row, 2));
+    }
+    if b == 0x21 {
+        return added(registers, r, operand_at(code, row, 2));
+    }
+    if b == 0x22 {
+        return skipping(registers, r, operand_at(code, row, 2), code[at + 7]);
+    }
+    if b == 0x23 {
+        return asserted(registers, r, operand_at(code, row, 2));
+    }
+    asserted(registers, b, operand_at(code, row, 0))
+}
+
+// Does the access on finding memory so. Operands are read before the register changes.
+pub fn accessed_at(code: &[u8; 1536], row: usize, registers: [u32; 4], memory: [u32; 8]) -> Access
+    requires { ⌜ row < 96 ⌝ }
+    ensures { λ a. ⌜ a ≡ accessOf (instructionAt (now (code .entry)) row) registers memory ⌝ }
+{
+    let at = row * 16;
+    let b = code[at];
+    let r = code[at + 1];
+    if b == 0x10 {
+        return done(
+            r,
+            0,
+            registers,
+            1,
+            value(operand_at(code, row, 2), registers),
+        );
+    }
+    let l = code[at + 2];
+    let x = found(memory, l);
+    let rs = with_register(registers, wide(r), x);
+    if b == 0x11 {
+        return done(l, 1, rs, 0, 0);
+    }
+    if b == 0x12 {
+        let v = wrapping_add_u32(x, value(operand_at(code, row, 3), registers));
+        return done(l, 1, rs, 1, v);
+    }
+    if b == 0x13 {
+        if x == value(operand_at(code, row, 3), registers) {
+            return done(l, 1, rs, 1, value(operand_at(code, row, 8), registers));
+        }
+        return done(l, 1, rs, 0, 0);
+    }
+    done(0, 0, registers, 0, 0)
+}

@@ -1,0 +1,20 @@
+// A thread by itself: operands, what an access and what any other instruction does, and settling.
+
+// A thread by itself: operands, and what an instruction that is no access does.
+mod local;
+// What an access does.
+mod accessing;
+// What the instruction in a row does.
+mod by_row;
+// A thread carried to its next access.
+mod settling;
+// Where a thread stands.
+mod thread;
+
+pub use accessing::Access;
+pub use accessing::accessed;
+pub use by_row::accessed_at;
+pub use local::wide;
+pub use settling::settle;
+pub use settling::settled;
+pub use thread::ThreadState;

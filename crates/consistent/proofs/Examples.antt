@@ -1,0 +1,165 @@
+-- Graphs judged by computing: document 01's two, and others that are cyclic, not made by the program, or made by several schedules.
+use Prim.Native.Nat.{ℕ}
+use mathlib.Core.Path.{_≡_, refl}
+use mathlib.Core.Bool.{Bool, true, false}
+use mathlib.Core.Option.{Option, none, some}
+use mathlib.Core.List.{List, [], _∷_, _++_}
+use lib.Dec.{eqb}
+use Rattle.program.specs.Program.{Program}
+use Rattle.program.specs.WellFormed.{accesses}
+use Rattle.program.specs.declared.instruction.Instruction.{Instruction}
+use Rattle.program.specs.declared.instruction.Operand.the-variants.{Constant, Register}
+use Rattle.program.specs.declared.instruction.Instruction.the-variants.{Store, Load, FetchAdd, CompareSwap, AddAssign, SkipUnless, Assert}
+use Rattle.schedules.specs.Lists.{upTo, any, all, first}
+use Rattle.schedules.specs.Order.{Schedule}
+use Rattle.schedules.specs.Fulls.{fronts, branch, fullsFrom, fulls}
+use Rattle.schedules.specs.Greedy.{greedy}
+use Rattle.sc.specs.State.{Event, initialWrite, SC, start, size, accessesLeft}
+use Rattle.sc.specs.Graph.{Graph, graph}
+use Rattle.sc.proofs.Examples.{seen}
+use Rattle.consistent.specs.Consistent.{alone}
+use Rattle.consistent.specs.Judge.{sameEvent, sameRead, sourceIn, orZero, leftBy, nextRound, values, waits, noneWaits, turnOf, readFits, writeFits, fits, walk, sameList, sameGraph, judge}
+
+-- what a proof names on its `unfolding` line to compute with the judge
+unfoldable pub judging : Program → Graph → Option Schedule
+unfolding seen upTo any all first greedy alone sameEvent sameRead sourceIn orZero leftBy nextRound values waits noneWaits turnOf readFits writeFits fits walk sameList sameGraph judge
+judging p g = judge p g
+
+-- threads of which none are declared alike
+abbrev pub threadsOf : List (List Instruction) → Program
+threadsOf code = record { threads = code; groups = [] }
+
+-- reads by thread, and the writes of locations 0 and 1, each with the last first
+abbrev pub graphWith : List (List (ℕ × Event)) → List Event → List Event → Graph
+graphWith rs a b = record { reads = rs; writes = a ∷ b ∷ [] ∷ [] ∷ [] ∷ [] ∷ [] ∷ [] ∷ [] }
+
+unfoldable pub sameAnswer : Option Schedule → Option Schedule → Bool
+sameAnswer none none = true
+sameAnswer none (some s) = false
+sameAnswer (some s) none = false
+sameAnswer (some s) (some r) = sameList eqb s r
+
+pub record Case : Type 0 where
+  pub program : Program
+  pub graph : Graph
+  pub answer : Option Schedule
+
+unfoldable pub right : Case → Bool
+right c = sameAnswer (judge (c .program) (c .graph)) (c .answer)
+
+-- each thread stores at a location and loads the other's
+abbrev pub buffering : Program
+buffering = threadsOf ((Store 0 (Constant 1) ∷ Load 0 1 ∷ []) ∷ (Store 1 (Constant 1) ∷ Load 0 0 ∷ []) ∷ [])
+
+abbrev pub neitherSeen : Graph
+neitherSeen = graphWith (((1, initialWrite) ∷ []) ∷ ((1, initialWrite) ∷ []) ∷ []) ((0, 0) ∷ []) ((1, 0) ∷ [])
+
+abbrev pub firstSeen : Graph
+firstSeen = graphWith (((1, initialWrite) ∷ []) ∷ ((1, (0, 0)) ∷ []) ∷ []) ((0, 0) ∷ []) ((1, 0) ∷ [])
+
+abbrev pub twoAdds : Program
+twoAdds = threadsOf ((FetchAdd 0 0 (Constant 1) ∷ []) ∷ (FetchAdd 0 0 (Constant 1) ∷ []) ∷ [])
+
+-- the first add reads from itself
+abbrev pub selfish : Graph
+selfish = graphWith (((0, (0, 0)) ∷ []) ∷ ((0, (0, 0)) ∷ []) ∷ []) ((1, 0) ∷ (0, 0) ∷ []) []
+
+abbrev twoSwaps : Program
+twoSwaps = threadsOf ((CompareSwap 0 0 (Constant 0) (Constant 1) ∷ []) ∷ (CompareSwap 0 0 (Constant 0) (Constant 1) ∷ []) ∷ [])
+
+-- each thread stores at the other's location what it loaded
+abbrev copies : Program
+copies = threadsOf ((Load 0 0 ∷ Store 1 (Register 0) ∷ []) ∷ (Load 0 1 ∷ Store 0 (Register 0) ∷ []) ∷ [])
+
+-- the read of location 0 comes behind another: only its place tells that the store must wait for it
+abbrev pub behind : Program
+behind = threadsOf ((Store 0 (Constant 1) ∷ []) ∷ (Load 0 1 ∷ Load 0 0 ∷ []) ∷ [])
+
+-- the second read goes to location 0 if the first one found 0
+abbrev choosing : Program
+choosing = threadsOf ((Store 0 (Constant 1) ∷ []) ∷ (Load 0 1 ∷ SkipUnless 0 (Constant 0) 1 ∷ Load 1 0 ∷ Load 2 2 ∷ []) ∷ [])
+
+pub cases : List Case
+cases =
+    record { program = buffering; graph = neitherSeen; answer = none } ∷
+    record { program = buffering; graph = firstSeen; answer = some (0 ∷ 0 ∷ 1 ∷ 1 ∷ []) } ∷
+    -- fetch and adds: one after the other; both from the initial write; each from the other; from itself; coherence the other way round
+    record { program = twoAdds; graph = graphWith (((0, initialWrite) ∷ []) ∷ ((0, (0, 0)) ∷ []) ∷ []) ((1, 0) ∷ (0, 0) ∷ []) []; answer = some (0 ∷ 1 ∷ []) } ∷
+    record { program = twoAdds; graph = graphWith (((0, (1, 0)) ∷ []) ∷ ((0, initialWrite) ∷ []) ∷ []) ((0, 0) ∷ (1, 0) ∷ []) []; answer = some (1 ∷ 0 ∷ []) } ∷
+    record { program = twoAdds; graph = graphWith (((0, initialWrite) ∷ []) ∷ ((0, initialWrite) ∷ []) ∷ []) ((1, 0) ∷ (0, 0) ∷ []) []; answer = none } ∷
+    record { program = twoAdds; graph = graphWith (((0, (1, 0)) ∷ []) ∷ ((0, (0, 0)) ∷ []) ∷ []) ((1, 0) ∷ (0, 0) ∷ []) []; answer = none } ∷
+    record { program = twoAdds; graph = selfish; answer = none } ∷
+    record { program = twoAdds; graph = graphWith (((0, initialWrite) ∷ []) ∷ ((0, (0, 0)) ∷ []) ∷ []) ((0, 0) ∷ (1, 0) ∷ []) []; answer = none } ∷
+    -- a compare and swap that fails only reads: its write in a `41` line is too many
+    record { program = twoSwaps; graph = graphWith (((0, initialWrite) ∷ []) ∷ ((0, (0, 0)) ∷ []) ∷ []) ((0, 0) ∷ []) []; answer = some (0 ∷ 1 ∷ []) } ∷
+    record { program = twoSwaps; graph = graphWith (((0, initialWrite) ∷ []) ∷ ((0, (0, 0)) ∷ []) ∷ []) ((1, 0) ∷ (0, 0) ∷ []) []; answer = none } ∷
+    -- values that depend on themselves in a circle
+    record { program = copies; graph = graphWith (((0, (1, 1)) ∷ []) ∷ ((0, (0, 1)) ∷ []) ∷ []) ((1, 1) ∷ []) ((0, 1) ∷ []); answer = none } ∷
+    record { program = copies; graph = graphWith (((0, (1, 1)) ∷ []) ∷ ((0, initialWrite) ∷ []) ∷ []) ((1, 1) ∷ []) ((0, 1) ∷ []); answer = some (1 ∷ 1 ∷ 0 ∷ 0 ∷ []) } ∷
+    -- initial reads of two locations; a read without its line; a source elsewhere; a line of a store; a write that no thread makes
+    record { program = behind; graph = graphWith ([] ∷ ((1, initialWrite) ∷ (0, initialWrite) ∷ []) ∷ []) ((0, 0) ∷ []) []; answer = some (1 ∷ 1 ∷ 0 ∷ []) } ∷
+    record { program = behind; graph = graphWith ([] ∷ ((1, (0, 0)) ∷ (0, initialWrite) ∷ []) ∷ []) ((0, 0) ∷ []) []; answer = some (0 ∷ 1 ∷ 1 ∷ []) } ∷
+    record { program = behind; graph = graphWith ([] ∷ ((1, (0, 0)) ∷ []) ∷ []) ((0, 0) ∷ []) []; answer = none } ∷
+    record { program = behind; graph = graphWith ([] ∷ ((1, (0, 0)) ∷ (0, (0, 0)) ∷ []) ∷ []) ((0, 0) ∷ []) []; answer = none } ∷
+    record { program = behind; graph = graphWith (((0, initialWrite) ∷ []) ∷ ((1, initialWrite) ∷ (0, initialWrite) ∷ []) ∷ []) ((0, 0) ∷ []) []; answer = none } ∷
+    record { program = behind; graph = graphWith ([] ∷ ((1, initialWrite) ∷ (0, initialWrite) ∷ []) ∷ []) ((1, 7) ∷ (0, 0) ∷ []) []; answer = none } ∷
+    -- which location is read depends on a value
+    record { program = choosing; graph = graphWith ([] ∷ ((2, initialWrite) ∷ (1, initialWrite) ∷ (0, initialWrite) ∷ []) ∷ []) ((0, 0) ∷ []) []; answer = some (1 ∷ 1 ∷ 0 ∷ 1 ∷ []) } ∷
+    -- the write stands at the wrong location; no event at all
+    record { program = behind; graph = graphWith ([] ∷ ((1, initialWrite) ∷ (0, initialWrite) ∷ []) ∷ []) [] ((0, 0) ∷ []); answer = none } ∷
+    record { program = threadsOf ([] ∷ []); graph = graphWith ([] ∷ []) [] []; answer = some [] } ∷
+    []
+
+pub all-right : all right cases ≡ true
+unfolding judging right sameAnswer cases
+all-right = refl
+
+-- the judge against the list of all full schedules: for the reads of one full schedule with the writes of another, the first with this graph
+unfoldable pub firstWith : Program → Graph → List Schedule → Option Schedule
+firstWith p g [] = none
+firstWith p g (s ∷ ss) = elim (sameGraph (graph p s) g) [ true ↦ some s | false ↦ firstWith p g ss ]
+
+unfoldable pub mixed : Graph → Graph → Graph
+mixed a b = record { reads = a .reads; writes = b .writes }
+
+unfoldable pub agrees : Program → Bool
+unfolding fronts branch fullsFrom fulls size accessesLeft accesses
+agrees p =
+    let ss = fulls SC (start p) in
+    all (λ s. all (λ r. let g = mixed (graph p s) (graph p r) in sameAnswer (judge p g) (firstWith p g ss)) ss) ss
+
+abbrev increment : List Instruction
+increment = Load 0 0 ∷ AddAssign 0 (Constant 1) ∷ Store 0 (Register 0) ∷ []
+
+abbrev small : List Program
+small =
+    buffering ∷
+    twoAdds ∷
+    twoSwaps ∷
+    copies ∷
+    behind ∷
+    threadsOf (increment ∷ increment ∷ []) ∷
+    threadsOf ((Load 0 0 ∷ Assert 0 (Constant 0) ∷ []) ∷ (Store 0 (Constant 1) ∷ []) ∷ []) ∷
+    threadsOf ((Store 0 (Constant 1) ∷ []) ∷ (Load 0 0 ∷ []) ∷ (Load 0 0 ∷ []) ∷ []) ∷
+    []
+
+pub all-agree : all agrees small ≡ true
+unfolding judging sameAnswer firstWith mixed agrees
+all-agree = refl
+
+-- 24 accesses in one chain
+abbrev four : List Instruction
+four = FetchAdd 0 0 (Constant 1) ∷ FetchAdd 0 0 (Constant 1) ∷ FetchAdd 0 0 (Constant 1) ∷ FetchAdd 0 0 (Constant 1) ∷ []
+
+abbrev chain : Program
+chain = threadsOf (four ∷ four ∷ four ∷ four ∷ four ∷ four ∷ [])
+
+abbrev round : Schedule
+round = 0 ∷ 1 ∷ 2 ∷ 3 ∷ 4 ∷ 5 ∷ []
+
+abbrev rounds : Schedule
+rounds = round ++ (round ++ (round ++ round))
+
+pub chain-judged : sameAnswer (judge chain (graph chain rounds)) (some rounds) ≡ true
+unfolding judging sameAnswer
+chain-judged = refl

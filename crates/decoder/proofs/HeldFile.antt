@@ -1,0 +1,128 @@
+-- The lines of a file, read one after the other: what has been read and what is left make the whole file's answer.
+use Prim.Native.Nat.{ℕ, _+_, _-_, _≤_, _<_}
+use native.Mathlib.Omega.{arith}
+use mathlib.Core.Path.{_≡_, _∙_, sym, ap}
+use mathlib.Core.List.{List, [], _∷_}
+use mathlib.Core.Option.{some}
+use lib.ListN.{length, getD, take, drop, replicate, drop-of-length-le}
+use borrow.Author.Tests.{eq-eqb, ne-eqb, le-ltb, lt-ltb}
+use Rattle.lines.specs.Frame.{frame, pairs}
+use Rattle.lines.specs.Split.{lineLength}
+use Rattle.lines.specs.TextLines.{TextLine, split}
+use Rattle.lines.proofs.Frame.{frame-bytes}
+use Rattle.lines.proofs.TextLines.{whole, split-at, split-end}
+use Rattle.decoder.specs.declared.counts.Counts.{Counts}
+use Rattle.program.specs.Decode.{Reading, fresh, threadAt, frameRefusal, frameOf, after, refused, finish, readLines, decode}
+use Rattle.decoder.specs.Compiled.{frameLength}
+use Rattle.program.specs.WellFormed.{Everywhere, Ascending}
+use Rattle.decoder.specs.Held.{nothing, Bounded, Holds, Lined, Grouped, Taken}
+use Rattle.program.proofs.Everywhere.{everywhere-getD, everywhere-weaken}
+use Rattle.decoder.proofs.Lengths.{length-none, length-some}
+use Rattle.program.proofs.Sound.{Alike, Sound, sound-fresh, sound-after}
+use Rattle.decoder.proofs.HeldAfter.{held-fresh}
+
+-- the lines before position `at` have been read, and none was refused
+pub record Progress (file code rows : List ℕ) (s : Counts) (at number : ℕ) : Type 0 where
+  pub within : at ≤ length file
+  pub counted : number ≤ at + 1
+  pub few : s .groups < number
+  pub read : Reading
+  pub holds : Holds code s read
+  pub lined : Lined rows read
+  pub sound : Sound read
+  pub rest : decode file ≡ readLines number (split (drop at file)) read
+
+pub too-large : (file : List ℕ) → 4096 < length file → decode file ≡ refused 1 0
+unfolding decode
+too-large file h = rw (lt-ltb 4096 (length file) h)
+
+pub progress-start : (file code rows : List ℕ) (s : Counts) → length file ≤ 4096 → code ≡ replicate 1536 0 → rows ≡ replicate 96 0 → s ≡ nothing → Progress file code rows s 0 1
+unfolding decode
+progress-start file code rows s h c l e =
+    let f = held-fresh code rows c l in
+    record {
+      within = omega arith;
+      counted = omega arith;
+      few = rw e (omega arith);
+      read = fresh;
+      holds = rw e (f .0);
+      lined = f .1;
+      sound = sound-fresh;
+      rest = rw (le-ltb 4096 (length file) h);
+    }
+
+module _ (file code rows : List ℕ) (s : Counts) (at number : ℕ) (small : length file ≤ 4096) (p : Progress file code rows s at number) where
+  pub progress-bounded : Bounded s
+  unfolding threadAt
+  progress-bounded =
+      let t = p .holds .threads in
+      let a = p .holds .accesses in
+      record {
+        six = omega (arith, p .sound .six);
+        sixteen = λ t.
+            let l = p .holds .lengths t in
+            let b : length (getD (p .read .threads) t []) ≤ 16 = everywhere-getD (λ c. length c ≤ 16) (p .read .threads) t [] (p .sound .sixteen) (omega arith) in
+            omega arith;
+        access-24 = omega (arith, p .sound .access-24);
+        few = let w = p .counted in let f = p .few in let i = p .within in omega arith;
+      }
+
+  -- the groups that were read
+  pub progress-grouped : Grouped (p .read)
+  progress-grouped = record {
+    ascend = everywhere-weaken (Alike (p .read .threads)) Ascending (λ g a. a .ascend) (p .read .groups) (p .sound .groups);
+    small = everywhere-weaken (Alike (p .read .threads)) (Everywhere (λ t. t < 6))
+        (λ g a. everywhere-weaken (λ t. t < length (p .read .threads)) (λ t. t < 6) (λ t h. omega (arith, p .sound .six)) g (a .exist)) (p .read .groups) (p .sound .groups);
+    apart = p .sound .apart;
+  }
+
+  -- the last line has no 0a
+  pub read-unended : (end : ℕ) → at < length file → end ≡ at + lineLength (drop at file) → end ≡ length file → decode file ≡ refused 2 number
+  unfolding readLines frameOf
+  read-unended end h e l =
+      p .rest ∙ ap (λ (ls : List TextLine). readLines number ls (p .read)) (split-end file at h (sym e ∙ l))
+
+  -- a whole line, and what is left behind it
+  module _ (end n : ℕ) (h : at < length file) (e : end ≡ at + lineLength (drop at file)) (inside : end < length file) (size : n ≡ frameLength (take (end - at) (drop at file))) where
+    abbrev line : List ℕ
+    line = take (end - at) (drop at file)
+
+    here : decode file ≡ readLines number (whole line ∷ split (drop (end + 1) file)) (p .read)
+    here = p .rest ∙ ap (λ (ls : List TextLine). readLines number ls (p .read)) (split-at file at end e inside)
+
+    -- it is no frame
+    pub read-broken : n ≡ 0 → decode file ≡ refused 2 number
+    unfolding readLines frameOf
+    read-broken z = here ∙ rw (length-none line (sym size ∙ z), readLines)
+
+    -- its frame
+    pub read-frame : (n ≡ 0 → ⊥) → (frame line ≡ some (pairs line)) × (n ≡ length (pairs line))
+    read-frame z = let k = length-some line (λ q. z (size ∙ q)) in (k .0, size ∙ k .1)
+
+    -- it is refused
+    pub read-refused : (k : ℕ) → (n ≡ 0 → ⊥) → k ≡ frameRefusal (p .read) (pairs line) → (k ≡ 0 → ⊥) → decode file ≡ refused k number
+    unfolding readLines frameOf
+    read-refused k z q r = here ∙ rw (read-frame z .0, readLines, ← q, ne-eqb k 0 r)
+
+    -- it passes
+    pub read-more : (k : ℕ) (code' rows' : List ℕ) (s' : Counts) → (n ≡ 0 → ⊥) → k ≡ frameRefusal (p .read) (pairs line) → k ≡ 0 → 1 ≤ number
+        → Taken line number code rows s code' rows' s' → Progress file code' rows' s' (end + 1) (number + 1)
+    unfolding readLines frameOf
+    read-more k code' rows' s' z q r one t =
+        let pass : frameRefusal (p .read) (pairs line) ≡ 0 = sym q ∙ r in
+        let bytes = frame-bytes line (pairs line) (read-frame z .0) in
+        record {
+          within = omega arith;
+          counted = let c = p .counted in omega arith;
+          few = let f = p .few in omega (arith, t .bounded);
+          read = after number (pairs line) (p .read);
+          holds = t .holds (p .read) (p .holds) pass;
+          lined = t .lined (p .read) (p .holds) (p .lined) pass;
+          sound = sound-after number (p .read) (pairs line) one bytes (p .sound) pass;
+          rest = here ∙ rw (read-frame z .0, readLines, eq-eqb (frameRefusal (p .read) (pairs line)) 0 pass);
+        }
+
+  -- no line is left
+  pub read-done : length file ≤ at → decode file ≡ finish (p .read)
+  unfolding readLines split
+  read-done h = p .rest ∙ ap (λ (l : List ℕ). readLines number (split l) (p .read)) (drop-of-length-le file h)

@@ -1,0 +1,110 @@
+// What has been read once a line has passed: a thread more, a group more, or an instruction more in the thread last opened.
+use crate::counts::Counts;
+use crate::refusal::is_access;
+use rows::field;
+use rows::put_row;
+ghost use mathlib.Core.Path.{_≡_};
+ghost use Prim.Native.Nat.{_+_, _*_, _-_, _<_, _≤_};
+ghost use lib.ListN.{length, drop};
+ghost use Rattle.lines.specs.Frame.{pairs};
+ghost use Rattle.decoder.specs.Held.{Bounded, marked, openedCounts, groupedCounts, extendedCounts, Passes, Taken};
+
+// With one thread more.
+fn opened(s: Counts) -> Counts
+    requires { ⌜ s .threads < 6 ⌝ }
+    ensures { λ r. ⌜ r ≡ openedCounts s ⌝ }
+{
+    let lengths = s.lengths;
+    let class = s.class;
+    Counts {
+        threads: s.threads + 1,
+        lengths: lengths,
+        accesses: s.accesses,
+        groups: s.groups,
+        class: class,
+    }
+}
+
+// The members of the line's frame of n bytes get the group g.
+fn mark(line: &[u8], n: usize, class: [usize; 6], g: usize) -> [usize; 6]
+    requires { ⌜ n ≡ length (pairs (now line)) ⌝ }
+    ensures { λ r. ⌜ r ≡ marked g (drop 1 (pairs (now (line .entry)))) class ⌝ }
+{
+    let mut c = class;
+    let mut j = 1;
+    while j < n {
+        let t = field(line, j);
+        if t < 6 {
+            c[t] = g;
+        }
+        j += 1;
+    }
+    c
+}
+
+// With one group more.
+fn grouped(line: &[u8], n: usize, s: Counts) -> Counts
+    requires { ⌜ (n ≡ length (pairs (now line))) × (s .groups ≤ 4096) ⌝ }
+    ensures { λ r. ⌜ r ≡ groupedCounts (drop 1 (pairs (now (line .entry)))) s ⌝ }
+{
+    let lengths = s.lengths;
+    let class = s.class;
+    let g = s.groups + 1;
+    Counts {
+        threads: s.threads,
+        lengths: lengths,
+        accesses: s.accesses,
+        groups: g,
+        class: mark(line, n, class, g),
+    }
+}
+
+// With one instruction more, of the first byte b, in the thread last opened.
+fn extended(b: usize, s: Counts) -> Counts
+    requires { ⌜ Bounded s × (1 ≤ s .threads) ⌝ }
+    ensures { λ r. ⌜ r ≡ extendedCounts b s ⌝ }
+{
+    let class = s.class;
+    let mut lengths = s.lengths;
+    let last = s.threads - 1;
+    let used = lengths[last];
+    lengths[last] = used + 1;
+    let mut accesses = s.accesses;
+    if is_access(b) {
+        accesses += 1;
+    }
+    Counts {
+        threads: s.threads,
+        lengths: lengths,
+        accesses: accesses,
+        groups: s.groups,
+        class: class,
+    }
+}
+
+// With the frame of n bytes on line `number`, which is not refused.
+pub(crate) fn taken(
+    line: &[u8],
+    n: usize,
+    number: usize,
+    code: &mut [u8; 1536],
+    rows: &mut [usize; 96],
+    s: Counts,
+) -> Counts
+    requires { ⌜ Passes (now line) n (now code) s ⌝ }
+    ensures { λ q. ⌜ Taken (now (line .entry)) number (now (code .entry)) (now (rows .entry)) s (now (code .exit)) (now (rows .exit)) q ⌝ }
+{
+    let b = field(line, 0);
+    if b == 0x01 {
+        return opened(s);
+    }
+    if b == 0x02 {
+        return grouped(line, n, s);
+    }
+    let lengths = s.lengths;
+    let last = s.threads - 1;
+    let row = last * 16 + lengths[last];
+    put_row(code, row, line, n);
+    rows[row] = number;
+    extended(b, s)
+}

@@ -1,0 +1,89 @@
+-- The lines of a graph text, read one after the other: what has been read and what is left make the whole text's answer.
+use Prim.Native.Nat.{ℕ, _+_, _-_, _≤_, _<_}
+use mathlib.Core.Path.{_≡_, _∙_, sym, refl, subst}
+use mathlib.Core.List.{List}
+use mathlib.Core.Option.{some}
+use native.Mathlib.Omega.{arith}
+use lib.ListN.{length, take, drop}
+use Rattle.lines.specs.Frame.{frame, pairs}
+use Rattle.lines.specs.Split.{lineLength}
+use Rattle.lines.specs.TextLines.{split}
+use Rattle.lines.proofs.Split.{line-within}
+use Rattle.decoder.specs.Compiled.{frameLength}
+use Rattle.decoder.proofs.Lengths.{length-none, length-some}
+use Rattle.graph_reader.specs.declared.table.Table.{Table}
+use Rattle.graph_reader.specs.declared.text.Verdict.the-variants.{Passed, Refused}
+use Rattle.consistent.specs.Reading.{Reading, refusal, after, fresh, readLines, readGraph}
+use Rattle.graph_reader.specs.Held.{Holds, emptyTable, Passes, Taken, ReadAs}
+use Rattle.consistent.proofs.LineTurns.{text-over, line-unended, line-broken, line-refused, line-passes}
+use Rattle.consistent.proofs.Parsed.{passed}
+use Rattle.graph_reader.proofs.HeldAfter.{held-fresh}
+
+-- the lines before position `at` have been read, and none was refused
+pub record Progress (n : ℕ) (text : List ℕ) (s : Table) (at number : ℕ) : Type 0 where
+  pub within : at ≤ length text
+  pub counted : number ≤ at + 1
+  pub read : Reading
+  pub holds : Holds n s read
+  pub rest : readGraph n text ≡ readLines n number (split (drop at text)) read
+
+pub progress-start : (n : ℕ) (text : List ℕ) (s : Table) → s ≡ emptyTable → Progress n text s 0 1
+unfolding readGraph
+progress-start n text s e = record {
+  within = omega arith;
+  counted = omega arith;
+  read = fresh n;
+  holds = subst (λ (x : Table). Holds n x (fresh n)) (sym e) (held-fresh n);
+  rest = refl;
+}
+
+-- a line ends within the text, so before its end where it does not end there
+pub before-end : (text : List ℕ) (at end : ℕ) → at < length text → end ≡ at + lineLength (drop at text) → (end ≡ length text → ⊥) → end < length text
+before-end text at end h e ne = let w = line-within text at (omega arith) in omega (arith, ne)
+
+module _ (n : ℕ) (text : List ℕ) (s : Table) (at number : ℕ) (p : Progress n text s at number) where
+  -- no line is left
+  pub read-done : length text ≤ at → ReadAs Passed s (readGraph n text)
+  read-done h = (p .read .graph, p .rest ∙ text-over n number text at (p .read) h, p .holds .graph)
+
+  module _ (end : ℕ) (h : at < length text) (e : end ≡ at + lineLength (drop at text)) where
+    -- the last line has no 0a
+    pub read-unended : end ≡ length text → ReadAs (Refused 30 number) s (readGraph n text)
+    read-unended l = p .rest ∙ line-unended n number text at (p .read) end e h (omega arith) (omega arith)
+
+    module _ (ne : end ≡ length text → ⊥) (size : ℕ) (z : size ≡ frameLength (take (end - at) (drop at text))) where
+      abbrev line : List ℕ
+      line = take (end - at) (drop at text)
+
+      inside : end < length text
+      inside = before-end text at end h e ne
+
+      -- it is no frame
+      pub read-broken : size ≡ 0 → ReadAs (Refused 30 number) s (readGraph n text)
+      read-broken q = p .rest ∙ line-broken n number text at (p .read) end e inside (length-none line (sym z ∙ q))
+
+      module _ (nz : size ≡ 0 → ⊥) where
+        framed : (frame line ≡ some (pairs line)) × (size ≡ length (pairs line))
+        framed = let k = length-some line (λ q. nz (z ∙ q)) in (k .0, z ∙ k .1)
+
+        pub read-size : size ≡ length (pairs line)
+        read-size = framed .1
+
+        module _ (k : ℕ) (r : k ≡ refusal n (p .read) (pairs line)) where
+          -- it is refused
+          pub read-refused : (k ≡ 0 → ⊥) → ReadAs (Refused k number) s (readGraph n text)
+          read-refused q = p .rest ∙ line-refused n number text at (p .read) end e inside (pairs line) (framed .0) k (sym r) q
+
+          module _ (q : k ≡ 0) where
+            -- it passes
+            pub read-passes : n ≤ 6 → Passes n line size
+            read-passes few = let t = passed n (p .read) (pairs line) (sym r ∙ q) in record { few = few; size = framed .1; known = t .0; range = t .1 }
+
+            pub read-more : (s' : Table) → Taken n line s s' → Progress n text s' (end + 1) (number + 1)
+            read-more s' t = record {
+              within = let i = inside in omega arith;
+              counted = let c = p .counted in omega arith;
+              read = after (pairs line) (p .read);
+              holds = t (p .read) (p .holds) (sym r ∙ q);
+              rest = p .rest ∙ line-passes n number text at (p .read) end e inside (pairs line) (framed .0) (sym r ∙ q);
+            }

@@ -1,9 +1,0 @@
--- The graph call's answer as the code gives it: the text's length, or the refusal's number and place.
-use lib.ListN.{length}
-use Rattle.machine.specs.declared.graph_call.GraphAnswer.{GraphAnswer}
-use Rattle.machine.specs.declared.graph_call.GraphAnswer.the-variants.{Written, Refused}
-use Rattle.machine.specs.GraphCall.{GraphSaid, texted, refusing}
-
-unfoldable pub saidOf : GraphSaid → GraphAnswer
-saidOf (texted t) = Written (length t)
-saidOf (refusing n k) = Refused n k

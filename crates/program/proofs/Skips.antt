@@ -1,0 +1,25 @@
+-- Only a frame of `22` skips.
+use Prim.Native.Nat.{ℕ}
+use mathlib.Core.Path.{_≡_, refl, _∙_, ap, sym}
+use mathlib.Core.Bool.{Bool, true, false, _||_, or-false}
+use lib.Dec.{eqb}
+use borrow.Author.Tests.{ne-eqb}
+use Rattle.program.specs.declared.kind.Kind.{Kind}
+use Rattle.program.specs.Kinds.{kinds, find, kindOf}
+use Rattle.program.specs.Frames.{Frame, byte, kind, skipOf}
+use Rattle.program.proofs.KindTable.{everyRow, kind-rule, kind-byte}
+
+skips : Kind → Bool
+skips k = eqb (k .skip) 0 || eqb (k .byte) 0x22
+
+pub no-skip : (f : Frame) → (byte f 0 ≡ 0x22 → ⊥) → skipOf f ≡ 0
+unfolding skipOf kind everyRow skips kinds
+no-skip f h =
+    let t : skips (kindOf (byte f 0)) ≡ true = kind-rule skips (byte f 0) refl refl in
+    let n : eqb (kindOf (byte f 0) .byte) 0x22 ≡ false = ap (λ (b : ℕ). eqb b 0x22) (kind-byte (byte f 0)) ∙ ne-eqb (byte f 0) 0x22 h in
+    let z : eqb (kindOf (byte f 0) .skip) 0 ≡ true = sym (or-false (eqb (kindOf (byte f 0) .skip) 0)) ∙ rw n at t in
+    rw z
+
+pub one-skip : (f : Frame) → byte f 0 ≡ 0x22 → skipOf f ≡ byte f 7
+unfolding skipOf kind kindOf find kinds
+one-skip f e = rw e

@@ -1,0 +1,145 @@
+-- A schedule carried out byte by byte: what has been done and what is left make the answer.
+use Prim.Native.Nat.{ℕ, suc, _+_, _<_, _≤_}
+use native.Mathlib.Omega.{arith}
+use mathlib.Core.Path.{_≡_, refl, sym, ap, subst, _∙_}
+use mathlib.Core.Bool.{true, false}
+use mathlib.Core.List.{List, [], _∷_, _++_}
+use lib.ListN.{length, getD, take, drop, drop-of-length-le}
+use lib.Seq.{take-suc, take-all, drop-cons, length-take-le}
+use Rattle.program.specs.Program.{Program}
+use Rattle.schedules.specs.Order.{Schedule}
+use Rattle.schedules.specs.System.{run, ended, Allowed}
+use Rattle.schedules.proofs.Runs.{run-snoc, allowed-join, allowed-length}
+use Rattle.machine.specs.declared.state.Machine.{Machine}
+use Rattle.machine.specs.declared.stepping.Effect.{Effect}
+use Rattle.machine.specs.declared.stepping.Stepped.{Stepped}
+use Rattle.replay.specs.declared.replaying.Verdict.the-variants.{Whole, Refused}
+use Rattle.sc.specs.State.{State, place, step, may, SC, start}
+use Rattle.graph_writer.specs.Notes.{Note, note, notes, noteBytes, Noted}
+use Rattle.sc.specs.Replay.{replayFrom, replay}
+use Rattle.machine.specs.Held.{threadAt, Holds, ReadyThread, Ready, HoldsStep, behind, Loaded}
+use Rattle.replay.specs.Carried.{verdictOf, HoldsRun}
+use Rattle.sc.proofs.Steps.{may-range, run-threads}
+use Rattle.sc.proofs.Start.{start-threads}
+use Rattle.sc.proofs.Lawful.{lawful, start-24}
+use Rattle.graph_writer.proofs.NoteGraph.{notes-length, notes-snoc}
+use Rattle.sc.proofs.Regular.{place-in, regular-run, regular-start}
+use Rattle.sc.proofs.Replay.{nil-full, nil-short, cons-goes, cons-stops}
+use Rattle.machine.proofs.HeldStart.{threads-held, short-held}
+use Rattle.machine.proofs.HeldAsking.{held-may, held-ended, ready-held}
+use Rattle.machine.proofs.HeldStep.{stored-step}
+use Rattle.graph_writer.proofs.HeldNotes.{noted-none}
+
+-- behind the first k bytes of s
+pub record Progress (code lengths : List ℕ) (p : Program) (s : Schedule) (m : Machine) (trail : List ℕ) (k : ℕ) : Type 0 where
+  pub within : k ≤ length s
+  pub allowed : Allowed SC (start p) (take k s)
+  pub holds : Holds code lengths m (run SC (start p) (take k s))
+  pub noted : Noted trail (notes (start p) (take k s))
+  pub left : replay p s ≡ replayFrom k (run SC (start p) (take k s)) (drop k s)
+
+pub progress-start : (code lengths : List ℕ) (p : Program) (s : Schedule) (m : Machine) (trail : List ℕ) → Holds code lengths m (start p) → length trail ≡ 192 → Progress code lengths p s m trail 0
+unfolding run notes replay
+progress-start code lengths p s m trail held n = record { within = omega arith; allowed = tt; holds = held; noted = noted-none trail n; left = refl }
+
+module _ (code lengths : List ℕ) (threads : ℕ) (p : Program) (loaded : Loaded code lengths threads p) (s : Schedule) (m : Machine) (trail : List ℕ) (k : ℕ) (done : Progress code lengths p s m trail k) where
+  abbrev σ : State
+  σ = run SC (start p) (take k s)
+
+  -- ---- a byte is left
+  module _ (h : k < length s) where
+    abbrev t : ℕ
+    t = getD s k 0
+
+    next : take (k + 1) s ≡ take k s ++ (t ∷ [])
+    next = ap (λ (j : ℕ). take j s) (let z : k + 1 ≡ suc k = omega arith in z) ∙ take-suc s k 0 h
+
+    -- it may not step
+    pub replay-stops : may σ t ≡ false → HoldsRun code lengths p s (record { verdict = Refused 20 k; machine = m; trail = trail; steps = k })
+    unfolding verdictOf
+    replay-stops e = record {
+      counted = done .within;
+      allowed = done .allowed;
+      holds = done .holds;
+      noted = done .noted;
+      answer = sym (done .left ∙ ap (replayFrom k σ) (drop-cons s k 0 h) ∙ cons-stops k σ t (drop (suc k) s) e);
+      all = λ q. absurd (let z : _≡_ {A = ℕ} 0 1 = cc in omega arith);
+    }
+
+    module _ (ok : may σ t ≡ true) where
+      replay-ready : Ready lengths m t
+      replay-ready = ready-held code lengths m σ (done .holds) t (short-held code lengths threads p loaded t (omega (arith, may-range σ t ok, run-threads (take k s) (start p), start-threads p, threads-held code lengths threads p loaded))) ok
+
+      replay-near : place σ t < 8
+      replay-near =
+          let r = regular-run (take k s) (start p) (regular-start p (loaded .wellFormed)) (done .allowed) in
+          omega (arith, place-in σ r t, r .eight)
+
+      more-allowed : Allowed SC (start p) (take (k + 1) s)
+      more-allowed = subst (Allowed SC (start p)) (sym next) (allowed-join SC (start p) (take k s) (t ∷ []) (done .allowed) (ok, tt))
+
+      -- there is room for its note
+      replay-room : k < 24
+      replay-room = omega (arith, allowed-length SC lawful (start p) (take (k + 1) s) more-allowed, length-take-le (k + 1) s (omega arith), start-24 p (loaded .wellFormed))
+
+      same-length : k ≡ length (notes (start p) (take k s))
+      same-length = sym (notes-length (take k s) (start p) ∙ length-take-le k s (done .within))
+
+      replay-more : (r : Stepped) (trail' : List ℕ) → HoldsStep code lengths σ t r
+          → ((ns : List Note) (n : Note) → Noted trail ns → k ≡ length ns → r .note ≡ noteBytes n → Noted trail' (ns ++ (n ∷ [])))
+          → Progress code lengths p s (r .machine) trail' (k + 1)
+      replay-more r trail' held note-put =
+          let state : run SC (start p) (take (k + 1) s) ≡ step σ t = ap (run SC (start p)) next ∙ run-snoc SC (start p) (take k s) t in
+          record {
+            within = omega arith;
+            allowed = more-allowed;
+            holds = subst (Holds code lengths (r .machine)) (sym state) (held .holds);
+            noted = subst (Noted trail') (sym (ap (notes (start p)) next ∙ notes-snoc (start p) (take k s) t))
+                (note-put (notes (start p) (take k s)) (note σ t) (done .noted) same-length (held .noted));
+            left = done .left ∙ ap (replayFrom k σ) (drop-cons s k 0 h) ∙ cons-goes k σ t (drop (suc k) s) ok
+                ∙ ap (λ (τ : State). replayFrom (suc k) τ (drop (suc k) s)) (sym state)
+                ∙ ap (λ (j : ℕ). replayFrom j (run SC (start p) (take (k + 1) s)) (drop j s)) (let z : suc k ≡ k + 1 = omega arith in z);
+          }
+
+    -- the code names its thread by u, and finds what it does in the machine itself
+    module _ (u : ℕ) (eu : u ≡ t) (six : t < 6) where
+      pub replay-over : getD lengths u 0 ≤ threadAt m u .at → may σ t ≡ false
+      replay-over l = held-ended code lengths m σ (done .holds) t six (subst (λ (v : ℕ). getD lengths v 0 ≤ threadAt m v .at) eu l)
+
+      module _ (left : threadAt m u .at < getD lengths u 0) where
+        may-here : may σ t ≡ true
+        may-here = held-may code lengths m σ (done .holds) t six (subst (λ (v : ℕ). threadAt m v .at < getD lengths v 0) eu left)
+
+        pub replay-thread : ReadyThread lengths (threadAt m u) t
+        replay-thread = subst (λ (v : ℕ). ReadyThread lengths (threadAt m v) t) (sym eu) (replay-ready may-here)
+
+        pub replay-fits : k < 24
+        replay-fits = replay-room may-here
+
+        pub replay-stored : (e : Effect) (trail' : List ℕ)
+            → ((n : Machine) (τ : State) → threadAt n t ≡ threadAt m u → n .memory ≡ m .memory → n .last ≡ m .last → Holds code lengths n τ → may τ t ≡ true → place τ t < 8 → HoldsStep code lengths τ t (behind n t e))
+            → ((ns : List Note) (n : Note) → Noted trail ns → k ≡ length ns → e .note ≡ noteBytes n → Noted trail' (ns ++ (n ∷ [])))
+            → Progress code lengths p s (behind m u e .machine) trail' (k + 1)
+        replay-stored e trail' acts note-put =
+            replay-more may-here (behind m u e) trail'
+            (stored-step code lengths m t u e eu acts σ (done .holds) may-here (replay-near may-here)) note-put
+
+  -- ---- none is left
+  module _ (h : length s ≤ k) where
+    finished : replay p s ≡ replayFrom k σ []
+    finished = done .left ∙ ap (replayFrom k σ) (drop-of-length-le s {i = k} h)
+
+    pub replay-whole : ended SC σ ≡ true → HoldsRun code lengths p s (record { verdict = Whole; machine = m; trail = trail; steps = k })
+    unfolding verdictOf
+    replay-whole e = record { counted = done .within; allowed = done .allowed; holds = done .holds; noted = done .noted; answer = sym (finished ∙ nil-full k σ e); all = λ q. take-all k s h }
+
+    pub replay-short : ended SC σ ≡ false → HoldsRun code lengths p s (record { verdict = Refused 21 k; machine = m; trail = trail; steps = k })
+    unfolding verdictOf
+    replay-short e = record {
+      counted = done .within;
+      allowed = done .allowed;
+      holds = done .holds;
+      noted = done .noted;
+      answer = sym (finished ∙ nil-short k σ e);
+      all = λ q. absurd (let z : _≡_ {A = ℕ} 0 1 = cc in omega arith);
+    }

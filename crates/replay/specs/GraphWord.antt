@@ -1,0 +1,9 @@
+-- The graph call's answer as the code gives it: the text's length, or the refusal's number and place.
+use lib.ListN.{length}
+use Rattle.replay.specs.declared.graph_call.GraphAnswer.{GraphAnswer}
+use Rattle.replay.specs.declared.graph_call.GraphAnswer.the-variants.{Written, Refused}
+use Rattle.sc.specs.GraphCall.{GraphSaid, texted, refusing}
+
+unfoldable pub saidOf : GraphSaid → GraphAnswer
+saidOf (texted t) = Written (length t)
+saidOf (refusing n k) = Refused n k

@@ -1,0 +1,115 @@
+-- A round on the machine, access after access: each thread starts anew, and each access finds what the table says.
+use Prim.Native.Nat.{ℕ, zero, suc, _+_, _*_, _/_, _%_, _<_, _≤_}
+use mathlib.Core.Path.{_≡_, refl, sym, ap, ap₂, subst, _∙_}
+use mathlib.Core.Logic.{_≢_}
+use mathlib.Core.Bool.{cond}
+use mathlib.Core.List.{List, [], _∷_}
+use native.Mathlib.Omega.{arith}
+use native.Mathlib.Decide.{ℕ-discrete}
+use borrow.Author.Tests.{eq-eqb, ne-eqb}
+use lib.Dec.{eqb}
+use lib.ListN.{length, getD, set, drop}
+use lib.Seq.{getD-set-same, getD-set-other}
+use Rattle.program.specs.Program.{Program, codeOf}
+use Rattle.program.specs.WellFormed.{Everywhere, InRange}
+use Rattle.program.proofs.Everywhere.{everywhere-getD}
+use Rattle.machine.specs.declared.state.Machine.{Machine}
+use Rattle.sc.specs.Local.{placeOf, puts, next}
+use Rattle.sc.specs.State.{State, threadOf, place, start}
+use Rattle.machine.specs.Held.{threadAt, Holds, Loaded}
+use Rattle.sc.proofs.Access.{place-below}
+use Rattle.machine.proofs.HeldStart.{threads-held, code-held}
+use Rattle.rounds.specs.declared.by_itself.Lone.{Lone}
+use Rattle.consistent.specs.Consistent.{Values, alone, locationOf, outOf}
+use Rattle.consistent.specs.Judge.{orZero}
+use Rattle.rounds.specs.HeldRounds.{MetAlone, valuesIn, RoundHeld}
+
+everywhere-drop : {A : Type 0} (P : A → Type 0) (n : ℕ) (l : List A) → Everywhere P l → Everywhere P (drop n l)
+everywhere-drop P zero l e = e
+everywhere-drop P (suc n) [] e = e
+everywhere-drop P (suc n) (x ∷ l) e = everywhere-drop P n l (e .1)
+
+-- the accesses before number k, sixteen a thread, have been met
+pub record Progress (code lengths : List ℕ) (p : Program) (vs : List ℕ) (m : Machine) (k : ℕ) (places left : List ℕ) : Type 0 where
+  pub state : State
+  pub holds : Holds code lengths m state
+  pub local : k % 16 ≢ 0 → threadOf state (k / 16) .local ≡ alone p (valuesIn vs) (k / 16) (k % 16)
+  pub at : (j : ℕ) → j < k → getD places j 0 ≡ locationOf p (valuesIn vs) (j / 16, j % 16)
+  pub leaves : (j : ℕ) → j < k → getD left j 0 ≡ orZero (outOf p (valuesIn vs) (j / 16, j % 16))
+
+-- thread t of this machine is about to do its access i
+pub record Standing (code lengths : List ℕ) (p : Program) (v : Values) (n : Machine) (t i : ℕ) : Type 0 where
+  pub state : State
+  pub holds : Holds code lengths n state
+  pub local : threadOf state t .local ≡ alone p v t i
+
+module _ (code lengths : List ℕ) (threads : ℕ) (p : Program) (loaded : Loaded code lengths threads p) where
+  pub six-held : threads ≤ 6
+  six-held = omega (arith, loaded .wellFormed .six, threads-held code lengths threads p loaded)
+
+  -- accesses go to the eight locations
+  pub near-held : (m : Machine) (σ : State) → Holds code lengths m σ → (t : ℕ) → t < threads → place σ t < 8
+  unfolding place codeOf
+  near-held m σ H t h = place-below (threadOf σ t .local) (subst (Everywhere InRange) (sym (H .threads t (omega (arith, six-held)) .rest ∙ ap (drop (threadAt m t .at)) (sym (code-held code lengths threads p loaded t h))))
+      (everywhere-drop InRange (threadAt m t .at) (codeOf p t) (everywhere-getD (Everywhere InRange) (p .threads) t [] (loaded .wellFormed .ranges) tt)))
+
+  module _ (vs : List ℕ) (first m : Machine) (k : ℕ) (places left : List ℕ) (F : Holds code lengths first (start p)) (G : Progress code lengths p vs m k places left) where
+    pub turn-standing : (n : Machine) → n ≡ cond (eqb (k % 16) 0) first m → Standing code lengths p (valuesIn vs) n (k / 16) (k % 16)
+    unfolding alone
+    turn-standing n e = go (ℕ-discrete (k % 16) 0)
+      where
+        go : Dec (k % 16 ≡ 0) → Standing code lengths p (valuesIn vs) n (k / 16) (k % 16)
+        go (yes q) = record {
+          state = start p;
+          holds = subst (λ (x : Machine). Holds code lengths x (start p)) (sym (e ∙ rw (eq-eqb (k % 16) 0 q))) F;
+          local = ap (alone p (valuesIn vs) (k / 16)) (sym q);
+        }
+        go (no q) = record {
+          state = G .state;
+          holds = subst (λ (x : Machine). Holds code lengths x (G .state)) (sym (e ∙ rw (ne-eqb (k % 16) 0 q))) (G .holds);
+          local = G .local q;
+        }
+
+    module _ (n : Machine) (S : Standing code lengths p (valuesIn vs) n (k / 16) (k % 16)) (r : Lone) (M : MetAlone code lengths (S .state) (k / 16) (getD vs k 0) r)
+        (sp : length places ≡ 96) (sl : length left ≡ 96) (h : k < 96) where
+      value-here : getD vs k 0 ≡ valuesIn vs (k / 16, k % 16)
+      value-here = ap (λ (j : ℕ). getD vs j 0) (omega arith)
+
+      pub turn-more : Progress code lengths p vs (r .machine) (k + 1) (set places k (r .place)) (set left k (r .left))
+      unfolding alone
+      turn-more = record {
+        state = M .state;
+        holds = M .holds;
+        local = λ q. onward (omega arith) (omega (arith, q));
+        at = λ j i. at-more j i (ℕ-discrete j k);
+        leaves = λ j i. left-more j i (ℕ-discrete j k);
+      }
+        where
+          onward : (k + 1) / 16 ≡ k / 16 → (k + 1) % 16 ≡ suc (k % 16) → threadOf (M .state) ((k + 1) / 16) .local ≡ alone p (valuesIn vs) ((k + 1) / 16) ((k + 1) % 16)
+          onward a b =
+              ap (λ (t : ℕ). threadOf (M .state) t .local) a ∙ M .local ∙ ap₂ next (S .local) value-here
+              ∙ sym (ap₂ (λ (t i : ℕ). alone p (valuesIn vs) t i) a b)
+
+          at-more : (j : ℕ) → j < k + 1 → Dec (j ≡ k) → getD (set places k (r .place)) j 0 ≡ locationOf p (valuesIn vs) (j / 16, j % 16)
+          at-more j i (yes q) = rw q (getD-set-same places k (r .place) 0 (omega arith) ∙ M .place ∙ ap placeOf (S .local))
+          at-more j i (no q) = getD-set-other places k j (r .place) 0 q ∙ G .at j (omega (arith, q))
+
+          left-more : (j : ℕ) → j < k + 1 → Dec (j ≡ k) → getD (set left k (r .left)) j 0 ≡ orZero (outOf p (valuesIn vs) (j / 16, j % 16))
+          left-more j i (yes q) = rw q (getD-set-same left k (r .left) 0 (omega arith) ∙ M .left ∙ ap orZero (ap₂ puts (S .local) value-here))
+          left-more j i (no q) = getD-set-other left k j (r .left) 0 q ∙ G .leaves j (omega (arith, q))
+
+    -- all accesses of these threads have been met
+    pub turns-done : 16 * threads ≤ k → RoundHeld threads p vs places left
+    turns-done d = record {
+      at = λ t i a b. G .at (t * 16 + i) (omega arith) ∙ ap₂ (λ (u j : ℕ). locationOf p (valuesIn vs) (u, j)) (omega arith) (omega arith);
+      leaves = λ t i a b. G .leaves (t * 16 + i) (omega arith) ∙ ap₂ (λ (u j : ℕ). orZero (outOf p (valuesIn vs) (u, j))) (omega arith) (omega arith);
+    }
+
+pub turns-start : (code lengths : List ℕ) (p : Program) (vs : List ℕ) (m : Machine) (places left : List ℕ) → Holds code lengths m (start p) → Progress code lengths p vs m 0 places left
+turns-start code lengths p vs m places left F = record {
+  state = start p;
+  holds = F;
+  local = λ q. absurd (q refl);
+  at = λ j h. absurd (omega arith);
+  leaves = λ j h. absurd (omega arith);
+}

@@ -1,0 +1,101 @@
+-- The table of values: after each round it holds the values of that round, for every access that a text can name.
+use Prim.Native.Nat.{ℕ, zero, suc, _+_, _*_, _<_, _≤_}
+use mathlib.Core.Path.{_≡_, refl, sym, ap, ap₂, _∙_}
+use mathlib.Core.Logic.{_⊎_, inl, inr}
+use mathlib.Core.Bool.{Bool, true, false, cond}
+use mathlib.Core.List.{List, [], _∷_}
+use native.Mathlib.Omega.{arith}
+use borrow.Author.Tests.{lt-ltb, ne-eqb}
+use lib.Dec.{eqb, ltb}
+use native.Mathlib.Decide.{ℕ-discrete}
+use lib.ListN.{length, getD, set, replicate}
+use lib.Seq.{getD-set-same, getD-set-other}
+use Rattle.program.specs.Program.{Program, initial}
+use Rattle.sc.specs.State.{Event, initialWrite}
+use Rattle.sc.specs.Graph.{Graph}
+use Rattle.consistent.specs.Consistent.{rowOf, locationOf}
+use Rattle.consistent.specs.Judge.{sameEvent, sourceIn, leftBy, nextRound, values}
+use Rattle.graph_reader.specs.Held.{noLine, lineIn, Tabled}
+use Rattle.rounds.specs.HeldRounds.{valuesIn, RoundHeld, sourced}
+use Rattle.consistent.proofs.Readable.{Named, Source, Readable}
+use Rattle.consistent.proofs.RoundTables.{named-source, round-same, location-same}
+
+pub zeros : (n k : ℕ) → _≡_ {A = ℕ} (getD (replicate n 0) k 0) 0
+zeros zero k = refl
+zeros (suc n) zero = refl
+zeros (suc n) (suc k) = zeros n k
+
+-- a row gives a line, or the initial write
+line-source : (rs : List (ℕ × Event)) (i : ℕ) → ((lineIn rs i ≡ noLine) × (sourceIn rs i ≡ initialWrite)) ⊎ (lineIn rs i ≡ sourceIn rs i)
+unfolding lineIn sourceIn
+line-source [] i = inl (refl, refl)
+line-source (r ∷ rs) i = go (eqb (r .0) i) refl (line-source rs i)
+  where
+    go : (b : Bool) → eqb (r .0) i ≡ b → ((lineIn rs i ≡ noLine) × (sourceIn rs i ≡ initialWrite)) ⊎ (lineIn rs i ≡ sourceIn rs i)
+        → ((lineIn (r ∷ rs) i ≡ noLine) × (sourceIn (r ∷ rs) i ≡ initialWrite)) ⊎ (lineIn (r ∷ rs) i ≡ sourceIn (r ∷ rs) i)
+    go true q ih = inr (rw (q, sourceIn))
+    go false q ih = rw (q, sourceIn) ih
+
+-- what is left behind a line of the table
+abbrev behind : List ℕ → Event → ℕ
+behind left e = cond (ltb (e .0) 6) (cond (ltb (e .1) 16) (getD left (e .0 * 16 + e .1) 0) 0) 0
+
+module _ (n : ℕ) (few : n ≤ 6) (p : Program) (vs places left : List ℕ) (R : RoundHeld n p vs places left) where
+  left-none : (l : ℕ) → 0 ≡ leftBy p (valuesIn vs) initialWrite l
+  unfolding leftBy sameEvent initialWrite initial
+  left-none l = sym (zeros 8 l)
+
+  left-named : (s : Event) (l : ℕ) → Named n s → behind left s ≡ leftBy p (valuesIn vs) s l
+  unfolding leftBy sameEvent initialWrite
+  left-named s l h =
+      let a = h .0 in
+      let b = h .1 in
+      rw (lt-ltb (s .0) 6 (omega arith), lt-ltb (s .1) 16 (omega arith), ne-eqb (s .0) 255 (λ q. omega arith), leftBy) (R .leaves (s .0) (s .1) (h .0) (omega arith))
+
+  left-source : (s : Event) (l : ℕ) → Source n s → behind left s ≡ leftBy p (valuesIn vs) s l
+  unfolding initialWrite
+  left-source s l (inl q) = ap (behind left) q ∙ left-none l ∙ sym (ap (λ (x : Event). leftBy p (valuesIn vs) x l) q)
+  left-source s l (inr h) = left-named s l h
+
+  module _ (pairs counts : List ℕ) (g : Graph) (readable : Readable n g) (T : Tabled pairs counts g) where
+    pub sourced-is : (t i : ℕ) → t < n → i < 16 → sourced pairs left (t * 16 + i) ≡ nextRound p g (valuesIn vs) (t, i)
+    unfolding sourced nextRound noLine
+    sourced-is t i a b = ap₂ (λ (x y : ℕ). behind left (x, y)) (E .0) (E .1) ∙ go (line-source (rowOf g t) i)
+      where
+        E : (getD pairs ((t * 16 + i) * 2) 0 ≡ lineIn (rowOf g t) i .0) × (getD pairs ((t * 16 + i) * 2 + 1) 0 ≡ lineIn (rowOf g t) i .1)
+        E = T .sources t i (omega arith) b
+
+        go : ((lineIn (rowOf g t) i ≡ noLine) × (sourceIn (rowOf g t) i ≡ initialWrite)) ⊎ (lineIn (rowOf g t) i ≡ sourceIn (rowOf g t) i)
+            → behind left (lineIn (rowOf g t) i) ≡ leftBy p (valuesIn vs) (sourceIn (rowOf g t) i) (locationOf p (valuesIn vs) (t, i))
+        go (inl q) = ap (behind left) (q .0) ∙ left-none (locationOf p (valuesIn vs) (t, i))
+            ∙ sym (ap (λ (x : Event). leftBy p (valuesIn vs) x (locationOf p (valuesIn vs) (t, i))) (q .1))
+        go (inr q) = ap (behind left) q ∙ left-source (sourceIn (rowOf g t) i) (locationOf p (valuesIn vs) (t, i)) (named-source n g readable (t, i))
+
+    -- a round more
+    pub values-more : (k : ℕ) → ((e : Event) → Named n e → valuesIn vs e ≡ values p g k e) → (ws : List ℕ) → ((j : ℕ) → j < 96 → getD ws j 0 ≡ sourced pairs left j)
+        → (e : Event) → Named n e → valuesIn ws e ≡ values p g (k + 1) e
+    unfolding values
+    values-more k same ws W e h =
+        let a = h .0 in
+        let b = h .1 in
+        W (e .0 * 16 + e .1) (omega arith) ∙ sourced-is (e .0) (e .1) (h .0) (omega arith)
+        ∙ round-same p (valuesIn vs) (values p g k) n same g readable e h ∙ sym (ap (λ (j : ℕ). values p g j e) (let z : k + 1 ≡ suc k = omega arith in z))
+
+    -- where accesses go
+    pub places-are : (k : ℕ) → ((e : Event) → Named n e → valuesIn vs e ≡ values p g k e) → k ≡ 24 → (t i : ℕ) → t < n → i < 16
+        → getD places (t * 16 + i) 0 ≡ locationOf p (values p g 24) (t, i)
+    places-are k same q t i a b = R .at t i a b ∙ location-same p (valuesIn vs) (values p g k) n same (t, i) (a, omega arith) ∙ ap (λ (j : ℕ). locationOf p (values p g j) (t, i)) q
+
+-- before the first round
+pub values-start : (p : Program) (g : Graph) (e : Event) → valuesIn (replicate 96 0) e ≡ values p g 0 e
+unfolding values
+values-start p g e = zeros 96 (e .0 * 16 + e .1)
+
+-- one source more is followed
+pub filled : (pairs left vs : List ℕ) (k x : ℕ) → length vs ≡ 96 → k < 96 → ((j : ℕ) → j < k → getD vs j 0 ≡ sourced pairs left j) → x ≡ sourced pairs left k
+    → (j : ℕ) → j < k + 1 → getD (set vs k x) j 0 ≡ sourced pairs left j
+filled pairs left vs k x size h before e j i = go (ℕ-discrete j k)
+  where
+    go : Dec (j ≡ k) → getD (set vs k x) j 0 ≡ sourced pairs left j
+    go (yes q) = rw q (getD-set-same vs k x 0 (omega arith) ∙ e)
+    go (no q) = getD-set-other vs k j x 0 q ∙ before j (omega (arith, q))

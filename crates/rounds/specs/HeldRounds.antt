@@ -1,0 +1,44 @@
+-- How the judge's arrays hold a thread that runs by itself, and a round. For the judge's own functions: nothing here is needed to read `judge`.
+use Prim.Native.Nat.{ℕ, _+_, _*_, _<_}
+use mathlib.Core.Path.{_≡_}
+use mathlib.Core.Bool.{cond}
+use mathlib.Core.List.{List}
+use lib.Dec.{ltb}
+use lib.ListN.{getD, replicate}
+use Rattle.program.specs.Program.{Program}
+use Rattle.machine.specs.declared.state.Machine.{Machine}
+use Rattle.sc.specs.Local.{placeOf, puts, next}
+use Rattle.sc.specs.State.{State, freshCell, threadOf}
+use Rattle.machine.specs.Held.{Holds}
+use Rattle.rounds.specs.declared.by_itself.Lone.{Lone}
+use Rattle.consistent.specs.Consistent.{Values, locationOf, outOf}
+use Rattle.consistent.specs.Judge.{orZero}
+
+-- a state whose every location holds x and was not written
+unfoldable pub faced : State → ℕ → State
+faced σ x = record { threads = σ .threads; cells = replicate 8 (freshCell x) }
+
+abbrev pub facedMachine : Machine → ℕ → Machine
+facedMachine m x = record { threads = m .threads; memory = replicate 8 x; last = replicate 8 (record { thread = 255; number = 255 }) }
+
+-- the next access of thread t, on finding x: the thread behind it, where it goes and what it leaves there
+pub record MetAlone (code lengths : List ℕ) (σ : State) (t x : ℕ) (r : Lone) : Type 0 where
+  pub state : State
+  pub holds : Holds code lengths (r .machine) state
+  pub local : threadOf state t .local ≡ next (threadOf σ t .local) x
+  pub place : r .place ≡ placeOf (threadOf σ t .local)
+  pub left : r .left ≡ orZero (puts (threadOf σ t .local) x)
+
+-- a table's values, sixteen a thread
+abbrev pub valuesIn : List ℕ → Values
+valuesIn vs e = getD vs (e .0 * 16 + e .1) 0
+
+-- what a round finds on these values, for the accesses of n threads: where each goes and what it leaves there
+pub record RoundHeld (n : ℕ) (p : Program) (vs places left : List ℕ) : Type 0 where
+  pub at : (t i : ℕ) → t < n → i < 16 → getD places (t * 16 + i) 0 ≡ locationOf p (valuesIn vs) (t, i)
+  pub leaves : (t i : ℕ) → t < n → i < 16 → getD left (t * 16 + i) 0 ≡ orZero (outOf p (valuesIn vs) (t, i))
+
+-- what is left behind the source in entry k of a graph's table: nothing known is 0
+unfoldable pub sourced : List ℕ → List ℕ → ℕ → ℕ
+sourced table left k =
+    cond (ltb (getD table (k * 2) 0) 6) (cond (ltb (getD table (k * 2 + 1) 0) 16) (getD left (getD table (k * 2) 0 * 16 + getD table (k * 2 + 1) 0) 0) 0) 0

@@ -1,0 +1,105 @@
+// The rounds: every thread by itself on the values known so far, then each read gets what its source left.
+use crate::by_itself::met;
+use crate::by_itself::wide;
+use machine::Machine;
+use machine::started;
+ghost use mathlib.Core.Path.{_≡_};
+ghost use mathlib.Core.Bool.{cond};
+ghost use Prim.Native.Nat.{ℕ, _+_, _*_, _%_, _<_};
+ghost use mathlib.Core.List.{List};
+ghost use lib.Dec.{eqb};
+ghost use lib.ListN.{getD};
+ghost use Rattle.program.specs.Program.{Program};
+ghost use Rattle.sc.specs.Graph.{Graph};
+ghost use Rattle.machine.specs.Held.{Loaded};
+ghost use Rattle.consistent.specs.Consistent.{locationOf};
+ghost use Rattle.consistent.specs.Judge.{values};
+ghost use Rattle.consistent.specs.Reading.{parsed, readGraph};
+ghost use Rattle.graph_reader.specs.Held.{Tabled};
+ghost use Rattle.rounds.specs.HeldRounds.{RoundHeld, sourced};
+
+// Of each access, sixteen a thread: where it goes and what it leaves there.
+pub struct Round {
+    pub places: [u8; 96],
+    pub left: [u32; 96],
+}
+
+// The machine for access k: at the first of a thread the one at the start.
+fn standing(start: Machine, m: Machine, k: usize) -> Machine
+    ensures { λ r. ⌜ r ≡ cond (eqb (k % 16) 0) start m ⌝ }
+{
+    if k % 16 == 0 {
+        return start;
+    }
+    m
+}
+
+// Every thread by itself on these values.
+fn in_round(code: &[u8; 1536], lengths: &[usize; 6], threads: usize, values: [u32; 96]) -> Round
+    requires { ⌜ ((p : Program) × Loaded (now code) (now lengths) threads p) ⌝ }
+    ensures { λ r. ⌜ ((p : Program) → Loaded (now (code .entry)) (now (lengths .entry)) threads p → RoundHeld threads p values (r .places) (r .left)) ⌝ }
+{
+    let start = started(code, lengths, threads);
+    let mut places = [0u8; 96];
+    let mut left = [0u32; 96];
+    let mut m = start;
+    let mut k = 0;
+    while k < 16 * threads {
+        let n = standing(start, m, k);
+        let r = met(code, lengths, n, (k / 16) as u8, values[k]);
+        places[k] = r.place;
+        left[k] = r.left;
+        m = r.machine;
+        k += 1;
+    }
+    Round {
+        places: places,
+        left: left,
+    }
+}
+
+// What is left behind the source in entry k of a graph's table.
+fn found(pairs: [u8; 576], left: [u32; 96], k: usize) -> u32
+    requires { ⌜ k < 96 ⌝ }
+    ensures { λ r. ⌜ r ≡ sourced pairs left k ⌝ }
+{
+    let u = wide(pairs[k * 2]);
+    let j = wide(pairs[k * 2 + 1]);
+    if 6 <= u {
+        return 0;
+    }
+    if 16 <= j {
+        return 0;
+    }
+    left[u * 16 + j]
+}
+
+// The values of the next round.
+fn next_values(pairs: [u8; 576], left: [u32; 96]) -> [u32; 96]
+    ensures { λ r. ⌜ ((k : ℕ) → k < 96 → getD r k 0 ≡ sourced pairs left k) ⌝ }
+{
+    let mut vs = [0u32; 96];
+    let mut k = 0;
+    while k < 96 {
+        vs[k] = found(pairs, left, k);
+        k += 1;
+    }
+    vs
+}
+
+// Where each access goes on the values of the last round.
+pub fn places(code: &[u8; 1536], lengths: &[usize; 6], threads: usize, pairs: [u8; 576]) -> [u8; 96]
+    requires { ⌜ ((p : Program) × Loaded (now code) (now lengths) threads p) ⌝ }
+    ensures { λ r. ⌜ ((p : Program) (text counts : List ℕ) (g : Graph) → Loaded (now (code .entry)) (now (lengths .entry)) threads p → readGraph threads text ≡ parsed g → Tabled pairs counts g → (t i : ℕ) → t < threads → i < 16 → getD r (t * 16 + i) 0 ≡ locationOf p (values p g 24) (t, i)) ⌝ }
+{
+    let mut vs = [0u32; 96];
+    let mut k = 0usize;
+    while k < 24 {
+        let r = in_round(code, lengths, threads, vs);
+        let left = r.left;
+        vs = next_values(pairs, left);
+        k += 1;
+    }
+    let r = in_round(code, lengths, threads, vs);
+    r.places
+}

@@ -1,0 +1,102 @@
+-- The bytes of a row are those that stand in the code from sixteen times its number on.
+use Prim.Native.Nat.{ℕ, _+_, _*_, _<_}
+use native.Mathlib.Nat.{add-zero}
+use native.Mathlib.Omega.{arith}
+use native.Mathlib.Decide.{ℕ-discrete}
+use mathlib.Core.Path.{_≡_, _∙_, refl, sym, ap, subst}
+use mathlib.Core.Bool.{Bool, true, false}
+use mathlib.Core.List.{List}
+use borrow.Author.Tests.{ne-eqb, lt-ltb}
+use lib.Dec.{eqb, lit<}
+use lib.ListN.{getD, drop}
+use lib.Seq.{getD-take, getD-drop}
+use Rattle.program.specs.declared.instruction.Operand.{Operand}
+use Rattle.program.specs.declared.instruction.Instruction.{Instruction}
+use Rattle.program.specs.declared.instruction.Instruction.the-variants.{Store, Load, FetchAdd, CompareSwap, Assign, AddAssign, SkipUnless, Assert}
+use Rattle.program.specs.Kinds.{kindOf, find, kinds}
+use Rattle.program.specs.Frames.{Frame, byte, word, kind, operand, build, instruction}
+use Rattle.rows.specs.Rows.{rowAt, instructionAt}
+
+pub row-byte : (code : List ℕ) (k j : ℕ) → j < 16 → byte (rowAt code k) j ≡ getD code (k * 16 + j) 0
+unfolding rowAt
+row-byte code k j h = getD-take 16 (drop (k * 16) code) j 0 h ∙ getD-drop (k * 16) code j 0
+
+-- the first byte
+pub row-first : (code : List ℕ) (k : ℕ) → byte (rowAt code k) 0 ≡ getD code (k * 16) 0
+row-first code k = row-byte code k 0 (lit< tt) ∙ ap (λ (i : ℕ). getD code i 0) (add-zero (k * 16))
+
+-- the four bytes behind a position
+pub row-word : (code : List ℕ) (k j : ℕ) → j < 12 → word (rowAt code k) (j + 1)
+    ≡ ((getD code (k * 16 + j + 1) 0 * 256 + getD code (k * 16 + j + 2) 0) * 256 + getD code (k * 16 + j + 3) 0) * 256 + getD code (k * 16 + j + 4) 0
+unfolding word
+row-word code k j h =
+    let at : (i m : ℕ) → i < 16 → k * 16 + i ≡ m → byte (rowAt code k) i ≡ getD code m 0 =
+    λ i m b e. row-byte code k i b ∙ ap (λ (n : ℕ). getD code n 0) e in
+    rw (at (j + 1) (k * 16 + j + 1) (omega arith) (omega arith), at (j + 1 + 1) (k * 16 + j + 2) (omega arith) (omega arith), at (j + 1 + 2) (k * 16 + j + 3) (omega arith) (omega arith), at (j + 1 + 3) (k * 16 + j + 4) (omega arith) (omega arith))
+
+-- the instruction of a frame that is none of the eight kinds
+pub other-kind : (f : Frame) → (byte f 0 ≡ 0x10 → ⊥) → (byte f 0 ≡ 0x11 → ⊥) → (byte f 0 ≡ 0x12 → ⊥) → (byte f 0 ≡ 0x13 → ⊥)
+    → (byte f 0 ≡ 0x20 → ⊥) → (byte f 0 ≡ 0x21 → ⊥) → (byte f 0 ≡ 0x22 → ⊥) → (byte f 0 ≡ 0x23 → ⊥)
+    → instruction f ≡ Assert (byte f 0) (operand f 0)
+unfolding instruction build kind kindOf find kinds
+other-kind f h10 h11 h12 h13 h20 h21 h22 h23 = go (eqb (byte f 0) 1) (eqb (byte f 0) 2) refl refl where
+  go : (x y : Bool) → eqb (byte f 0) 1 ≡ x → eqb (byte f 0) 2 ≡ y → instruction f ≡ Assert (byte f 0) (operand f 0)
+  go true y e d = rw (e, ne-eqb _ _ h10, ne-eqb _ _ h11, ne-eqb _ _ h12, ne-eqb _ _ h13, ne-eqb _ _ h20, ne-eqb _ _ h21, ne-eqb _ _ h22)
+  go false true e d = rw (e, d, ne-eqb _ _ h10, ne-eqb _ _ h11, ne-eqb _ _ h12, ne-eqb _ _ h13, ne-eqb _ _ h20, ne-eqb _ _ h21, ne-eqb _ _ h22)
+  go false false e d = rw (e, d, ne-eqb _ _ h10, ne-eqb _ _ h11, ne-eqb _ _ h12, ne-eqb _ _ h13, ne-eqb _ _ h20, ne-eqb _ _ h21, ne-eqb _ _ h22, ne-eqb _ _ h23)
+
+-- the instruction in one of the 96 rows, by its first byte
+module _ (code : List ℕ) (k : ℕ) (h : k < 96) where
+  pub row-store : getD code (k * 16) 0 ≡ 0x10 → instructionAt code k ≡ Store (getD code (k * 16 + 1) 0) (operand (rowAt code k) 2)
+  unfolding instructionAt instruction build kind kindOf find kinds
+  row-store e = rw (lt-ltb _ _ h, row-first code k ∙ e, row-byte code k 1 (lit< tt))
+
+  pub row-load : getD code (k * 16) 0 ≡ 0x11 → instructionAt code k ≡ Load (getD code (k * 16 + 1) 0) (getD code (k * 16 + 2) 0)
+  unfolding instructionAt instruction build kind kindOf find kinds
+  row-load e = rw (lt-ltb _ _ h, row-first code k ∙ e, row-byte code k 1 (lit< tt), row-byte code k 2 (lit< tt))
+
+  pub row-fetch-add : getD code (k * 16) 0 ≡ 0x12 → instructionAt code k ≡ FetchAdd (getD code (k * 16 + 1) 0) (getD code (k * 16 + 2) 0) (operand (rowAt code k) 3)
+  unfolding instructionAt instruction build kind kindOf find kinds
+  row-fetch-add e = rw (lt-ltb _ _ h, row-first code k ∙ e, row-byte code k 1 (lit< tt), row-byte code k 2 (lit< tt))
+
+  pub row-compare-swap : getD code (k * 16) 0 ≡ 0x13 → instructionAt code k ≡ CompareSwap (getD code (k * 16 + 1) 0) (getD code (k * 16 + 2) 0) (operand (rowAt code k) 3) (operand (rowAt code k) 8)
+  unfolding instructionAt instruction build kind kindOf find kinds
+  row-compare-swap e = rw (lt-ltb _ _ h, row-first code k ∙ e, row-byte code k 1 (lit< tt), row-byte code k 2 (lit< tt))
+
+  pub row-assign : getD code (k * 16) 0 ≡ 0x20 → instructionAt code k ≡ Assign (getD code (k * 16 + 1) 0) (operand (rowAt code k) 2)
+  unfolding instructionAt instruction build kind kindOf find kinds
+  row-assign e = rw (lt-ltb _ _ h, row-first code k ∙ e, row-byte code k 1 (lit< tt))
+
+  pub row-add-assign : getD code (k * 16) 0 ≡ 0x21 → instructionAt code k ≡ AddAssign (getD code (k * 16 + 1) 0) (operand (rowAt code k) 2)
+  unfolding instructionAt instruction build kind kindOf find kinds
+  row-add-assign e = rw (lt-ltb _ _ h, row-first code k ∙ e, row-byte code k 1 (lit< tt))
+
+  pub row-skip : getD code (k * 16) 0 ≡ 0x22 → instructionAt code k ≡ SkipUnless (getD code (k * 16 + 1) 0) (operand (rowAt code k) 2) (getD code (k * 16 + 7) 0)
+  unfolding instructionAt instruction build kind kindOf find kinds
+  row-skip e = rw (lt-ltb _ _ h, row-first code k ∙ e, row-byte code k 1 (lit< tt), row-byte code k 7 (lit< tt))
+
+  pub row-assert : getD code (k * 16) 0 ≡ 0x23 → instructionAt code k ≡ Assert (getD code (k * 16 + 1) 0) (operand (rowAt code k) 2)
+  unfolding instructionAt instruction build kind kindOf find kinds
+  row-assert e = rw (lt-ltb _ _ h, row-first code k ∙ e, row-byte code k 1 (lit< tt))
+
+  pub row-other : (getD code (k * 16) 0 ≡ 0x10 → ⊥) → (getD code (k * 16) 0 ≡ 0x11 → ⊥) → (getD code (k * 16) 0 ≡ 0x12 → ⊥) → (getD code (k * 16) 0 ≡ 0x13 → ⊥) → (getD code (k * 16) 0 ≡ 0x20 → ⊥) → (getD code (k * 16) 0 ≡ 0x21 → ⊥) → (getD code (k * 16) 0 ≡ 0x22 → ⊥) → (getD code (k * 16) 0 ≡ 0x23 → ⊥)
+      → instructionAt code k ≡ Assert (getD code (k * 16) 0) (operand (rowAt code k) 0)
+  unfolding instructionAt
+  row-other h10 h11 h12 h13 h20 h21 h22 h23 =
+      let first : (b : ℕ) → (getD code (k * 16) 0 ≡ b → ⊥) → byte (rowAt code k) 0 ≡ b → ⊥ = λ b n e. n (sym (row-first code k) ∙ e) in
+      rw (lt-ltb _ _ h) (other-kind (rowAt code k) (first 0x10 h10) (first 0x11 h11) (first 0x12 h12) (first 0x13 h13) (first 0x20 h20) (first 0x21 h21) (first 0x22 h22) (first 0x23 h23) ∙ rw (row-first code k))
+
+  -- a row that is no access
+  pub row-no-access : (P : Instruction → Type 0) → (getD code (k * 16) 0 ≡ 0x10 → ⊥) → (getD code (k * 16) 0 ≡ 0x11 → ⊥) → (getD code (k * 16) 0 ≡ 0x12 → ⊥) → (getD code (k * 16) 0 ≡ 0x13 → ⊥)
+      → ((r : ℕ) (p : Operand) → P (Assign r p)) → ((r : ℕ) (p : Operand) → P (AddAssign r p)) → ((r : ℕ) (p : Operand) (n : ℕ) → P (SkipUnless r p n)) → ((r : ℕ) (p : Operand) → P (Assert r p)) → P (instructionAt code k)
+  row-no-access P h10 h11 h12 h13 assign add skip assert = go (ℕ-discrete b 0x20) (ℕ-discrete b 0x21) (ℕ-discrete b 0x22) (ℕ-discrete b 0x23)
+    where
+      b : ℕ
+      b = getD code (k * 16) 0
+
+      go : Dec (b ≡ 0x20) → Dec (b ≡ 0x21) → Dec (b ≡ 0x22) → Dec (b ≡ 0x23) → P (instructionAt code k)
+      go (yes e) _ _ _ = subst P (sym (row-assign e)) (assign _ _)
+      go (no h20) (yes e) _ _ = subst P (sym (row-add-assign e)) (add _ _)
+      go (no h20) (no h21) (yes e) _ = subst P (sym (row-skip e)) (skip _ _ _)
+      go (no h20) (no h21) (no h22) (yes e) = subst P (sym (row-assert e)) (assert _ _)
+      go (no h20) (no h21) (no h22) (no h23) = subst P (sym (row-other h10 h11 h12 h13 h20 h21 h22 h23)) (assert _ _)

@@ -1,0 +1,74 @@
+-- `kind_of` finds the row of the table that its first byte names.
+use borrow.Author.Needs.{needs}
+use Rattle.program.specs.Kinds.{kindOf, find, kinds}
+use borrow.Author.Tests.{ne-eqb}
+use Rattle.rows.proofs.kinds.kind_of.Statement.{statement}
+use Rattle.rows.proofs.kinds.kind_of.Tie as tie
+
+returns : tie.Need-returns
+unfolding kindOf find kinds
+returns c = rw (c .before .if1 .taken) (c .bare .ensures)
+
+returns-2 : tie.Need-returns-2
+unfolding kindOf find kinds
+returns-2 c = rw (c .before .if2 .taken) (c .bare2 .ensures)
+
+returns-3 : tie.Need-returns-3
+unfolding kindOf find kinds
+returns-3 c = rw (c .before .if3 .taken) (c .plain .ensures)
+
+returns-4 : tie.Need-returns-4
+unfolding kindOf find kinds
+returns-4 c = rw (c .before .if4 .taken) (c .plain2 .ensures)
+
+returns-5 : tie.Need-returns-5
+unfolding kindOf find kinds
+returns-5 c = rw (c .before .if5 .taken) (c .plain3 .ensures)
+
+returns-6 : tie.Need-returns-6
+unfolding kindOf find kinds
+returns-6 c = rw (c .before .if6 .taken) (c .plain4 .ensures)
+
+returns-7 : tie.Need-returns-7
+unfolding kindOf find kinds
+returns-7 c = rw (c .before .if7 .taken) (c .plain5 .ensures)
+
+returns-8 : tie.Need-returns-8
+unfolding kindOf find kinds
+returns-8 c = rw (c .before .if8 .taken) (c .plain6 .ensures)
+
+returns-9 : tie.Need-returns-9
+unfolding kindOf find kinds
+returns-9 c = rw (c .if9 .taken)
+
+returns-10 : tie.Need-returns-10
+unfolding kindOf find kinds
+returns-10 c = rw (c .before .if10 .taken) (c .plain7 .ensures)
+
+returns-11 : tie.Need-returns-11
+unfolding kindOf find kinds
+returns-11 c =
+    let c3 = c .before .before .before in
+    let c4 = c3 .before in
+    let c5 = c4 .before in
+    let c6 = c5 .before in
+    let c7 = c6 .before in
+    let c8 = c7 .before in
+    let c9 = c8 .before in
+    let c10 = c9 .before in
+    rw (
+      ne-eqb _ _ (c10 .if1 .left),
+      ne-eqb _ _ (c9 .if2 .left),
+      ne-eqb _ _ (c8 .if3 .left),
+      ne-eqb _ _ (c7 .if4 .left),
+      ne-eqb _ _ (c6 .if5 .left),
+      ne-eqb _ _ (c5 .if6 .left),
+      ne-eqb _ _ (c4 .if7 .left),
+      ne-eqb _ _ (c3 .if8 .left),
+      ne-eqb _ _ (c .before .before .if9 .left),
+      ne-eqb _ _ (c
+          .before .if10 .left),
+    ) (c .bare3 .ensures)
+
+pub kind-of-spec : {M : Type 1} → statement M
+kind-of-spec = tie.close (tie.spec (λ c κs. search needs) returns (λ c κs. search needs) returns-2 (λ c κs. search needs) returns-3 (λ c κs. search needs) returns-4 (λ c κs. search needs) returns-5 (λ c κs. search needs) returns-6 (λ c κs. search needs) returns-7 (λ c κs. search needs) returns-8 returns-9 (λ c κs. search needs) returns-10 (λ c κs. search needs) returns-11)

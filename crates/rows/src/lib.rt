@@ -1,0 +1,17 @@
+// Frames and rows: the fields of a line's frame, and the code of a program, a row of sixteen bytes for each instruction.
+
+// The kind that a first byte names.
+mod kinds;
+// The fields of a line's frame, and whether they are in range.
+mod fields;
+// The instructions that a program keeps, a row of sixteen bytes each.
+mod row;
+
+pub use fields::field;
+pub use fields::in_range;
+pub use kinds::kind_of;
+pub use row::instruction_at;
+pub use row::operand_at;
+pub use row::put_row;
+pub use row::same_bytes;
+pub use row::skip_at;

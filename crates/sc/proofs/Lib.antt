@@ -1,0 +1,53 @@
+-- The laws, in the order in which they rest on each other.
+-- the definitions computed
+pub mod Examples
+-- what holds of every member; ends of a list
+pub mod Everywhere
+pub mod Suffix
+-- the four functions by which an access is seen, and settling: the only laws that go by instruction
+pub mod Access
+pub mod Idle
+-- what a step touches, and what it adds at one thread and one location
+pub mod Steps
+pub mod Change
+-- the state before the first step
+pub mod Start
+-- sequential consistency is a lawful step system; T0: at most 24 steps, at most 6^24 full schedules
+pub mod Lawful
+-- the actions of a run: of six threads, and as they are where no thread moves
+pub mod Actions
+-- T1: independent steps commute; the orders of a run's steps
+pub mod Swap
+pub mod Orders
+-- what holds of every state of a run, and how histories grow
+pub mod Regular
+pub mod Histories
+pub mod Growth
+-- full schedules in document 01's words
+pub mod Ended
+-- replaying a schedule: whole exactly when full, refused by 20 or 21 exactly where it should be
+pub mod Replay
+-- a state's graph, row by row and list by list
+pub mod Rows
+-- T2: exchanging threads, from any state and for a program
+pub mod Exchange
+pub mod Permitted
+pub mod Failing
+-- T3(b): full schedules with one graph do the same steps, end in the same state, and the least is found from any
+pub mod Reading
+pub mod Determined
+pub mod Trails
+pub mod FirstFits
+pub mod SameGraph
+-- graph text: it tells graphs apart
+pub mod Frames
+pub mod Text
+pub mod Printed
+-- for the listing: graphs and trails of exchanged schedules, what an exchange leaves as it is, steps that can be moved, and what is left to do
+pub mod Turning
+pub mod ProgramGraphs
+pub mod ExchangedTrail
+pub mod FixedState
+pub mod FreeSteps
+pub mod Ahead
+pub mod Remote

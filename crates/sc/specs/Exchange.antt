@@ -1,0 +1,60 @@
+-- Exchanging threads. A permutation of the six thread numbers makes each event (t, i) into (π t, i); the initial write stays. "Turned into"
+-- is a relation of two states, or of two graphs, so that it needs no inverse.
+use Prim.Native.Nat.{ℕ, _<_, _≤_}
+use mathlib.Core.Path.{_≡_}
+use mathlib.Core.Logic.{_⊎_}
+use mathlib.Core.List.{List, [], map, List·Memᴰ}
+use lib.ListN.{length, getD}
+use Rattle.program.specs.Program.{Program}
+use Rattle.schedules.specs.Order.{Schedule}
+use Rattle.sc.specs.State.{Event, Thread, Cell, State, threadOf}
+use Rattle.sc.specs.Graph.{Graph}
+
+-- π permutes the numbers below six and leaves the others
+pub record Permutation (π : ℕ → ℕ) : Type 0 where
+  pub inverse : ℕ → ℕ
+  pub inverse-after : (t : ℕ) → inverse (π t) ≡ t
+  pub after-inverse : (t : ℕ) → π (inverse t) ≡ t
+  pub below : (t : ℕ) → t < 6 → π t < 6
+  pub stays : (t : ℕ) → 6 ≤ t → π t ≡ t
+
+-- some `02` line names both threads
+abbrev pub Together : Program → ℕ → ℕ → Type 0
+Together p t u = (g : List ℕ) × List·Memᴰ g (p .groups) × List·Memᴰ t g × List·Memᴰ u g
+
+-- each thread stays or moves within its `02` line
+abbrev pub Permitted : Program → (ℕ → ℕ) → Type 0
+Permitted p π = (t : ℕ) → (π t ≡ t) ⊎ Together p t (π t)
+
+unfoldable pub movedEvent : (ℕ → ℕ) → Event → Event
+movedEvent π e = (π (e .0), e .1)
+
+unfoldable pub movedRead : (ℕ → ℕ) → ℕ × Event → ℕ × Event
+movedRead π r = (r .0, movedEvent π (r .1))
+
+unfoldable pub movedReads : (ℕ → ℕ) → List (ℕ × Event) → List (ℕ × Event)
+movedReads π rs = map (movedRead π) rs
+
+unfoldable pub movedWrites : (ℕ → ℕ) → List Event → List Event
+movedWrites π ws = map (movedEvent π) ws
+
+unfoldable pub movedSchedule : (ℕ → ℕ) → Schedule → Schedule
+movedSchedule π s = map π s
+
+-- the thread with its sources renamed
+unfoldable pub movedThread : (ℕ → ℕ) → Thread → Thread
+movedThread π h = record { local = h .local; history = record { done = h .history .done; reads = movedReads π (h .history .reads) } }
+
+unfoldable pub movedCell : (ℕ → ℕ) → Cell → Cell
+movedCell π c = record { value = c .value; writes = movedWrites π (c .writes) }
+
+-- the second state is the first with its threads exchanged
+pub record Moves (π : ℕ → ℕ) (σ τ : State) : Type 0 where
+  pub threads : (t : ℕ) → threadOf τ (π t) ≡ movedThread π (threadOf σ t)
+  pub cells : τ .cells ≡ map (movedCell π) (σ .cells)
+  pub within : (t : ℕ) → t < length (σ .threads) → π t < length (τ .threads)
+
+-- the second graph is the first with its threads exchanged
+pub record Turns (π : ℕ → ℕ) (g h : Graph) : Type 0 where
+  pub reads : (t : ℕ) → t < length (g .reads) → getD (h .reads) (π t) [] ≡ movedReads π (getD (g .reads) t [])
+  pub writes : h .writes ≡ map (movedWrites π) (g .writes)

@@ -1,0 +1,21 @@
+-- What a reader of this crate must believe, in reading order.
+-- a thread by itself: settling, and the four functions by which an access is seen
+pub mod Local
+-- threads and memory, steps, and sequential consistency as a step system
+pub mod State
+-- schedules of a program, full and failing, and their graphs
+pub mod Graph
+-- what a schedule handed over comes to: whole, or refused by 20 or 21
+pub mod Replay
+-- the text of a graph
+pub mod Text
+-- what the steps of a run did, which of them conflict, and the least order of them
+pub mod Trail
+-- what the code left to a thread could still do
+pub mod Ahead
+-- what the graph call says of a program file, a schedule and an output
+pub mod GraphCall
+-- exchanging threads: permitted permutations, and states and graphs turned into others
+pub mod Exchange
+-- the steps of an exchanged run
+pub mod ExchangedTrail
