@@ -5,9 +5,13 @@
  *   bits 56 to 63   the kind: 1 answered; 2 no more, none, or no; 3 refused
  *   bits 48 to 55   a refusal's number, else 0
  *   bits  0 to 47   the length of an answer in bytes, 0 where there is none; of rows their number;
- *                   or a refusal's place, modulo 2^48
+ *                   or a refusal's place. All of them fit these bits: of rows where the output is shorter than 26 * 2^48 bytes
  *
  * A call reads only the bytes that it is lent and keeps nothing for the next.
+ *
+ * The buffers that one call is lent must not overlap: an output shares no byte with a file, a schedule or a graph text of the
+ * same call, and tarczolin_count's two words are different words. (What is only read may overlap, or be the same.) What is
+ * said below holds for every call that keeps to this, whatever the bytes are.
  */
 #ifndef TARCZOLIN_H
 #define TARCZOLIN_H
@@ -50,7 +54,7 @@ uint64_t tarczolin_continue(const uint8_t *file, size_t file_len, const uint8_t 
 uint64_t tarczolin_violation(const uint8_t *file, size_t file_len, uint8_t *out, size_t out_len);
 
 /* How many schedules are listed, and how many of these fail. Answered: kind 1 and the rest 0. Both words keep their
- * value on refusal (1 to 9). */
+ * value on refusal (1 to 9). `listed` and `failing` are different words, and neither lies in the file. */
 uint64_t tarczolin_count(const uint8_t *file, size_t file_len, uint64_t *listed, uint64_t *failing);
 
 /* Many listed schedules at a time, as rows of 26 bytes: the number of steps, 1 where the schedule fails and 0 where it

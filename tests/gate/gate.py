@@ -2,8 +2,8 @@
 """The gate: every check of the repository, one after the other. A failed check does not stop the later ones.
 
 The very last line is `N passed, M failed`; the exit status is 0 exactly when M is 0. N counts what rt proves and refuses,
-the must-fail edits that were refused for the right reason, that listing cites only laws of the crates below, and the
-Rust tests.
+the must-fail edits that were refused for the right reason, that the crates of laws_only.txt cite only laws of others, and the
+Rust tests. pins.txt says how many tests and edits there must be at least, and on which axioms the proofs may rest.
 """
 import os
 import re
@@ -13,20 +13,29 @@ import sys
 from pathlib import Path
 
 sys.dont_write_bytecode = True
+import claims  # noqa: E402
 import laws_only  # noqa: E402
 import must_fail  # noqa: E402
+import printed  # noqa: E402
 
 ROOT = Path(__file__).resolve().parents[2]
 TARGET = ROOT / 'target'
+PINS = Path(__file__).with_name('pins.txt')
 CARGO_TEST = ['cargo', 'test', '--release', '--offline', '--locked', '--no-fail-fast', '--workspace']
+FUNCTION = re.compile(r'^\s*(?:pub(?:\([^)]*\))? +)?(?:extern "C" +)?fn ', re.M)
+# the gate's own length and seed of the fuzzing, whatever the caller's environment says; every case of every test
+OWN = {'FUZZ_SECONDS': '110'}
+NOT_TAKEN = ['FUZZ_SEED', 'TEST_SHARE']
 
 
 class Tally:
-    """What passed and what failed so far."""
+    """What passed and what failed so far, and what is said at the end."""
 
     def __init__(self):
         self.passed = 0
         self.failed = 0
+        self.notes = []
+        self.pins = printed.pins(PINS.read_text(encoding='utf-8'))
 
     def add(self, passed, failed):
         self.passed += passed
@@ -35,6 +44,17 @@ class Tally:
     def fail(self, why):
         print(f'gate: FAILED: {why}', flush=True)
         self.failed += 1
+
+    def note(self, what):
+        self.notes.append(what)
+
+    def number(self, name):
+        return int(self.pins[name][0])
+
+    def at_least(self, name, found):
+        """A number that may not fall below its pin."""
+        if found < self.number(name):
+            self.fail(f'{found} {name}, and pins.txt has {self.number(name)}')
 
     def line(self):
         return f'{self.passed} passed, {self.failed} failed'
@@ -56,6 +76,12 @@ def run(words):
         return 127, lines
 
 
+def samples(tally):
+    """The gate reads its own samples rightly; the crates' laws have theirs with them."""
+    for why in printed.wrong_sample() + must_fail.wrong_samples(Path(__file__).with_name('logs')):
+        tally.fail(why)
+
+
 def every_crate_is_listed(tally):
     names = re.findall(r'^\s*(\w+)\s*:', (ROOT / 'crates.txt').read_text(encoding='utf-8'), re.M)
     folders = sorted(p.name for p in (ROOT / 'crates').iterdir() if p.is_dir())
@@ -68,8 +94,17 @@ def every_crate_is_listed(tally):
 
 
 def only_laws(tally):
-    """Crate listing opens no definition of a crate below."""
-    wrong = laws_only.said(ROOT, 'listing')
+    """The crates of laws_only.txt open no definition of another crate."""
+    wrong = laws_only.said(ROOT)
+    for why in wrong:
+        tally.fail(why)
+    if not wrong:
+        tally.add(1, 0)
+
+
+def claimed(tally):
+    """Each name that CLAIMS claims stands in the file beside it."""
+    wrong = claims.said(ROOT)
     for why in wrong:
         tally.fail(why)
     if not wrong:
@@ -89,13 +124,54 @@ def proofs(tally):
         tally.add(int(count[1]), int(count[2]))
     if (not count) or (status != 0 and count[2] == '0'):
         tally.fail(f'rt ci ended with status {status} and no count of failures')
+    names, number = printed.axioms(lines)
+    if sorted(names) != sorted(tally.pins['axioms']) or number != len(names):
+        tally.fail(f'the proofs rest on {number} axioms ({" ".join(names)}), and pins.txt has {" ".join(tally.pins["axioms"])}')
+    check_times(tally, lines)
+
+
+def is_theory(crate):
+    """Whether a crate has no functions: definitions and laws alone."""
+    return not any(FUNCTION.search(file.read_text(encoding='utf-8')) for file in crate.glob('src/**/*.rt'))
+
+
+def check_times(tally, lines):
+    """How long each crate's check took, as a table at the end."""
+    theory = [crate.name for crate in (ROOT / 'crates').iterdir() if is_theory(crate)]
+    limits = tally.number('seconds-theory'), tally.number('seconds-code')
+    rows, slow = printed.table(printed.seconds(lines), theory, limits)
+    for row in rows:
+        tally.note(row)
+    for why in slow:
+        tally.fail(why)
+
+
+def read(file):
+    return file.read_text(encoding='utf-8') if file.is_file() else None
+
+
+def all_edits():
+    return sorted(ROOT.glob('crates/*/must-fail/*.edit'))
+
+
+def edits(tally):
+    """There are as many edits as pinned, and each can be made and says on which input it answers wrongly."""
+    found = all_edits()
+    tally.at_least('edits', len(found))
+    for edit in found:
+        text = edit.read_text(encoding='utf-8')
+        why = must_fail.without_input(text) or must_fail.misplaced(text, lambda file: read(edit.parents[1] / file))
+        if why:
+            tally.fail(f'must-fail {edit.parts[-3]}/{edit.stem}: {why}')
+    for crate in sorted({edit.parts[-3] for edit in found}):
+        number = sum(edit.parts[-3] == crate for edit in found)
+        if number % 2 == 1:  # they are tried in pairs, crate by crate
+            tally.note(f'{crate} has {number} edits: the last is tried alone, so one more costs no time')
 
 
 def reasons(tally):
     """Each must-fail edit has a log, and was refused because a fact no longer holds."""
-    for why in must_fail.wrong_samples(Path(__file__).with_name('logs')):
-        tally.fail(why)
-    for edit in sorted(ROOT.glob('crates/*/must-fail/*.edit')):
+    for edit in all_edits():
         name, label = edit.parts[-3], edit.stem
         log = TARGET / 'must-fail' / name / label / '.log'
         if not log.is_file():
@@ -108,6 +184,24 @@ def reasons(tally):
             tally.add(1, 0)
 
 
+def rust_formatting(tally):
+    """`cargo fmt --check`, where it is installed."""
+    if shutil.which('rustfmt') is None or shutil.which('cargo-fmt') is None:
+        tally.note('not run: cargo fmt, which is not installed here')
+    elif run(['cargo', 'fmt', '--all', '--check'])[0] != 0:
+        tally.fail('cargo fmt --check')
+
+
+def rust_lints(tally):
+    """`cargo clippy` without a warning, where it is installed."""
+    if shutil.which('cargo-clippy') is None:
+        tally.note('not run: cargo clippy, which is not installed here')
+        return
+    words = ['cargo', 'clippy', '--release', '--offline', '--locked', '--workspace', '--all-targets', '--', '-D', 'warnings']
+    if run(words)[0] != 0:
+        tally.fail('cargo clippy')
+
+
 def rust_tests(tally):
     library = TARGET / 'staticlib' / 'libtarczolin.a'
     status, _ = run(['rt', 'staticlib', 'tarczolin'])
@@ -116,45 +210,60 @@ def rust_tests(tally):
         return
     if not (TARGET / 'bin' / 'explorer').is_file():
         tally.fail('rt ci left no target/bin/explorer for the Rust tests to run')
-    cargo_tests(tally, CARGO_TEST)
+    tests = cargo_tests(tally, CARGO_TEST)
+    for why in tests.wrong(tally.pins['ignored']):
+        tally.fail(why)
+    tally.at_least('rust-tests', tests.passed + tests.failed)
 
 
 def cargo_tests(tally, words):
     """Runs Rust tests and counts them."""
     status, lines = run(words)
-    passed = failed = 0
-    for line in lines:
-        count = re.match(r'test result: \w+\. (\d+) passed; (\d+) failed; (\d+) ignored', line)
-        if count:
-            passed += int(count[1])
-            failed += int(count[2])
-    tally.add(passed, failed)
-    if passed == 0 or (status != 0 and failed == 0):
-        tally.fail(f'cargo test ended with status {status} after {passed} tests')
+    tests = printed.Tests(lines)
+    tally.add(tests.passed, tests.failed)
+    if tests.passed == 0 or (status != 0 and tests.failed == 0):
+        tally.fail(f'cargo test ended with status {status} after {tests.passed} tests')
+    return tests
 
 
 def browser(tally):
-    """The tool's page laid out by a browser, where there is one. What stands in the page is tested without."""
+    """The tests that the others pass over: the tool's page laid out by a browser, where there is one."""
     if shutil.which('chromium') is None:
-        print('gate: not run: the page in a browser, since there is no chromium here', flush=True)
+        tally.note('not run: the page in a browser, since there is no chromium here')
         return
-    cargo_tests(tally, CARGO_TEST[:-1] + ['--package', 'tarczolin', '--test', 'page', '--', '--ignored'])
+    tests = cargo_tests(tally, CARGO_TEST[:-1] + ['--package', 'tarczolin', '--test', 'page', '--', '--ignored'])
+    if tests.passed + tests.failed != len(tally.pins['ignored']):
+        tally.fail(f'{tests.passed + tests.failed} tests in a browser, and pins.txt names {len(tally.pins["ignored"])}')
 
 
-def main():
+# what takes no time: `gate.py quick` runs only these, and counts for nothing
+QUICK = (samples, every_crate_is_listed, only_laws, claimed, edits)
+CHECKS = (*QUICK, formatting, rust_formatting, proofs, reasons, rust_tests, rust_lints, browser)
+
+def main(quick):
     os.environ.setdefault('RT_JOBS', '2')
-    os.environ.setdefault('FUZZ_SECONDS', '110')
-    os.environ.pop('TEST_SHARE', None)  # the gate runs every case
+    os.environ.update(OWN)
+    for name in NOT_TAKEN:
+        os.environ.pop(name, None)
+    (TARGET / 'tally').unlink(missing_ok=True)
     tally = Tally()
-    for check in (every_crate_is_listed, only_laws, formatting, proofs, reasons, rust_tests, browser):
+    for check in QUICK if quick else CHECKS:
         try:
             check(tally)
         except Exception as error:  # a check that cannot be carried out has failed
             tally.fail(f'{check.__name__}: {error!r}')
-    TARGET.mkdir(exist_ok=True)
-    (TARGET / 'tally').write_text(tally.line() + '\n', encoding='utf-8')
+    for note in tally.notes:
+        print(f'gate: {note}', flush=True)
+    if not quick:
+        TARGET.mkdir(exist_ok=True)
+        (TARGET / 'tally').write_text(tally.line() + '\n', encoding='utf-8')
     print(tally.line(), flush=True)
     sys.exit(0 if tally.failed == 0 else 1)
 
 
-main()
+if __name__ == '__main__':
+    try:
+        main(sys.argv[1:] == ['quick'])
+    except Exception as error:
+        print(f'gate: {error!r}\n0 passed, 1 failed', flush=True)
+        sys.exit(1)

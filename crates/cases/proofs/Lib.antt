@@ -1,2 +1,3 @@
 -- The laws.
+-- each case by itself
 pub mod Cases

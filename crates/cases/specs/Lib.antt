@@ -1,6 +1,7 @@
 -- What a reader of this crate must believe, in reading order.
 -- programs with known lists, and what the listing program prints of each
 pub mod Rows
-pub mod Table
 -- graph texts and what the judge answers
 pub mod Graphs
+-- all of them as one table, and its one test
+pub mod Table

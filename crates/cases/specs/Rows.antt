@@ -51,66 +51,64 @@ fails s = 0x50 ∷ 1 ∷ s
 abbrev counts : ℕ → ℕ → Frame
 counts n k = 0x51 ∷ 0 ∷ 0 ∷ 0 ∷ 0 ∷ 0 ∷ 0 ∷ 0 ∷ n ∷ 0 ∷ 0 ∷ 0 ∷ 0 ∷ 0 ∷ 0 ∷ 0 ∷ k ∷ []
 
--- one empty thread
-abbrev empty : Row
+-- P 1: one empty thread
+abbrev pub empty : Row
 empty = record { file = thread ∷ []; prints = passes [] ∷ counts 1 0 ∷ [] }
 
--- a store beside two loads, the loads declared alike; without the `02` line
+-- P 2: the whole case, a store beside two loads declared alike; and without its `02` line
 abbrev storeLoads : List Frame
 storeLoads = thread ∷ store 0 (constant 1) ∷ thread ∷ load 0 0 ∷ thread ∷ load 0 0 ∷ []
 
-abbrev whole : Row
+abbrev pub whole : Row
 whole = record { file = storeLoads ++ (alike (1 ∷ 2 ∷ []) ∷ []); prints = passes (0 ∷ 1 ∷ 2 ∷ []) ∷ passes (1 ∷ 0 ∷ 2 ∷ []) ∷ passes (1 ∷ 2 ∷ 0 ∷ []) ∷ counts 3 0 ∷ [] }
 
-abbrev wholeApart : Row
+abbrev pub wholeApart : Row
 wholeApart = record { file = storeLoads; prints = passes (0 ∷ 1 ∷ 2 ∷ []) ∷ passes (1 ∷ 0 ∷ 2 ∷ []) ∷ passes (1 ∷ 2 ∷ 0 ∷ []) ∷ passes (2 ∷ 0 ∷ 1 ∷ []) ∷ counts 4 0 ∷ [] }
 
--- two threads, load, add 1, store, all on location 0; declared alike
+-- P 3: two threads, load, add 1, store, all on location 0; and declared alike
 abbrev increment : List Frame
 increment = thread ∷ load 0 0 ∷ addAssign 0 (constant 1) ∷ store 0 (register 0) ∷ []
 
-abbrev increments : Row
+abbrev pub increments : Row
 increments = record { file = increment ++ increment; prints = passes (0 ∷ 0 ∷ 1 ∷ 1 ∷ []) ∷ passes (0 ∷ 1 ∷ 0 ∷ 1 ∷ []) ∷ passes (0 ∷ 1 ∷ 1 ∷ 0 ∷ []) ∷ passes (1 ∷ 1 ∷ 0 ∷ 0 ∷ []) ∷ counts 4 0 ∷ [] }
 
-abbrev incrementsAlike : Row
+abbrev pub incrementsAlike : Row
 incrementsAlike = record { file = increment ++ (increment ++ (alike (0 ∷ 1 ∷ []) ∷ [])); prints = passes (0 ∷ 0 ∷ 1 ∷ 1 ∷ []) ∷ passes (0 ∷ 1 ∷ 0 ∷ 1 ∷ []) ∷ counts 2 0 ∷ [] }
 
--- three compare and swaps of 0 to 1 on one location; declared alike
+-- P 4: three compare and swaps of 0 to 1 on one location; and declared alike
 abbrev swap : List Frame
 swap = thread ∷ compareSwap 0 0 (constant 0) (constant 1) ∷ []
 
-abbrev swaps : Row
+abbrev pub swaps : Row
 swaps = record { file = swap ++ (swap ++ swap); prints = passes (0 ∷ 1 ∷ 2 ∷ []) ∷ passes (1 ∷ 0 ∷ 2 ∷ []) ∷ passes (2 ∷ 0 ∷ 1 ∷ []) ∷ counts 3 0 ∷ [] }
 
-abbrev swapsAlike : Row
+abbrev pub swapsAlike : Row
 swapsAlike = record { file = swap ++ (swap ++ (swap ++ (alike (0 ∷ 1 ∷ 2 ∷ []) ∷ []))); prints = passes (0 ∷ 1 ∷ 2 ∷ []) ∷ counts 1 0 ∷ [] }
 
--- three fetch and adds of 1 on one location; declared alike
+-- P 5: three fetch and adds of 1 on one location
 abbrev adding : List Frame
 adding = thread ∷ fetchAdd 0 0 (constant 1) ∷ []
 
-abbrev adds : Row
+abbrev pub adds : Row
 adds = record {
   file = adding ++ (adding ++ adding);
   prints = passes (0 ∷ 1 ∷ 2 ∷ []) ∷ passes (0 ∷ 2 ∷ 1 ∷ []) ∷ passes (1 ∷ 0 ∷ 2 ∷ []) ∷ passes (1 ∷ 2 ∷ 0 ∷ []) ∷ passes (2 ∷ 0 ∷ 1 ∷ []) ∷ passes (2 ∷ 1 ∷ 0 ∷ []) ∷ counts 6 0 ∷ [];
 }
 
-abbrev addsAlike : Row
+-- P 6: the same declared alike
+abbrev pub addsAlike : Row
 addsAlike = record { file = adding ++ (adding ++ (adding ++ (alike (0 ∷ 1 ∷ 2 ∷ []) ∷ []))); prints = passes (0 ∷ 1 ∷ 2 ∷ []) ∷ counts 1 0 ∷ [] }
 
--- store 1 at location 0, load location 1, beside store 1 at location 1, load location 0
+-- P 7: store 1 at location 0, load location 1, beside store 1 at location 1, load location 0; P 8 and P 9 are graphs of this program
 abbrev pub buffering : Row
 buffering = record {
   file = thread ∷ store 0 (constant 1) ∷ load 0 1 ∷ thread ∷ store 1 (constant 1) ∷ load 0 0 ∷ [];
   prints = passes (0 ∷ 0 ∷ 1 ∷ 1 ∷ []) ∷ passes (0 ∷ 1 ∷ 0 ∷ 1 ∷ []) ∷ passes (1 ∷ 1 ∷ 0 ∷ 0 ∷ []) ∷ counts 3 0 ∷ [];
 }
 
--- load location 0 and assert that it gave 0, beside a store of 1 there
-abbrev asserting : Row
+-- P 10: load location 0 and assert that it gave 0, beside a store of 1 there
+abbrev pub asserting : Row
 asserting = record {
   file = thread ∷ load 0 0 ∷ assert 0 (constant 0) ∷ thread ∷ store 0 (constant 1) ∷ [];
   prints = passes (0 ∷ 1 ∷ []) ∷ fails (1 ∷ 0 ∷ []) ∷ counts 2 1 ∷ [];
 }
-
-abbrev pub rows : List Row
-rows = empty ∷ whole ∷ wholeApart ∷ increments ∷ incrementsAlike ∷ swaps ∷ swapsAlike ∷ adds ∷ addsAlike ∷ buffering ∷ asserting ∷ []

@@ -1,8 +1,9 @@
--- The table: each row's file, as bytes, is printed as the row says, byte for byte. One computed test for all rows.
+-- The table of the ten P cases, lists and graphs together: each file, as bytes, is printed as its row says, byte for byte, and each graph text,
+-- as bytes, is answered as its row says. One computed test for all.
 use Prim.Native.Nat.{ℕ}
 use mathlib.Core.Path.{_≡_, refl}
-use mathlib.Core.Bool.{Bool, true}
-use mathlib.Core.List.{List}
+use mathlib.Core.Bool.{Bool, true, false}
+use mathlib.Core.List.{List, [], _∷_}
 use lib.Dec.{eqb}
 use Rattle.lines.specs.Digit.{digit, value, digitOf}
 use Rattle.lines.specs.Frame.{hexadecimal, pairs, frame, lineOf}
@@ -18,21 +19,51 @@ use Rattle.sc.specs.State.{size, accessesLeft}
 use Rattle.sc.specs.Exchange.{movedEvent, movedRead, movedReads, movedWrites}
 use Rattle.sc.specs.Text.{textOf}
 use Rattle.sc.proofs.Examples.{seen}
-use Rattle.consistent.specs.Judge.{sameEvent, sameRead, sameList}
+use Rattle.consistent.specs.Same.{sameEvent, sameRead, sameList}
+use Rattle.consistent.specs.Answer.{Answer, consistent, inconsistent, refusing}
+use Rattle.consistent.proofs.ByWalk.{answerOn, answerFile}
+use Rattle.consistent.proofs.TextExamples.{answering}
 use Rattle.list.specs.ListOf.{together, permits, permitted, turns, alikeBy, alike, listOf}
 use Rattle.list.specs.Answers.{failing, countOf}
 use Rattle.listing.specs.Printed.{bytesOf, flag, scheduleFrame, countFrame, printedFrames, printed}
-use Rattle.cases.specs.Rows.{Row, rows}
+use Rattle.cases.specs.Rows.{Row, empty, whole, wholeApart, increments, incrementsAlike, swaps, swapsAlike, adds, addsAlike, buffering, asserting}
+use Rattle.cases.specs.Graphs.{Graph, neither, one}
 
 -- what a proof names to compute what is printed
 unfoldable pub computed : List ℕ → List ℕ
 unfolding computing seen digit value digitOf hexadecimal pairs frame lineOf digits text prepend before split kinds find kindOf word kind known registerFits locationFits skipFits operandFits inRange opens declares isAccess skipOf operand build instruction fresh threadAt lastThread inPlace accessesIn allAccessesIn withinLimits same sameCode among grouped memberFits followersFit membersFit alikeFits frameRefusal frameOf after farSkip firstFarSkip programIn finish readLines decode accesses size accessesLeft movedEvent movedRead movedReads movedWrites together permits permitted sameEvent sameRead sameList turns alikeBy alike listOf failing countOf bytesOf flag scheduleFrame countFrame printedFrames textOf printed
 computed file = printed file
 
--- whether a row is right
-unfoldable pub right : Row → Bool
-right r = sameList eqb (computed (textOf (r .file))) (textOf (r .prints))
+-- a row: a program with its list, or a graph text with the judge's answer
+pub data Case : Type 0 where
+  lists : Row → Case
+  judges : Graph → Case
 
-pub all-right : all right rows ≡ true
-unfolding right computed
+-- P 1 to P 10, in this order; where a P case has two programs, both
+abbrev pub cases : List Case
+cases =
+    lists empty ∷ lists whole ∷ lists wholeApart ∷ lists increments ∷ lists incrementsAlike ∷ lists swaps ∷ lists swapsAlike ∷ lists adds
+    ∷ lists addsAlike ∷ lists buffering ∷ judges neither ∷ judges one ∷ lists asserting ∷ []
+
+-- what the walk answers, with an output of 24 bytes: by a law the one right answer
+unfoldable pub judged : Graph → Answer
+judged g = answerFile (textOf (g .file)) (textOf (g .text)) 24
+
+-- one yes with one schedule, or no both times; no row is a refusal
+unfoldable pub sameAnswer : Answer → Answer → Bool
+sameAnswer (consistent r) (consistent s) = sameList eqb r s
+sameAnswer (consistent r) inconsistent = false
+sameAnswer (consistent r) (refusing n k) = false
+sameAnswer inconsistent (consistent s) = false
+sameAnswer inconsistent inconsistent = true
+sameAnswer inconsistent (refusing n k) = false
+sameAnswer (refusing m j) b = false
+
+-- whether a row is right
+unfoldable pub right : Case → Bool
+right (lists r) = sameList eqb (computed (textOf (r .file))) (textOf (r .prints))
+right (judges g) = sameAnswer (judged g) (g .answer)
+
+pub all-right : all right cases ≡ true
+unfolding right computed answering judged answerFile answerOn sameAnswer
 all-right = refl

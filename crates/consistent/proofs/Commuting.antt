@@ -14,7 +14,7 @@ use Rattle.sc.proofs.Steps.{may-pending, thread-other, may-other}
 use Rattle.sc.proofs.Swap.{Independent, swap, cell-after}
 use Rattle.sc.proofs.Histories.{upcoming, upcoming-undone, done-more}
 use Rattle.consistent.specs.Consistent.{orderOf}
-use Rattle.consistent.specs.Judge.{turnOf, fits}
+use Rattle.consistent.proofs.Walk.{turnOf, fits}
 use Rattle.consistent.proofs.Fitting.{FitAt, fits-is, is-fits}
 
 module _ (g : Graph) (pl : Event → ℕ) (σ : State) where

@@ -10,7 +10,8 @@ use Rattle.schedules.specs.System.{run}
 use Rattle.sc.specs.State.{SC, start}
 use Rattle.sc.specs.Graph.{Graph}
 use Rattle.consistent.specs.Consistent.{Makes, Consistent}
-use Rattle.consistent.specs.Judge.{values, MadeBy}
+use Rattle.consistent.specs.Least.{MadeBy}
+use Rattle.consistent.proofs.RoundValues.{values}
 use Rattle.consistent.proofs.Scheduled.{consistent-scheduled}
 use Rattle.consistent.proofs.Rounds.{run-canonical}
 use Rattle.consistent.proofs.OnRun.{on-start, on-end, on-makes}

@@ -18,7 +18,9 @@ use Rattle.sc.specs.State.{Event, initialWrite, SC, start, size, accessesLeft}
 use Rattle.sc.specs.Graph.{Graph, graph}
 use Rattle.sc.proofs.Examples.{seen}
 use Rattle.consistent.specs.Consistent.{alone}
-use Rattle.consistent.specs.Judge.{sameEvent, sameRead, sourceIn, orZero, leftBy, nextRound, values, waits, noneWaits, turnOf, readFits, writeFits, fits, walk, sameList, sameGraph, judge}
+use Rattle.consistent.specs.Same.{sameEvent, sameRead, sameList}
+use Rattle.consistent.proofs.RoundValues.{sourceIn, orZero, leftBy, nextRound, values}
+use Rattle.consistent.proofs.Walk.{waits, noneWaits, turnOf, readFits, writeFits, fits, walk, sameGraph, judge}
 
 -- what a proof names on its `unfolding` line to compute with the judge
 unfoldable pub judging : Program → Graph → Option Schedule

@@ -6,7 +6,7 @@ use Rattle.program.proofs.Tests.{equal-tests}
 use Rattle.sc.specs.State.{Event, State}
 use Rattle.sc.specs.Graph.{Graph}
 use Rattle.consistent.specs.Consistent.{ReadsFrom}
-use Rattle.consistent.specs.Judge.{fits}
+use Rattle.consistent.proofs.Walk.{fits}
 use Rattle.consistent.proofs.Fitting.{FitAt, row-in, fits-is, is-fits}
 use Rattle.consistent.proofs.Readable.{Named, Readable}
 

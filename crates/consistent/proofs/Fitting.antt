@@ -19,7 +19,8 @@ use Rattle.sc.specs.Trail.{given}
 use Rattle.sc.specs.Graph.{Graph}
 use Rattle.sc.proofs.Histories.{upcoming, Done}
 use Rattle.consistent.specs.Consistent.{rowOf, orderOf, ReadsFrom}
-use Rattle.consistent.specs.Judge.{sameEvent, sameRead, waits, noneWaits, turnOf, readFits, writeFits, fits}
+use Rattle.consistent.specs.Same.{sameEvent, sameRead}
+use Rattle.consistent.proofs.Walk.{waits, noneWaits, turnOf, readFits, writeFits, fits}
 use Rattle.consistent.proofs.Tests.{both-and, not-of, same-event-is, is-same-event, differs, is-different, same-read-is, same-read}
 
 module _ (g : Graph) (place : Event → ℕ) where

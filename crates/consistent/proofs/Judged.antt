@@ -20,7 +20,9 @@ use Rattle.sc.specs.Graph.{Graph, graphOf, graph, endOf, Full}
 use Rattle.sc.proofs.Lawful.{lawful, names-ascend, at-most-24}
 use Rattle.sc.proofs.Regular.{Regular, regular-step, regular-start}
 use Rattle.consistent.specs.Consistent.{locationOf, Consistent}
-use Rattle.consistent.specs.Judge.{values, fits, walk, sameGraph, judge, MadeBy, LeastFor}
+use Rattle.consistent.specs.Least.{MadeBy, LeastFor}
+use Rattle.consistent.proofs.RoundValues.{values}
+use Rattle.consistent.proofs.Walk.{fits, walk, sameGraph, judge}
 use Rattle.consistent.proofs.Tests.{both-and, same-graph-is, is-same-graph}
 use Rattle.consistent.proofs.Rounds.{run-canonical}
 use Rattle.consistent.proofs.OnRun.{on-start}

@@ -1,4 +1,8 @@
 -- The laws, in the order in which they rest on each other.
+-- the judge's way to its answer, which nothing promised rests on: rounds, a greedy walk, and the answer by them
+pub mod RoundValues
+pub mod Walk
+pub mod ByWalk
 -- graphs judged by computing
 pub mod Examples
 -- what the definition of consistent says of small graphs
@@ -21,6 +25,7 @@ pub mod Scheduled
 -- T4, from a schedule to consistent: the rounds know the values of every run with this graph, and its steps are in order
 pub mod Sorted
 pub mod Records
+pub mod RoundWords
 pub mod Rounds
 pub mod OnRun
 pub mod Ranked
@@ -34,14 +39,20 @@ pub mod Judged
 -- graph texts: what a text gives is canonical, and the text of a full schedule's graph gives that graph back
 pub mod Readable
 pub mod Parsed
+pub mod LineRanges
+-- refusals of a text are small: its lines ascend, so that not many can pass
+pub mod SmallRefusals
 pub mod FramesRead
 pub mod RowsRead
 pub mod ListsRead
 pub mod RoundTrip
 pub mod AccessCount
 pub mod RunRead
--- the answers to texts
-pub mod Answered
+-- the answers to texts: the walk's answer is right, and no other is
+pub mod Judgements
+-- demand 2
+pub mod LineNumbers
+pub mod Demand2
 -- the definitions as code meets them: line by line, and with tables of 16 numbers a thread
 pub mod LineTurns
 pub mod RoundTables

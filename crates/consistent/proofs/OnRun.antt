@@ -17,7 +17,8 @@ use Rattle.sc.specs.Graph.{Graph}
 use Rattle.sc.proofs.Histories.{upcoming, Done, done-more, done-new, done-cases}
 use Rattle.sc.proofs.Rows.{row-at, order-at}
 use Rattle.consistent.specs.Consistent.{rowOf, orderOf, coherenceOf, ReadsFrom, Later, Values, Reads, locationOf, Canonical, Makes, Before, program-order, reads-from, coherence, from-reads, Distinct}
-use Rattle.consistent.specs.Judge.{values, MadeBy}
+use Rattle.consistent.specs.Least.{MadeBy}
+use Rattle.consistent.proofs.RoundValues.{values}
 use Rattle.consistent.proofs.Later.{distinct-later, distinct-apart, distinct-snoc}
 use Rattle.consistent.proofs.Parts.{Parts, done-before, latest-in, none-later}
 use Rattle.consistent.proofs.Alone.{Event-of, reads-event, writes-event, before-end, event-real}
@@ -25,6 +26,7 @@ use Rattle.consistent.proofs.Agreement.{location, reads-as}
 use Rattle.consistent.proofs.InOrder.{order-event}
 use Rattle.consistent.proofs.Scheduled.{ended-idle}
 use Rattle.consistent.proofs.Records.{Records}
+use Rattle.consistent.proofs.RoundWords.{round-words}
 use Rattle.consistent.proofs.Rounds.{source-one, Ends, ends-step, ends-start, order-suffix, step-source, Known, round-finds, known-step, known-start}
 
 module _ (p : Program) (wf : WellFormed p) (g : Graph) (C : Canonical p g) (N : ℕ) where
@@ -69,6 +71,7 @@ module _ (p : Program) (wf : WellFormed p) (g : Graph) (C : Canonical p g) (N : 
   pub on-makes : (σ : State) → On σ [] → Makes p g v
   unfolding run
   on-makes σ o = record {
+    words = λ e k. omega (arith, round-words p wf g N e);
     noted = λ e s k. R .noted-read (e .0) (e .1, s) (subst (List·Memᴰ (e .1, s)) (row (e .0)) k) .0;
     sourced = λ e k. let s = R .every-read e (all-done σ o e (reads-event p v e k)) k in (s .0, subst (List·Memᴰ (e .1, s .0)) (sym (row (e .0))) (s .1));
     writes = λ l e. (

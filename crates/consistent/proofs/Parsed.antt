@@ -60,7 +60,7 @@ at-most-less : (a b c : List ℕ) → AtMost a b → less b c ≡ true → less 
 at-most-less a b c (inl q) h = subst (λ (x : List ℕ). less x c ≡ true) (sym q) h
 at-most-less a b c (inr k) h = less-transitive a b c k h
 
-less-last : (i j : ℕ) → less (i ∷ []) (j ∷ []) ≡ true → i < j
+pub less-last : (i j : ℕ) → less (i ∷ []) (j ∷ []) ≡ true → i < j
 unfolding less
 less-last i j h = go (eqb i j) refl
   where

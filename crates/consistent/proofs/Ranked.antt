@@ -13,7 +13,8 @@ use Rattle.sc.specs.Graph.{Graph}
 use Rattle.sc.proofs.Start.{start-history}
 use Rattle.sc.proofs.Histories.{upcoming, Done, done-cases}
 use Rattle.consistent.specs.Consistent.{orderOf, Canonical, Makes, Before, program-order, reads-from, coherence, from-reads, Way, one, more, Acyclic}
-use Rattle.consistent.specs.Judge.{sameEvent, values}
+use Rattle.consistent.specs.Same.{sameEvent}
+use Rattle.consistent.proofs.RoundValues.{values}
 use Rattle.consistent.proofs.Tests.{same-event-is, is-same-event}
 use Rattle.consistent.proofs.Later.{later-in}
 use Rattle.consistent.proofs.InOrder.{order-event, row-event}

@@ -14,7 +14,7 @@ use Rattle.schedules.proofs.Lists.{any-yes, any-of}
 use Rattle.sc.specs.State.{Event, initialWrite}
 use Rattle.sc.specs.Graph.{Graph}
 use Rattle.consistent.specs.Consistent.{rowOf, orderOf, Descends, Distinct, Canonical}
-use Rattle.consistent.specs.Judge.{sameEvent}
+use Rattle.consistent.specs.Same.{sameEvent}
 use Rattle.consistent.specs.Reading.{isEvent, isSource, written, allNew}
 use Rattle.consistent.proofs.Tests.{both-and, not-of, same-event-is, is-same-event}
 

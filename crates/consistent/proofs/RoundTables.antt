@@ -12,7 +12,8 @@ use Rattle.sc.specs.Local.{placeOf, puts, next}
 use Rattle.sc.specs.State.{Event, initialWrite}
 use Rattle.sc.specs.Graph.{Graph}
 use Rattle.consistent.specs.Consistent.{rowOf, Values, alone, localAt, locationOf, outOf}
-use Rattle.consistent.specs.Judge.{sameEvent, sourceIn, orZero, leftBy, nextRound}
+use Rattle.consistent.specs.Same.{sameEvent}
+use Rattle.consistent.proofs.RoundValues.{sourceIn, orZero, leftBy, nextRound}
 use Rattle.consistent.proofs.Tests.{is-same-event}
 use Rattle.consistent.proofs.Readable.{Named, Source, Readable}
 

@@ -23,7 +23,9 @@ use Rattle.sc.proofs.Start.{start-threads, start-cells}
 use Rattle.sc.proofs.Histories.{upcoming, run-row, run-order}
 use Rattle.sc.proofs.Rows.{row-at, order-at, graph-sizes}
 use Rattle.consistent.specs.Consistent.{rowOf, orderOf, ReadsFrom, Values, Reads, locationOf, Leaves, Descends, Distinct, Canonical}
-use Rattle.consistent.specs.Judge.{sameEvent, sourceIn, orZero, leftBy, nextRound, values, MadeBy}
+use Rattle.consistent.specs.Same.{sameEvent}
+use Rattle.consistent.specs.Least.{MadeBy}
+use Rattle.consistent.proofs.RoundValues.{sourceIn, orZero, leftBy, nextRound, values}
 use Rattle.consistent.proofs.Tests.{same-event-is, is-same-event}
 use Rattle.consistent.proofs.Alone.{writes-event, some-writes, event-real}
 use Rattle.consistent.proofs.Agreement.{location, reads-as}

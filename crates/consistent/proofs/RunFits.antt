@@ -20,7 +20,8 @@ use Rattle.sc.proofs.Change.{wrote-own}
 use Rattle.sc.proofs.Regular.{place-in}
 use Rattle.sc.proofs.Histories.{upcoming, Done}
 use Rattle.consistent.specs.Consistent.{orderOf, coherenceOf, Later, locationOf, Canonical, Makes, from-reads}
-use Rattle.consistent.specs.Judge.{values, turnOf, fits}
+use Rattle.consistent.proofs.RoundValues.{values}
+use Rattle.consistent.proofs.Walk.{turnOf, fits}
 use Rattle.consistent.proofs.Later.{later-right}
 use Rattle.consistent.proofs.Agreement.{location}
 use Rattle.consistent.proofs.Rounds.{order-suffix, step-source}

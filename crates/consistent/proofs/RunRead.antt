@@ -18,7 +18,7 @@ use Rattle.sc.proofs.Regular.{Written, Regular, regular-run, regular-start}
 use Rattle.sc.proofs.Histories.{Done, done-exists}
 use Rattle.sc.proofs.Rows.{row-at, order-at}
 use Rattle.consistent.specs.Consistent.{Canonical, Makes}
-use Rattle.consistent.specs.Judge.{values}
+use Rattle.consistent.proofs.RoundValues.{values}
 use Rattle.consistent.specs.Reading.{parsed, readGraph}
 use Rattle.consistent.proofs.AccessCount.{done-16}
 use Rattle.consistent.proofs.Rounds.{run-canonical}

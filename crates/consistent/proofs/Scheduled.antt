@@ -29,7 +29,7 @@ use Rattle.sc.proofs.Regular.{Regular}
 use Rattle.sc.proofs.Histories.{upcoming, Done, upcoming-undone}
 use Rattle.sc.proofs.Rows.{same-graph}
 use Rattle.consistent.specs.Consistent.{rowOf, orderOf, Values, alone, localAt, Makes, Canonical, Before, program-order, Acyclic, Consistent}
-use Rattle.consistent.specs.Judge.{MadeBy}
+use Rattle.consistent.specs.Least.{MadeBy}
 use Rattle.consistent.proofs.Tests.{both-and, not-of}
 use Rattle.consistent.proofs.Parts.{finished}
 use Rattle.consistent.proofs.Alone.{Event-of, before-end, accesses-left, event-thread}

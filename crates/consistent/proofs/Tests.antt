@@ -9,7 +9,8 @@ use lib.Dec.{eqb}
 use Rattle.program.proofs.Tests.{both}
 use Rattle.sc.specs.State.{Event}
 use Rattle.sc.specs.Graph.{Graph, graphWith}
-use Rattle.consistent.specs.Judge.{sameEvent, sameRead, sameList, sameGraph}
+use Rattle.consistent.specs.Same.{sameEvent, sameRead, sameList}
+use Rattle.consistent.proofs.Walk.{sameGraph}
 
 pub both-and : {a b : Bool} → a ≡ true → b ≡ true → a && b ≡ true
 both-and {a} {b} e f = rw (e, f)

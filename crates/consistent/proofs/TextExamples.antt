@@ -12,15 +12,16 @@ use Rattle.program.specs.Program.{Program}
 use Rattle.schedules.specs.Lists.{all}
 use Rattle.schedules.specs.Order.{less}
 use Rattle.sc.specs.Text.{textOf, eventsIn}
-use Rattle.consistent.specs.Judge.{sameList}
+use Rattle.consistent.specs.Same.{sameList}
 use Rattle.consistent.specs.Reading.{Frame, isRead, writesIn, known, isEvent, isSource, inRange, key, written, allNew, inOrder, refusal, withLine, after, fresh, frameOf, readLines, readGraph}
-use Rattle.consistent.specs.Answer.{Answer, consistent, inconsistent, refusing, answerOf, answerTo, judgeAnswer}
+use Rattle.consistent.specs.Answer.{Answer, consistent, inconsistent, refusing}
+use Rattle.consistent.proofs.ByWalk.{answerOf, answerTo, answerText}
 use Rattle.consistent.proofs.Examples.{judging, buffering, threadsOf}
 
 -- what a proof names on its `unfolding` line to compute with texts
 unfoldable pub answering : Program → List ℕ → ℕ → Answer
-unfolding judging digit value digitOf hexadecimal pairs frame digits text prepend before split less textOf isRead eventsIn writesIn known isEvent isSource inRange key written allNew inOrder refusal withLine after fresh frameOf readLines readGraph answerOf answerTo judgeAnswer
-answering p t room = judgeAnswer p t room
+unfolding judging digit value digitOf hexadecimal pairs frame digits text prepend before split less textOf isRead eventsIn writesIn known isEvent isSource inRange key written allNew inOrder refusal withLine after fresh frameOf readLines readGraph answerOf answerTo answerText
+answering p t room = answerText p t room
 
 unfoldable sameAnswer : Answer → Answer → Bool
 sameAnswer (consistent s) (consistent r) = sameList eqb s r
@@ -39,7 +40,7 @@ record Case : Type 0 where
   answer : Answer
 
 unfoldable right : Case → Bool
-right c = sameAnswer (judgeAnswer buffering (c .text) (c .room)) (c .answer)
+right c = sameAnswer (answerText buffering (c .text) (c .room)) (c .answer)
 
 -- the lines of document 01's graph
 abbrev first : Frame
@@ -128,6 +129,6 @@ unfolding answering sameAnswer right cases
 all-right = refl
 
 -- one empty thread makes the graph without events
-empty-judged : judgeAnswer (threadsOf ([] ∷ [])) [] 24 ≡ consistent []
+empty-judged : answerText (threadsOf ([] ∷ [])) [] 24 ≡ consistent []
 unfolding answering
 empty-judged = refl

@@ -2,7 +2,7 @@
 -- from-reads together. No schedule is mentioned: that some full schedule has the graph is a theorem.
 -- A graph may name events that no thread makes. Row t of `reads` has the `40` lines of thread t, list l of `writes` the `41` line of
 -- location l, each with its last entry first, as the machine notes them.
-use Prim.Native.Nat.{ℕ, zero, suc, _<_}
+use Prim.Native.Nat.{ℕ, zero, suc, _<_, _^_}
 use mathlib.Core.Path.{_≡_}
 use mathlib.Core.Logic.{_≢_, _↔_, _⊎_}
 use mathlib.Core.Bool.{true}
@@ -35,7 +35,7 @@ Later (w ∷ ws) y x = ((y ≡ w) × List·Memᴰ x ws) ⊎ Later ws y x
 abbrev pub coherenceOf : Graph → ℕ → List Event
 coherenceOf g l = orderOf g l ++ (initialWrite ∷ [])
 
--- a value for each read
+-- a value for each read, 32-bit where the program makes a graph on them
 abbrev pub Values : Type 0
 Values = Event → ℕ
 
@@ -70,6 +70,8 @@ Leaves p v s l x = ((s ≡ initialWrite) × (x ≡ getD (initial p) l 0)) ⊎ ((
 
 -- on these values the threads, run to their ends, make exactly the graph's events
 pub record Makes (p : Program) (g : Graph) (v : Values) : Type 0 where
+  -- the value given to each read is 32-bit unsigned
+  pub words : (e : Event) → Reads p v e → v e < 2 ^ 32
   -- just the reads stand in `40` lines
   pub noted : (e s : Event) → ReadsFrom g e s → Reads p v e
   pub sourced : (e : Event) → Reads p v e → (s : Event) × ReadsFrom g e s

@@ -1,9 +1,13 @@
 -- What a reader of this crate must believe, in reading order.
 -- which graphs are consistent, in document 01's words
 pub mod Consistent
--- the judge: a greedy walk on the machine, then a comparison
-pub mod Judge
+-- the least schedule that makes a graph
+pub mod Least
+-- events, reads and lists compared
+pub mod Same
 -- graph texts and their refusals
 pub mod Reading
 -- the answer to a graph text
 pub mod Answer
+-- demand 2: the judge's promise as one claim
+pub mod Demand2

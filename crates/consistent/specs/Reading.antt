@@ -14,7 +14,7 @@ use Rattle.sc.specs.State.{Event, initialWrite}
 use Rattle.sc.specs.Graph.{Graph}
 use Rattle.sc.specs.Text.{eventsIn}
 use Rattle.consistent.specs.Consistent.{rowOf}
-use Rattle.consistent.specs.Judge.{sameEvent}
+use Rattle.consistent.specs.Same.{sameEvent}
 
 abbrev pub Frame : Type 0
 Frame = List ℕ

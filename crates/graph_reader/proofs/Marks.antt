@@ -13,7 +13,7 @@ use lib.Seq.{getD-set-same, getD-set-other}
 use Rattle.schedules.specs.Lists.{any}
 use Rattle.schedules.proofs.Lists.{any-yes, any-of}
 use Rattle.sc.specs.State.{Event}
-use Rattle.consistent.specs.Judge.{sameEvent}
+use Rattle.consistent.specs.Same.{sameEvent}
 use Rattle.consistent.specs.Reading.{written, allNew}
 use Rattle.graph_reader.specs.Held.{Seen, markedBy}
 use Rattle.consistent.proofs.Readable.{Named, reverse-in}

@@ -1,22 +1,22 @@
 -- Lines come one after the other exactly if their places do.
-use Prim.Native.Nat.{ℕ, _+_, _*_, _%_, _<_, _≤_}
+use Prim.Native.Nat.{ℕ, _+_, _*_, _<_, _≤_}
 use mathlib.Core.Path.{_≡_, refl, sym, _∙_}
-use mathlib.Core.Bool.{Bool, true, false, _&&_}
+use mathlib.Core.Bool.{Bool, true, false}
 use mathlib.Core.List.{List, [], _∷_}
 use native.Mathlib.Omega.{arith}
-use borrow.Author.Tests.{lt-ltb, le-ltb, leb-true, eqb-true, eqb-false, eq-eqb, ne-eqb}
-use lib.Dec.{eqb, ltb, leb}
-use lib.ListN.{length}
-use Rattle.program.proofs.Tests.{both}
+use borrow.Author.Tests.{lt-ltb, le-ltb, eqb-true, eqb-false, eq-eqb, ne-eqb}
+use lib.Dec.{eqb, ltb}
 use Rattle.schedules.specs.Lists.{all}
 use Rattle.schedules.specs.Order.{less}
 use Rattle.schedules.proofs.Order.{less-front, less-heads, more-heads}
 use Rattle.schedules.proofs.Lists.{all-at, all-of}
 use Rattle.sc.specs.State.{Event}
-use Rattle.consistent.specs.Reading.{Frame, byteAt, isRead, writesIn, known, isEvent, isSource, inRange, key}
+use Rattle.consistent.specs.Reading.{Frame, byteAt, isRead, known, isEvent, inRange, key}
 use Rattle.graph_reader.specs.Held.{rankOf}
 use Rattle.consistent.proofs.Readable.{event-is, is-event}
 use Rattle.graph_reader.proofs.LineWrites.{same-order}
+-- what is known of a line in range
+pub use Rattle.consistent.proofs.LineRanges.{write-shape, read-range, write-range}
 
 -- two lists of one number, or of two
 less-one : (i j : ℕ) → less (i ∷ []) (j ∷ []) ≡ ltb i j
@@ -47,29 +47,6 @@ is-read f b e q = eq-eqb (byteAt f 0) 0x40 (sym e ∙ q)
 pub not-read : (f : Frame) (b : ℕ) → b ≡ byteAt f 0 → (b ≡ 0x40 → ⊥) → isRead f ≡ false
 unfolding isRead
 not-read f b e q = ne-eqb (byteAt f 0) 0x40 (λ h. q (e ∙ h))
-
--- a `41` line names one event or more
-pub write-shape : (f : Frame) → known f ≡ true → isRead f ≡ false → (byteAt f 0 ≡ 0x41) × (4 ≤ length f) × (length f % 2 ≡ 0)
-unfolding known
-write-shape f k q =
-    let b = both (eqb (byteAt f 0) 0x41) (leb 4 (length f) && eqb (length f % 2) 0) (rw q at k) in
-    let d = both (leb 4 (length f)) (eqb (length f % 2) 0) (b .1) in
-    (eqb-true (byteAt f 0) 0x41 (b .0), leb-true 4 (length f) (d .0), eqb-true (length f % 2) 0 (d .1))
-
--- what is known of a line in range
-module _ (n : ℕ) (few : n ≤ 6) (f : Frame) (k : known f ≡ true) (r : inRange n f ≡ true) where
-  pub read-range : isRead f ≡ true → (byteAt f 0 ≡ 0x40) × (byteAt f 1 < n) × (byteAt f 2 ≤ 15)
-  unfolding isRead inRange
-  read-range q =
-      let a = both (isEvent n (byteAt f 1, byteAt f 2)) (isSource n (byteAt f 3, byteAt f 4)) (rw q at r) in
-      let e = event-is n (byteAt f 1, byteAt f 2) (a .0) in
-      (eqb-true (byteAt f 0) 0x40 q, e .0, e .1)
-
-  pub write-range : isRead f ≡ false → (byteAt f 0 ≡ 0x41) × (byteAt f 1 ≤ 7) × (all (isEvent n) (writesIn f) ≡ true)
-  unfolding isRead inRange
-  write-range q =
-      let a = both (leb (byteAt f 1) 7) (all (isEvent n) (writesIn f)) (rw q at r) in
-      (write-shape f k q .0, leb-true (byteAt f 1) 7 (a .0), a .1)
 
 -- fewer threads name fewer events
 pub events-six : (n : ℕ) → n ≤ 6 → (ws : List Event) → all (isEvent n) ws ≡ true → all (isEvent 6) ws ≡ true

@@ -14,7 +14,7 @@ use Rattle.schedules.proofs.Lists.{any-yes, any-of, ascends-unique}
 use Rattle.sc.specs.State.{Event, initialWrite}
 use Rattle.sc.specs.Graph.{Graph}
 use Rattle.consistent.specs.Consistent.{rowOf, orderOf, Descends}
-use Rattle.consistent.specs.Judge.{sameEvent, sameRead}
+use Rattle.consistent.specs.Same.{sameEvent, sameRead}
 use Rattle.graph_reader.specs.Held.{noLine, lineIn, Tabled}
 use Rattle.consistent.proofs.Tests.{same-event-is, is-same-event, same-read-is, same-read}
 use Rattle.consistent.proofs.Readable.{Source, Readable}

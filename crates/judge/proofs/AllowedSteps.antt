@@ -16,7 +16,8 @@ use Rattle.sc.specs.Graph.{Graph}
 use Rattle.sc.specs.Trail.{given, writes}
 use Rattle.graph_writer.specs.Notes.{note, noteBytes}
 use Rattle.consistent.specs.Consistent.{rowOf, orderOf, Values}
-use Rattle.consistent.specs.Judge.{sameEvent, sameRead, noneWaits, turnOf, readFits, writeFits, fits}
+use Rattle.consistent.specs.Same.{sameEvent, sameRead}
+use Rattle.consistent.proofs.Walk.{noneWaits, turnOf, readFits, writeFits, fits}
 use Rattle.graph_reader.specs.Held.{noLine}
 use Rattle.judge.specs.HeldWalk.{Drawn, Ordering, Ranged, NoteOf, readAllowed, turnAllowed}
 use Rattle.graph_reader.proofs.TabledGraph.{read-test}

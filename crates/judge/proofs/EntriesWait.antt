@@ -16,7 +16,8 @@ use Rattle.machine.specs.declared.state.Machine.{Machine}
 use Rattle.sc.specs.State.{Event, State, threadOf}
 use Rattle.sc.specs.Graph.{Graph}
 use Rattle.consistent.specs.Consistent.{rowOf, Values}
-use Rattle.consistent.specs.Judge.{sameEvent, waits, noneWaits}
+use Rattle.consistent.specs.Same.{sameEvent}
+use Rattle.consistent.proofs.Walk.{waits, noneWaits}
 use Rattle.graph_reader.specs.Held.{noLine, lineIn}
 use Rattle.judge.specs.HeldWalk.{waitsAt, Drawn}
 use Rattle.consistent.proofs.Tests.{not-of}

@@ -21,11 +21,10 @@ use Rattle.machine.specs.Held.{Loaded}
 use Rattle.machine.proofs.HeldStart.{threads-held}
 use Rattle.judge.specs.declared.walking.Walk.{Walk}
 use Rattle.consistent.specs.Consistent.{rowOf, orderOf}
-use Rattle.consistent.specs.Judge.{sameGraph, walk, judge}
+use Rattle.consistent.proofs.Walk.{sameGraph, walk, judge}
 use Rattle.consistent.specs.Reading.{parsed, readGraph}
 use Rattle.graph_reader.specs.Held.{noLine, lineIn, Entry, Tabled}
-use Rattle.judge.specs.HeldYes.{Walked}
-use Rattle.judge.specs.Call.{JudgedAs}
+use Rattle.judge.specs.HeldYes.{Walked, JudgedAs}
 use Rattle.consistent.proofs.Tests.{same-graph-is, is-same-graph}
 use Rattle.consistent.proofs.Readable.{Readable}
 use Rattle.consistent.proofs.Parsed.{read-readable}

@@ -25,7 +25,8 @@ use Rattle.sc.proofs.Regular.{Regular, regular-run, regular-start}
 use Rattle.machine.proofs.HeldAsking.{ready-held}
 use Rattle.machine.proofs.HeldStart.{threads-held, short-held}
 use Rattle.consistent.specs.Consistent.{locationOf}
-use Rattle.consistent.specs.Judge.{values, fits}
+use Rattle.consistent.proofs.RoundValues.{values}
+use Rattle.consistent.proofs.Walk.{fits}
 use Rattle.judge.specs.HeldWalk.{Drawn, Ordering, Ranged, NoteOf, Walking, threadOr, nextOf}
 use Rattle.consistent.proofs.Readable.{Readable}
 use Rattle.consistent.proofs.Parsed.{read-readable}

@@ -29,7 +29,8 @@ use Rattle.sc.proofs.Start.{start-writes, start-history}
 use Rattle.sc.proofs.Regular.{Regular}
 use Rattle.sc.proofs.Rows.{row-at, order-at}
 use Rattle.consistent.specs.Consistent.{locationOf}
-use Rattle.consistent.specs.Judge.{values, fits, walk}
+use Rattle.consistent.proofs.RoundValues.{values}
+use Rattle.consistent.proofs.Walk.{fits, walk}
 use Rattle.graph_reader.specs.Held.{noLine, lineIn, Entry, Tabled}
 use Rattle.judge.specs.HeldWalk.{Ranged, Walking, threadOr, nextOf, sourceAdded, eventAdded, countAdded}
 use Rattle.judge.specs.HeldYes.{Given, Walked}

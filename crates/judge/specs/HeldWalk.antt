@@ -16,7 +16,8 @@ use Rattle.sc.specs.Graph.{Graph}
 use Rattle.graph_writer.specs.Notes.{note, noteBytes}
 use Rattle.machine.specs.Held.{threadAt, Holds, Loaded}
 use Rattle.consistent.specs.Consistent.{rowOf, orderOf, Values, Descends, locationOf}
-use Rattle.consistent.specs.Judge.{values, fits}
+use Rattle.consistent.proofs.RoundValues.{values}
+use Rattle.consistent.proofs.Walk.{fits}
 use Rattle.consistent.specs.Reading.{parsed, readGraph}
 use Rattle.graph_reader.specs.Held.{noLine, lineIn, Entry, put, Tabled}
 

@@ -1,16 +1,20 @@
 -- What the walk leaves, and the judge's answer as the code hands it over. For the judge's own functions.
 use Prim.Native.Nat.{ℕ, _+_, _*_, _<_, _≤_}
 use mathlib.Core.Path.{_≡_}
+use mathlib.Core.Bool.{Bool, true, false}
+use mathlib.Core.Option.{Option, none, some}
 use mathlib.Core.List.{List}
-use lib.ListN.{length, getD}
+use lib.ListN.{length, getD, take}
 use Rattle.program.specs.Program.{Program}
+use Rattle.schedules.specs.Order.{Schedule}
 use Rattle.schedules.specs.System.{Allowed}
 use Rattle.sc.specs.State.{SC, start}
 use Rattle.sc.specs.Graph.{Graph, graphOf, endOf}
 use Rattle.machine.specs.Held.{Holds, Loaded}
 use Rattle.judge.specs.declared.walking.Walk.{Walk}
 use Rattle.consistent.specs.Consistent.{locationOf}
-use Rattle.consistent.specs.Judge.{values, walk}
+use Rattle.consistent.proofs.RoundValues.{values}
+use Rattle.consistent.proofs.Walk.{walk}
 use Rattle.consistent.specs.Reading.{parsed, readGraph}
 use Rattle.graph_reader.specs.Held.{Tabled}
 
@@ -32,3 +36,8 @@ pub record Walked (code lengths : List ℕ) (p : Program) (g : Graph) (r : Walk)
   pub holds : Holds code lengths (r .machine) (endOf p (walk p g))
   pub made : Tabled (r .pairs) (r .counts) (graphOf (endOf p (walk p g)))
   pub few : (l : ℕ) → getD (r .counts) l 0 ≤ 24
+
+-- what the walk found: a schedule, which stands in the first k bytes, or none
+abbrev pub JudgedAs : Bool → List ℕ → ℕ → Option Schedule → Type 0
+JudgedAs true bytes k o = (o ≡ some (take k bytes)) × (k ≤ 24)
+JudgedAs false bytes k o = o ≡ none

@@ -9,7 +9,7 @@ ghost use lib.ListN.{getD};
 ghost use Rattle.sc.specs.State.{State, may};
 ghost use Rattle.sc.specs.Graph.{Graph};
 ghost use Rattle.consistent.specs.Consistent.{Values};
-ghost use Rattle.consistent.specs.Judge.{fits};
+ghost use Rattle.consistent.proofs.Walk.{fits};
 ghost use Rattle.judge.specs.HeldWalk.{readAllowed, turnAllowed, Ranged, Drawn, Ordering, NoteOf};
 
 // A read: its source is the last write of its location, and it goes where the table says.

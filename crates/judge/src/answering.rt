@@ -6,7 +6,7 @@ ghost use mathlib.Core.Path.{_≡_};
 ghost use Prim.Native.Nat.{_≤_};
 ghost use lib.ListN.{length, take};
 ghost use Rattle.lines.specs.Over.{over};
-ghost use Rattle.consistent.specs.Answer.{judgeFile, outputAfter};
+ghost use Rattle.consistent.specs.Answer.{Answer, Judgement, outputAfter};
 ghost use Rattle.judge.specs.Call.{outcomeOf};
 
 pub enum Outcome {
@@ -31,8 +31,8 @@ fn put(out: &mut [u8], schedule: [u8; 24], steps: usize)
 
 // Judges a graph text: yes with the least schedule that makes the graph, or no, or a refusal. Only a yes changes the output.
 pub fn judge(file: &[u8], text: &[u8], out: &mut [u8]) -> Outcome
-    ensures answer { λ r. ⌜ r ≡ outcomeOf (judgeFile (now (file .entry)) (now (text .entry)) (length (now (out .entry)))) ⌝ }
-    ensures output { λ r. ⌜ now (out .exit) ≡ outputAfter (judgeFile (now (file .entry)) (now (text .entry)) (length (now (out .entry)))) (now (out .entry)) ⌝ }
+    ensures { λ r. ⌜ ((a : Answer) × Judgement (now (file .entry)) (now (text .entry)) (length (now (out .entry))) a
+        × (r ≡ outcomeOf a) × (now (out .exit) ≡ outputAfter a (now (out .entry)))) ⌝ }
 {
     let a = decoder::decode(file);
     let v = a.verdict;

@@ -12,7 +12,8 @@ ghost use Rattle.schedules.specs.System.{run};
 ghost use Rattle.sc.specs.State.{SC, start};
 ghost use Rattle.sc.specs.Graph.{Graph};
 ghost use Rattle.consistent.specs.Consistent.{locationOf};
-ghost use Rattle.consistent.specs.Judge.{values, fits};
+ghost use Rattle.consistent.proofs.RoundValues.{values};
+ghost use Rattle.consistent.proofs.Walk.{fits};
 ghost use Rattle.judge.specs.HeldWalk.{Walking, threadOr, nextOf};
 
 // Whether thread t may step and the graph allows its next access.

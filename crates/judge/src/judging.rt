@@ -11,10 +11,10 @@ ghost use Prim.Native.Nat.{ℕ};
 ghost use Rattle.program.specs.Program.{Program};
 ghost use Rattle.sc.specs.Graph.{Graph};
 ghost use Rattle.machine.specs.Held.{Loaded};
-ghost use Rattle.consistent.specs.Judge.{judge};
+ghost use Rattle.consistent.proofs.Walk.{judge};
 ghost use Rattle.consistent.specs.Reading.{parsed, readGraph};
 ghost use Rattle.graph_reader.specs.Held.{Tabled};
-ghost use Rattle.judge.specs.Call.{JudgedAs};
+ghost use Rattle.judge.specs.HeldYes.{JudgedAs};
 
 // Whether the answer is yes, and then the schedule in the first bytes, so many.
 pub struct Finding {

@@ -19,7 +19,12 @@ pub take-over : (t l : List ℕ) → take (length t) (over t l) ≡ t
 unfolding over
 take-over t l = take-at t (drop (length t) l) (length t) refl
 
--- so is a part of it
+-- what stood behind the text still does
+pub drop-over : (t l : List ℕ) → drop (length t) (over t l) ≡ drop (length t) l
+unfolding over
+drop-over t l = drop-at t (drop (length t) l) (length t) refl
+
+-- a part of the text is found there too
 pub part-over : (t l : List ℕ) (a n : ℕ) → a + n ≤ length t → take n (drop a (over t l)) ≡ take n (drop a t)
 unfolding over
 part-over t l a n h =

@@ -23,5 +23,7 @@ pub mod Outcome
 -- the first member that passes a test; what violation answers
 pub mod FirstIn
 pub mod Violations
+-- what the calls can answer: members of the list, and small refusals
+pub mod Answered
 -- for the code: the list walked by the search
 pub mod Walk

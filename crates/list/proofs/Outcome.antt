@@ -1,20 +1,25 @@
 -- T5: each full schedule is alike to exactly one listed one; alike full schedules fail alike and leave the same memory. So where no listed
--- schedule fails, none at all does.
-use mathlib.Core.Path.{_≡_, sym, subst, _∙_}
+-- schedule fails, no schedule at all does, full or not.
+use mathlib.Core.Path.{_≡_, refl, sym, ap, subst, _∙_}
 use mathlib.Core.Logic.{_↔_}
-use mathlib.Core.Bool.{true, false}
-use mathlib.Core.List.{List·Memᴰ}
+use mathlib.Core.Bool.{Bool, true, false, true≢false}
+use mathlib.Core.List.{_++_, List·Memᴰ}
+use native.Mathlib.Omega.{arith}
 use Rattle.program.specs.Program.{Program}
 use Rattle.program.specs.WellFormed.{WellFormed}
 use Rattle.schedules.specs.Order.{Schedule}
+use Rattle.schedules.specs.System.{Allowed}
 use Rattle.schedules.proofs.Listed.{some-listed, one-listed}
-use Rattle.sc.specs.State.{SC, start, fails, memoryOf}
+use Rattle.schedules.proofs.Runs.{run-append, full-join, full-allowed}
+use Rattle.schedules.proofs.SomeRun.{some-full}
+use Rattle.sc.specs.State.{SC, start, size, fails, memoryOf}
 use Rattle.sc.specs.Graph.{endOf, Full}
 use Rattle.sc.specs.Exchange.{movedSchedule, Moves}
 use Rattle.sc.proofs.Lawful.{lawful, names-ascend}
 use Rattle.sc.proofs.Exchange.{moves-memory}
 use Rattle.sc.proofs.Permitted.{exchanged, exchanged-graph}
 use Rattle.sc.proofs.Failing.{moves-fails}
+use Rattle.sc.proofs.StaysFailed.{stays-failed}
 use Rattle.sc.proofs.SameGraph.{one-graph-one-end}
 use Rattle.list.specs.Alike.{Alike}
 use Rattle.list.specs.ListOf.{alike, listOf}
@@ -57,9 +62,25 @@ module _ (p : Program) (w : WellFormed p) where
         λ q m l. one-listed SC lawful names-ascend (start p) (alike p) refl-test trans-test sym-test s q (c .0) f (subst (List·Memᴰ q) (list-is p) m) (c .1) (alike-exact p q s .1 l) (c .2),
       )
 
-  -- WHERE NO LISTED ONE FAILS, NONE AT ALL DOES
-  pub none-fails-at-all : ((r : Schedule) → List·Memᴰ r (listOf p) → fails (endOf p r) ≡ false) ↔ ((s : Schedule) → Full p s → fails (endOf p s) ≡ false)
+  -- every schedule goes on to a full one, which fails if it does
+  goes-on : (s : Schedule) → Allowed SC (start p) s → (r : Schedule) × Full p r × (fails (endOf p s) ≡ true → fails (endOf p r) ≡ true)
+  goes-on s a =
+      let r = some-full SC lawful (size (endOf p s)) (endOf p s) (omega arith) in (
+        s ++ r .0,
+        full-join SC (start p) s (r .0) a (r .1),
+        λ e. ap fails (run-append SC (start p) s (r .0)) ∙ stays-failed p s (r .0) a (full-allowed SC (endOf p s) (r .0) (r .1) .0) e,
+      )
+
+  -- WHERE NO LISTED ONE FAILS, NO SCHEDULE AT ALL DOES, be it full or only begun
+  pub none-fails-at-all : ((r : Schedule) → List·Memᴰ r (listOf p) → fails (endOf p r) ≡ false) ↔ ((s : Schedule) → Allowed SC (start p) s → fails (endOf p s) ≡ false)
   none-fails-at-all = (
-    (λ h s f. let c = one-each s f in sym (alike-fails (c .0) s (list-exact p (c .0) .0 (c .1) .0) f (c .2)) ∙ h (c .0) (c .1)),
-    λ h r m. h r (list-exact p r .0 m .0),
+    (λ h s a. let r = goes-on s a in go (fails (endOf p s)) (λ e. true≢false (sym (r .2 e) ∙ full h (r .0) (r .1)))),
+    λ h r m. h r (full-allowed SC (start p) r (list-exact p r .0 m .0) .0),
   )
+    where
+      full : ((r : Schedule) → List·Memᴰ r (listOf p) → fails (endOf p r) ≡ false) → (s : Schedule) → Full p s → fails (endOf p s) ≡ false
+      full h s f = let c = one-each s f in sym (alike-fails (c .0) s (list-exact p (c .0) .0 (c .1) .0) f (c .2)) ∙ h (c .0) (c .1)
+
+      go : (b : Bool) → (b ≡ true → ⊥) → b ≡ false
+      go true k = absurd (k refl)
+      go false k = refl

@@ -24,7 +24,7 @@ use Rattle.sc.specs.Graph.{Graph, graph}
 use Rattle.sc.specs.Exchange.{Permutation, movedReads, movedWrites, Turns}
 use Rattle.sc.proofs.Exchange.{injective}
 use Rattle.sc.proofs.Permitted.{only-identity}
-use Rattle.consistent.specs.Judge.{sameEvent, sameRead, sameList}
+use Rattle.consistent.specs.Same.{sameEvent, sameRead, sameList}
 use Rattle.consistent.proofs.Tests.{both-and, same-event-is, is-same-event, same-read-is, same-read, same-list-is, same-list}
 use Rattle.list.specs.Alike.{Exchange, Alike}
 use Rattle.list.specs.ListOf.{together, permits, permitted, turns, alikeBy, alike}

@@ -32,7 +32,7 @@ use Rattle.sc.proofs.Histories.{rest-code}
 use Rattle.sc.proofs.Exchange.{moves-full}
 use Rattle.sc.proofs.ExchangedTrail.{moved-cons}
 use Rattle.sc.proofs.ProgramGraphs.{graph-moved-end}
-use Rattle.consistent.specs.Judge.{sameRead, sameList}
+use Rattle.consistent.specs.Same.{sameRead, sameList}
 use Rattle.consistent.proofs.Tests.{same-read-is, same-list-is}
 use Rattle.list.specs.Alike.{Smaller}
 use Rattle.list.specs.ListOf.{together}

@@ -13,7 +13,7 @@ use Rattle.schedules.specs.Permutations.{permutations, moved}
 use Rattle.sc.specs.State.{SC, start}
 use Rattle.sc.specs.Graph.{Graph, graph}
 use Rattle.sc.specs.Exchange.{movedReads, movedWrites}
-use Rattle.consistent.specs.Judge.{sameEvent, sameRead, sameList}
+use Rattle.consistent.specs.Same.{sameEvent, sameRead, sameList}
 
 -- whether threads t and u stand in one of these `02` lines
 unfoldable pub together : List (List ℕ) → ℕ → ℕ → Bool

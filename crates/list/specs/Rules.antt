@@ -15,7 +15,7 @@ use Rattle.sc.specs.State.{Event, History, Cell, State, threadOf, place, step, 
 use Rattle.sc.specs.Trail.{Action, action, trail, conflict, leastOf}
 use Rattle.sc.specs.Ahead.{mayPut, couldMeet}
 use Rattle.sc.specs.ExchangedTrail.{movedAction}
-use Rattle.consistent.specs.Judge.{sameRead, sameList}
+use Rattle.consistent.specs.Same.{sameRead, sameList}
 use Rattle.list.specs.ListOf.{together, permitted}
 
 -- R1, the step comes late: going back over steps of other threads that do not conflict with it, it passes one of a greater thread, so that

@@ -21,6 +21,7 @@ use Rattle.listing.specs.Demand3.{Demand3}
 use Rattle.list.proofs.TheList.{list-exact, list-ascends, list-length}
 use Rattle.list.proofs.Outcome.{alike-fails, alike-memory, one-each, none-fails-at-all}
 use Rattle.listing.proofs.Calls.{continue-file, continue-least, continue-none, calls-due}
+use Rattle.listing.proofs.Standing.{start-stands, continue-stands, violation-stands}
 use Rattle.list.proofs.Violations as Violations
 
 -- what holds of an equal answer
@@ -61,4 +62,7 @@ module _ (file : List ℕ) (p : Program) (e : decode file ≡ accepted p) where
         let n = none-fails-at-all p w in
         along (same-violation out) ((λ i. n .0 (v .0 i)), λ k. v .1 (n .1 k));
     violation-short = λ out. along (same-violation out) (Violations.violation-short p out);
+    start-stands = start-stands file;
+    continue-stands = λ r out s. continue-stands file out s r;
+    violation-stands = violation-stands file;
   }

@@ -7,13 +7,14 @@ use mathlib.Core.Logic.{_↔_}
 use mathlib.Core.Bool.{true, false}
 use mathlib.Core.Option.{Option, none, some}
 use mathlib.Core.List.{List, [], _∷_, _++_, List·Memᴰ}
-use lib.ListN.{length}
+use lib.ListN.{length, take, drop}
 use Rattle.lines.specs.Over.{over}
 use Rattle.program.specs.Program.{Program}
 use Rattle.schedules.specs.Lists.{keep, Ascends}
 use Rattle.schedules.specs.Order.{Schedule, less}
+use Rattle.schedules.specs.System.{Allowed}
 use Rattle.schedules.specs.Calls.{found, nomore, turn, short, Result, result, called, last, due, served, member}
-use Rattle.sc.specs.State.{memoryOf}
+use Rattle.sc.specs.State.{SC, start, memoryOf}
 use Rattle.sc.specs.Graph.{endOf, Full}
 use Rattle.list.specs.Alike.{Alike, Listed}
 use Rattle.list.specs.ListOf.{listOf}
@@ -36,6 +37,10 @@ Called file before [] [] = Unit {0}
 Called file before [] (r ∷ rs) = ⊥
 Called file before (out ∷ outs) [] = ⊥
 Called file before (out ∷ outs) (r ∷ rs) = (r ≡ call file before out) × Called file (last before (r .0)) outs rs
+
+-- the schedule is the first bytes of the output behind a call, as many as it has steps; the bytes behind it keep their value
+abbrev pub InFront : Schedule → List ℕ → List ℕ → Type 0
+InFront s before behind = (take (length s) behind ≡ s) × (drop (length s) behind ≡ drop (length s) before) × (length behind ≡ length before)
 
 pub record Demand3 (file : List ℕ) (p : Program) : Type 0 where
   -- THE LIST has exactly the full schedules that document 01 calls listed: no smaller full schedule is alike
@@ -69,7 +74,11 @@ pub record Demand3 (file : List ℕ) (p : Program) : Type 0 where
   -- VIOLATION, with an output that is not too short: the first member that fails, written in front of the output's old rest
   pub violation-first : (out : List ℕ) → 24 ≤ length out → (s : Schedule) → (violationFile file out ≡ (fails-first s, over s out)) ↔
       (InList p s × (failing p s ≡ true) × ((r : Schedule) → InList p r → less r s ≡ true → failing p r ≡ false))
-  -- and none exactly when no schedule at all fails
-  pub violation-none : (out : List ℕ) → 24 ≤ length out → (violationFile file out ≡ (none-fails, out)) ↔ ((s : Schedule) → Full p s → failing p s ≡ false)
+  -- and none exactly when no schedule at all fails an assertion, be it full or only begun: each of its bytes names a thread not yet ended
+  pub violation-none : (out : List ℕ) → 24 ≤ length out → (violationFile file out ≡ (none-fails, out)) ↔ ((s : Schedule) → Allowed SC (start p) s → failing p s ≡ false)
   -- 22 exactly when it is too short
   pub violation-short : (out : List ℕ) → (violationFile file out ≡ (refused-by 22 0, out)) ↔ (length out < 24)
+  -- A SCHEDULE THAT IS ANSWERED stands in the output: by a start, by a continue from whatever schedule, and by violation
+  pub start-stands : (out : List ℕ) (s : Schedule) → startFile file out .0 ≡ found s → InFront s out (startFile file out .1)
+  pub continue-stands : (r : Schedule) (out : List ℕ) (s : Schedule) → continueFile file r out .0 ≡ found s → InFront s out (continueFile file r out .1)
+  pub violation-stands : (out : List ℕ) (s : Schedule) → violationFile file out .0 ≡ fails-first s → InFront s out (violationFile file out .1)

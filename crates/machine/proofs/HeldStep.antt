@@ -18,13 +18,14 @@ use Rattle.accesses.specs.declared.accessing.Access.{Access}
 use Rattle.accesses.specs.declared.thread.ThreadState.{ThreadState}
 use Rattle.machine.specs.declared.state.LastWrite.{LastWrite}
 use Rattle.machine.specs.declared.state.Machine.{Machine}
+use Rattle.machine.specs.declared.stepping.After.{After}
 use Rattle.machine.specs.declared.stepping.Effect.{Effect}
 use Rattle.sc.specs.Local.{Local, settle, firstTakes, firstPuts, firstNext, pending, takes, puts, next}
 use Rattle.sc.specs.State.{Thread, Cell, State, threadOf, cellOf, place, latest, advanced, step, may}
 use Rattle.sc.specs.Trail.{writes}
 use Rattle.graph_writer.specs.Notes.{note, noteBytes}
 use Rattle.accesses.specs.Turns.{accessOf, localOf}
-use Rattle.machine.specs.Held.{idle, unwritten, threadAt, lastAt, eventOf, HoldsThread, Holds, HoldsStep, threadBehind, behind}
+use Rattle.machine.specs.Held.{idle, unwritten, threadAt, lastAt, eventOf, HoldsThread, Holds, HoldsStep, threadBehind, lastBehind, behind, whole}
 use Rattle.sc.proofs.Access.{Settled, settle-law}
 use Rattle.sc.proofs.Steps.{may-small, may-range, cell-other, step-threads, step-cells}
 use Rattle.sc.proofs.Change.{thread-cases, noted-done, wrote-own, Change, kept, wrote, change}
@@ -271,3 +272,20 @@ pub stored-step : (code lengths : List ℕ) (m : Machine) (t u : ℕ) (e : Effec
     → (τ : State) → Holds code lengths m τ → may τ t ≡ true → place τ t < 8 → HoldsStep code lengths τ t (behind m u e)
 stored-step code lengths m t u e eu acts τ held ok near =
     subst (λ (v : ℕ). HoldsStep code lengths τ t (behind m v e)) (sym eu) (acts m τ (ap (threadAt m) (sym eu)) refl refl held ok near)
+
+-- given back whole: memory and the last writes with the step's place changed
+abbrev pub afterOf : Effect → List ℕ → List LastWrite → After
+afterOf e memory last = record { thread = threadBehind e; memory = set memory (e .place) (e .value); last = set last (e .place) (lastBehind e); note = e .note }
+
+pub whole-step : (code lengths : List ℕ) (m : Machine) (σ : State) (t : ℕ) (e : Effect) (memory : List ℕ) (last : List LastWrite)
+    → m .memory ≡ memory → m .last ≡ last → HoldsStep code lengths σ t (behind m t e) → HoldsStep code lengths σ t (whole m t (afterOf e memory last))
+whole-step code lengths m σ t e memory last em es held =
+    subst (λ (v : List ℕ). HoldsStep code lengths σ t (whole m t (afterOf e v last))) em
+    (subst (λ (w : List LastWrite). HoldsStep code lengths σ t (whole m t (afterOf e (m .memory) w))) es held)
+
+-- put back into the machine that it was taken from
+pub stored-whole : (code lengths : List ℕ) (m : Machine) (t u : ℕ) (a : After) → u ≡ t
+    → ((n : Machine) (τ : State) → threadAt n t ≡ threadAt m u → n .memory ≡ m .memory → n .last ≡ m .last → Holds code lengths n τ → may τ t ≡ true → place τ t < 8 → HoldsStep code lengths τ t (whole n t a))
+    → (τ : State) → Holds code lengths m τ → may τ t ≡ true → place τ t < 8 → HoldsStep code lengths τ t (whole m u a)
+stored-whole code lengths m t u a eu acts τ held ok near =
+    subst (λ (v : ℕ). HoldsStep code lengths τ t (whole m v a)) (sym eu) (acts m τ (ap (threadAt m) (sym eu)) refl refl held ok near)

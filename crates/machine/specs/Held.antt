@@ -11,6 +11,7 @@ use Rattle.rows.specs.Rows.{tabulate, threadCode}
 use Rattle.accesses.specs.declared.thread.ThreadState.{ThreadState}
 use Rattle.machine.specs.declared.state.LastWrite.{LastWrite}
 use Rattle.machine.specs.declared.state.Machine.{Machine}
+use Rattle.machine.specs.declared.stepping.After.{After}
 use Rattle.machine.specs.declared.stepping.Effect.{Effect}
 use Rattle.machine.specs.declared.stepping.Stepped.{Stepped}
 use Rattle.sc.specs.Local.{pending}
@@ -92,3 +93,7 @@ behind m t e = record {
   machine = record { threads = set (m .threads) t (threadBehind e); memory = set (m .memory) (e .place) (e .value); last = set (m .last) (e .place) (lastBehind e) };
   note = e .note;
 }
+
+-- the same machine, of which the step gave back its thread, memory and the last writes whole
+abbrev pub whole : Machine → ℕ → After → Stepped
+whole m t a = record { machine = record { threads = set (m .threads) t (a .thread); memory = a .memory; last = a .last }; note = a .note }

@@ -10,7 +10,7 @@ ghost use mathlib.Core.Bool.{true, cond};
 ghost use Prim.Native.Nat.{_<_};
 ghost use lib.Dec.{eqb};
 ghost use Rattle.sc.specs.State.{State, place, may};
-ghost use Rattle.machine.specs.Held.{threadAt, Holds, ReadyThread, Ready, HoldsStep, behind};
+ghost use Rattle.machine.specs.Held.{threadAt, Holds, ReadyThread, Ready, HoldsStep, behind, whole};
 
 // What a step changes: its thread, and at its place the value and the last write, as they are behind it; and the step's note. Single bytes that
 // are stored together behind the step stand apart here, so that no processor reads two stores as one load.
@@ -24,6 +24,14 @@ pub struct Effect {
     pub thread: u8,
     pub failed: bool,
     pub number: u8,
+}
+
+// What a step gives back whole: its thread with the registers, memory, the last writes; and the step's note.
+pub struct After {
+    pub thread: ThreadState,
+    pub memory: [u32; 8],
+    pub last: [LastWrite; 8],
+    pub note: [u8; 8],
 }
 
 // The machine behind a step, and the step's note.
@@ -102,33 +110,64 @@ pub fn acted(
     }
 }
 
+// A step of thread t where the thread stands so: its registers, memory and the last writes are taken by value and given back whole.
+pub fn after_step(
+    code: &[u8; 1536],
+    lengths: &[usize; 6],
+    thread: ThreadState,
+    memory: [u32; 8],
+    last: [LastWrite; 8],
+    t: u8,
+) -> After
+    requires { ⌜ ReadyThread (now lengths) thread t ⌝ }
+    ensures { λ a. ⌜ ((m : Machine) (σ : State) → threadAt m t ≡ thread → m .memory ≡ memory → m .last ≡ last → Holds (now (code .entry)) (now (lengths .entry)) m σ → may σ t ≡ true → place σ t < 8 → HoldsStep (now (code .entry)) (now (lengths .entry)) σ t (whole m t a)) ⌝ }
+{
+    let e = acted(code, lengths, thread, memory, last, t);
+    let rs = e.registers;
+    let l = e.place;
+    let mut values = memory;
+    values[l] = e.value;
+    let mut writes = last;
+    writes[l] = LastWrite {
+        thread: e.thread,
+        number: e.number,
+    };
+    let note = e.note;
+    After {
+        thread: ThreadState {
+            registers: rs,
+            at: e.at,
+            done: e.done,
+            failed: e.failed,
+        },
+        memory: values,
+        last: writes,
+        note: note,
+    }
+}
+
 // A step of thread t, which has not ended.
 pub fn step(code: &[u8; 1536], lengths: &[usize; 6], m: Machine, t: u8) -> Stepped
     requires { ⌜ Ready (now lengths) m t ⌝ }
     ensures { λ r. ⌜ ((σ : State) → Holds (now (code .entry)) (now (lengths .entry)) m σ → may σ t ≡ true → place σ t < 8 → HoldsStep (now (code .entry)) (now (lengths .entry)) σ t r) ⌝ }
 {
-    let mut n = m;
     let u = wide(t);
-    let thread = n.threads[u];
-    let memory = n.memory;
-    let last = n.last;
-    let e = acted(code, lengths, thread, memory, last, t);
-    let rs = e.registers;
-    n.threads[u] = ThreadState {
-        registers: rs,
-        at: e.at,
-        done: e.done,
-        failed: e.failed,
-    };
-    let l = e.place;
-    n.memory[l] = e.value;
-    n.last[l] = LastWrite {
-        thread: e.thread,
-        number: e.number,
-    };
-    let note = e.note;
+    let mut threads = m.threads;
+    let thread = threads[u];
+    let memory = m.memory;
+    let last = m.last;
+    let a = after_step(code, lengths, thread, memory, last, t);
+    let k = a.thread;
+    threads[u] = k;
+    let values = a.memory;
+    let writes = a.last;
+    let note = a.note;
     Stepped {
-        machine: n,
+        machine: Machine {
+            threads: threads,
+            memory: values,
+            last: writes,
+        },
         note: note,
     }
 }

@@ -2,6 +2,8 @@
 -- Laws about the definitions, each file named after what it says. First what the crates above cite.
 -- every accepted program is well formed
 pub mod AcceptedWellFormed
+-- refusals of a file are small: number and place
+pub mod Places
 -- the table of kinds, as rules for every first byte
 pub mod KindTable
 -- which frames skip

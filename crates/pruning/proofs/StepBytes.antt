@@ -14,7 +14,7 @@ use Rattle.sc.proofs.Trails.{conflict-elsewhere, conflict-written, conflict-rea
 use Rattle.sc.proofs.FreeSteps.{action-thread, action-location, action-wrote}
 use Rattle.graph_writer.proofs.NoteGraph.{noted-thread, noted-location, noted-wrote}
 use Rattle.graph_writer.proofs.NotesHeld.{note-thread, note-number, note-location, note-source, note-wrote}
-use Rattle.consistent.specs.Judge.{sameRead}
+use Rattle.consistent.specs.Same.{sameRead}
 use Rattle.consistent.proofs.Tests.{read-differs, read-sources, event-differs, event-numbers}
 use Rattle.pruning.specs.NotedSteps.{did, doing, actionAt, readAt}
 

@@ -4,20 +4,20 @@ use native.Mathlib.Omega.{arith}
 use mathlib.Core.Path.{_≡_, refl, sym, ap, subst, _∙_}
 use mathlib.Core.Bool.{true, false}
 use mathlib.Core.List.{List, [], _∷_, _++_}
-use lib.ListN.{length, getD, take, drop, drop-of-length-le}
-use lib.Seq.{take-suc, take-all, drop-cons, length-take-le}
+use lib.ListN.{length, getD, set, take, drop, drop-of-length-le, length-set}
+use lib.Seq.{take-suc, take-suc-set, take-all, drop-cons, length-take-le}
 use Rattle.program.specs.Program.{Program}
 use Rattle.schedules.specs.Order.{Schedule}
 use Rattle.schedules.specs.System.{run, ended, Allowed}
 use Rattle.schedules.proofs.Runs.{run-snoc, allowed-join, allowed-length}
 use Rattle.machine.specs.declared.state.Machine.{Machine}
-use Rattle.machine.specs.declared.stepping.Effect.{Effect}
+use Rattle.machine.specs.declared.stepping.After.{After}
 use Rattle.machine.specs.declared.stepping.Stepped.{Stepped}
 use Rattle.replay.specs.declared.replaying.Verdict.the-variants.{Whole, Refused}
 use Rattle.sc.specs.State.{State, place, step, may, SC, start}
 use Rattle.graph_writer.specs.Notes.{Note, note, notes, noteBytes, Noted}
 use Rattle.sc.specs.Replay.{replayFrom, replay}
-use Rattle.machine.specs.Held.{threadAt, Holds, ReadyThread, Ready, HoldsStep, behind, Loaded}
+use Rattle.machine.specs.Held.{threadAt, Holds, ReadyThread, Ready, HoldsStep, whole, Loaded}
 use Rattle.replay.specs.Carried.{verdictOf, HoldsRun}
 use Rattle.sc.proofs.Steps.{may-range, run-threads}
 use Rattle.sc.proofs.Start.{start-threads}
@@ -27,22 +27,25 @@ use Rattle.sc.proofs.Regular.{place-in, regular-run, regular-start}
 use Rattle.sc.proofs.Replay.{nil-full, nil-short, cons-goes, cons-stops}
 use Rattle.machine.proofs.HeldStart.{threads-held, short-held}
 use Rattle.machine.proofs.HeldAsking.{held-may, held-ended, ready-held}
-use Rattle.machine.proofs.HeldStep.{stored-step}
+use Rattle.machine.proofs.HeldStep.{stored-whole}
 use Rattle.graph_writer.proofs.HeldNotes.{noted-none}
 
 -- behind the first k bytes of s
-pub record Progress (code lengths : List ℕ) (p : Program) (s : Schedule) (m : Machine) (trail : List ℕ) (k : ℕ) : Type 0 where
+pub record Progress (code lengths : List ℕ) (p : Program) (s : Schedule) (m : Machine) (trail made : List ℕ) (k : ℕ) : Type 0 where
   pub within : k ≤ length s
+  pub room : length made ≡ 24
+  pub schedule : take k made ≡ take k s
   pub allowed : Allowed SC (start p) (take k s)
   pub holds : Holds code lengths m (run SC (start p) (take k s))
   pub noted : Noted trail (notes (start p) (take k s))
   pub left : replay p s ≡ replayFrom k (run SC (start p) (take k s)) (drop k s)
 
-pub progress-start : (code lengths : List ℕ) (p : Program) (s : Schedule) (m : Machine) (trail : List ℕ) → Holds code lengths m (start p) → length trail ≡ 192 → Progress code lengths p s m trail 0
+pub progress-start : (code lengths : List ℕ) (p : Program) (s : Schedule) (m : Machine) (trail made : List ℕ) → Holds code lengths m (start p) → length trail ≡ 192 → length made ≡ 24
+    → Progress code lengths p s m trail made 0
 unfolding run notes replay
-progress-start code lengths p s m trail held n = record { within = omega arith; allowed = tt; holds = held; noted = noted-none trail n; left = refl }
+progress-start code lengths p s m trail made held n w = record { within = omega arith; room = w; schedule = refl; allowed = tt; holds = held; noted = noted-none trail n; left = refl }
 
-module _ (code lengths : List ℕ) (threads : ℕ) (p : Program) (loaded : Loaded code lengths threads p) (s : Schedule) (m : Machine) (trail : List ℕ) (k : ℕ) (done : Progress code lengths p s m trail k) where
+module _ (code lengths : List ℕ) (threads : ℕ) (p : Program) (loaded : Loaded code lengths threads p) (s : Schedule) (m : Machine) (trail made : List ℕ) (k : ℕ) (done : Progress code lengths p s m trail made k) where
   abbrev σ : State
   σ = run SC (start p) (take k s)
 
@@ -55,10 +58,11 @@ module _ (code lengths : List ℕ) (threads : ℕ) (p : Program) (loaded : Loade
     next = ap (λ (j : ℕ). take j s) (let z : k + 1 ≡ suc k = omega arith in z) ∙ take-suc s k 0 h
 
     -- it may not step
-    pub replay-stops : may σ t ≡ false → HoldsRun code lengths p s (record { verdict = Refused 20 k; machine = m; trail = trail; steps = k })
+    pub replay-stops : may σ t ≡ false → HoldsRun code lengths p s (record { verdict = Refused 20 k; machine = m; trail = trail; schedule = made; steps = k })
     unfolding verdictOf
     replay-stops e = record {
       counted = done .within;
+      schedule = done .schedule;
       allowed = done .allowed;
       holds = done .holds;
       noted = done .noted;
@@ -85,13 +89,21 @@ module _ (code lengths : List ℕ) (threads : ℕ) (p : Program) (loaded : Loade
       same-length : k ≡ length (notes (start p) (take k s))
       same-length = sym (notes-length (take k s) (start p) ∙ length-take-le k s (done .within))
 
+      -- it stands behind those that were made
+      one-more : take (k + 1) (set made k t) ≡ take (k + 1) s
+      one-more =
+          ap (λ (j : ℕ). take j (set made k t)) (let z : k + 1 ≡ suc k = omega arith in z)
+          ∙ take-suc-set made k t (omega (arith, done .room, replay-room)) ∙ ap (λ (l : Schedule). l ++ (t ∷ [])) (done .schedule) ∙ sym next
+
       replay-more : (r : Stepped) (trail' : List ℕ) → HoldsStep code lengths σ t r
           → ((ns : List Note) (n : Note) → Noted trail ns → k ≡ length ns → r .note ≡ noteBytes n → Noted trail' (ns ++ (n ∷ [])))
-          → Progress code lengths p s (r .machine) trail' (k + 1)
+          → Progress code lengths p s (r .machine) trail' (set made k t) (k + 1)
       replay-more r trail' held note-put =
           let state : run SC (start p) (take (k + 1) s) ≡ step σ t = ap (run SC (start p)) next ∙ run-snoc SC (start p) (take k s) t in
           record {
             within = omega arith;
+            room = length-set made k t ∙ done .room;
+            schedule = one-more;
             allowed = more-allowed;
             holds = subst (Holds code lengths (r .machine)) (sym state) (held .holds);
             noted = subst (Noted trail') (sym (ap (notes (start p)) next ∙ notes-snoc (start p) (take k s) t))
@@ -116,27 +128,28 @@ module _ (code lengths : List ℕ) (threads : ℕ) (p : Program) (loaded : Loade
         pub replay-fits : k < 24
         replay-fits = replay-room may-here
 
-        pub replay-stored : (e : Effect) (trail' : List ℕ)
-            → ((n : Machine) (τ : State) → threadAt n t ≡ threadAt m u → n .memory ≡ m .memory → n .last ≡ m .last → Holds code lengths n τ → may τ t ≡ true → place τ t < 8 → HoldsStep code lengths τ t (behind n t e))
-            → ((ns : List Note) (n : Note) → Noted trail ns → k ≡ length ns → e .note ≡ noteBytes n → Noted trail' (ns ++ (n ∷ [])))
-            → Progress code lengths p s (behind m u e .machine) trail' (k + 1)
-        replay-stored e trail' acts note-put =
-            replay-more may-here (behind m u e) trail'
-            (stored-step code lengths m t u e eu acts σ (done .holds) may-here (replay-near may-here)) note-put
+        pub replay-stored : (a : After) (trail' made' : List ℕ) → made' ≡ set made k t
+            → ((n : Machine) (τ : State) → threadAt n t ≡ threadAt m u → n .memory ≡ m .memory → n .last ≡ m .last → Holds code lengths n τ → may τ t ≡ true → place τ t < 8 → HoldsStep code lengths τ t (whole n t a))
+            → ((ns : List Note) (n : Note) → Noted trail ns → k ≡ length ns → a .note ≡ noteBytes n → Noted trail' (ns ++ (n ∷ [])))
+            → Progress code lengths p s (whole m u a .machine) trail' made' (k + 1)
+        replay-stored a trail' made' em acts note-put =
+            subst (λ (l : List ℕ). Progress code lengths p s (whole m u a .machine) trail' l (k + 1)) (sym em) (replay-more may-here (whole m u a) trail'
+            (stored-whole code lengths m t u a eu acts σ (done .holds) may-here (replay-near may-here)) note-put)
 
   -- ---- none is left
   module _ (h : length s ≤ k) where
     finished : replay p s ≡ replayFrom k σ []
     finished = done .left ∙ ap (replayFrom k σ) (drop-of-length-le s {i = k} h)
 
-    pub replay-whole : ended SC σ ≡ true → HoldsRun code lengths p s (record { verdict = Whole; machine = m; trail = trail; steps = k })
+    pub replay-whole : ended SC σ ≡ true → HoldsRun code lengths p s (record { verdict = Whole; machine = m; trail = trail; schedule = made; steps = k })
     unfolding verdictOf
-    replay-whole e = record { counted = done .within; allowed = done .allowed; holds = done .holds; noted = done .noted; answer = sym (finished ∙ nil-full k σ e); all = λ q. take-all k s h }
+    replay-whole e = record { counted = done .within; schedule = done .schedule; allowed = done .allowed; holds = done .holds; noted = done .noted; answer = sym (finished ∙ nil-full k σ e); all = λ q. take-all k s h }
 
-    pub replay-short : ended SC σ ≡ false → HoldsRun code lengths p s (record { verdict = Refused 21 k; machine = m; trail = trail; steps = k })
+    pub replay-short : ended SC σ ≡ false → HoldsRun code lengths p s (record { verdict = Refused 21 k; machine = m; trail = trail; schedule = made; steps = k })
     unfolding verdictOf
     replay-short e = record {
       counted = done .within;
+      schedule = done .schedule;
       allowed = done .allowed;
       holds = done .holds;
       noted = done .noted;

@@ -20,7 +20,7 @@ use Rattle.sc.proofs.Steps.{may-same, may-range, thread-own, cell-own}
 use Rattle.sc.proofs.Change.{written-some}
 use Rattle.accesses.proofs.HeldTurns.{code-end}
 use Rattle.machine.proofs.HeldAsking.{may-held}
-use Rattle.consistent.specs.Judge.{orZero}
+use Rattle.consistent.proofs.RoundValues.{orZero}
 use Rattle.rounds.specs.HeldRounds.{faced, facedMachine, MetAlone}
 
 module _ (code lengths : List ℕ) (m : Machine) (σ : State) (x : ℕ) (H : Holds code lengths m σ) where

@@ -21,7 +21,7 @@ use Rattle.sc.proofs.Access.{place-below}
 use Rattle.machine.proofs.HeldStart.{threads-held, code-held}
 use Rattle.rounds.specs.declared.by_itself.Lone.{Lone}
 use Rattle.consistent.specs.Consistent.{Values, alone, locationOf, outOf}
-use Rattle.consistent.specs.Judge.{orZero}
+use Rattle.consistent.proofs.RoundValues.{orZero}
 use Rattle.rounds.specs.HeldRounds.{MetAlone, valuesIn, RoundHeld}
 
 everywhere-drop : {A : Type 0} (P : A → Type 0) (n : ℕ) (l : List A) → Everywhere P l → Everywhere P (drop n l)

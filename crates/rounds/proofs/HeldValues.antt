@@ -14,7 +14,8 @@ use Rattle.program.specs.Program.{Program, initial}
 use Rattle.sc.specs.State.{Event, initialWrite}
 use Rattle.sc.specs.Graph.{Graph}
 use Rattle.consistent.specs.Consistent.{rowOf, locationOf}
-use Rattle.consistent.specs.Judge.{sameEvent, sourceIn, leftBy, nextRound, values}
+use Rattle.consistent.specs.Same.{sameEvent}
+use Rattle.consistent.proofs.RoundValues.{sourceIn, leftBy, nextRound, values}
 use Rattle.graph_reader.specs.Held.{noLine, lineIn, Tabled}
 use Rattle.rounds.specs.HeldRounds.{valuesIn, RoundHeld, sourced}
 use Rattle.consistent.proofs.Readable.{Named, Source, Readable}

@@ -12,7 +12,7 @@ use Rattle.sc.specs.State.{State, freshCell, threadOf}
 use Rattle.machine.specs.Held.{Holds}
 use Rattle.rounds.specs.declared.by_itself.Lone.{Lone}
 use Rattle.consistent.specs.Consistent.{Values, locationOf, outOf}
-use Rattle.consistent.specs.Judge.{orZero}
+use Rattle.consistent.proofs.RoundValues.{orZero}
 
 -- a state whose every location holds x and was not written
 unfoldable pub faced : State → ℕ → State

@@ -13,7 +13,7 @@ ghost use Rattle.program.specs.Program.{Program};
 ghost use Rattle.sc.specs.Graph.{Graph};
 ghost use Rattle.machine.specs.Held.{Loaded};
 ghost use Rattle.consistent.specs.Consistent.{locationOf};
-ghost use Rattle.consistent.specs.Judge.{values};
+ghost use Rattle.consistent.proofs.RoundValues.{values};
 ghost use Rattle.consistent.specs.Reading.{parsed, readGraph};
 ghost use Rattle.graph_reader.specs.Held.{Tabled};
 ghost use Rattle.rounds.specs.HeldRounds.{RoundHeld, sourced};

@@ -1,4 +1,4 @@
--- The four functions by which an access is seen, and settling: what the laws above rest on. Beside this file only Idle goes by instruction.
+-- The four functions by which an access is seen, and settling: what the laws above rest on. Beside this file only Idle and Words go by instruction.
 use Prim.Native.Nat.{ℕ, zero, suc, _<_, _≤_}
 use mathlib.Core.Path.{_≡_, refl, sym, ap, subst, _∙_}
 use mathlib.Core.Logic.{_⊎_, inl, inr}

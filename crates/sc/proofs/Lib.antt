@@ -4,7 +4,7 @@ pub mod Examples
 -- what holds of every member; ends of a list
 pub mod Everywhere
 pub mod Suffix
--- the four functions by which an access is seen, and settling: the only laws that go by instruction
+-- the four functions by which an access is seen, and settling: with Words the only laws that go by instruction
 pub mod Access
 pub mod Idle
 -- what a step touches, and what it adds at one thread and one location
@@ -12,6 +12,8 @@ pub mod Steps
 pub mod Change
 -- the state before the first step
 pub mod Start
+-- values are 32-bit
+pub mod Words
 -- sequential consistency is a lawful step system; T0: at most 24 steps, at most 6^24 full schedules
 pub mod Lawful
 -- the actions of a run: of six threads, and as they are where no thread moves
@@ -27,12 +29,15 @@ pub mod Growth
 pub mod Ended
 -- replaying a schedule: whole exactly when full, refused by 20 or 21 exactly where it should be
 pub mod Replay
+pub mod SmallRefusals
 -- a state's graph, row by row and list by list
 pub mod Rows
 -- T2: exchanging threads, from any state and for a program
 pub mod Exchange
 pub mod Permitted
 pub mod Failing
+-- a failed assertion stays failed
+pub mod StaysFailed
 -- T3(b): full schedules with one graph do the same steps, end in the same state, and the least is found from any
 pub mod Reading
 pub mod Determined

@@ -8,3 +8,10 @@ pub mod Judgements
 pub mod Told
 -- What the listing's answer to count says.
 pub mod Tallies
+-- A word is read back as what was said.
+pub mod Words
+-- What each call says fits its word; the judge's by itself.
+pub mod Fitting
+pub mod JudgeFits
+-- A word of kind 1 tells how many bytes of the output are the schedule.
+pub mod InOutput

@@ -5,15 +5,15 @@ use crate::word::refused;
 use judge::Outcome;
 ghost use mathlib.Core.Path.{_≡_};
 ghost use lib.ListN.{length};
-ghost use Rattle.consistent.specs.Answer.{judgeFile, outputAfter};
+ghost use Rattle.consistent.specs.Answer.{Answer, Judgement, outputAfter};
 ghost use Rattle.tarczolin.specs.Word.{wordOf};
 ghost use Rattle.tarczolin.specs.Judged.{judged};
 
 // Kind 1 for yes, with the least schedule in front of `out` and its length; kind 2 for no; kind 3 with number and place. Only a yes changes `out`.
 #[no_mangle]
 pub extern "C" fn tarczolin_judge(file: &[u8], graph: &[u8], out: &mut [u8]) -> u64
-    ensures answer { λ w. ⌜ w ≡ wordOf (judged (judgeFile (now (file .entry)) (now (graph .entry)) (length (now (out .entry))))) ⌝ }
-    ensures output { λ w. ⌜ now (out .exit) ≡ outputAfter (judgeFile (now (file .entry)) (now (graph .entry)) (length (now (out .entry)))) (now (out .entry)) ⌝ }
+    ensures { λ w. ⌜ ((a : Answer) × Judgement (now (file .entry)) (now (graph .entry)) (length (now (out .entry))) a
+        × (w ≡ wordOf (judged a)) × (now (out .exit) ≡ outputAfter a (now (out .entry)))) ⌝ }
 {
     let a = judge::judge(file, graph, out);
     match a {

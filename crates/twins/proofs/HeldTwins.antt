@@ -28,7 +28,7 @@ use Rattle.machine.proofs.HeldStart.{threads-held, code-held}
 use Rattle.accesses.proofs.HeldTurns.{length-code}
 use Rattle.graph_writer.proofs.NoteGraph.{notes-length, thread-notes}
 use Rattle.graph_writer.proofs.NotesHeld.{notes-held}
-use Rattle.consistent.specs.Judge.{sameRead, sameList}
+use Rattle.consistent.specs.Same.{sameRead, sameList}
 use Rattle.consistent.proofs.Tests.{same-read-is, same-read, same-list-is, same-list}
 use Rattle.list.specs.ListOf.{together}
 use Rattle.list.specs.Rules.{sameFlag, sameLocal, sameHistory, silent, twin}

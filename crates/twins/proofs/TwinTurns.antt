@@ -19,7 +19,7 @@ use Rattle.graph_writer.specs.Notes.{Note}
 use Rattle.graph_writer.specs.NoteText.{readIn, readsIn, noteAt, notesAt}
 use Rattle.graph_writer.proofs.NoteGraph.{read-own, read-other, read-not, reads-nil, reads-cons}
 use Rattle.graph_writer.proofs.NotesHeld.{notes-each}
-use Rattle.consistent.specs.Judge.{sameRead, sameList}
+use Rattle.consistent.specs.Same.{sameRead, sameList}
 use Rattle.consistent.proofs.Tests.{same-nil, same-cons, same-shorter, same-longer}
 use Rattle.twins.specs.HeldTwin.{writeOf, wroteIn, notesFrom, readOf, NextRead, sameReads}
 use Rattle.pruning.specs.NotedSteps.{readAt}

@@ -8,7 +8,7 @@ use Rattle.schedules.specs.Lists.{upTo, any}
 use Rattle.accesses.specs.declared.thread.ThreadState.{ThreadState}
 use Rattle.graph_writer.specs.Notes.{Note}
 use Rattle.graph_writer.specs.NoteText.{readIn, readsIn, noteAt}
-use Rattle.consistent.specs.Judge.{sameRead, sameList}
+use Rattle.consistent.specs.Same.{sameRead, sameList}
 use Rattle.list.specs.Rules.{sameFlag}
 use Rattle.pruning.specs.NotedSteps.{readAt}
 

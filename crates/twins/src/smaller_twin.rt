@@ -13,7 +13,7 @@ ghost use Rattle.schedules.specs.Order.{Schedule};
 ghost use Rattle.schedules.specs.System.{run};
 ghost use Rattle.sc.specs.State.{SC, start, may};
 ghost use Rattle.graph_writer.specs.NoteText.{noteAt, notesAt};
-ghost use Rattle.consistent.specs.Judge.{sameRead, sameList};
+ghost use Rattle.consistent.specs.Same.{sameRead, sameList};
 ghost use Rattle.list.specs.ListOf.{together};
 ghost use Rattle.list.specs.Rules.{sameFlag, twin};
 ghost use Rattle.pruning.specs.ClassGroups.{groupsOf};

@@ -10,7 +10,8 @@ use Rattle.schedules.specs.System.{run}
 use Rattle.sc.specs.State.{SC, start}
 use Rattle.sc.specs.Graph.{Graph}
 use Rattle.consistent.specs.Consistent.{locationOf}
-use Rattle.consistent.specs.Judge.{values, fits}
+use Rattle.consistent.proofs.RoundValues.{values}
+use Rattle.consistent.proofs.Walk.{fits}
 use Rattle.judge.specs.HeldWalk.{Walking}
 use Rattle.judge.proofs.WalkChoice.{chosen-one, chosen-none, passed-over}
 use Rattle.judge.proofs.choosing.chosen.Statement.{statement}

@@ -5,7 +5,7 @@ use borrow.Author.Tests.{not-true, not-false}
 use Rattle.schedules.specs.System.{run}
 use Rattle.sc.specs.State.{SC, start}
 use Rattle.consistent.specs.Consistent.{locationOf}
-use Rattle.consistent.specs.Judge.{values}
+use Rattle.consistent.proofs.RoundValues.{values}
 use Rattle.judge.proofs.WalkChoice.{walk-drawn, walk-ordering, walk-below, walk-ready, walk-near, walk-ranged, walk-unmarked, walk-six, ended-over}
 use Rattle.judge.proofs.choosing.may_go.Statement.{statement}
 use Rattle.judge.proofs.choosing.may_go.Tie as tie

@@ -4,8 +4,8 @@ use mathlib.Core.Path.{_≡_, _∙_, sym, subst}
 use mathlib.Core.Bool.{Bool}
 use borrow.Author.Tests.{not-true, not-false}
 use lib.ListN.{length}
-use Rattle.consistent.specs.Judge.{judge}
-use Rattle.judge.specs.Call.{JudgedAs}
+use Rattle.consistent.proofs.Walk.{judge}
+use Rattle.judge.specs.HeldYes.{JudgedAs}
 use Rattle.judge.proofs.JudgeTables.{answer-running, answer-pairs, answer-counts, answer-yes}
 use Rattle.judge.proofs.judging.judged.Statement.{statement}
 use Rattle.judge.proofs.judging.judged.Tie as tie

@@ -8,7 +8,7 @@ use Rattle.program.specs.Program.{Program}
 use Rattle.sc.specs.State.{Event}
 use Rattle.sc.specs.Graph.{Graph}
 use Rattle.machine.specs.Held.{Loaded}
-use Rattle.consistent.specs.Judge.{values}
+use Rattle.consistent.proofs.RoundValues.{values}
 use Rattle.consistent.specs.Reading.{parsed, readGraph}
 use Rattle.graph_reader.specs.Held.{Tabled}
 use Rattle.rounds.specs.HeldRounds.{valuesIn}

@@ -5,7 +5,7 @@ use mathlib.Core.Path.{_≡_, refl, sym, _∙_}
 use native.Mathlib.Omega.{arith}
 use lib.Dec.{eqb}
 use lib.ListN.{length, drop}
-use Rattle.consistent.specs.Judge.{sameList}
+use Rattle.consistent.specs.Same.{sameList}
 use Rattle.twins.proofs.TwinTurns.{registers-differ, registers-further, registers-over}
 use Rattle.twins.proofs.smaller_twin.same_registers.Statement.{statement}
 use Rattle.twins.proofs.smaller_twin.same_registers.Tie as tie

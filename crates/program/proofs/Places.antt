@@ -1,0 +1,126 @@
+-- Refusals of a program file are small: the number is at most 9, and the place at most 4,096, since a file of so many bytes has no more lines.
+use Prim.Native.Nat.{ℕ, suc, _+_, _≤_}
+use native.Mathlib.Omega.{arith}
+use mathlib.Core.Path.{_≡_, refl}
+use mathlib.Core.Bool.{Bool, true, false, cond, not}
+use mathlib.Core.List.{List, [], _∷_, _++_}
+use mathlib.Core.Option.{Option, none, some}
+use lib.ListN.{length, set, drop}
+use lib.Dec.{eqb, ltb}
+use borrow.Author.Tests.{ltb-false}
+use Rattle.lines.specs.TextLines.{TextLine, prepend, before, split}
+use Rattle.program.specs.Frames.{Frame, known, inRange, opens, declares, skipOf}
+use Rattle.program.specs.Decode.{Placed, Reading, fresh, threadAt, lastThread, inPlace, withinLimits, alikeFits, frameRefusal, frameOf, after, farSkip, firstFarSkip, programIn, Decoded, accepted, refused, finish, readLines, decode}
+use Rattle.program.specs.WellFormed.{Everywhere}
+use Rattle.program.proofs.Everywhere.{everywhere-getD, everywhere-append, everywhere-set}
+
+-- no number above 9, no place above m
+abbrev pub Within : ℕ → Decoded → Type 0
+Within m (accepted p) = Unit {0}
+Within m (refused n k) = (n ≤ 9) × (k ≤ m)
+
+-- a text has no more lines than bytes
+prepend-length : (c : ℕ) (ls : List TextLine) → length (prepend c ls) ≤ suc (length ls)
+unfolding prepend
+prepend-length c [] = omega arith
+prepend-length c (l ∷ ls) = omega arith
+
+before-length : (c : ℕ) (ls : List TextLine) → length (before c ls) ≤ suc (length ls)
+unfolding before
+before-length c ls = go (eqb c 10) refl
+  where
+    go : (b : Bool) → eqb c 10 ≡ b → length (before c ls) ≤ suc (length ls)
+    go true q = rw (q, before) (omega arith)
+    go false q = rw (q, before) (prepend-length c ls)
+
+split-length : (cs : List ℕ) → length (split cs) ≤ length cs
+unfolding split
+split-length [] = omega arith
+split-length (c ∷ cs) = omega (arith, before-length c (split cs), split-length cs)
+
+-- the numbers by which a line is refused
+small : (a b c d e : Bool) → cond (not a) 3 (cond (not b) 4 (cond (not c) 5 (cond (not d) 6 (cond (not e) 8 0)))) ≤ 9
+small true true true true true = omega arith
+small true true true true false = omega arith
+small true true true false e = omega arith
+small true true false d e = omega arith
+small true false c d e = omega arith
+small false b c d e = omega arith
+
+small-number : (r : Reading) (f : Frame) → frameRefusal r f ≤ 9
+unfolding frameRefusal
+small-number r f = small (known f) (inRange f) (inPlace r f) (withinLimits r f) (alikeFits r f)
+
+-- the lines of the instructions read so far
+abbrev UpTo : ℕ → Reading → Type 0
+UpTo m r = Everywhere (Everywhere (λ (x : Placed). x .line ≤ m)) (r .threads)
+
+far-up-to : (m : ℕ) (xs : List Placed) → Everywhere (λ (x : Placed). x .line ≤ m) xs → farSkip xs ≤ m
+unfolding farSkip
+far-up-to m [] h = omega arith
+far-up-to m (x ∷ xs) h = go (ltb (length xs) (skipOf (x .code))) refl (far-up-to m xs (h .1))
+  where
+    go : (b : Bool) → ltb (length xs) (skipOf (x .code)) ≡ b → farSkip xs ≤ m → farSkip (x ∷ xs) ≤ m
+    go true q ih = rw (q, farSkip) (h .0)
+    go false q ih = rw (q, farSkip) ih
+
+first-up-to : (m : ℕ) (cs : List (List Placed)) → Everywhere (Everywhere (λ (x : Placed). x .line ≤ m)) cs → firstFarSkip cs ≤ m
+unfolding firstFarSkip
+first-up-to m [] h = omega arith
+first-up-to m (c ∷ cs) h = go (eqb (farSkip c) 0) refl (first-up-to m cs (h .1))
+  where
+    go : (b : Bool) → eqb (farSkip c) 0 ≡ b → firstFarSkip cs ≤ m → firstFarSkip (c ∷ cs) ≤ m
+    go true q ih = rw (q, firstFarSkip) ih
+    go false q ih = rw (q, firstFarSkip) (far-up-to m c (h .0))
+
+after-up-to : (m n : ℕ) (f : Frame) (r : Reading) → n ≤ m → UpTo m r → UpTo m (after n f r)
+unfolding after threadAt
+after-up-to m n f r h u = go (opens f) (declares f)
+  where
+    P : List Placed → Type 0
+    P = Everywhere (λ (x : Placed). x .line ≤ m)
+
+    one : List Placed
+    one = record { line = n; code = f } ∷ []
+
+    own : P (threadAt r (lastThread r) ++ one)
+    own = everywhere-append (λ (x : Placed). x .line ≤ m) (threadAt r (lastThread r)) one (everywhere-getD P (r .threads) (lastThread r) [] u tt) (h, tt)
+
+    go : (a b : Bool) → UpTo m
+        (cond a (record { threads = r .threads ++ ([] ∷ []); groups = r .groups })
+        (cond b (record { threads = r .threads; groups = r .groups ++ (drop 1 f ∷ []) })
+        (record { threads = set (r .threads) (lastThread r) (threadAt r (lastThread r) ++ one); groups = r .groups })))
+    go true b = everywhere-append P (r .threads) ([] ∷ []) u (tt, tt)
+    go false true = u
+    go false false = everywhere-set P (r .threads) (lastThread r) (threadAt r (lastThread r) ++ one) u own
+
+finish-within : (m : ℕ) (r : Reading) → UpTo m r → Within m (finish r)
+unfolding finish
+finish-within m r u = go (eqb (length (r .threads)) 0) (eqb (firstFarSkip (r .threads)) 0)
+  where
+    go : (a b : Bool) → Within m (cond a (refused 9 0) (cond b (accepted (programIn r)) (refused 7 (firstFarSkip (r .threads)))))
+    go true b = (omega arith, omega arith)
+    go false true = tt
+    go false false = (omega arith, first-up-to m (r .threads) u)
+
+lines-within : (m n : ℕ) (ls : List TextLine) (r : Reading) → n + length ls ≤ suc m → UpTo m r → Within m (readLines n ls r)
+unfolding readLines
+lines-within m n [] r h u = finish-within m r u
+lines-within m n (l ∷ ls) r h u = go (frameOf l) refl (λ f. lines-within m (n + 1) ls (after n f r) (omega arith) (after-up-to m n f r (omega arith) u))
+  where
+    by : (f : Frame) (b : Bool) → Within m (readLines (n + 1) ls (after n f r)) → Within m (cond b (readLines (n + 1) ls (after n f r)) (refused (frameRefusal r f) n))
+    by f true ih = ih
+    by f false ih = (small-number r f, omega arith)
+
+    go : (o : Option Frame) → frameOf l ≡ o → ((f : Frame) → Within m (readLines (n + 1) ls (after n f r))) → Within m (readLines n (l ∷ ls) r)
+    go none q ih = rw (q, readLines) (omega arith, omega arith)
+    go (some f) q ih = rw (q, readLines) (by f (eqb (frameRefusal r f) 0) (ih f))
+
+-- EVERY REFUSAL OF A FILE
+pub decode-within : (file : List ℕ) → Within 4096 (decode file)
+unfolding decode fresh
+decode-within file = go (ltb 4096 (length file)) refl
+  where
+    go : (b : Bool) → ltb 4096 (length file) ≡ b → Within 4096 (cond b (refused 1 0) (readLines 1 (split file) fresh))
+    go true q = (omega arith, omega arith)
+    go false q = lines-within 4096 1 (split file) fresh (omega (arith, ltb-false 4096 (length file) q, split-length file)) tt

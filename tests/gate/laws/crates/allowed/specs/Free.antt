@@ -1,0 +1,2 @@
+unfoldable pub free : ℕ
+free = 0
