@@ -136,14 +136,14 @@ def is_theory(crate):
 
 
 def check_times(tally, lines):
-    """How long each crate's check took, as a table at the end."""
+    """How long each crate's check took, as a table at the end; a slow machine is no failure, so one above its limit is told only."""
     theory = [crate.name for crate in (ROOT / 'crates').iterdir() if is_theory(crate)]
     limits = tally.number('seconds-theory'), tally.number('seconds-code')
     rows, slow = printed.table(printed.seconds(lines), theory, limits)
     for row in rows:
         tally.note(row)
     for why in slow:
-        tally.fail(why)
+        tally.note(why)
 
 
 def read(file):
