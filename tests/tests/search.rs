@@ -34,20 +34,22 @@ fn same_lists() {
     assert!(!share::whole() || shorter >= 1_000, "the search reaches fewer full schedules than there are {shorter} times");
 }
 
-/// The rules at work: prefixes visited, full schedules reached, schedules listed.
+/// The rules at work: prefixes visited, dead ends among them, full schedules reached, schedules listed. What is reached is listed.
 #[test]
 fn prefixes() {
     let sums = "01 110000 21000000000001 10000100000000 ";
     let own = |t: usize| format!("01 10{:02x}0000000001 1200000000000001 1200000000000001 ", t + 1);
+    let adds = "01 1200000000000001 1200010000000001 ";
     let table = [
-        ("five alike, each load, add 1, store", format!("{} 020001020304", sums.repeat(5)), (415, 120, 120)),
-        ("six alike, each load, add 1, store", format!("{} 02000102030405", sums.repeat(6)), (2_372, 720, 720)),
-        ("four, each a store of its own and two fetch and adds", (0..4).map(own).collect(), (7_687, 2_520, 2_520)),
+        ("five alike, each load, add 1, store", format!("{} 020001020304", sums.repeat(5)), (415, 0, 120, 120)),
+        ("six alike, each load, add 1, store", format!("{} 02000102030405", sums.repeat(6)), (2_372, 0, 720, 720)),
+        ("four, each a store of its own and two fetch and adds", (0..4).map(own).collect(), (7_659, 0, 2_520, 2_520)),
+        ("six, each two fetch and adds at two locations", adds.repeat(6), (1_480_032, 0, 518_400, 518_400)),
     ];
     for (name, words, expected) in table {
         let program = decode(&lines(&words)).unwrap();
         let mut search = Search::new(&program);
         let (listed, _) = search.count();
-        assert_eq!((search.prefixes, search.reached, listed), expected, "{name}");
+        assert_eq!((search.prefixes, search.dead_ends, search.reached, listed), expected, "{name}");
     }
 }

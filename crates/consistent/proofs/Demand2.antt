@@ -68,7 +68,7 @@ module _ (file : List ℕ) (p : Program) (ok : decode file ≡ accepted p) where
   call-is s room h = ap (λ (d : Decoded). graphOn d s room) ok ∙ rw (le-ltb room 512 h)
 
   has-text : (s : Schedule) (room : ℕ) → 512 ≤ room → (t : List ℕ) → (graphFile file s room ≡ texted t) ↔ (Full p s × (t ≡ textFor p s))
-  unfolding texting graph
+  unfolding texting
   has-text s room h t = ((λ e. go (replay p s) refl (sym (call-is s room h) ∙ e)), λ k. call-is s room h ∙ ap texting (replay-whole p s (endOf p s) .1 (k .0, refl)) ∙ ap texted (sym (k .1)))
     where
       go : (x : Replayed) → replay p s ≡ x → texting x ≡ texted t → Full p s × (t ≡ textFor p s)

@@ -63,7 +63,7 @@ module _ (p : Program) (wf : WellFormed p) (g : Graph) where
 
   -- if some full schedule has the graph, the walk is the least one, and all end in the same state
   walk-least : (s : Schedule) → MadeBy p g s → MadeBy p g (walk p g) × (endOf p (walk p g) ≡ endOf p s) × ((r : Schedule) → MadeBy p g r → AtMost (walk p g) r)
-  unfolding walk graph
+  unfolding walk
   walk-least s m =
       let b = greedy-least SC ready Goal Regular greedy-laws 24 (start p) s (at-most-24 p wf s (m .0)) (regular-start p wf) (made-fitting s m) in
       (fitting-full (walk p g) (start p) (b .0), b .1, λ r k. b .2 r (made-fitting r k))
@@ -76,13 +76,11 @@ module _ (p : Program) (wf : WellFormed p) (g : Graph) where
   walk-allowed = greedy-allowed SC ready fits-may 24 (start p)
 
   accepted-made : accepts ≡ true → MadeBy p g (walk p g)
-  unfolding graph
   accepted-made e =
       let r = both (ended SC (endOf p (walk p g))) (sameGraph (graphOf (endOf p (walk p g))) g) e in
       (allowed-full SC (start p) (walk p g) walk-allowed (r .0), same-graph-is (graphOf (endOf p (walk p g))) g (r .1))
 
   made-accepted : MadeBy p g (walk p g) → accepts ≡ true
-  unfolding graph
   made-accepted m = both-and (full-allowed SC (start p) (walk p g) (m .0) .1)
       (subst (λ (h : Graph). sameGraph (graphOf (endOf p (walk p g))) h ≡ true) (m .1) (is-same-graph (graphOf (endOf p (walk p g)))))
 

@@ -70,7 +70,6 @@ module _ (p : Program) (wf : WellFormed p) where
     ends-step σ t z E = record { regular = regular-step σ t (E .regular) (E .full .0); full = E .full .1; graph = E .graph }
 
     pub ends-start : (s : Schedule) → MadeBy p g s → Ends (start p) s
-    unfolding graph
     ends-start s m = record { regular = regular-start p wf; full = m .0; graph = m .1 }
 
     pub row-suffix : (σ : State) (z : Schedule) → Ends σ z → (t : ℕ) → Suffix (threadOf σ t .history .reads) (rowOf g t)

@@ -47,7 +47,6 @@ module _ (p : Program) (wf : WellFormed p) (s : Schedule) (f : Full p s) where
   source-named e (inr w) = inr (done-named e (regular .old (w .0) e (w .1)))
 
   pub run-readable : Readable (length (p .threads)) (graph p s)
-  unfolding graph
   run-readable = record {
     rows = canonical .rows;
     lists = canonical .lists;

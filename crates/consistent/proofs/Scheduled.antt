@@ -146,7 +146,6 @@ module _ (p : Program) (wf : WellFormed p) (g : Graph) (v : Values) (C : Canonic
           (t ∷ z .0, (m, z .1), z .2)
 
 pub consistent-scheduled : (p : Program) → WellFormed p → (g : Graph) → Consistent p g → (s : Schedule) × MadeBy p g s
-unfolding graph
 consistent-scheduled p wf g c =
     let C = c .canonical in
     let M = c .makes in

@@ -241,7 +241,7 @@ cells-frames W (ws ∷ rows) (suc n) l h e = ap₂ (λ (a b : List (List ℕ)). 
 
 -- THE GRAPH OF A RUN HAS THE FRAMES OF ITS NOTES
 pub graph-frames : (p : Program) → WellFormed p → (s : Schedule) → Allowed SC (start p) s → frames (graph p s) ≡ noteFrames (notes (start p) s)
-unfolding frames graph noteFrames readFramesIn orderFramesIn
+unfolding frames noteFrames readFramesIn orderFramesIn
 graph-frames p w s a =
     let g = graph-sizes (endOf p s) in
     let t = g .0 ∙ run-threads s (start p) ∙ start-threads p in

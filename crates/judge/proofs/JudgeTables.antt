@@ -70,7 +70,6 @@ judge-by p g true q = ((λ z. rw (q, judge)), λ z. absurd (true≢false z))
 judge-by p g false q = ((λ z. absurd (true≢false (sym z))), λ z. rw (q, judge))
 
 own-readable : (p : Program) → WellFormed p → (s : Schedule) → Full p s → Readable (length (p .threads)) (graphOf (endOf p s))
-unfolding graph
 own-readable p wf s f = run-readable p wf s f
 
 module _ (code lengths : List ℕ) (n : ℕ) (pairs counts : List ℕ) (p : Program) (text : List ℕ) (g : Graph) (loaded : Loaded code lengths n p) (read : readGraph n text ≡ parsed g)

@@ -21,7 +21,7 @@ use Rattle.sc.proofs.SmallRefusals.{replay-within}
 use Rattle.sc.proofs.SmallRefusals as Schedules
 use Rattle.list.specs.ListOf.{listOf}
 use Rattle.list.specs.Answers.{startOf, continued, continueOf, failing, Violation, fails-first, none-fails, refused-by, violationBy, violationContent, violationOf}
-use Rattle.list.proofs.FirstIn.{first-in}
+use Rattle.schedules.proofs.FirstIn.{first-in}
 use Rattle.list.proofs.TheList.{list-ascends}
 
 -- a member of the list that fits the output; else a small refusal, or none

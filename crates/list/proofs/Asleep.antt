@@ -1,8 +1,8 @@
 -- R3 is sound: a thread whose next access is late, and which nothing left to the others could conflict with, stays late until it steps.
 use Prim.Native.Nat.{ℕ, _<_}
-use mathlib.Core.Path.{_≡_, refl, sym, ap, ap₂, subst, _∙_}
+use mathlib.Core.Path.{_≡_, refl, sym, ap, subst}
 use mathlib.Core.Bool.{Bool, true, false, not, false≢true, _||_}
-use mathlib.Core.List.{_∷_, _++_, append-assoc}
+use mathlib.Core.List.{_∷_, _++_}
 use native.Mathlib.Omega.{arith}
 use native.Mathlib.Decide.{decLt}
 use lib.Dec.{eqb}
@@ -12,23 +12,20 @@ use Rattle.program.specs.WellFormed.{WellFormed}
 use Rattle.program.proofs.Tests.{both}
 use Rattle.schedules.specs.Lists.{upTo, all}
 use Rattle.schedules.specs.Order.{Schedule}
-use Rattle.schedules.specs.System.{run, FullFrom}
+use Rattle.schedules.specs.System.{FullFrom}
 use Rattle.schedules.proofs.Lists.{in-upTo, all-at}
-use Rattle.schedules.proofs.Front.{Free}
-use Rattle.schedules.proofs.Runs.{run-append, full-split}
+use Rattle.schedules.proofs.Runs.{full-split}
 use Rattle.sc.specs.State.{Thread, State, threadOf, place, may, start, SC}
 use Rattle.sc.specs.Graph.{endOf, Full}
 use Rattle.sc.specs.Trail.{action}
 use Rattle.sc.specs.Ahead.{mayPut, couldMeet}
 use Rattle.sc.proofs.Steps.{missing}
 use Rattle.sc.proofs.Regular.{Regular, regular-start, regular-run}
-use Rattle.sc.proofs.Swap.{Independent}
 use Rattle.sc.proofs.Reading.{first-turn}
-use Rattle.sc.proofs.FreeSteps.{free-append}
 use Rattle.sc.proofs.Remote.{Remote, nothing-meets, remote-free}
 use Rattle.list.specs.Alike.{Smaller}
 use Rattle.list.specs.Rules.{late, taken, asleep}
-use Rattle.list.proofs.Late.{late-passes, passed-smaller}
+use Rattle.list.proofs.Late.{late-still-smaller}
 
 not-true : (b : Bool) → not b ≡ true → b ≡ false
 not-true true e = absurd (false≢true e)
@@ -55,14 +52,9 @@ module _ (p : Program) (w : WellFormed p) where
       let σ : State = endOf p v in
       let a = both (may σ t) _ e in
       let b = both (late (taken p v) (action σ t)) _ (a .1) in
-      let q = late-passes p v t (b .0) in
       let s = full-split SC (start p) v z f in
       let h = first-turn z σ t (s .1) (a .0) in
       let y = full-split SC σ (h .front) (t ∷ h .rest) (subst (FullFrom SC σ) (h .split) (s .1)) in
-      let r = remote-of σ t (regular-run v (start p) (regular-start p w) (s .0)) (b .1) in
-      let free = remote-free (h .front) σ t (y .0) (h .not-yet) r in
-      let here : run SC (endOf p (q .front)) (q .greater ∷ q .rest) ≡ σ = sym (run-append SC (start p) (q .front) (q .greater ∷ q .rest)) ∙ ap (run SC (start p)) (sym (q .split)) in
-      let all-free = free-append (q .greater ∷ q .rest) (h .front) (endOf p (q .front)) t (q .free) (subst (λ (τ : State). Free SC Independent τ (h .front) t) (sym here) free) in
-      let eq : v ++ z ≡ q .front ++ ((q .greater ∷ (q .rest ++ h .front)) ++ (t ∷ h .rest)) =
-      ap₂ (λ (x y : Schedule). x ++ y) (q .split) (h .split) ∙ append-assoc (q .front) (q .greater ∷ q .rest) (h .front ++ (t ∷ h .rest)) ∙ ap (λ (x : Schedule). q .front ++ (q .greater ∷ x)) (sym (append-assoc (q .rest) (h .front) (t ∷ h .rest))) in
-      subst (Smaller p) (sym eq) (passed-smaller p w (q .front) (q .greater) (q .rest ++ h .front) t (h .rest) (q .above) all-free (subst (Full p) eq f))
+      let free = remote-free (h .front) σ t (y .0) (h .not-yet) (remote-of σ t (regular-run v (start p) (regular-start p w) (s .0)) (b .1)) in
+      let eq = ap (λ (x : Schedule). v ++ x) (h .split) in
+      subst (Smaller p) (sym eq) (late-still-smaller p w v (h .front) t (h .rest) (b .0) free (subst (Full p) eq f))

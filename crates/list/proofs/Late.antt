@@ -18,7 +18,7 @@ use Rattle.sc.specs.Graph.{endOf, Full}
 use Rattle.sc.specs.Trail.{Action, action, trail, conflict}
 use Rattle.sc.proofs.Swap.{Independent, action-after}
 use Rattle.sc.proofs.Orders.{apart, commute}
-use Rattle.sc.proofs.FreeSteps.{action-thread, free-action, trail-nil, trail-more}
+use Rattle.sc.proofs.FreeSteps.{action-thread, free-action, free-append, trail-nil, trail-more}
 use Rattle.sc.proofs.ProgramGraphs.{graph-same-end}
 use Rattle.list.specs.Alike.{Smaller}
 use Rattle.list.specs.Rules.{late, taken}
@@ -126,3 +126,13 @@ module _ (p : Program) (w : WellFormed p) where
       let q = late-passes p v t e in
       let k : v ++ (t ∷ z) ≡ q .front ++ ((q .greater ∷ q .rest) ++ (t ∷ z)) = ap (λ (x : Schedule). x ++ (t ∷ z)) (q .split) ∙ append-assoc (q .front) (q .greater ∷ q .rest) (t ∷ z) in
       subst (Smaller p) (sym k) (passed-smaller (q .front) (q .greater) (q .rest) t z (q .above) (q .free) (subst (Full p) k f))
+
+  -- it stays late behind steps that it is free of
+  pub late-still-smaller : (v f : Schedule) (t : ℕ) (z : Schedule) → late (taken p v) (action (endOf p v) t) ≡ true → Free SC Independent (endOf p v) f t → Full p (v ++ (f ++ (t ∷ z))) → Smaller p (v ++ (f ++ (t ∷ z)))
+  late-still-smaller v f t z e free full =
+      let q = late-passes p v t e in
+      let here : run SC (endOf p (q .front)) (q .greater ∷ q .rest) ≡ endOf p v = sym (run-append SC (start p) (q .front) (q .greater ∷ q .rest)) ∙ ap (run SC (start p)) (sym (q .split)) in
+      let all-free = free-append (q .greater ∷ q .rest) f (endOf p (q .front)) t (q .free) (subst (λ (τ : State). Free SC Independent τ f t) (sym here) free) in
+      let k : v ++ (f ++ (t ∷ z)) ≡ q .front ++ ((q .greater ∷ (q .rest ++ f)) ++ (t ∷ z)) =
+      ap (λ (x : Schedule). x ++ (f ++ (t ∷ z))) (q .split) ∙ append-assoc (q .front) (q .greater ∷ q .rest) (f ++ (t ∷ z)) ∙ ap (λ (x : Schedule). q .front ++ (q .greater ∷ x)) (sym (append-assoc (q .rest) f (t ∷ z))) in
+      subst (Smaller p) (sym k) (passed-smaller (q .front) (q .greater) (q .rest ++ f) t z (q .above) all-free (subst (Full p) k full))

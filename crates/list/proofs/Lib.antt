@@ -1,6 +1,4 @@
 -- The laws, in the order in which they rest on each other.
--- the permitted exchanges of threads are a group
-pub mod Exchanges
 -- being alike is an equivalence
 pub mod Equivalence
 -- what the executable tests say: `alike` is Alike
@@ -14,15 +12,14 @@ pub mod Twins
 pub mod Asleep
 -- all three together
 pub mod Cuts
+-- a run without late steps is its own least order
+pub mod NormalForm
 -- the test at a full schedule is exact
 pub mod Unbeaten
 -- the list is document 01's, and the search walks it
 pub mod TheList
--- T5: exactly one listed schedule for each full one, with the same outcome
-pub mod Outcome
--- the first member that passes a test; what violation answers
-pub mod FirstIn
-pub mod Violations
+-- it is the list of sequential consistency as a memory model, and so are the calls' answers
+pub mod AsModel
 -- what the calls can answer: members of the list, and small refusals
 pub mod Answered
 -- for the code: the list walked by the search

@@ -16,8 +16,8 @@ use Rattle.sc.specs.Exchange.{Permutation, Moves}
 use Rattle.sc.proofs.Regular.{Regular}
 use Rattle.sc.proofs.FixedState.{fixed-state}
 use Rattle.list.specs.Alike.{Exchange}
-use Rattle.list.proofs.Exchanges.{Together}
-use Rattle.list.proofs.Equivalence.{within}
+use Rattle.model.specs.Exchange.{Together}
+use Rattle.sc_model.proofs.Laws.{within}
 
 unfoldable pub swapped : ℕ → ℕ → ℕ → ℕ
 swapped u t x = elim (eqb x u) [ true ↦ t | false ↦ elim (eqb x t) [ true ↦ u | false ↦ x ] ]

@@ -1,34 +1,19 @@
--- What the executable tests say: `turns` is Turns, a member of `permitted` acts as a permitted exchange and every permitted exchange is one
--- of them, and so `alike` is Alike.
-use Prim.Native.Nat.{ℕ, _<_}
-use mathlib.Core.Path.{_≡_, refl, sym, ap, subst, fun-ext, _∙_}
-use mathlib.Core.Logic.{_⊎_, inl, inr, _↔_}
-use mathlib.Core.Bool.{Bool, true, false, _&&_, _||_}
-use mathlib.Core.List.{List, [], map, List·Memᴰ, Memᴰ·of-map}
-use native.Mathlib.Omega.{arith}
-use native.Mathlib.Decide.{decLt}
-use lib.Dec.{eqb}
-use lib.ListN.{length, getD, length-map, List·getD-map, List·getD-eq-default}
-use borrow.Author.Tests.{eqb-true, eq-eqb}
+-- What the executable test says: `alike` is Alike.
+use mathlib.Core.Path.{_≡_, refl}
+use mathlib.Core.Logic.{_↔_}
+use mathlib.Core.Bool.{Bool, true, false, _||_}
 use Rattle.program.specs.Program.{Program}
-use Rattle.program.proofs.Tests.{both, either}
-use Rattle.schedules.specs.Lists.{upTo, any}
 use Rattle.schedules.specs.Order.{Schedule}
-use Rattle.schedules.specs.Permutations.{permutations, moved}
-use Rattle.schedules.proofs.Lists.{in-upTo, of-upTo, any-yes, any-of, all-at, all-of, in-keep, of-keep}
-use Rattle.schedules.proofs.Permutations.{permutations-complete}
-use Rattle.schedules.proofs.Group.{getD-any, distinct-map, moved-same, identity-moved, identity-member, member-permutation, inverse-left, inverse-right, moved-below, moved-above}
-use Rattle.schedules.specs.Permutations as Lists6
-use Rattle.sc.specs.State.{Event}
-use Rattle.sc.specs.Graph.{Graph, graph}
-use Rattle.sc.specs.Exchange.{Permutation, movedReads, movedWrites, Turns}
-use Rattle.sc.proofs.Exchange.{injective}
-use Rattle.sc.proofs.Permitted.{only-identity}
-use Rattle.consistent.specs.Same.{sameEvent, sameRead, sameList}
-use Rattle.consistent.proofs.Tests.{both-and, same-event-is, is-same-event, same-read-is, same-read, same-list-is, same-list}
-use Rattle.list.specs.Alike.{Exchange, Alike}
-use Rattle.list.specs.ListOf.{together, permits, permitted, turns, alikeBy, alike}
-use Rattle.list.proofs.Exchanges.{Together}
+use Rattle.model.specs.Alike as ModelAlike
+use Rattle.model.proofs.Alike as ModelLaws
+use Rattle.sc.specs.Graph.{graph}
+use Rattle.list.specs.Alike.{Alike}
+use Rattle.list.specs.ListOf.{alikeBy, alike}
+use Rattle.sc_model.specs.Sequential.{sc}
+use Rattle.sc_model.proofs.Laws.{sc-laws}
+unfoldable pub use Rattle.model.proofs.Permitted.{tabled}
+pub use Rattle.model.proofs.Permitted.{together-true, true-together, permitted-exchange, exchange-permitted, permitted-none}
+pub use Rattle.sc_model.proofs.Turned.{turns-true, true-turns}
 
 -- one of two tests
 pub or-left : (a b : Bool) → a ≡ true → (a || b) ≡ true
@@ -38,120 +23,7 @@ pub or-right : (a b : Bool) → b ≡ true → (a || b) ≡ true
 or-right true b e = refl
 or-right false b e = e
 
--- THE TEST OF A GRAPH
-abbrev rowTest : (ℕ → ℕ) → Graph → Graph → ℕ → Bool
-rowTest π g h t = sameList sameRead (movedReads π (getD (g .reads) t [])) (getD (h .reads) (π t) [])
-
-abbrev columnTest : (ℕ → ℕ) → Graph → Graph → Bool
-columnTest π g h = sameList (sameList sameEvent) (map (movedWrites π) (g .writes)) (h .writes)
-
-pub turns-true : (π : ℕ → ℕ) (g h : Graph) → turns π g h ≡ true → Turns π g h
-unfolding turns
-turns-true π g h e =
-    let r = both (columnTest π g h) _ e in record {
-      reads = λ t i. sym (same-list-is sameRead same-read-is _ _ (all-at (rowTest π g h) (upTo 0 (length (g .reads))) t (r .1) (in-upTo 0 (length (g .reads)) t (omega arith) (omega arith))));
-      writes = sym (same-list-is (sameList sameEvent) (same-list-is sameEvent same-event-is) _ _ (r .0));
-    }
-
-pub true-turns : (π : ℕ → ℕ) (g h : Graph) → Turns π g h → turns π g h ≡ true
-unfolding turns
-true-turns π g h r = both-and
-    (subst (λ (k : List (List Event)). sameList (sameList sameEvent) (map (movedWrites π) (g .writes)) k ≡ true) (sym (r .writes)) (same-list (sameList sameEvent) (same-list sameEvent (λ e. is-same-event e e refl)) (map (movedWrites π) (g .writes))))
-    (all-of (rowTest π g h) (upTo 0 (length (g .reads))) (λ t m. let i = of-upTo 0 (length (g .reads)) t m .1 in
-    subst (λ (k : List (ℕ × Event)). sameList sameRead (movedReads π (getD (g .reads) t [])) k ≡ true) (sym (r .reads t (omega arith))) (same-list sameRead same-read (movedReads π (getD (g .reads) t [])))))
-
--- THE PERMITTED ONES
-member-test : (t : ℕ) (g : List ℕ) → any (eqb t) g ≡ true → List·Memᴰ t g
-member-test t g e = let r = any-yes (eqb t) g e in subst (λ (x : ℕ). List·Memᴰ x g) (sym (eqb-true t (r .0) (r .2))) (r .1)
-
-test-member : (t : ℕ) (g : List ℕ) → List·Memᴰ t g → any (eqb t) g ≡ true
-test-member t g m = any-of (eqb t) g t m (eq-eqb t t refl)
-
-pub together-true : (p : Program) (t u : ℕ) → together (p .groups) t u ≡ true → Together p t u
-unfolding together
-together-true p t u e =
-    let r = any-yes (λ g. any (eqb t) g && any (eqb u) g) (p .groups) e in
-    let k = both (any (eqb t) (r .0)) (any (eqb u) (r .0)) (r .2) in
-    (r .0, r .1, member-test t (r .0) (k .0), member-test u (r .0) (k .1))
-
-pub true-together : (p : Program) (t u : ℕ) → Together p t u → together (p .groups) t u ≡ true
-unfolding together
-true-together p t u k = any-of (λ g. any (eqb t) g && any (eqb u) g) (p .groups) (k .0) (k .1) (both-and (test-member t (k .0) (k .2)) (test-member u (k .0) (k .3)))
-
-abbrev stayTest : Program → List ℕ → ℕ → Bool
-stayTest p π t = eqb (moved π t) t || together (p .groups) t (moved π t)
-
--- a member acts as a permitted exchange
-pub permitted-exchange : (p : Program) (π : List ℕ) → List·Memᴰ π (permitted p) → Exchange p (moved π)
-unfolding permitted permits
-permitted-exchange p π m = (
-  record { inverse = moved (Lists6.inverse π); inverse-after = inverse-left π (k .0); after-inverse = inverse-right π (k .0); below = moved-below π (k .0); stays = moved-above π (k .0) },
-  λ t. at t (decLt t 6),
-)
-  where
-    k : List·Memᴰ π permutations × (permits (p .groups) π ≡ true)
-    k = of-keep (permits (p .groups)) permutations π m
-
-    split : (t : ℕ) → (eqb (moved π t) t ≡ true) ⊎ (together (p .groups) t (moved π t) ≡ true) → (moved π t ≡ t) ⊎ Together p t (moved π t)
-    split t (inl e) = inl (eqb-true (moved π t) t e)
-    split t (inr e) = inr (together-true p t (moved π t) e)
-
-    at : (t : ℕ) → Dec (t < 6) → (moved π t ≡ t) ⊎ Together p t (moved π t)
-    at t (yes h) = split t (either (eqb (moved π t) t) (together (p .groups) t (moved π t)) (all-at (stayTest p π) (upTo 0 6) t (k .1) (in-upTo 0 6 t (omega arith) h)))
-    at t (no h) = inl (moved-above π (k .0) t (omega arith))
-
--- every permutation of six as a list
-unfoldable pub tabled : (ℕ → ℕ) → List ℕ
-tabled π = map π (upTo 0 6)
-
-six : length (upTo 0 6) ≡ 6
-six = member-permutation (upTo 0 6) identity-member .six
-
-tabled-moved : (π : ℕ → ℕ) → Permutation π → (t : ℕ) → moved (tabled π) t ≡ π t
-unfolding tabled
-tabled-moved π q t = go (decLt t 6)
-  where
-    size : length (map π (upTo 0 6)) ≡ 6
-    size = length-map (upTo 0 6) π ∙ six
-
-    go : Dec (t < 6) → getD (map π (upTo 0 6)) t t ≡ π t
-    go (yes h) = getD-any (map π (upTo 0 6)) t t (π t) (omega (arith, size)) ∙ List·getD-map π (upTo 0 6) t t ∙ ap π (identity-moved t)
-    go (no h) = List·getD-eq-default (map π (upTo 0 6)) t {n = t} (omega (arith, size)) ∙ sym (q .stays t (omega arith))
-
-tabled-member : (π : ℕ → ℕ) → Permutation π → List·Memᴰ (tabled π) permutations
-unfolding tabled
-tabled-member π q = permutations-complete (map π (upTo 0 6)) (record {
-  six = length-map (upTo 0 6) π ∙ six;
-  below = λ x m. let r = Memᴰ·of-map π (upTo 0 6) m in subst (λ (z : ℕ). z < 6) (r .2) (q .below (r .0) (of-upTo 0 6 (r .0) (r .1) .1));
-  distinct = distinct-map π (injective π q) (upTo 0 6) (member-permutation (upTo 0 6) identity-member .distinct);
-})
-
--- every permitted exchange is a member
-pub exchange-permitted : (p : Program) (π : ℕ → ℕ) → Exchange p π → List·Memᴰ (tabled π) (permitted p) × (moved (tabled π) ≡ π)
-unfolding permitted permits
-exchange-permitted p π x = (
-  in-keep (permits (p .groups)) permutations (tabled π) (tabled-member π (x .0)) (all-of (stayTest p (tabled π)) (upTo 0 6) (λ t m. subst (λ (u : ℕ). (eqb u t || together (p .groups) t u) ≡ true) (sym (tabled-moved π (x .0) t)) (at t (x .1 t)))),
-  fun-ext (tabled-moved π (x .0)),
-)
-  where
-    at : (t : ℕ) → (π t ≡ t) ⊎ Together p t (π t) → (eqb (π t) t || together (p .groups) t (π t)) ≡ true
-    at t (inl e) = or-left (eqb (π t) t) _ (eq-eqb (π t) t e)
-    at t (inr k) = or-right (eqb (π t) t) _ (true-together p t (π t) k)
-
 -- THE TEST OF BEING ALIKE
 pub alike-exact : (p : Program) (a b : Schedule) → (alike p a b ≡ true) ↔ Alike p a b
-unfolding alike alikeBy
-alike-exact p a b = (
-  (λ e. let r = any-yes (λ π. turns (moved π) (graph p a) (graph p b)) (permitted p) e in (moved (r .0), permitted-exchange p (r .0) (r .1), turns-true (moved (r .0)) (graph p a) (graph p b) (r .2))),
-  λ l. let k = exchange-permitted p (l .0) (l .1) in
-      any-of (λ π. turns (moved π) (graph p a) (graph p b)) (permitted p) (tabled (l .0)) (k .0)
-      (true-turns (moved (tabled (l .0))) (graph p a) (graph p b) (subst (λ (π : ℕ → ℕ). Turns π (graph p a) (graph p b)) (sym (k .1)) (l .2))),
-)
-
--- with no `02` line only the identity is permitted
-pub permitted-none : (p : Program) → p .groups ≡ [] → (π : List ℕ) → List·Memᴰ π (permitted p) → π ≡ upTo 0 6
-unfolding permitted
-permitted-none p e π m =
-    let k = of-keep (permits (p .groups)) permutations π m in
-    let x = permitted-exchange p π m in
-    moved-same π (upTo 0 6) (member-permutation π (k .0) .six ∙ sym six) (λ t. only-identity p (moved π) e (x .1) t ∙ sym (identity-moved t))
+unfolding alike alikeBy ModelAlike.alike ModelAlike.alikeBy
+alike-exact p a b = ModelLaws.alike-exact sc sc-laws p a b

@@ -1,11 +1,11 @@
 -- The list is document 01's: exactly the listed schedules, ascending, finite. It is what the test at a full schedule leaves of all full
 -- schedules, and the search finds what it has above a bound.
-use Prim.Native.Nat.{_^_, _≤_}
+use Prim.Native.Nat.{ℕ, _^_, _≤_}
 use mathlib.Core.Path.{_≡_, refl, sym, ap, subst, _∙_}
 use mathlib.Core.Logic.{_↔_}
 use mathlib.Core.Bool.{Bool, true, false, true≢false}
 use mathlib.Core.Option.{Option}
-use mathlib.Core.List.{_∷_, _++_, List·Memᴰ}
+use mathlib.Core.List.{[], _∷_, _++_, List·Memᴰ}
 use native.Mathlib.Omega.{arith}
 use lib.ListN.{length}
 use Rattle.program.specs.Program.{Program}
@@ -15,14 +15,14 @@ use Rattle.schedules.specs.Order.{Schedule, less}
 use Rattle.schedules.specs.Fulls.{fulls}
 use Rattle.schedules.specs.Listed as Schedules
 use Rattle.schedules.specs.Search.{SoundCut}
-use Rattle.schedules.specs.Found.{after}
+use Rattle.schedules.specs.Found.{after, foundFrom}
 use Rattle.schedules.proofs.Lists.{both-false, ascends-keep}
 use Rattle.schedules.proofs.Kept.{keep-same, keep-keep}
 use Rattle.schedules.proofs.Search.{found-above}
 use Rattle.schedules.proofs.Listed.{listed-exact, listed-ascend, listed-length, list-keep, cut-sound}
 use Rattle.schedules.proofs.Group.{member-permutation, identity-member}
-use Rattle.sc.specs.State.{SC, start}
-use Rattle.sc.specs.Graph.{Full}
+use Rattle.sc.specs.State.{State, SC, start}
+use Rattle.sc.specs.Graph.{Full, endOf}
 use Rattle.sc.proofs.Steps.{may-small}
 use Rattle.sc.proofs.Lawful.{lawful, names-ascend, start-24}
 use Rattle.list.specs.Alike.{Smaller, Listed}
@@ -81,15 +81,6 @@ module _ (p : Program) (w : WellFormed p) where
   list-kept : listOf p ≡ keep (unbeaten p) (fulls SC (start p))
   list-kept = list-is p ∙ list-keep SC lawful names-ascend (start p) (alike p) (unbeaten p) good bad
 
-  unbeaten-sound : SoundCut SC (start p) (cut p) (unbeaten p)
-  unbeaten-sound = cut-sound SC lawful names-ascend (start p) (alike p) (unbeaten p) good bad (cut p) (λ v t z c f. test-of p _ (cut-smaller p w v t z c f))
-
-  -- the same of those that fail
-  sound : (only : Bool) → SoundCut SC (start p) (cut p) (wanted only p)
-  unfolding wanted
-  sound false v t z c f = unbeaten-sound v t z c f
-  sound true v t z c f = ap (both (failing p (v ++ (t ∷ z)))) (unbeaten-sound v t z c f) ∙ both-false (failing p (v ++ (t ∷ z)))
-
   sought-kept : (only : Bool) → keep (wanted only p) (fulls SC (start p)) ≡ sought only p
   unfolding wanted sought
   sought-kept false = keep-same (wanted false p) (unbeaten p) (fulls SC (start p)) (λ x. refl) ∙ sym list-kept
@@ -97,10 +88,23 @@ module _ (p : Program) (w : WellFormed p) where
       keep-same (wanted true p) (λ x. both (failing p x) (unbeaten p x)) (fulls SC (start p)) (λ x. refl)
       ∙ sym (keep-keep (unbeaten p) (failing p) (fulls SC (start p))) ∙ ap (keep (failing p)) (sym list-kept)
 
-  -- THE SEARCH FINDS what the list has above the bound, or those of it that fail
+  -- THE SEARCH FINDS what the list has above the bound, or those of it that fail, by every rule that gives up only what has a smaller alike one
+  module _ (gives-up : Schedule → State → ℕ → Bool) (smaller : (v : Schedule) (t : ℕ) (z : Schedule) → gives-up v (endOf p v) t ≡ true → Full p (v ++ (t ∷ z)) → Smaller p (v ++ (t ∷ z))) where
+    unbeaten-sound : SoundCut SC (start p) gives-up (unbeaten p)
+    unbeaten-sound = cut-sound SC lawful names-ascend (start p) (alike p) (unbeaten p) good bad gives-up (λ v t z c f. test-of p _ (smaller v t z c f))
+
+    -- the same of those that fail
+    sound : (only : Bool) → SoundCut SC (start p) gives-up (wanted only p)
+    unfolding wanted
+    sound false v t z c f = unbeaten-sound v t z c f
+    sound true v t z c f = ap (both (failing p (v ++ (t ∷ z)))) (unbeaten-sound v t z c f) ∙ both-false (failing p (v ++ (t ∷ z)))
+
+    pub found-by : (only : Bool) (o : Option Schedule) → foundFrom SC 6 gives-up (wanted only p) 24 o [] (start p) ≡ after o (sought only p)
+    found-by only o = found-above SC 6 gives-up (wanted only p) lawful names-ascend may-small (start p) (sound only) 24 o (start-24 p w) ∙ ap (after o) (sought-kept only)
+
   pub found-is : (only : Bool) (o : Option Schedule) → found24 only p o ≡ after o (sought only p)
   unfolding found24
-  found-is only o = found-above SC 6 (cut p) (wanted only p) lawful names-ascend may-small (start p) (sound only) 24 o (start-24 p w) ∙ ap (after o) (sought-kept only)
+  found-is only o = found-by (cut p) (cut-smaller p w) only o
 
 -- what is walked ascends
 pub sought-ascends : (only : Bool) (p : Program) → Ascends less (sought only p)

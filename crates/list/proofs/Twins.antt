@@ -37,7 +37,7 @@ use Rattle.consistent.proofs.Tests.{same-read-is, same-list-is}
 use Rattle.list.specs.Alike.{Smaller}
 use Rattle.list.specs.ListOf.{together}
 use Rattle.list.specs.Rules.{sameFlag, sameLocal, sameHistory, silent, twin}
-use Rattle.list.proofs.Exchanges.{Together}
+use Rattle.model.specs.Exchange.{Together}
 use Rattle.list.proofs.Equivalence.{alike-sym}
 use Rattle.list.proofs.Tests.{together-true}
 use Rattle.list.proofs.Swapped.{swapped, swapped-high, swapped-exchange, Silent, swapped-state}
@@ -79,7 +79,7 @@ silent-true σ u t c m e i = not-own u e (all-at (λ (e : Event). not (eqb (e .0
 
 module _ (p : Program) (w : WellFormed p) where
   -- two members of one `02` line exist and have one code
-  members : (u t : ℕ) → Together p u t → (u < length (p .threads)) × (t < length (p .threads)) × (codeOf p u ≡ codeOf p t)
+  pub members : (u t : ℕ) → Together p u t → (u < length (p .threads)) × (t < length (p .threads)) × (codeOf p u ≡ codeOf p t)
   members u t k =
       let g = everywhere-at (Group p) (k .1) (w .groups) in (
         everywhere-at (λ x. x < length (p .threads)) (k .2) (g .exist),

@@ -6,11 +6,8 @@ use mathlib.Core.Bool.{true}
 use Rattle.program.specs.Program.{Program}
 use Rattle.schedules.specs.Order.{Schedule, less}
 use Rattle.sc.specs.Graph.{Full, graph}
-use Rattle.sc.specs.Exchange.{Permutation, Permitted, Turns}
-
--- π permutes the threads within their `02` lines
-abbrev pub Exchange : Program → (ℕ → ℕ) → Type 0
-Exchange p π = Permutation π × Permitted p π
+use Rattle.sc.specs.Exchange.{Turns}
+pub use Rattle.model.specs.Exchange.{Exchange}
 
 abbrev pub Alike : Program → Schedule → Schedule → Type 0
 Alike p a b = (π : ℕ → ℕ) × Exchange p π × Turns π (graph p a) (graph p b)

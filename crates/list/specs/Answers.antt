@@ -5,7 +5,6 @@ use mathlib.Core.Bool.{Bool, true, false}
 use mathlib.Core.Option.{Option, none, some}
 use mathlib.Core.List.{List}
 use lib.ListN.{length}
-use Rattle.lines.specs.Over.{over}
 use Rattle.program.specs.Program.{Program}
 use Rattle.schedules.specs.Lists.{keep, first}
 use Rattle.schedules.specs.Order.{Schedule}
@@ -15,6 +14,9 @@ use Rattle.sc.specs.Graph.{endOf}
 use Rattle.sc.specs.Replay.{Replayed, whole, replay}
 use Rattle.sc.specs.Replay as Replay
 use Rattle.list.specs.ListOf.{listOf}
+-- what count and violation say, the same in every memory model
+pub use Rattle.model.specs.Answers.{Counts, Violation, fails-first, none-fails, refused-by}
+unfoldable pub use Rattle.model.specs.Answers.{violationBy, violationContent}
 
 -- start: the least listed schedule
 unfoldable pub startOf : Program → List ℕ → Result
@@ -33,32 +35,9 @@ continueOf p s out = result (elim (short 24 out) [ true ↦ refused 22 0 | false
 unfoldable pub failing : Program → Schedule → Bool
 failing p s = fails (endOf p s)
 
--- how many are listed, and how many of these fail
-pub record Counts : Type 0 where
-  pub listed : ℕ
-  pub failed : ℕ
-
 -- count; it has no output, so nothing refuses it here
 unfoldable pub countOf : Program → Counts
 countOf p = record { listed = length (listOf p); failed = length (keep (failing p) (listOf p)) }
-
--- what violation says
-pub data Violation : Type 0 where
-  fails-first : Schedule → Violation
-  none-fails : Violation
-  refused-by : ℕ → ℕ → Violation
-
--- by whether the output is too short, and the first that fails
-unfoldable pub violationBy : Bool → Option Schedule → Violation
-violationBy true o = refused-by 22 0
-violationBy false none = none-fails
-violationBy false (some s) = fails-first s
-
--- the output behind it
-unfoldable pub violationContent : Violation → List ℕ → List ℕ
-violationContent (fails-first s) out = over s out
-violationContent none-fails out = out
-violationContent (refused-by n k) out = out
 
 -- violation: the first listed that fails, or none
 unfoldable pub violationOf : Program → List ℕ → Violation × List ℕ

@@ -1,68 +1,94 @@
--- DEMAND 3 holds of every accepted file.
-use Prim.Native.Nat.{ℕ}
-use mathlib.Core.Path.{_≡_, sym, ap, _∙_}
+-- DEMAND 3 holds of every accepted file: it is the demand on sequential consistency as a memory model, whose calls answer what these answer.
+use Prim.Native.Nat.{ℕ, _^_, _<_, _≤_}
+use mathlib.Core.Path.{_≡_, refl, sym, ap, subst, _∙_}
 use mathlib.Core.Logic.{_↔_}
-use mathlib.Core.List.{List, _∷_, _++_}
-use native.Mathlib.Omega.{arith}
+use mathlib.Core.Option.{Option, none, some}
+use mathlib.Core.List.{List, [], _∷_, _++_}
 use lib.ListN.{length}
 use Rattle.program.specs.Program.{Program}
-use Rattle.program.specs.WellFormed.{WellFormed}
 use Rattle.program.specs.Decode.{Decoded, accepted, decode}
+use Rattle.program.specs.Decode as File
 use Rattle.program.proofs.AcceptedWellFormed.{accepted-well-formed}
 use Rattle.schedules.specs.Lists.{keep}
-use Rattle.schedules.proofs.SomeRun.{some-full}
-use Rattle.schedules.proofs.Calls.{due-at}
-use Rattle.sc.specs.State.{SC, start, size}
-use Rattle.sc.proofs.Lawful.{lawful, at-most-24, fits-64-bits}
-use Rattle.list.specs.ListOf.{listOf}
-use Rattle.list.specs.Answers.{failing, countOf, violationOf}
-use Rattle.listing.specs.OnFile.{counted, countOn, violationOn}
-use Rattle.listing.specs.Demand3.{Demand3}
-use Rattle.list.proofs.TheList.{list-exact, list-ascends, list-length}
-use Rattle.list.proofs.Outcome.{alike-fails, alike-memory, one-each, none-fails-at-all}
-use Rattle.listing.proofs.Calls.{continue-file, continue-least, continue-none, calls-due}
+use Rattle.schedules.specs.Order.{Schedule}
+use Rattle.schedules.specs.Calls.{Result, last}
+use Rattle.model.specs.Alike as Alike
+use Rattle.model.specs.OnFile as OnFile
+use Rattle.model.specs.Demand3 as Model
+use Rattle.sc.specs.Graph.{graph}
+use Rattle.list.specs.ListOf.{alikeBy, listOf}
+use Rattle.list.specs.Answers.{failing, countOf}
+use Rattle.list.proofs.AsModel.{start-same, continue-same, violation-same, list-fits}
+use Rattle.sc_model.specs.Sequential.{sc}
+use Rattle.sc_model.proofs.Demand3.{sc-admits, sc-demand-3}
+use Rattle.listing.specs.OnFile.{startOn, continueOn, continueFile, counted, countOn, violationOn, violationFile}
+use Rattle.listing.specs.Demand3.{call, Called, Demand3}
 use Rattle.listing.proofs.Standing.{start-stands, continue-stands, violation-stands}
-use Rattle.list.proofs.Violations as Violations
+
+-- the answers are the same, on every file
+start-is : (d : Decoded) (out : List ℕ) → startOn d out ≡ OnFile.startOn sc d out
+unfolding startOn OnFile.startOn
+start-is (accepted p) out = sym (start-same p out)
+start-is (File.refused n k) out = refl
+
+continue-is : (d : Decoded) (s : Schedule) (out : List ℕ) → continueOn d s out ≡ OnFile.continueOn sc d s out
+unfolding continueOn OnFile.continueOn
+continue-is (accepted p) s out = sym (continue-same p s out)
+continue-is (File.refused n k) s out = refl
+
+violation-is : (d : Decoded) (out : List ℕ) → violationOn d out ≡ OnFile.violationOn sc d out
+unfolding violationOn OnFile.violationOn
+violation-is (accepted p) out = sym (violation-same p out)
+violation-is (File.refused n k) out = refl
 
 -- what holds of an equal answer
-along : {A : Type 0} {a b x : A} {Q : Type 0} → a ≡ b → (b ≡ x) ↔ Q → (a ≡ x) ↔ Q
-along e h = ((λ i. h .0 (sym e ∙ i)), λ q. e ∙ h .1 q)
+same-answer : {A : Type 0} {a b x : A} {Q : Type 0} → a ≡ b → (b ≡ x) ↔ Q → (a ≡ x) ↔ Q
+same-answer e h = ((λ i. h .0 (sym e ∙ i)), λ q. e ∙ h .1 q)
+
+module _ (file : List ℕ) where
+  start-file : (out : List ℕ) → startOn (decode file) out ≡ OnFile.startFile sc file out
+  start-file out = start-is (decode file) out ∙ ap (λ (d : Decoded). OnFile.startOn sc d out) (sym (sc-admits (decode file)))
+
+  continue-file : (s : Schedule) (out : List ℕ) → continueFile file s out ≡ OnFile.continueFile sc file s out
+  continue-file s out = continue-is (decode file) s out ∙ ap (λ (d : Decoded). OnFile.continueOn sc d s out) (sym (sc-admits (decode file)))
+
+  violation-file : (out : List ℕ) → violationFile file out ≡ OnFile.violationFile sc file out
+  violation-file out = violation-is (decode file) out ∙ ap (λ (d : Decoded). OnFile.violationOn sc d out) (sym (sc-admits (decode file)))
+
+  call-is : (o : Option Schedule) (out : List ℕ) → call file o out ≡ Model.call sc file o out
+  call-is none out = start-file out
+  call-is (some s) out = continue-file s out
+
+  -- so lists of calls are the same
+  called-is : (outs : List (List ℕ)) (o : Option Schedule) (rs : List Result) → Called file o outs rs → Model.Called sc file o outs rs
+  called-is [] o [] d = d
+  called-is [] o (r ∷ rs) d = d
+  called-is (out ∷ outs) o [] d = d
+  called-is (out ∷ outs) o (r ∷ rs) d = (d .0 ∙ call-is o out, called-is outs (last o (r .0)) rs (d .1))
 
 module _ (file : List ℕ) (p : Program) (e : decode file ≡ accepted p) where
-  w : WellFormed p
-  w = accepted-well-formed file p e
-
   same-count : countOn (decode file) ≡ counted (record { listed = length (listOf p); failed = length (keep (failing p) (listOf p)) })
   unfolding countOn countOf
   same-count = ap countOn e
 
-  same-violation : (out : List ℕ) → violationOn (decode file) out ≡ violationOf p out
-  unfolding violationOn
-  same-violation out = ap (λ (d : Decoded). violationOn d out) e
-
   pub demand-3 : Demand3 file p
-  unfolding failing
-  demand-3 = record {
-    exact = list-exact p;
-    ascending = list-ascends p;
-    fits = omega (arith, list-length p w, fits-64-bits);
-    begins = let r = some-full SC lawful (size (start p)) (start p) (omega arith) in let c = one-each p w (r .0) (r .1) in (c .0, c .1);
-    within = λ s m. at-most-24 p w s (list-exact p s .0 m .0);
-    one-each = one-each p w;
-    same-outcome = λ r s fr fs l. (alike-fails p w r s fr fs l, alike-memory p w r s fr fs l);
-    answers = calls-due file p e;
-    answer-at = λ before out after rs d. (_, calls-due file p e (before ++ (out ∷ after)) rs d ∙ due-at 24 (listOf p) before out after);
-    continues = continue-file file p e;
-    continue-least = continue-least file p e;
-    continue-none = continue-none file p e;
-    counts = same-count;
-    violation-first = λ out h s. along (same-violation out) (Violations.violation-first p out h s);
-    violation-none = λ out h.
-        let v = Violations.violation-none p out h in
-        let n = none-fails-at-all p w in
-        along (same-violation out) ((λ i. n .0 (v .0 i)), λ k. v .1 (n .1 k));
-    violation-short = λ out. along (same-violation out) (Violations.violation-short p out);
-    start-stands = start-stands file;
-    continue-stands = λ r out s. continue-stands file out s r;
-    violation-stands = violation-stands file;
-  }
+  unfolding Alike.listOf Alike.alikeBy listOf alikeBy failing
+  demand-3 =
+      let d = sc-demand-3 file p e in record {
+        exact = d .exact;
+        ascending = d .ascending;
+        fits = list-fits p (accepted-well-formed file p e);
+        begins = d .begins;
+        within = d .within;
+        one-each = d .one-each;
+        same-outcome = d .same-outcome;
+        answers = λ outs rs c. d .answers outs rs (called-is file outs none rs c);
+        answer-at = λ before out after rs c. d .answer-at before out after rs (called-is file (before ++ (out ∷ after)) none rs c);
+        continues = λ s f out. continue-file file s out ∙ d .continues s f out;
+        continue-least = λ s f out h r. same-answer (continue-file file s out) (d .continue-least s f out h r);
+        continue-none = λ s f out h. same-answer (continue-file file s out) (d .continue-none s f out h);
+        counts = same-count;
+        violation-first = λ out h s. same-answer (violation-file file out) (d .violation-first out h s);
+        violation-none = λ out h. same-answer (violation-file file out) (d .violation-none out h);
+        violation-short = λ out. same-answer (violation-file file out) (d .violation-short out);
+      }

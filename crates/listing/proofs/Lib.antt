@@ -1,6 +1,4 @@
 -- The laws, in the order in which they rest on each other.
--- a list of calls walks the list
-pub mod Calls
 -- a schedule that is answered stands in the output
 pub mod Standing
 -- demand 3 holds

@@ -7,6 +7,7 @@ use Rattle.program.specs.Decode as File
 use Rattle.schedules.specs.Order.{Schedule}
 use Rattle.schedules.specs.Calls.{refused, Result, result}
 use Rattle.list.specs.Answers.{startOf, continueOf, Counts, countOf, Violation, refused-by, violationContent, violationOf}
+pub use Rattle.model.specs.OnFile.{Count, counted, refused-count}
 
 unfoldable pub startOn : Decoded → List ℕ → Result
 startOn (accepted p) out = startOf p out
@@ -15,11 +16,6 @@ startOn (File.refused n k) out = result (refused n k) out
 unfoldable pub continueOn : Decoded → Schedule → List ℕ → Result
 continueOn (accepted p) s out = continueOf p s out
 continueOn (File.refused n k) s out = result (refused n k) out
-
--- what count says
-pub data Count : Type 0 where
-  counted : Counts → Count
-  refused-count : ℕ → ℕ → Count
 
 unfoldable pub countOn : Decoded → Count
 countOn (accepted p) = counted (countOf p)

@@ -56,7 +56,7 @@ module _ (code lengths : List ℕ) (p : Program) (s : Schedule) (r : Run) (held 
         omega (arith, held .noted .most, notes-length (take (r .steps) s) (start p), length-take-le (r .steps) s (held .counted))
 
     graph-whole : graphAnswer p s room ≡ texted (graphText (graph p s))
-    unfolding texting graph
+    unfolding texting
     graph-whole =
         answered
         ∙ ap texting (verdict-whole code lengths p s r held whole)

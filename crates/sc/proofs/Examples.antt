@@ -29,7 +29,7 @@ pub record Seen : Type 0 where
 
 -- what a proof names on its `unfolding` line to compute with every definition of a run
 unfoldable pub seen : Program → Schedule → Seen
-unfolding eval sum32 skipped settle beginsWithAccess firstPlace firstTakes firstPuts firstNext pending placeOf takes puts next begin initialWrite noThread freshCell threadOf cellOf place latest noted advanced written met step may opened start failedOf fails valueOf memoryOf readsOf writesOf graphOf graph readFrame readFrames eventBytes writeFrame writeFrames frames run none-may ended any upTo initial
+unfolding eval sum32 skipped settle beginsWithAccess firstPlace firstTakes firstPuts firstNext pending placeOf takes puts next begin initialWrite noThread freshCell threadOf cellOf place latest noted advanced written met step may opened start failedOf fails valueOf memoryOf readsOf writesOf graphOf readFrame readFrames eventBytes writeFrame writeFrames frames run none-may ended any upTo initial
 seen p s = let σ = endOf p s in record { full = ended SC σ; fails = fails σ; memory = memoryOf σ; frames = frames (graphOf σ) }
 
 -- a store of 1 beside two loads

@@ -20,16 +20,14 @@ use Rattle.sc.specs.Exchange.{Permutation, movedEvent, movedRead, movedR
 use Rattle.sc.proofs.Steps.{may-range, thread-own, thread-other, step-threads}
 use Rattle.sc.proofs.Lawful.{lawful}
 use Rattle.sc.proofs.Rows.{row-at}
+pub use Rattle.model.proofs.Exchanges.{injective}
 
 map-set : {A B : Type 0} (f : A → B) (l : List A) (i : ℕ) (a : A) → set (map f l) i (f a) ≡ map f (set l i a)
 map-set f [] i a = refl
 map-set f (x ∷ xs) zero a = refl
 map-set {B} f (x ∷ xs) (suc i) a = ap {B = List B} (λ k. f x ∷ k) (map-set f xs i a)
 
--- a permutation is one to one, and keeps which numbers are below six
-pub injective : (π : ℕ → ℕ) → Permutation π → (t u : ℕ) → π t ≡ π u → t ≡ u
-injective π q t u e = sym (q .inverse-after t) ∙ ap (q .inverse) e ∙ q .inverse-after u
-
+-- a permutation keeps which numbers are below six
 small : (π : ℕ → ℕ) → Permutation π → (t : ℕ) → ltb (π t) 6 ≡ ltb t 6
 small π q t = go (decLt t 6)
   where

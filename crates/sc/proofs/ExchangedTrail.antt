@@ -30,7 +30,7 @@ module _ (π : ℕ → ℕ) (q : Permutation π) where
   unfolding writes movedThread movedCell
   moves-writes σ τ m t = rw (moves-place π q σ τ m t, moves-cell π q σ τ m (place σ t), m .threads t)
 
-  moves-action : (σ τ : State) → Moves π σ τ → (t : ℕ) → action τ (π t) ≡ movedAction π (action σ t)
+  pub moves-action : (σ τ : State) → Moves π σ τ → (t : ℕ) → action τ (π t) ≡ movedAction π (action σ t)
   unfolding action movedAction
   moves-action σ τ m t = ap₂ (λ (l : ℕ) (b : Bool). let a : Action = record { thread = π t; location = l; wrote = b } in a) (moves-place π q σ τ m t) (moves-writes σ τ m t)
 

@@ -62,7 +62,7 @@ grown [] σ r a l = record { new = []; whole = refl; none-new = λ e. refl; fres
 grown (t ∷ z) σ r a l = grown-step t z σ (a .0) l (changes σ r t l) (grown z (step σ t) (regular-step σ t r (a .0)) (a .1) l)
 
 -- the latest of what was there is not fresh; the latest of what is added is
-not-fresh : (σ : State) → Regular σ → (l : ℕ) (ws : List Event) → cellOf σ l .writes ≡ ws → Fresh σ (latest ws) → ⊥
+pub not-fresh : (σ : State) → Regular σ → (l : ℕ) (ws : List Event) → cellOf σ l .writes ≡ ws → Fresh σ (latest ws) → ⊥
 unfolding latest initialWrite
 not-fresh σ r l [] k f = let a = f .real in omega arith
 not-fresh σ r l (x ∷ ws) k f = let a = f .late in let o = r .old l x (subst (List·Memᴰ x) (sym k) (List·Memᴰ·head refl)) in omega arith
@@ -77,7 +77,8 @@ same-latest σ r z l g e = ⊎-elim (λ (k : g .new ≡ []). k)
     (λ (f : Fresh σ (latest (g .new ++ cellOf σ l .writes))). absurd (not-fresh σ r l (cellOf σ l .writes) refl (subst (Fresh σ) (ap latest (sym (g .whole)) ∙ e) f)))
     (none-or-fresh σ (g .new) (cellOf σ l .writes) (g .fresh))
 
-empty : {A : Type 0} (n : List A) → length n ≡ 0 → n ≡ []
+-- what has no length is empty
+pub empty : {A : Type 0} (n : List A) → length n ≡ 0 → n ≡ []
 empty [] q = refl
 empty (x ∷ n) q = absurd (omega arith)
 

@@ -36,8 +36,8 @@ pub mod Rows
 pub mod Exchange
 pub mod Permitted
 pub mod Failing
--- a failed assertion stays failed
-pub mod StaysFailed
+-- a run that failed stays so
+pub mod Halted
 -- T3(b): full schedules with one graph do the same steps, end in the same state, and the least is found from any
 pub mod Reading
 pub mod Determined

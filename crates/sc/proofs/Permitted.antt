@@ -3,7 +3,7 @@
 use Prim.Native.Nat.{ℕ, _<_}
 use mathlib.Core.Path.{_≡_, refl, sym, ap, subst, _∙_}
 use mathlib.Core.Logic.{_⊎_, inl, inr}
-use mathlib.Core.List.{List, [], _∷_, map, List·Memᴰ, List·Memᴰ·not-nil}
+use mathlib.Core.List.{List, [], _∷_, map}
 use native.Mathlib.Omega.{arith}
 use lib.ListN.{length}
 use Rattle.program.specs.Program.{Program, codeOf, initial}
@@ -15,14 +15,7 @@ use Rattle.sc.specs.Exchange.{Permutation, Together, Permitted, movedRea
 use Rattle.program.proofs.Everywhere.{everywhere-at}
 use Rattle.sc.proofs.Start.{start-threads, start-thread, start-cases, everyone}
 use Rattle.sc.proofs.Exchange.{moves-full, moves-graph}
-
--- with no `02` line only the identity is permitted
-pub only-identity : (p : Program) (π : ℕ → ℕ) → p .groups ≡ [] → Permitted p π → (t : ℕ) → π t ≡ t
-only-identity p π e m t = go (m t)
-  where
-    go : (π t ≡ t) ⊎ Together p t (π t) → π t ≡ t
-    go (inl i) = i
-    go (inr k) = absurd (List·Memᴰ·not-nil (subst (List·Memᴰ (k .0)) e (k .1)))
+pub use Rattle.model.proofs.Exchanges.{only-identity}
 
 -- at the start nothing has a source that could be renamed
 start-fixed : (p : Program) (π : ℕ → ℕ) (t : ℕ) → threadOf (start p) t ≡ movedThread π (threadOf (start p) t)
@@ -74,5 +67,4 @@ module _ (p : Program) (w : WellFormed p) (π : ℕ → ℕ) (m : Permitted p π
   exchanged q s f = moves-full π q s (start p) (start p) moves-start f
 
   pub exchanged-graph : Permutation π → (s : Schedule) → Full p s → Turns π (graph p s) (graph p (movedSchedule π s))
-  unfolding graph
   exchanged-graph q s f = moves-graph π (endOf p s) (endOf p (movedSchedule π s)) (exchanged q s f .1)

@@ -48,7 +48,6 @@ module _ (p : Program) (w : WellFormed p) (s : Schedule) (f : Full p s) where
   source-byte e (inr k) = write-byte (k .0) e (k .1)
 
   pub printable : Printable (length (p .threads)) (graph p s)
-  unfolding graph
   printable = record {
     rows = graph-sizes (endOf p s) .0 ∙ run-threads s (start p) ∙ start-threads p;
     eight = graph-sizes (endOf p s) .1 ∙ run-cells s (start p) ∙ start-cells p;

@@ -20,18 +20,14 @@ use Rattle.sc.proofs.SameGraph.{same-graph-least}
 
 -- a row of reads for each thread
 pub graph-rows : (p : Program) (s : Schedule) → length (graph p s .reads) ≡ length (p .threads)
-unfolding graph
 graph-rows p s = graph-sizes (endOf p s) .0 ∙ run-threads s (start p) ∙ start-threads p
 
 pub graph-same-end : (p : Program) (a b : Schedule) → endOf p a ≡ endOf p b → graph p a ≡ graph p b
-unfolding graph
 graph-same-end p a b e = ap graphOf e
 
 pub graph-moved-end : (p : Program) (π : ℕ → ℕ) (a b : Schedule) → Moves π (endOf p a) (endOf p b) → Turns π (graph p a) (graph p b)
-unfolding graph
 graph-moved-end p π a b m = moves-graph π (endOf p a) (endOf p b) m
 
 pub graph-least : (p : Program) → WellFormed p → (s : Schedule) → Full p s →
     Full p (leastOf (trail (start p) s)) × (endOf p (leastOf (trail (start p) s)) ≡ endOf p s) × ((r : Schedule) → Full p r → graph p r ≡ graph p s → AtMost (leastOf (trail (start p) s)) r)
-unfolding graph
 graph-least p w s f = same-graph-least (start p) (regular-start p w) s f

@@ -1,6 +1,6 @@
 -- A thread whose next access nothing left to the others could conflict with: it is free of every step until its turn.
 use Prim.Native.Nat.{ℕ}
-use mathlib.Core.Path.{_≡_, refl, sym, ap}
+use mathlib.Core.Path.{_≡_, refl, ap, subst}
 use mathlib.Core.Logic.{_≢_, _⊎_, inl, inr, Ne·symm}
 use mathlib.Core.Bool.{Bool, true, false}
 use mathlib.Core.Option.{none}
@@ -18,9 +18,13 @@ use Rattle.sc.proofs.Swap.{Independent}
 use Rattle.sc.proofs.Histories.{rest-run}
 use Rattle.sc.proofs.Ahead.{puts-not, elsewhere, meet-end}
 
--- nothing left to any other thread could conflict with t's next access
+-- nothing left to u could conflict with t's next access
+abbrev pub Unmet : State → ℕ → ℕ → Type 0
+Unmet σ t u = couldMeet (place σ t) (mayPut (threadOf σ t .local)) (threadOf σ u .local) ≡ false
+
+-- nothing left to any other thread could
 abbrev pub Remote : State → ℕ → Type 0
-Remote σ t = (u : ℕ) → u ≢ t → couldMeet (place σ t) (mayPut (threadOf σ t .local)) (threadOf σ u .local) ≡ false
+Remote σ t = (u : ℕ) → u ≢ t → Unmet σ t u
 
 -- a thread that does not exist could do nothing
 pub nothing-meets : (l : ℕ) (w : Bool) → couldMeet l w (noThread .local) ≡ false
@@ -31,24 +35,31 @@ writes-not : (σ : State) (t : ℕ) → ((x : ℕ) → puts (threadOf σ t .loca
 unfolding writes given
 writes-not σ t h = ap given (h (cellOf σ (place σ t) .value))
 
-remote-independent : (σ : State) (a t : ℕ) → may σ a ≡ true → a ≢ t → Remote σ t → Independent σ a t
+unmet-independent : (σ : State) (a t : ℕ) → may σ a ≡ true → Unmet σ t a → Independent σ a t
 unfolding place
-remote-independent σ a t m ne r = go (elsewhere (place σ t) (mayPut (threadOf σ t .local)) (threadOf σ a .local) (may-pending σ a m) (r a ne))
+unmet-independent σ a t m r = go (elsewhere (place σ t) (mayPut (threadOf σ t .local)) (threadOf σ a .local) (may-pending σ a m) r)
   where
     go : (placeOf (threadOf σ a .local) ≢ place σ t) ⊎ ((mayPut (threadOf σ t .local) ≡ false) × ((x : ℕ) → puts (threadOf σ a .local) x ≡ none)) → Independent σ a t
     go (inl q) = inl q
     go (inr q) = inr (writes-not σ a (q .1), writes-not σ t (puts-not (threadOf σ t .local) (q .0)))
 
-remote-step : (σ : State) (a t : ℕ) → may σ a ≡ true → a ≢ t → Remote σ t → Remote (step σ a) t
+unmet-step : (σ : State) (a t u : ℕ) → may σ a ≡ true → a ≢ t → Unmet σ t u → Unmet (step σ a) t u
 unfolding run
-remote-step σ a t m ne r u nu =
-    let k = meet-end (place σ t) (mayPut (threadOf σ t .local)) (threadOf σ u .local) (threadOf (step σ a) u .local) (rest-run (a ∷ []) σ (m, tt) u) (r u nu) in
+unmet-step σ a t u m ne r =
+    let k = meet-end (place σ t) (mayPut (threadOf σ t .local)) (threadOf σ u .local) (threadOf (step σ a) u .local) (rest-run (a ∷ []) σ (m, tt) u) r in
     let e = thread-other σ a t (Ne·symm ne) in
     let q = place-other σ a t (Ne·symm ne) in
     rw (q, e) k
 
+-- t is free of the steps of threads to which nothing is left that could conflict with its next access
+pub unmet-free : (z : Schedule) (σ : State) (t : ℕ) → Allowed SC σ z → ((u : ℕ) → List·Memᴰ u z → (u ≢ t) × Unmet σ t u) → Free SC Independent σ z t
+unmet-free [] σ t a r = tt
+unmet-free (b ∷ z) σ t a r =
+    let k = r b (List·Memᴰ·head refl) in (
+      k .0,
+      unmet-independent σ b t (a .0) (k .1),
+      unmet-free z (step σ b) t (a .1) (λ u m. let j = r u (List·Memᴰ·tail m) in (j .0, unmet-step σ b t u (a .0) (k .0) (j .1))),
+    )
+
 pub remote-free : (z : Schedule) (σ : State) (t : ℕ) → Allowed SC σ z → (List·Memᴰ t z → ⊥) → Remote σ t → Free SC Independent σ z t
-remote-free [] σ t a n r = tt
-remote-free (b ∷ z) σ t a n r =
-    let ne : b ≢ t = λ q. n (List·Memᴰ·head (sym q)) in
-    (ne, remote-independent σ b t (a .0) ne r, remote-free z (step σ b) t (a .1) (λ m. n (List·Memᴰ·tail m)) (remote-step σ b t (a .0) ne r))
+remote-free z σ t a n r = unmet-free z σ t a (λ u m. let ne : u ≢ t = λ q. n (subst (λ (x : ℕ). List·Memᴰ x z) q m) in (ne, r u ne))

@@ -47,5 +47,4 @@ same-graph-least σ g w f =
 
 -- at a program's start
 pub one-graph-one-end : (p : Program) → WellFormed p → (v w : Schedule) → Full p v → Full p w → graph p v ≡ graph p w → endOf p v ≡ endOf p w
-unfolding graph
 one-graph-one-end p wf v w fv fw e = same-graph-end v w (start p) (regular-start p wf) fv fw e

@@ -1,30 +1,14 @@
 -- Exchanging threads. A permutation of the six thread numbers makes each event (t, i) into (π t, i); the initial write stays. "Turned into"
 -- is a relation of two states, or of two graphs, so that it needs no inverse.
-use Prim.Native.Nat.{ℕ, _<_, _≤_}
+use Prim.Native.Nat.{ℕ, _<_}
 use mathlib.Core.Path.{_≡_}
-use mathlib.Core.Logic.{_⊎_}
-use mathlib.Core.List.{List, [], map, List·Memᴰ}
+use mathlib.Core.List.{List, [], map}
 use lib.ListN.{length, getD}
-use Rattle.program.specs.Program.{Program}
 use Rattle.schedules.specs.Order.{Schedule}
 use Rattle.sc.specs.State.{Event, Thread, Cell, State, threadOf}
 use Rattle.sc.specs.Graph.{Graph}
-
--- π permutes the numbers below six and leaves the others
-pub record Permutation (π : ℕ → ℕ) : Type 0 where
-  pub inverse : ℕ → ℕ
-  pub inverse-after : (t : ℕ) → inverse (π t) ≡ t
-  pub after-inverse : (t : ℕ) → π (inverse t) ≡ t
-  pub below : (t : ℕ) → t < 6 → π t < 6
-  pub stays : (t : ℕ) → 6 ≤ t → π t ≡ t
-
--- some `02` line names both threads
-abbrev pub Together : Program → ℕ → ℕ → Type 0
-Together p t u = (g : List ℕ) × List·Memᴰ g (p .groups) × List·Memᴰ t g × List·Memᴰ u g
-
--- each thread stays or moves within its `02` line
-abbrev pub Permitted : Program → (ℕ → ℕ) → Type 0
-Permitted p π = (t : ℕ) → (π t ≡ t) ⊎ Together p t (π t)
+-- the permutations that are permitted, the same in every memory model
+pub use Rattle.model.specs.Exchange.{Permutation, Together, Permitted}
 
 unfoldable pub movedEvent : (ℕ → ℕ) → Event → Event
 movedEvent π e = (π (e .0), e .1)

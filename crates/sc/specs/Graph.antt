@@ -41,5 +41,5 @@ abbrev pub Fails : Program → Schedule → Type 0
 Fails p s = fails (endOf p s) ≡ true
 
 -- the graph of a schedule
-unfoldable pub graph : Program → Schedule → Graph
+abbrev pub graph : Program → Schedule → Graph
 graph p s = graphOf (endOf p s)

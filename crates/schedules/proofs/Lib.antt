@@ -17,6 +17,8 @@ pub mod Calls
 pub mod Offered
 -- the first member, and the first that passes a test
 pub mod First
+-- in an ascending list of schedules: the member that passes while no smaller one does
+pub mod FirstIn
 -- what a test keeps of a list; lists one behind the other
 pub mod Kept
 -- what is above a bound in a list
@@ -25,6 +27,8 @@ pub mod After
 pub mod Found
 -- the search finds exactly the listed full schedules above the bound
 pub mod Search
+-- two tests that agree on what no cut gives up find the same
+pub mod SameFound
 -- the listed schedules: exact, ascending, finite, one for each full schedule; the search finds them
 pub mod Listed
 -- moving a step to the front over independent ones

@@ -24,3 +24,7 @@ past (some (b ∷ bs)) t = elim (eqb b t) [ true ↦ some bs | false ↦ none ]
 -- what a cut must satisfy, in the runs from ρ: a prefix and a next byte that are cut lead to no listed full schedule
 abbrev pub SoundCut : (M : System) → M .State → (Schedule → M .State → ℕ → Bool) → (Schedule → Bool) → Type 0
 SoundCut M ρ cut listed = (v : Schedule) (t : ℕ) (z : Schedule) → cut v (run M ρ v) t ≡ true → FullFrom M ρ (v ++ (t ∷ z)) → listed (v ++ (t ∷ z)) ≡ false
+
+-- no step of the schedule is cut, in the run from ρ
+abbrev pub Uncut : (M : System) → M .State → (Schedule → M .State → ℕ → Bool) → Schedule → Type 0
+Uncut M ρ cut s = (v : Schedule) (t : ℕ) (z : Schedule) → s ≡ v ++ (t ∷ z) → cut v (run M ρ v) t ≡ false

@@ -58,7 +58,7 @@ GraphWithin room (texted t) = (length t ≤ 400) × (512 ≤ room)
 GraphWithin room (refusing n k) = (n < 256) × (k < 2 ^ 48)
 
 pub graph-within : (file : List ℕ) (s : Schedule) (room : ℕ) → GraphWithin room (graphFile file s room)
-unfolding graphFile graphOn graphAnswer texting graph
+unfolding graphFile graphOn graphAnswer texting
 graph-within file s room = go (decode file) refl
   where
     text : (p : Program) → WellFormed p → 512 ≤ room → (r : Replayed) → Schedules.Within p s r → GraphWithin room (texting r)

@@ -35,7 +35,7 @@ use Rattle.list.specs.Rules.{sameFlag, sameLocal, sameHistory, silent, twin}
 use Rattle.pruning.specs.ClassGroups.{groupsOf}
 use Rattle.pruning.specs.Reached.{Reached}
 use Rattle.twins.specs.HeldTwin.{standsAs, wroteIn, sameReads, twinBy}
-use Rattle.list.proofs.Exchanges.{Together}
+use Rattle.model.specs.Exchange.{Together}
 use Rattle.list.proofs.Tests.{together-true}
 use Rattle.twins.proofs.SilentNotes.{silent-notes}
 

@@ -1,4 +1,4 @@
-//! The machine's state as the search copies it, and what lies before each thread.
+//! The machine's state as the walk over all schedules copies it.
 use crate::oracle::decode::{Instruction, Operand, Program};
 use crate::oracle::machine::{opened, Event, Thread, INITIAL};
 
@@ -19,8 +19,6 @@ pub struct State {
     pub memory: [u32; 8],
     /// The last write of each location.
     pub last: [Event; 8],
-    /// The threads that have written, as bits.
-    pub wrote: u8,
 }
 
 impl State {
@@ -29,11 +27,7 @@ impl State {
         for (thread, code) in threads.iter_mut().zip(&program.threads) {
             *thread = opened(code);
         }
-        State { threads, memory: [0; 8], last: [INITIAL; 8], wrote: 0 }
-    }
-
-    pub fn fails(&self) -> bool {
-        self.threads.iter().any(|thread| thread.failed)
+        State { threads, memory: [0; 8], last: [INITIAL; 8] }
     }
 
     pub fn pending(&self, program: &Program, t: usize) -> Option<Pending> {
@@ -73,41 +67,7 @@ impl State {
         if let Some(value) = effect.written {
             next.memory[l] = value;
             next.last[l] = event;
-            next.wrote |= 1 << t;
         }
         next
-    }
-}
-
-/// For each instruction of each thread: the locations that it and those behind it access, and those they may write, as bits.
-pub struct Ahead {
-    all: [[(u8, u8); 17]; 6],
-    threads: usize,
-}
-
-impl Ahead {
-    pub fn of(program: &Program) -> Ahead {
-        let mut all = [[(0, 0); 17]; 6];
-        for (t, code) in program.threads.iter().enumerate() {
-            for (k, instruction) in code.iter().enumerate().rev() {
-                let (accessed, written) = match *instruction {
-                    Instruction::Load { l, .. } => (1 << l, 0),
-                    Instruction::Store { l, .. } => (1 << l, 1 << l),
-                    Instruction::FetchAdd { l, .. } => (1 << l, 1 << l),
-                    Instruction::CompareSwap { l, .. } => (1 << l, 1 << l),
-                    _ => (0, 0),
-                };
-                all[t][k] = (all[t][k + 1].0 | accessed, all[t][k + 1].1 | written);
-            }
-        }
-        Ahead { all, threads: program.threads.len() }
-    }
-
-    /// May an instruction that another thread has before it conflict with this access of t?
-    pub fn conflicts(&self, state: &State, t: usize, access: Pending) -> bool {
-        (0..self.threads).filter(|&u| u != t && !state.threads[u].failed).any(|u| {
-            let (accessed, written) = self.all[u][state.threads[u].next.min(16)];
-            (if access.writes { accessed } else { written }) >> access.location & 1 == 1
-        })
     }
 }

@@ -3,6 +3,7 @@ mod check;
 mod graph;
 mod judge;
 mod listing;
+mod search;
 mod step;
 mod timing;
 
@@ -11,5 +12,6 @@ fn main() {
     graph::report();
     step::report();
     judge::report();
+    search::report();
     listing::report();
 }

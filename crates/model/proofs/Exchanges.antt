@@ -1,5 +1,5 @@
--- The permitted exchanges of threads are a group: the identity, the inverse of one and two after each other. The last is where it counts that
--- no thread stands in two `02` lines.
+-- The permitted exchanges of threads are a group: the identity, the inverse of one and two after each other. The last is where it counts
+-- that no thread stands in two `02` lines.
 use Prim.Native.Nat.{ℕ, _<_}
 use mathlib.Core.Path.{_≡_, refl, sym, ap, subst, _∙_}
 use mathlib.Core.Logic.{_⊎_, inl, inr, ⊎-elim}
@@ -8,8 +8,11 @@ use native.Mathlib.Omega.{arith}
 use native.Mathlib.Decide.{decLt}
 use Rattle.program.specs.Program.{Program}
 use Rattle.program.specs.WellFormed.{Everywhere, WellFormed, Apart}
-use Rattle.sc.specs.Exchange.{Permutation}
-use Rattle.list.specs.Alike.{Exchange}
+use Rattle.model.specs.Exchange.{Permutation, Together, Permitted, Exchange}
+
+-- a permutation moves no two threads to one
+pub injective : (π : ℕ → ℕ) → Permutation π → (t u : ℕ) → π t ≡ π u → t ≡ u
+injective π q t u e = sym (q .inverse-after t) ∙ ap (q .inverse) e ∙ q .inverse-after u
 
 identity : Permutation (λ t. t)
 identity = record { inverse = λ t. t; inverse-after = λ t. refl; after-inverse = λ t. refl; below = λ t h. h; stays = λ t h. refl }
@@ -35,7 +38,7 @@ apart-at : (g : List ℕ) (gs : List (List ℕ)) (h : List ℕ) (t : ℕ) → Ev
 apart-at g [] h t a m i j = List·Memᴰ·not-nil m
 apart-at g (k ∷ gs) h t a m i j = ⊎-elim (λ (e : h ≡ k). a .0 t i (subst (List·Memᴰ t) e j)) (λ (n : List·Memᴰ h gs). apart-at g gs h t (a .1) n i j) (List·Memᴰ·cases-cons m)
 
-one-group : (gs : List (List ℕ)) → Apart gs → (g h : List ℕ) (t : ℕ) → List·Memᴰ g gs → List·Memᴰ h gs → List·Memᴰ t g → List·Memᴰ t h → g ≡ h
+pub one-group : (gs : List (List ℕ)) → Apart gs → (g h : List ℕ) (t : ℕ) → List·Memᴰ g gs → List·Memᴰ h gs → List·Memᴰ t g → List·Memᴰ t h → g ≡ h
 one-group [] a g h t m n i j = absurd (List·Memᴰ·not-nil m)
 one-group (k ∷ gs) a g h t m n i j = go (List·Memᴰ·cases-cons m) (List·Memᴰ·cases-cons n) (λ x y. one-group gs (a .1) g h t x y i j)
   where
@@ -46,10 +49,6 @@ one-group (k ∷ gs) a g h t m n i j = go (List·Memᴰ·cases-cons m) (List·Me
     go (inr x) (inr y) ih = ih x y
 
 module _ (p : Program) where
-  -- t and u stand in one group
-  abbrev pub Together : ℕ → ℕ → Type 0
-  Together t u = (g : List ℕ) × List·Memᴰ g (p .groups) × List·Memᴰ t g × List·Memᴰ u g
-
   pub exchange-none : Exchange p (λ t. t)
   exchange-none = (identity, λ t. inl refl)
 
@@ -59,15 +58,23 @@ module _ (p : Program) where
       back : ℕ → ℕ
       back = x .0 .inverse
 
-      go : (t : ℕ) → (π (back t) ≡ back t) ⊎ Together (back t) (π (back t)) → (back t ≡ t) ⊎ Together t (back t)
+      go : (t : ℕ) → (π (back t) ≡ back t) ⊎ Together p (back t) (π (back t)) → (back t ≡ t) ⊎ Together p t (back t)
       go t (inl e) = inl (sym e ∙ x .0 .after-inverse t)
       go t (inr k) = inr (k .0, k .1, subst (λ (u : ℕ). List·Memᴰ u (k .0)) (x .0 .after-inverse t) (k .3), k .2)
 
   pub exchange-both : WellFormed p → (ρ π : ℕ → ℕ) → Exchange p ρ → Exchange p π → Exchange p (λ t. ρ (π t))
   exchange-both w ρ π y x = (composed ρ π (y .0) (x .0), λ t. go t (x .1 t) (y .1 (π t)))
     where
-      go : (t : ℕ) → (π t ≡ t) ⊎ Together t (π t) → (ρ (π t) ≡ π t) ⊎ Together (π t) (ρ (π t)) → (ρ (π t) ≡ t) ⊎ Together t (ρ (π t))
+      go : (t : ℕ) → (π t ≡ t) ⊎ Together p t (π t) → (ρ (π t) ≡ π t) ⊎ Together p (π t) (ρ (π t)) → (ρ (π t) ≡ t) ⊎ Together p t (ρ (π t))
       go t (inl e) (inl f) = inl (f ∙ e)
       go t (inl e) (inr k) = inr (k .0, k .1, subst (λ (u : ℕ). List·Memᴰ u (k .0)) e (k .2), k .3)
       go t (inr k) (inl f) = inr (k .0, k .1, k .2, subst (λ (u : ℕ). List·Memᴰ u (k .0)) (sym f) (k .3))
       go t (inr k) (inr l) = inr (k .0, k .1, k .2, subst (List·Memᴰ (ρ (π t))) (sym (one-group (p .groups) (w .apart) (k .0) (l .0) (π t) (k .1) (l .1) (k .3) (l .2))) (l .3))
+
+-- with no `02` line only the identity is permitted
+pub only-identity : (p : Program) (π : ℕ → ℕ) → p .groups ≡ [] → Permitted p π → (t : ℕ) → π t ≡ t
+only-identity p π e m t = go (m t)
+  where
+    go : (π t ≡ t) ⊎ Together p t (π t) → π t ≡ t
+    go (inl i) = i
+    go (inr k) = absurd (List·Memᴰ·not-nil (subst (List·Memᴰ (k .0)) e (k .1)))

@@ -1,0 +1,113 @@
+-- A list of calls on one file that the model lists is a walk through its list: a schedule that was answered is listed, so full, and a
+-- continue from a full schedule is not refused for it.
+use Prim.Native.Nat.{ℕ, suc, _≤_}
+use mathlib.Core.Path.{_≡_, refl, sym, ap, subst, _∙_}
+use mathlib.Core.Logic.{_↔_}
+use mathlib.Core.Bool.{Bool, true, false}
+use mathlib.Core.Option.{Option, none, some}
+use mathlib.Core.List.{List, [], _∷_, List·Memᴰ}
+use native.Mathlib.Omega.{arith}
+use lib.ListN.{length}
+use Rattle.lines.specs.Over.{over}
+use Rattle.program.specs.Program.{Program}
+use Rattle.program.specs.Decode.{Decoded, accepted, decode}
+use Rattle.schedules.specs.Lists.{first}
+use Rattle.schedules.specs.Order.{Schedule, less}
+use Rattle.schedules.specs.System.{System, FullFrom}
+use Rattle.schedules.specs.Calls.{Answer, found, nomore, offer, turn, short, Result, result, called, last, Dialogue, due}
+use Rattle.schedules.proofs.Calls.{called-found, called-nomore, dialogue-answers}
+use Rattle.schedules.proofs.Offered.{offer-in, offer-next, turn-short, last-turn}
+use Rattle.schedules.proofs.First.{first-none, next-first}
+use Rattle.schedules.proofs.FirstIn.{FirstIn, first-in, in-first, none-first}
+use Rattle.model.specs.Model.{Model, Full}
+use Rattle.model.specs.Laws.{Laws}
+use Rattle.model.specs.Alike.{listOf}
+use Rattle.model.specs.Answers.{startOf, refusesFrom, continued, continueOf}
+use Rattle.model.specs.OnFile.{admit, startOn, continueOn, startFile, continueFile}
+use Rattle.model.specs.Demand3.{call, Called}
+use Rattle.model.proofs.TheList.{list-ascends, list-exact}
+
+-- a full schedule is not refused
+full-goes : (M : System) (s : Schedule) (k : ℕ) (σ : M .State) → FullFrom M σ s → refusesFrom M k σ s ≡ none
+unfolding refusesFrom
+full-goes M [] k σ f = rw (f, refusesFrom)
+full-goes M (b ∷ s) k σ f = let e = f .0 in rw (e, refusesFrom) (full-goes M s (suc k) (M .step σ b) (f .1))
+
+-- what is offered after s is the first member after it
+offer-first : (l : List Schedule) (s : Schedule) → offer l (some s) ≡ first (less s) l
+offer-first l s = offer-next l s ∙ next-first s l
+
+module _ (need : ℕ) (l : List Schedule) (o : Option Schedule) (out : List ℕ) (h : need ≤ length out) where
+  found-only : (s : Schedule) → called need l o out ≡ (found s, over s out) → offer l o ≡ some s
+  found-only s e = go (offer l o) refl
+    where
+      go : (x : Option Schedule) → offer l o ≡ x → offer l o ≡ some s
+      go none q = absurd (let k = ap (λ (r : Result). r .0) (sym (called-nomore need l o out h q) ∙ e) in let z : _≡_ {A = ℕ} 0 1 = cc in omega arith)
+      go (some r) q = let i : r ≡ s = let k = ap (λ (r : Result). r .0) (sym (called-found need l o out r h q) ∙ e) in cc in q ∙ ap (λ (z : Schedule). some z) i
+
+  nomore-only : called need l o out ≡ (nomore, out) → offer l o ≡ none
+  nomore-only e = go (offer l o) refl
+    where
+      go : (x : Option Schedule) → offer l o ≡ x → offer l o ≡ none
+      go none q = q
+      go (some r) q = absurd (let k = ap (λ (r : Result). r .0) (sym (called-found need l o out r h q) ∙ e) in let z : _≡_ {A = ℕ} 0 1 = cc in omega arith)
+
+module _ (M : Model) (p : Program) where
+  -- a continue from a full schedule
+  pub continue-full : (s : Schedule) → Full M p s → (out : List ℕ) → continueOf M p s out ≡ called (M .need) (listOf M p) (some s) out
+  unfolding continueOf continued
+  continue-full s f out = go (short (M .need) out) refl
+    where
+      given : refusesFrom (M .system) 0 (M .start p) s ≡ none
+      given = full-goes (M .system) s 0 (M .start p) f
+
+      go : (b : Bool) → short (M .need) out ≡ b → continueOf M p s out ≡ result (turn (short (M .need) out) (offer (listOf M p) (some s))) out
+      go true e = let k = turn-short (offer (listOf M p) (some s)) in ap (λ (a : Answer). result a out) (rw (e, k))
+      go false e = ap (λ (a : Answer). result a out) (rw (e, given))
+
+  -- nothing answered yet, or a full schedule
+  abbrev Known : Option Schedule → Type 0
+  Known none = Unit {0}
+  Known (some s) = Full M p s
+
+module _ (M : Model) (L : Laws M) (file : List ℕ) (p : Program) (e : admit M (decode file) ≡ accepted p) where
+  -- behind an answer too
+  known-next : (o : Option Schedule) → Known M p o → (out : List ℕ) → Known M p (last o (called (M .need) (listOf M p) o out .0))
+  known-next o k out = last-turn (Full M p) (Known M p) (λ s f. f) (short (M .need) out) (offer (listOf M p) o) o k (λ s q. list-exact M L p s .0 (offer-in (listOf M p) o s q) .0)
+
+  pub continue-file : (s : Schedule) → Full M p s → (out : List ℕ) → continueFile M file s out ≡ called (M .need) (listOf M p) (some s) out
+  unfolding continueOn
+  continue-file s f out = ap (λ (d : Decoded). continueOn M d s out) e ∙ continue-full M p s f out
+
+  start-file : (out : List ℕ) → startFile M file out ≡ called (M .need) (listOf M p) none out
+  unfolding startOn startOf
+  start-file out = ap (λ (d : Decoded). startOn M d out) e
+
+  call-called : (o : Option Schedule) → Known M p o → (out : List ℕ) → call M file o out ≡ called (M .need) (listOf M p) o out
+  call-called none k out = start-file out
+  call-called (some s) k out = continue-file s k out
+
+  dialogue : (outs : List (List ℕ)) (o : Option Schedule) (rs : List Result) → Known M p o → Called M file o outs rs → Dialogue (M .need) (listOf M p) o outs rs
+  dialogue [] o [] k d = tt
+  dialogue [] o (r ∷ rs) k d = d
+  dialogue (out ∷ outs) o [] k d = d
+  dialogue (out ∷ outs) o (r ∷ rs) k d =
+      let q = d .0 ∙ call-called o k out in
+      (q, dialogue outs (last o (r .0)) rs (subst (λ (x : Result). Known M p (last o (x .0))) (sym q) (known-next o k out)) (d .1))
+
+  -- THE CALLS give what is due
+  pub calls-due : (outs : List (List ℕ)) (rs : List Result) → Called M file none outs rs → rs ≡ due (M .need) (listOf M p) outs
+  calls-due outs rs d = dialogue-answers (M .need) (listOf M p) (list-ascends M L p) outs rs (dialogue outs none rs tt d)
+
+  -- a continue from a full schedule, with enough room: the least listed one after it, or no more
+  pub continue-least : (s : Schedule) → Full M p s → (out : List ℕ) → M .need ≤ length out → (r : Schedule) → (continueFile M file s out ≡ (found r, over r out)) ↔ FirstIn (less s) (listOf M p) r
+  continue-least s f out h r = (
+    (λ i. first-in (less s) (listOf M p) (list-ascends M L p) r (sym (offer-first (listOf M p) s) ∙ found-only (M .need) (listOf M p) (some s) out h r (sym (continue-file s f out) ∙ i))),
+    λ k. continue-file s f out ∙ called-found (M .need) (listOf M p) (some s) out r h (offer-first (listOf M p) s ∙ in-first (less s) (listOf M p) (list-ascends M L p) r k),
+  )
+
+  pub continue-none : (s : Schedule) → Full M p s → (out : List ℕ) → M .need ≤ length out → (continueFile M file s out ≡ (nomore, out)) ↔ ((r : Schedule) → List·Memᴰ r (listOf M p) → less s r ≡ false)
+  continue-none s f out h = (
+    (λ i. none-first (less s) (listOf M p) (sym (offer-first (listOf M p) s) ∙ nomore-only (M .need) (listOf M p) (some s) out h (sym (continue-file s f out) ∙ i))),
+    λ k. continue-file s f out ∙ called-nomore (M .need) (listOf M p) (some s) out h (offer-first (listOf M p) s ∙ first-none (less s) (listOf M p) k),
+  )

@@ -1,0 +1,41 @@
+-- The laws of every memory model, in the order in which they rest on each other.
+-- permitted exchanges are a group
+pub mod Exchanges
+-- and the list of them is exact
+pub mod Permitted
+-- own steps reordered; one graph, one end
+pub mod Orders
+-- exchanged runs
+pub mod Exchanged
+-- being alike is an equivalence
+pub mod Alike
+-- the list: exact, ascending, finite, one for each full schedule
+pub mod TheList
+-- alike schedules have one outcome; where no listed one fails, no run does
+pub mod Outcome
+-- among any actions: what comes late passes a greater one
+pub mod Passing
+-- and where none comes late the order is the least
+pub mod Timely
+-- the actions of a run
+pub mod Traces
+-- R1 is sound
+pub mod Late
+-- R1 is exact for graphs
+pub mod OnTime
+-- the late set is R1
+pub mod LateSet
+-- and in a word
+pub mod LateWord
+-- R2 is sound
+pub mod Twins
+-- the test at a full schedule is exact
+pub mod Unbeaten
+-- what the search finds, for every sound rule
+pub mod Search
+-- a list of calls walks the list
+pub mod Calls
+-- violation
+pub mod Violations
+-- DEMAND 3
+pub mod Demand3

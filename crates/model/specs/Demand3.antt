@@ -1,0 +1,81 @@
+-- DEMAND 3, the listing's promise about a file that a memory model lists, as one claim. p is the program that the file is read as, `listOf
+-- M p` its list; `startFile`, `continueFile`, `countFile` and `violationFile` are what the contracts of the four calls equate their answers
+-- and the later contents of their outputs with.
+use Prim.Native.Nat.{ℕ, _^_, _%_, _<_, _≤_}
+use mathlib.Core.Path.{_≡_}
+use mathlib.Core.Logic.{_↔_}
+use mathlib.Core.Bool.{true, false}
+use mathlib.Core.Option.{Option, none, some}
+use mathlib.Core.List.{List, [], _∷_, _++_, List·Memᴰ}
+use lib.ListN.{length}
+use Rattle.lines.specs.Over.{over}
+use Rattle.program.specs.Program.{Program}
+use Rattle.schedules.specs.Lists.{keep, Ascends}
+use Rattle.schedules.specs.Order.{Schedule, less}
+use Rattle.schedules.specs.Calls.{found, nomore, turn, short, Result, result, called, last, due, served, member}
+use Rattle.model.specs.Model.{Model, endOf, Runs, Full, failing}
+use Rattle.model.specs.Alike.{Alike, Listed, listOf}
+use Rattle.model.specs.Answers.{fails-first, none-fails, refused-by}
+use Rattle.model.specs.OnFile.{startFile, continueFile, counted, countFile, violationFile}
+
+-- s is in the list of p
+abbrev pub InList : (M : Model) → Program → Schedule → Type 0
+InList M p s = List·Memᴰ s (listOf M p)
+
+-- A list of calls on one file, each with an output of any length. Until a schedule has been answered each is a start; from then on each is
+-- a continue, handed a copy of the schedule answered last, also after a refusal or a no more.
+abbrev pub call : (M : Model) → List ℕ → Option Schedule → List ℕ → Result
+call M file none out = startFile M file out
+call M file (some s) out = continueFile M file s out
+
+-- these outputs got these results, where this schedule was answered last before them
+abbrev pub Called : (M : Model) → List ℕ → Option Schedule → List (List ℕ) → List Result → Type 0
+Called M file before [] [] = Unit {0}
+Called M file before [] (r ∷ rs) = ⊥
+Called M file before (out ∷ outs) [] = ⊥
+Called M file before (out ∷ outs) (r ∷ rs) = (r ≡ call M file before out) × Called M file (last before (r .0)) outs rs
+
+pub record Demand3 (M : Model) (file : List ℕ) (p : Program) : Type 0 where
+  -- THE LIST has exactly the full schedules that document 01 calls listed: no smaller full schedule is alike
+  pub exact : (s : Schedule) → InList M p s ↔ Listed M p s
+  -- it ascends strictly
+  pub ascending : Ascends less (listOf M p)
+  -- it is finite and never empty
+  pub finite : length (listOf M p) ≤ length (M .system .names) ^ (M .steps)
+  pub begins : (s : Schedule) × InList M p s
+  -- each member fits an output that is not refused
+  pub within : (s : Schedule) → InList M p s → length s ≤ M .need
+  -- EACH FULL SCHEDULE'S GRAPH equals that of exactly one listed one, up to exchanging threads declared alike
+  pub one-each : (s : Schedule) → Full M p s →
+      (r : Schedule) × InList M p r × Alike M p r s × ((q : Schedule) → InList M p q → Alike M p q s → q ≡ r)
+  -- where one of two alike schedules fails so does the other, and both leave the same memory
+  pub same-outcome : (r s : Schedule) → Full M p r → Full M p s → Alike M p r s →
+      (failing M p r ≡ failing M p s) × (M .memoryOf (endOf M p r) ≡ M .memoryOf (endOf M p s))
+  -- THE CALLS, whatever their number and outputs: what they answer, and the outputs behind them, is what is due
+  pub answers : (outs : List (List ℕ)) (rs : List Result) → Called M file none outs rs → rs ≡ due (M .need) (listOf M p) outs
+  -- call by call: 22 exactly where the output is too short; else the listed schedule whose number, from 0, is that of the calls before that
+  -- were not refused, or no more if there are not so many
+  pub answer-at : (before : List (List ℕ)) (out : List ℕ) (after : List (List ℕ)) (rs : List Result) →
+      Called M file none (before ++ (out ∷ after)) rs →
+      (rest : List Result) × (rs ≡ due (M .need) (listOf M p) before
+      ++ (result (turn (short (M .need) out) (member (listOf M p) (served (M .need) before))) out ∷ rest))
+  -- A CONTINUE from any full schedule, listed or not, answers as it would in such a list
+  pub continues : (s : Schedule) → Full M p s → (out : List ℕ) → continueFile M file s out ≡ called (M .need) (listOf M p) (some s) out
+  -- with an output that is not too short: the least listed one after it, written in front of the output's old rest
+  pub continue-least : (s : Schedule) → Full M p s → (out : List ℕ) → M .need ≤ length out → (r : Schedule) →
+      (continueFile M file s out ≡ (found r, over r out)) ↔
+      (InList M p r × (less s r ≡ true) × ((q : Schedule) → InList M p q → less q r ≡ true → less s q ≡ false))
+  -- or no more, exactly when none is
+  pub continue-none : (s : Schedule) → Full M p s → (out : List ℕ) → M .need ≤ length out →
+      (continueFile M file s out ≡ (nomore, out)) ↔ ((r : Schedule) → InList M p r → less s r ≡ false)
+  -- COUNT: the list's length, and the number of its members that fail, modulo 2^64
+  pub counts : countFile M file ≡
+      counted (record { listed = length (listOf M p) % 2 ^ 64; failed = length (keep (failing M p) (listOf M p)) % 2 ^ 64 })
+  -- VIOLATION, with an output that is not too short: the first member that fails, written in front of the output's old rest
+  pub violation-first : (out : List ℕ) → M .need ≤ length out → (s : Schedule) → (violationFile M file out ≡ (fails-first s, over s out)) ↔
+      (InList M p s × (failing M p s ≡ true) × ((r : Schedule) → InList M p r → less r s ≡ true → failing M p r ≡ false))
+  -- and none exactly when no run at all fails, however far it went
+  pub violation-none : (out : List ℕ) → M .need ≤ length out →
+      (violationFile M file out ≡ (none-fails, out)) ↔ ((s : Schedule) → Runs M p s → failing M p s ≡ false)
+  -- 22 exactly when it is too short
+  pub violation-short : (out : List ℕ) → (violationFile M file out ≡ (refused-by 22 0, out)) ↔ (length out < M .need)

@@ -1,0 +1,21 @@
+-- What a reader of this crate must believe, in reading order.
+-- exchanging threads that an `02` line declares alike
+pub mod Exchange
+-- what a memory model is
+pub mod Model
+-- what it shows of itself
+pub mod Laws
+-- alike, listed, and the list, executable
+pub mod Alike
+-- R1: steps that come late
+pub mod Late
+-- the late set, carried from step to step
+pub mod LateSet
+-- sound rules, the test at a full schedule, and what the search finds
+pub mod Search
+-- the four calls on a program
+pub mod Answers
+-- the four calls on a file
+pub mod OnFile
+-- DEMAND 3
+pub mod Demand3

@@ -1,0 +1,77 @@
+-- A failed assertion leaves no code: a thread that failed never steps again, so a run that failed stays so.
+use Prim.Native.Nat.{ℕ, zero, suc}
+use mathlib.Core.Path.{_≡_, refl, sym, ap, subst, _∙_}
+use mathlib.Core.Logic.{_≢_}
+use mathlib.Core.Bool.{Bool, true, false, true≢false, false≢true}
+use mathlib.Core.List.{List, [], _∷_}
+use lib.Dec.{eqb}
+use lib.ListN.{getD, set}
+use Rattle.program.specs.Program.{Program}
+use Rattle.program.specs.declared.instruction.Instruction.{Instruction}
+use Rattle.program.specs.declared.instruction.Instruction.the-variants.{Store, Load, FetchAdd, CompareSwap, Assign, AddAssign, SkipUnless, Assert}
+use Rattle.schedules.specs.Order.{Schedule}
+use Rattle.schedules.specs.System.{run, Allowed}
+use Rattle.sc.specs.Local.{Local, eval, settle, beginsWithAccess, firstNext, pending, next, begin}
+use Rattle.sc.specs.State.{State, noThread, threadOf, advanced, step, may, SC, opened, start, failedOf, fails}
+use Rattle.sc.specs.Graph.{endOf}
+use Rattle.sc.proofs.Access.{nothing-pending}
+use Rattle.sc.proofs.Steps.{may-pending, may-range, thread-other}
+use Rattle.sc.proofs.Change.{thread-cases}
+use Rattle.sc.proofs.Start.{start-cases, everyone}
+use Rattle.sc.proofs.Failing.{fails-at, fails-of}
+
+-- a thread that failed has no code left
+abbrev Halts : Local → Type 0
+Halts h = h .failed ≡ true → h .rest ≡ []
+
+settle-halts : (is : List Instruction) (k : ℕ) (rs : List ℕ) → Halts (settle k rs is)
+unfolding settle
+settle-halts [] k rs e = refl
+settle-halts (i ∷ is) (suc k) rs e = settle-halts is k rs e
+settle-halts (Store l p ∷ is) zero rs e = absurd (false≢true e)
+settle-halts (Load r l ∷ is) zero rs e = absurd (false≢true e)
+settle-halts (FetchAdd r l p ∷ is) zero rs e = absurd (false≢true e)
+settle-halts (CompareSwap r l c v ∷ is) zero rs e = absurd (false≢true e)
+settle-halts (Assign r p ∷ is) zero rs e = settle-halts is zero _ e
+settle-halts (AddAssign r p ∷ is) zero rs e = settle-halts is zero _ e
+settle-halts (SkipUnless r p n ∷ is) zero rs e = settle-halts is _ rs e
+settle-halts (Assert r p ∷ is) zero rs e = go (eqb (getD rs r 0) (eval rs p)) refl (settle-halts is zero rs) e
+  where
+    go : (b : Bool) → eqb (getD rs r 0) (eval rs p) ≡ b → Halts (settle zero rs is) → Halts (settle zero rs (Assert r p ∷ is))
+    go true q ih = rw (q, settle) ih
+    go false q ih = rw (q, settle) (λ k. refl)
+
+next-halts : (h : Local) (is : List Instruction) (x : ℕ) → beginsWithAccess is ≡ true → Halts (firstNext h is x)
+unfolding beginsWithAccess firstNext
+next-halts h [] x b = absurd (false≢true b)
+next-halts h (Store l p ∷ is) x b = settle-halts is 0 (h .registers)
+next-halts h (Load r l ∷ is) x b = settle-halts is 0 (set (h .registers) r x)
+next-halts h (FetchAdd r l p ∷ is) x b = settle-halts is 0 (set (h .registers) r x)
+next-halts h (CompareSwap r l c v ∷ is) x b = settle-halts is 0 (set (h .registers) r x)
+next-halts h (Assign r p ∷ is) x b = absurd (false≢true b)
+next-halts h (AddAssign r p ∷ is) x b = absurd (false≢true b)
+next-halts h (SkipUnless r p n ∷ is) x b = absurd (false≢true b)
+next-halts h (Assert r p ∷ is) x b = absurd (false≢true b)
+
+halts-step : (σ : State) (t : ℕ) → may σ t ≡ true → ((u : ℕ) → Halts (threadOf σ u .local)) → (u : ℕ) → Halts (threadOf (step σ t) u .local)
+unfolding advanced next pending
+halts-step σ t m h u = thread-cases (λ k x. Halts (x .local)) σ t (may-range σ t m) (next-halts (threadOf σ t .local) (threadOf σ t .local .rest) _ (may-pending σ t m)) u (λ ne. h u)
+
+halts-start : (p : Program) (u : ℕ) → Halts (threadOf (start p) u .local)
+unfolding noThread opened begin
+halts-start p = start-cases p (λ c. Unit {0}) (λ h. Halts (h .local)) (λ e. refl) (λ c k. settle-halts c 0 _) (everyone (p .threads))
+
+halts-run : (s : Schedule) (σ : State) → Allowed SC σ s → ((u : ℕ) → Halts (threadOf σ u .local)) → (u : ℕ) → Halts (threadOf (run SC σ s) u .local)
+unfolding run
+halts-run [] σ a h = h
+halts-run (t ∷ s) σ a h = halts-run s (step σ t) (a .1) (halts-step σ t (a .0) h)
+
+-- A FAILED RUN STAYS FAILED
+pub stays-failed : (p : Program) (s : Schedule) (t : ℕ) → Allowed SC (start p) s → may (endOf p s) t ≡ true → fails (endOf p s) ≡ true → fails (step (endOf p s) t) ≡ true
+unfolding failedOf
+stays-failed p s t a m e =
+    let σ : State = endOf p s in
+    let r = fails-at σ e in
+    let stopped = nothing-pending (threadOf σ (r .0) .local) (halts-run s (start p) a (halts-start p) (r .0) (r .1)) in
+    let ne : r .0 ≢ t = λ q. true≢false (sym (may-pending σ t m) ∙ ap (λ (u : ℕ). pending (threadOf σ u .local)) (sym q) ∙ stopped) in
+    fails-of (step σ t) (r .0) (ap failedOf (thread-other σ t (r .0) ne) ∙ r .1)

@@ -1,0 +1,8 @@
+-- the test of exchanged graphs is exact
+pub mod Turned
+-- the laws of a memory model
+pub mod Laws
+-- DEMAND 3
+pub mod Demand3
+-- what refuses a schedule is what its replay says
+pub mod Refused

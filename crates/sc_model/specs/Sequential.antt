@@ -1,0 +1,33 @@
+-- Sequential consistency as a memory model: a byte is a thread's number, and of two steps at one location one of which writes the earlier
+-- must stay before the later. It turns no program away; an output has room for 24 bytes.
+use mathlib.Core.Option.{none}
+use Rattle.model.specs.Model.{Model}
+use Rattle.sc.specs.State.{SC, start, fails, memoryOf}
+use Rattle.sc.specs.Trail.{Action, action, who, conflict}
+use Rattle.sc.specs.Graph.{Graph, graphOf}
+use Rattle.sc.specs.Exchange.{Moves, Turns}
+use Rattle.sc.specs.ExchangedTrail.{movedAction}
+use Rattle.sc_model.specs.Turned.{turns}
+
+abbrev pub sc : Model
+sc = record {
+  system = SC;
+  start = start;
+  Action = Action;
+  act = action;
+  who = who;
+  dependent = conflict;
+  Graph = Graph;
+  graphOf = graphOf;
+  movedByte = λ π b. π b;
+  movedAction = movedAction;
+  Moves = Moves;
+  Turns = Turns;
+  turns = turns;
+  fails = fails;
+  memoryOf = memoryOf;
+  top = 6;
+  steps = 24;
+  need = 24;
+  away = λ p. none;
+}

@@ -1,0 +1,146 @@
+-- The last running thread runs to its end without branching: where only t may step and none is asleep for good, no rule gives t's step up, behind it
+-- the same holds, and the search goes on with it alone.
+use Prim.Native.Nat.{ℕ, zero, suc, _+_, _-_, _<_, _≤_}
+use mathlib.Core.Path.{_≡_, refl, sym, ap, _∙_}
+use mathlib.Core.Logic.{_≢_, inl, inr}
+use mathlib.Core.Bool.{Bool, true, false, not, true≢false, false≢true}
+use mathlib.Core.Option.{Option}
+use mathlib.Core.List.{List, [], _∷_, _++_, append-nil}
+use native.Mathlib.Omega.{arith}
+use native.Mathlib.Decide.{ℕ-discrete}
+use lib.Dec.{eqb}
+use lib.ListN.{length}
+use borrow.Author.Tests.{eqb-true, eqb-false, eq-eqb}
+use Rattle.program.specs.Program.{Program}
+use Rattle.program.specs.WellFormed.{WellFormed}
+use Rattle.program.specs.declared.instruction.Instruction.{Instruction}
+use Rattle.program.proofs.Tests.{both}
+use Rattle.schedules.specs.Lists.{upTo, any}
+use Rattle.schedules.specs.Order.{Schedule}
+use Rattle.schedules.specs.System.{Allowed}
+use Rattle.schedules.specs.Search.{low, past}
+use Rattle.schedules.specs.Found.{inTurn}
+use Rattle.schedules.proofs.Lists.{of-upTo, any-yes}
+use Rattle.schedules.proofs.Runs.{not-ended}
+use Rattle.sc.specs.Local.{Local, pending, beginsWithAccess}
+use Rattle.sc.specs.State.{State, SC, threadOf, place, may, step, start}
+use Rattle.sc.specs.Graph.{endOf}
+use Rattle.sc.specs.Trail.{action}
+use Rattle.sc.proofs.Steps.{may-small, may-pending, may-of, may-other}
+use Rattle.sc.proofs.Lawful.{lawful}
+use Rattle.sc.proofs.Access.{Settled}
+use Rattle.sc.proofs.Regular.{Regular, regular-start, regular-run}
+use Rattle.list.specs.ListOf.{together}
+use Rattle.list.specs.Rules.{sameLocal, twin}
+use Rattle.survivors.specs.Sets.{has}
+use Rattle.survivors.specs.LateSet.{lateNow, lateBehind, lateSet}
+use Rattle.survivors.specs.Sleepers.{readsLeft, writesLeft, meets, wakes, sleepers}
+use Rattle.survivors.specs.Search.{givenUp, foundBehind, foundWith}
+use Rattle.survivors.proofs.Sets.{has-none, set-none}
+use Rattle.survivors.proofs.LateSet.{and-false, late-below, late-more}
+use Rattle.survivors.proofs.Sleepers.{sleepers-greatest, sleepers-none}
+use Rattle.survivors.proofs.Search.{up-not, with-ended, with-live, behind-turns}
+
+-- only t may step
+pub record Alone (σ : State) (t : ℕ) : Type 0 where
+  pub live : may σ t ≡ true
+  pub others : (u : ℕ) → u ≢ t → may σ u ≡ false
+
+-- nothing is left to a thread that has ended
+ended-rest : (σ : State) → Regular σ → (u : ℕ) → u < 6 → may σ u ≡ false → threadOf σ u .local .rest ≡ []
+ended-rest σ g u h e = go (g .settled u)
+  where
+    go : Settled (threadOf σ u .local) → threadOf σ u .local .rest ≡ []
+    go (inl q) = q
+    go (inr q) = absurd (true≢false (sym (may-of σ u h q) ∙ e))
+
+ended-wakes : (σ : State) (t u : ℕ) → threadOf σ u .local .rest ≡ [] → wakes σ t u ≡ false
+unfolding wakes meets readsLeft writesLeft
+ended-wakes σ t u e = rw e (rw (has-none (place σ t)) refl)
+
+rest-some : (h : Local) → pending h ≡ true → length (h .rest) ≢ 0
+unfolding pending beginsWithAccess
+rest-some h e = go (h .rest) e
+  where
+    go : (is : List Instruction) → beginsWithAccess is ≡ true → length is ≢ 0
+    go [] q = absurd (false≢true q)
+    go (i ∷ is) q = λ z. omega arith
+
+-- among these only f t is not empty
+only-turn : {A : Type 0} (f : ℕ → List A) (n d t : ℕ) → d ≤ t → t < d + n → ((u : ℕ) → u ≢ t → f u ≡ []) → inTurn f n d ≡ f t
+unfolding inTurn
+only-turn f zero d t l h e = absurd (omega arith)
+only-turn {A} f (suc n) d t l h e = go (ℕ-discrete d t) (λ k. only-turn f n (d + 1) t k (omega arith) e)
+  where
+    rest : (m d : ℕ) → t < d → inTurn f m d ≡ []
+    rest zero d k = refl
+    rest (suc m) d k = ap (λ (x : List A). x ++ inTurn f m (d + 1)) (e d (λ q. omega arith)) ∙ rest m (d + 1) (omega arith)
+
+    go : Dec (d ≡ t) → (d + 1 ≤ t → inTurn f n (d + 1) ≡ f t) → (f d ++ inTurn f n (d + 1)) ≡ f t
+    go (yes q) ih = ap (λ (x : List A). f d ++ x) (rest n (d + 1) (omega arith)) ∙ append-nil (f d) ∙ ap f q
+    go (no q) ih = ap (λ (x : List A). x ++ inTurn f n (d + 1)) (e d q) ∙ ih (omega arith)
+
+module _ (p : Program) (w : WellFormed p) (v : Schedule) (a : Allowed SC (start p) v) (t : ℕ) (one : Alone (endOf p v) t) where
+  abbrev σ : State
+  σ = endOf p v
+
+  regular : Regular (endOf p v)
+  regular = regular-run v (start p) (regular-start p w) a
+
+  -- t is not late: it would be asleep for good
+  on-time : sleepers (endOf p v) (lateSet p v) ≡ 0 → has (lateSet p v) t ≡ false
+  on-time z = go (has (lateSet p v) t) refl
+    where
+      small : t < 6
+      small = may-small σ t (one .live)
+
+      go : (b : Bool) → has (lateSet p v) t ≡ b → has (lateSet p v) t ≡ false
+      go false e = e
+      go true e = absurd (true≢false (sym in-them ∙ ap (λ (s : ℕ). has s t) z ∙ has-none t))
+        where
+          in-them : has (sleepers (endOf p v) (lateSet p v)) t ≡ true
+          in-them = sleepers-greatest σ (λ u. eqb u t)
+              (λ x u h i q n. ended-wakes σ x u (ended-rest σ regular u i (one .others u (eqb-false u t n)))) (lateSet p v) (late-below p v)
+              (λ u h q. ap (has (lateSet p v)) (eqb-true u t q) ∙ e) t small (eq-eqb t t refl)
+
+  -- no thread stands where it stands
+  twin-ended : (u : ℕ) → u < t → twin p (endOf p v) t u ≡ true → ⊥
+  unfolding twin sameLocal
+  twin-ended u h e =
+      let k = both (together (p .groups) u t) _ e .1 in
+      let l = both (sameLocal (threadOf σ u .local) (threadOf σ t .local)) _ k .0 in
+      let s = both (eqb (length (threadOf σ u .local .rest)) (length (threadOf σ t .local .rest))) _ l .0 in
+      let r = ended-rest σ regular u (omega (arith, h, may-small σ t (one .live))) (one .others u (λ q. omega (arith, q, h))) in
+      let n : 0 ≡ length (threadOf σ t .local .rest) = ap (λ (is : List Instruction). length is) (sym r) ∙ eqb-true (length (threadOf σ u .local .rest)) (length (threadOf σ t .local .rest)) s in
+      rest-some (threadOf σ t .local) (may-pending σ t (one .live)) (sym n)
+
+  no-twin : any (twin p (endOf p v) t) (upTo 0 t) ≡ false
+  no-twin = go (any (twin p σ t) (upTo 0 t)) refl
+    where
+      go : (b : Bool) → any (twin p σ t) (upTo 0 t) ≡ b → any (twin p σ t) (upTo 0 t) ≡ false
+      go false e = e
+      go true e = let r = any-yes (twin p σ t) (upTo 0 t) e in let h = of-upTo 0 t (r .0) (r .1) .1 in absurd (twin-ended (r .0) (omega arith) (r .2))
+
+  -- behind its step none is late
+  pub none-late : lateSet p (v ++ (t ∷ [])) ≡ 0
+  unfolding lateBehind lateNow action
+  none-late = late-more p v t ∙ set-none (lateNow (step σ t) (lateSet p v) (action σ t)) 6 (λ u h. at u (ℕ-discrete u t))
+    where
+      at : (u : ℕ) → Dec (u ≡ t) → lateNow (step σ t) (lateSet p v) (action σ t) u ≡ false
+      at u (yes q) = let e = eq-eqb t u (sym q) in rw e (and-false (may (step σ t) u))
+      at u (no q) = let e = may-other σ t u q ∙ one .others u q in rw e
+
+  pub none-asleep : sleepers (endOf p (v ++ (t ∷ []))) (lateSet p (v ++ (t ∷ []))) ≡ 0
+  none-asleep = ap (sleepers (endOf p (v ++ (t ∷ [])))) none-late ∙ sleepers-none (endOf p (v ++ (t ∷ [])))
+
+  -- THE LAST THREAD GOES ON: its step is not given up
+  pub last-goes-on : sleepers (endOf p v) (lateSet p v) ≡ 0 → givenUp p v (endOf p v) t ≡ false
+  last-goes-on z = up-not p v t (on-time z) no-twin none-asleep
+
+  -- and nothing else is tried
+  pub last-alone : (only : Bool) (steps : ℕ) (o : Option Schedule) → steps < 24 → low o ≤ t → sleepers (endOf p v) (lateSet p v) ≡ 0 →
+      foundBehind only p steps o v ≡ foundBehind only p (steps + 1) (past o t) (v ++ (t ∷ []))
+  last-alone only steps o h l z =
+      behind-turns only p steps v o (not-ended SC lawful σ t (one .live)) h
+      ∙ only-turn (λ d. foundWith only p steps o v d) (6 - low o) (low o) t l (omega (arith, l, may-small σ t (one .live))) (λ u n. with-ended only p steps o v u (one .others u n))
+      ∙ with-live only p steps o v t (one .live) (last-goes-on z)

@@ -1,0 +1,118 @@
+-- THE LATE SET HAS EXACTLY THE LATE: a thread is in the set that is carried from step to step exactly when it may step and its next step is late
+-- in the sense of R1, which looks back over all steps taken.
+use Prim.Native.Nat.{ℕ, _<_}
+use mathlib.Core.Path.{_≡_, refl, sym, ap, _∙_}
+use mathlib.Core.Logic.{_≢_}
+use mathlib.Core.Bool.{Bool, true, false, _&&_}
+use mathlib.Core.List.{List, [], _∷_, _++_, append-assoc, append-nil, reverse, reverse-cons}
+use native.Mathlib.Omega.{arith}
+use native.Mathlib.Decide.{decLt}
+use lib.Dec.{eqb, ltb}
+use borrow.Author.Tests.{eqb-false}
+use Rattle.program.specs.Program.{Program}
+use Rattle.schedules.specs.Order.{Schedule}
+use Rattle.schedules.specs.System.{run}
+use Rattle.schedules.specs.Orders.{trace}
+use Rattle.sc.specs.State.{State, step, may, start, SC}
+use Rattle.sc.specs.Graph.{endOf}
+use Rattle.sc.specs.Trail.{Action, action, trail, conflict}
+use Rattle.sc.proofs.Steps.{may-small, may-other}
+use Rattle.sc.proofs.Swap.{action-after}
+use Rattle.sc.proofs.Orders.{apart}
+use Rattle.list.specs.Rules.{late, taken}
+use Rattle.survivors.specs.Sets.{has}
+use Rattle.survivors.specs.LateSet.{lateNow, lateBehind, lateAlong, lateSet}
+use Rattle.survivors.proofs.Sets.{has-none, set-below, set-has, set-above}
+
+pub and-false : (b : Bool) → (b && false) ≡ false
+and-false true = refl
+and-false false = refl
+
+not-small : (σ : State) (t : ℕ) → (t < 6 → ⊥) → may σ t ≡ false
+not-small σ t n = go (may σ t) refl
+  where
+    go : (b : Bool) → may σ t ≡ b → may σ t ≡ false
+    go true e = absurd (n (may-small σ t e))
+    go false e = e
+
+-- the set behind a step has those that are late now
+pub behind-has : (σ : State) (s : ℕ) (a : Action) (t : ℕ) → has (lateBehind σ s a) t ≡ lateNow σ s a t
+unfolding lateBehind lateNow
+behind-has σ s a t = go (decLt t 6)
+  where
+    go : Dec (t < 6) → has (lateBehind σ s a) t ≡ lateNow σ s a t
+    go (yes h) = set-has (lateNow σ s a) 6 t h
+    go (no h) = set-above (lateNow σ s a) 6 t (omega arith) ∙ sym (let m = not-small σ t h in rw m)
+
+-- one step further: R1 looks at the latest step, and behind it at those before
+module _ (σ : State) (b s : ℕ) (past : List Action) (t : ℕ) (so-far : has s t ≡ (may σ t && late past (action σ t))) where
+  abbrev τ : State
+  τ = step σ b
+
+  now : (x c l : Bool) → eqb (action σ b .thread) t ≡ x → conflict (action σ b) (action τ t) ≡ c → ltb t (action σ b .thread) ≡ l →
+      lateNow τ s (action σ b) t ≡ (may τ t && late (action σ b ∷ past) (action τ t))
+  unfolding lateNow late action
+  now true c l q m o = rw (q, late)
+  now false true l q m o = rw (q, m, late)
+  now false false true q m o = rw (q, m, o, late)
+  now false false false q m o =
+      let ne : t ≢ b = λ e. eqb-false b t q (sym e) in
+      let i = apart σ b t ne m in
+      let same = action-after σ b t ne i in
+      let live = may-other σ b t ne in
+      rw (q, m, o, late) (ap (λ (k : Bool). may τ t && k) so-far ∙ rw (same, live) (twice (may σ t) (late past (action σ t))))
+    where
+      twice : (x y : Bool) → (x && (x && y)) ≡ (x && y)
+      twice true y = refl
+      twice false y = refl
+
+  pub late-step : has (lateBehind (step σ b) s (action σ b)) t ≡ (may (step σ b) t && late (action σ b ∷ past) (action (step σ b) t))
+  late-step = behind-has τ s (action σ b) t ∙ now (eqb (action σ b .thread) t) (conflict (action σ b) (action τ t)) (ltb t (action σ b .thread)) refl refl refl
+
+late-along : (v : Schedule) (σ : State) (s : ℕ) (past : List Action) → ((t : ℕ) → has s t ≡ (may σ t && late past (action σ t))) → (t : ℕ) →
+    has (lateAlong σ s v) t ≡ (may (run SC σ v) t && late (reverse (trail σ v) ++ past) (action (run SC σ v) t))
+unfolding lateAlong run trace
+late-along [] σ s past h t = h t
+late-along (b ∷ v) σ s past h t =
+    let w : reverse (action σ b ∷ trail (step σ b) v) ++ past ≡ reverse (trail (step σ b) v) ++ (action σ b ∷ past) =
+    ap (λ (k : List Action). k ++ past) (reverse-cons (action σ b) (trail (step σ b) v)) ∙ append-assoc (reverse (trail (step σ b) v)) (action σ b ∷ []) past in
+    late-along v (step σ b) (lateBehind (step σ b) s (action σ b)) (action σ b ∷ past) (λ u. late-step σ b s past u (h u)) t
+    ∙ ap (λ (k : List Action). may (run SC (step σ b) v) t && late k (action (run SC (step σ b) v) t)) (sym w)
+
+-- EXACTLY THE LATE
+pub late-set : (p : Program) (v : Schedule) (t : ℕ) → has (lateSet p v) t ≡ (may (endOf p v) t && late (taken p v) (action (endOf p v) t))
+unfolding lateSet taken late
+late-set p v t =
+    late-along v (start p) 0 [] (λ u. has-none u ∙ sym (and-false (may (start p) u))) t
+    ∙ ap (λ (k : List Action). may (endOf p v) t && late k (action (endOf p v) t)) (append-nil (reverse (trail (start p) v)))
+
+-- of a thread that may step
+pub late-exact : (p : Program) (v : Schedule) (t : ℕ) → may (endOf p v) t ≡ true → has (lateSet p v) t ≡ late (taken p v) (action (endOf p v) t)
+late-exact p v t m = late-set p v t ∙ ap (λ (b : Bool). b && late (taken p v) (action (endOf p v) t)) m
+
+-- ---- as code carries it: none at the start, then step by step; it is a byte
+pub late-start : (p : Program) → lateSet p [] ≡ 0
+unfolding lateSet lateAlong
+late-start p = refl
+
+along-more : (v : Schedule) (σ : State) (s t : ℕ) → lateAlong σ s (v ++ (t ∷ [])) ≡ lateBehind (step (run SC σ v) t) (lateAlong σ s v) (action (run SC σ v) t)
+unfolding lateAlong run
+along-more [] σ s t = refl
+along-more (b ∷ v) σ s t = along-more v (step σ b) (lateBehind (step σ b) s (action σ b)) t
+
+pub late-more : (p : Program) (v : Schedule) (t : ℕ) → lateSet p (v ++ (t ∷ [])) ≡ lateBehind (step (endOf p v) t) (lateSet p v) (action (endOf p v) t)
+unfolding lateSet
+late-more p v t = along-more v (start p) 0 t
+
+pub behind-below : (σ : State) (s : ℕ) (a : Action) → lateBehind σ s a < 64
+unfolding lateBehind
+behind-below σ s a = set-below (lateNow σ s a) 6
+
+along-below : (v : Schedule) (σ : State) (s : ℕ) → s < 64 → lateAlong σ s v < 64
+unfolding lateAlong
+along-below [] σ s h = h
+along-below (b ∷ v) σ s h = along-below v (step σ b) (lateBehind (step σ b) s (action σ b)) (behind-below (step σ b) s (action σ b))
+
+pub late-below : (p : Program) (v : Schedule) → lateSet p v < 64
+unfolding lateSet
+late-below p v = along-below v (start p) 0 (omega arith)

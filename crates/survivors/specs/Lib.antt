@@ -1,0 +1,15 @@
+-- What a reader of this crate must believe.
+-- the schedules that neither R1 nor R2 gives up
+pub mod Survivor
+-- sets of small numbers, a bit for each
+pub mod Sets
+-- R1: the threads whose next step would come late, carried from step to step
+pub mod LateSet
+-- R3: late threads that nothing left to the others can wake
+pub mod Sleepers
+-- THE SEARCH, with no test at a full schedule
+pub mod Search
+-- R2 by a word for each thread's reads
+pub mod ReadWords
+-- the definitions computed
+pub mod Examples
