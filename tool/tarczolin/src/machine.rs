@@ -4,9 +4,10 @@ use crate::graph::Event;
 use crate::program::{Instruction, Operand, Program};
 use Instruction::*;
 
-/// An assertion that failed, the value of its register, and the value that it asked for.
+/// An assertion that failed: its place in the thread's code, the value of its register, and the value that it asked for.
 #[derive(Clone, Copy, Debug, PartialEq, Eq)]
 pub struct Failure {
+    pub at: usize,
     pub r: u8,
     pub asserted: Operand,
     pub value: u32,
@@ -58,7 +59,7 @@ impl Thread {
                 SkipUnless { .. } => {}
                 Assert { r, p } => {
                     let (value, wanted) = (self.registers[r as usize], self.value(p));
-                    self.failure = (value != wanted).then_some(Failure { r, asserted: p, value, wanted });
+                    self.failure = (value != wanted).then_some(Failure { at: self.next, r, asserted: p, value, wanted });
                 }
                 _ => return,
             }
@@ -133,6 +134,11 @@ impl<'a> Machine<'a> {
     /// The assertion of a thread that has failed so far.
     pub fn failure(&self, t: u8) -> Option<Failure> {
         self.threads[t as usize].failure
+    }
+
+    /// The values of the locations, and of each thread's registers.
+    pub fn values(&self) -> ([u32; 8], Vec<[u32; 4]>) {
+        (self.memory, self.threads[..self.program.threads.len()].iter().map(|thread| thread.registers).collect())
     }
 
     /// Has some assertion failed?

@@ -7,6 +7,7 @@ use crate::{asm, input, output};
 pub fn run(arguments: Arguments) -> Result<End, Error> {
     let [name] = arguments.files()?;
     let text = input::text(name)?;
-    let file = asm::assemble(&text).map_err(|mark| Error::Text { name: called(name).to_string(), marks: vec![mark] })?;
-    output::answer(file, End::Answered)
+    let made = asm::assemble(&text).map_err(|marks| Error::Text { name: called(name).to_string(), marks })?;
+    input::warn(called(name), made.warnings);
+    output::answer(made.file, End::Answered)
 }

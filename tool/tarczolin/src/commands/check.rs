@@ -6,7 +6,7 @@ use crate::{ask, input, output, refusal};
 
 pub fn run(arguments: Arguments) -> Result<End, Error> {
     let [name] = arguments.files()?;
-    let file = input::program(name)?;
-    ask::check(&file).map_err(|r| refusal::of_program(name, &file, r))?;
+    let source = input::program(name)?;
+    ask::check(&source.file).map_err(|r| refusal::of_program(&source.name, &source.file, r))?;
     output::answer("accepted\n", End::Answered)
 }

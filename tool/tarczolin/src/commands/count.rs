@@ -11,11 +11,11 @@ use crate::{input, output, refusal};
 pub fn run(arguments: Arguments) -> Result<End, Error> {
     let [name] = arguments.files()?;
     let jobs = arguments.number("--jobs", JOBS)? as usize;
-    let file = input::program(name)?;
-    let refused = |r| refusal::of_program(name, &file, r);
+    let source = input::program(name)?;
+    let refused = |r| refusal::of_program(&source.name, &source.file, r);
     let counts = match jobs {
-        1 => ask::count(&file).map_err(refused)?,
-        _ => in_pieces(&List::of(&file, false).map_err(refused)?, jobs),
+        1 => ask::count(&source.file).map_err(refused)?,
+        _ => in_pieces(&List::of(&source, false).map_err(refused)?, jobs),
     };
     let said = format!("{} listed, {} failing\n", counts.listed, counts.failing);
     output::answer(said, End::of_failing(counts.failing))

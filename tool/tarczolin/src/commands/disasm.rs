@@ -6,8 +6,8 @@ use crate::{ask, asm, input, output, program, refusal};
 
 pub fn run(arguments: Arguments) -> Result<End, Error> {
     let [name] = arguments.files()?;
-    let file = input::program(name)?;
-    ask::check(&file).map_err(|r| refusal::of_program(name, &file, r))?;
-    let frames = program::frames(&file).expect("an accepted file has frames only");
-    output::answer(asm::text(&frames), End::Answered)
+    let source = input::program(name)?;
+    ask::check(&source.file).map_err(|r| refusal::of_program(&source.name, &source.file, r))?;
+    let frames = program::frames(&source.file).expect("an accepted file has frames only");
+    output::answer(asm::text(&frames, &source.names), End::Answered)
 }

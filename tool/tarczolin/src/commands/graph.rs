@@ -7,8 +7,9 @@ use crate::{ask, hex, input, output, refusal};
 pub fn run(arguments: Arguments) -> Result<End, Error> {
     let (name, words) = arguments.file_and_rest()?;
     let schedule = schedule(name, words)?;
-    let file = input::program(name)?;
-    let text = ask::graph(&file, &schedule).map_err(|r| refusal::of_schedule(name, &file, &schedule, r))?;
+    let source = input::program(name)?;
+    let refused = |r| refusal::of_schedule(&source.name, &source.file, &source.names, &schedule, r);
+    let text = ask::graph(&source.file, &schedule).map_err(refused)?;
     output::answer(text, End::Answered)
 }
 

@@ -15,13 +15,13 @@ pub const JOBS: u64 = 256;
 pub fn run(arguments: Arguments) -> Result<End, Error> {
     let [name] = arguments.files()?;
     let jobs = arguments.number("--jobs", JOBS)? as usize;
-    let file = input::program(name)?;
-    let list = match List::of(&file, true) {
+    let source = input::program(name)?;
+    let list = match List::of(&source, true) {
         Ok(list) => list,
         Err(r) => {
             let place = (r.place as u16).to_be_bytes();
             output::answer(hex::line(&[0x52, r.number, place[0], place[1]]), End::Answered)?;
-            return Err(refusal::of_program(name, &file, r));
+            return Err(refusal::of_program(&source.name, &source.file, r));
         }
     };
     let mut counts = Counts::default();

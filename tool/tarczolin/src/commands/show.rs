@@ -28,8 +28,8 @@ pub fn run(arguments: Arguments) -> Result<End, Error> {
         let message = "the page would overwrite the program that it shows; name another file behind --html";
         return Err(Error::usage(format!("{}: {message}", called(name))));
     }
-    let file = input::program(name)?;
-    let list = List::of(&file, false).map_err(|r| refusal::of_program(name, &file, r))?;
+    let source = input::program(name)?;
+    let list = List::of(&source, false).map_err(|r| refusal::of_program(&source.name, &source.file, r))?;
     let choice = Choice { from, failing_only };
     match page {
         Some(page) => to_page(&list, &choice, called(name), page),
@@ -54,7 +54,7 @@ fn walk(list: &List, choice: &Choice, mut each: impl FnMut(u64, &Listed) -> io::
 }
 
 /// An execution of the list, ready to be shown.
-fn execution(list: &List, position: u64, listed: &Listed) -> Execution {
+fn execution<'a>(list: &'a List, position: u64, listed: &Listed) -> Execution<'a> {
     Execution::of(list.file, &list.program, position, listed).expect("a listed schedule of an accepted file is full")
 }
 
@@ -64,7 +64,7 @@ fn to_standard_output(list: &List, choice: &Choice) -> Result<End, Error> {
     let (counts, written) = walk(list, choice, |position, listed| {
         let blank = if shown > 0 { "\n" } else { "" };
         shown += 1;
-        write!(out, "{blank}{}", show::columns(&execution(list, position, listed)))
+        write!(out, "{blank}{}", show::columns(&execution(list, position, listed), show::By::Time))
     });
     let written = written.and_then(|()| {
         if shown == 0 {

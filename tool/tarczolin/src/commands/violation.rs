@@ -6,8 +6,8 @@ use crate::{ask, input, output, refusal};
 
 pub fn run(arguments: Arguments) -> Result<End, Error> {
     let [name] = arguments.files()?;
-    let file = input::program(name)?;
-    match ask::violation(&file).map_err(|r| refusal::of_program(name, &file, r))? {
+    let source = input::program(name)?;
+    match ask::violation(&source.file).map_err(|r| refusal::of_program(&source.name, &source.file, r))? {
         Some(schedule) => output::answer(format!("{schedule}\n"), End::Violation),
         None => output::answer("none\n", End::Answered),
     }

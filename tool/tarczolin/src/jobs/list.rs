@@ -1,5 +1,6 @@
 //! A program whose list is walked, and parts of it.
 use crate::ask::{self, Counts, Listed, Refusal, Rows};
+use crate::input::Source;
 use crate::program::Program;
 use crate::schedule::Schedule;
 
@@ -39,9 +40,10 @@ impl Part {
 
 impl<'a> List<'a> {
     /// The list of an accepted file.
-    pub fn of(file: &'a [u8], lines: bool) -> Result<List<'a>, Refusal> {
+    pub fn of(source: &'a Source, lines: bool) -> Result<List<'a>, Refusal> {
+        let file = source.file.as_slice();
         ask::check(file)?;
-        Ok(List { file, program: Program::of_accepted(file), lines })
+        Ok(List { file, program: Program::of_accepted(file).named(&source.names), lines })
     }
 
     /// Hands each listed schedule behind one schedule, or from the beginning, to `each` until that says stop.
