@@ -66,6 +66,11 @@ impl<'a> Execution<'a> {
         Ok(Execution { program, position: None, schedule, at_once, steps, graph, fails, memory, registers })
     }
 
+    /// The location of an access that the execution did.
+    pub fn location(&self, event: Event) -> u8 {
+        self.steps.iter().find(|step| step.done.event == event).map_or(0, |step| step.done.location)
+    }
+
     /// What the end is, for the eye: the locations and the registers that the program names, each with its value.
     pub fn end(&self) -> (Vec<String>, Vec<String>) {
         let Program { names, .. } = self.program;

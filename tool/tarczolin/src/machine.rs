@@ -5,7 +5,7 @@ use crate::program::{Instruction, Operand, Program};
 use Instruction::*;
 
 /// An assertion that failed: its place in the thread's code, the value of its register, and the value that it asked for.
-#[derive(Clone, Copy, Debug, PartialEq, Eq)]
+#[derive(Clone, Copy, Debug, PartialEq, Eq, PartialOrd, Ord)]
 pub struct Failure {
     pub at: usize,
     pub r: u8,
@@ -129,6 +129,19 @@ impl<'a> Machine<'a> {
     /// The step of a thread that has not ended.
     pub fn step(&mut self, t: u8) -> Done {
         self.threads[t as usize].access(t, &self.program.threads[t as usize], &mut self.memory)
+    }
+
+    /// The next access of a thread that has not ended.
+    pub fn next(&self, t: u8) -> Option<(Event, Instruction)> {
+        let thread = self.threads.get(t as usize).filter(|_| self.may(t))?;
+        Some((Event { t, i: thread.accesses }, self.program.threads[t as usize][thread.next]))
+    }
+
+    /// The step of a thread that has not ended, whose read finds this value whatever memory holds.
+    pub fn step_with(&mut self, t: u8, found: u32) -> Done {
+        let location = self.next(t).and_then(|(_, instruction)| instruction.location());
+        self.memory[location.unwrap_or(0) as usize] = found;
+        self.step(t)
     }
 
     /// The assertion of a thread that has failed so far.

@@ -33,13 +33,15 @@ pub fn columns(execution: &Execution, by: By) -> String {
         let line = if right.is_empty() { left } else { format!("{left:<width$}  {right}") };
         writeln!(text, "{line}").expect("text grows");
     }
+    text + &end_lines(execution)
+}
+
+/// The values at the end.
+pub fn end_lines(execution: &Execution) -> String {
     let (memory, registers) = execution.end();
-    for (what, values) in [("memory", memory), ("registers", registers)] {
-        if !values.is_empty() {
-            writeln!(text, "{what:<9}  {}", values.join(", ")).expect("text grows");
-        }
-    }
-    text
+    let all = [("memory", memory), ("registers", registers)];
+    let line = |(what, values): (&str, Vec<String>)| format!("{what:<9}  {}\n", values.join(", "));
+    all.into_iter().filter(|(_, values)| !values.is_empty()).map(line).collect()
 }
 
 /// The lines of some threads, left and right.

@@ -21,7 +21,7 @@ use threads::Threads;
 use wrong::{Wrong, Wrongs};
 
 pub use near::near;
-pub use words::is_name;
+pub use words::constant;
 pub use write::text;
 
 /// A program file made of a text, the text's names, and what looks like a slip in it.

@@ -8,12 +8,17 @@ use std::fmt::Write;
 
 /// The heads of arrows, once for the whole page, one for each colour.
 pub fn arrow_heads() -> String {
+    format!("<svg width=\"0\" height=\"0\" style=\"position:absolute\">{}</svg>\n", heads())
+}
+
+/// The heads themselves.
+pub fn heads() -> String {
     let head = |class| {
         let size = "viewBox=\"0 0 8 8\" refX=\"7\" refY=\"4\" markerWidth=\"7\" markerHeight=\"7\"";
         format!("<marker id=\"{class}\" {size} orient=\"auto\"><path d=\"M0 0 8 4 0 8z\"/></marker>")
     };
     let heads = ["po", "rf", "co", "fr"].map(head).concat();
-    format!("<svg width=\"0\" height=\"0\" style=\"position:absolute\"><defs>{heads}</defs></svg>\n")
+    format!("<defs>{heads}</defs>")
 }
 
 /// Half the height of a box, and where the initial writes stand.
@@ -23,6 +28,7 @@ const INITIAL: f64 = 50.0;
 /// How an order is drawn: its class, its word, how far its ends lie off the middle of a box, how far it swings out.
 fn drawn(order: Order) -> (&'static str, &'static str, f64, f64) {
     match order {
+        Order::Program => ("po", "is followed by", 0.0, 20.0),
         Order::ReadsFrom => ("rf", "is read by", -7.0, 34.0),
         Order::Coherence => ("co", "comes before", 0.0, 26.0),
         Order::FromReads => ("fr", "reads before", 7.0, 46.0),
@@ -40,8 +46,7 @@ pub fn svg(execution: &Execution, rows: &[Row]) -> String {
     );
     text += &head(&program.names, program.threads.len(), &layout);
     text += &program_order(execution, &layout);
-    let location = |event: Event| execution.steps.iter().find(|s| s.done.event == event).map_or(0, |s| s.done.location);
-    for (order, from, to) in execution.graph.edges(location) {
+    for (order, from, to) in execution.graph.edges(|event| execution.location(event)) {
         text += &arrow(&program.names, order, from, to, &layout);
     }
     text += &boxes(&program.names, rows, &layout);

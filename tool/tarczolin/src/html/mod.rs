@@ -13,6 +13,15 @@ use std::fmt::Write;
 
 pub use pick::{Pick, MOST};
 
+/// The drawing of one execution, as a file of its own.
+pub fn drawing(execution: &Execution) -> String {
+    let style = include_str!("style.css");
+    let svg = drawing::svg(execution, &layout::rows(execution));
+    let (front, inner) = svg.split_once('>').expect("a tag ends");
+    let space = " xmlns=\"http://www.w3.org/2000/svg\"";
+    format!("{front}{space}>\n<style>\n{style}</style>\n{}{inner}", drawing::heads())
+}
+
 /// What a page tells of a program's list.
 pub struct Page<'a> {
     pub name: &'a str,

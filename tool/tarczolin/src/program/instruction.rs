@@ -1,6 +1,6 @@
 //! Instructions, and their words.
 
-#[derive(Clone, Copy, Debug, PartialEq, Eq)]
+#[derive(Clone, Copy, Debug, PartialEq, Eq, PartialOrd, Ord)]
 pub enum Operand {
     Constant(u32),
     Register(u8),
