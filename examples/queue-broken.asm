@@ -1,28 +1,30 @@
 # A queue of two slots, broken. A producer takes a slot by advancing tail and fills it afterwards,
 # so a consumer that sees tail advanced may find the slot still empty.
 
-thread                       # producer
-  r0 = fetch_add tail 1
-  if r0 != 0 skip 1
-  store slot0 7
-  if r0 != 1 skip 1
-  store slot1 7
+const ITEM = 7
 
-thread                       # producer, the same code
-  r0 = fetch_add tail 1
-  if r0 != 0 skip 1
-  store slot0 7
-  if r0 != 1 skip 1
-  store slot1 7
+thread first                 # a producer
+  mine = fetch_add tail 1
+  if mine != 0 skip 1
+  store slot0 ITEM
+  if mine != 1 skip 1
+  store slot1 ITEM
 
-thread                       # consumer: takes as many as tail tells of
-  r0 = load tail
-  if r0 != 0 skip 1          # something is there: go on
-  if r3 != 1 skip 5          # nothing is there: r3 is 0, so this goes to the end
-  r1 = load slot0
-  assert r1 == 7
-  if r0 != 2 skip 2
-  r1 = load slot1
-  assert r1 == 7
+thread second                # a producer, the same code
+  mine = fetch_add tail 1
+  if mine != 0 skip 1
+  store slot0 ITEM
+  if mine != 1 skip 1
+  store slot1 ITEM
 
-alike 0 1
+thread consumer              # takes as many as tail tells of
+  filled = load tail
+  if filled == 0 goto done
+  item = load slot0
+  assert item == ITEM
+  if filled != 2 goto done
+  item = load slot1
+  assert item == ITEM
+done:
+
+alike first second

@@ -1,32 +1,35 @@
 # The queue of two slots, repaired. Each slot has a flag that is set when the slot has been filled,
 # and the consumer goes by the flags.
 
-thread                       # producer
-  r0 = fetch_add tail 1
-  if r0 != 0 skip 2
-  store slot0 7
+const ITEM = 7
+
+thread first                 # a producer
+  mine = fetch_add tail 1
+  if mine != 0 skip 2
+  store slot0 ITEM
   store full0 1
-  if r0 != 1 skip 2
-  store slot1 7
+  if mine != 1 skip 2
+  store slot1 ITEM
   store full1 1
 
-thread                       # producer, the same code
-  r0 = fetch_add tail 1
-  if r0 != 0 skip 2
-  store slot0 7
+thread second                # a producer, the same code
+  mine = fetch_add tail 1
+  if mine != 0 skip 2
+  store slot0 ITEM
   store full0 1
-  if r0 != 1 skip 2
-  store slot1 7
+  if mine != 1 skip 2
+  store slot1 ITEM
   store full1 1
 
-thread                       # consumer: takes a slot when its flag is set, in order
-  r0 = load full0
-  if r0 != 1 skip 6
-  r1 = load slot0
-  assert r1 == 7
-  r0 = load full1
-  if r0 != 1 skip 2
-  r1 = load slot1
-  assert r1 == 7
+thread consumer              # takes a slot when its flag is set, in order
+  flag = load full0
+  if flag != 1 goto done
+  item = load slot0
+  assert item == ITEM
+  flag = load full1
+  if flag != 1 goto done
+  item = load slot1
+  assert item == ITEM
+done:
 
-alike 0 1
+alike first second

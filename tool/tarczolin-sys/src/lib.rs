@@ -4,10 +4,12 @@
 //! of pointers and lengths. No call keeps anything for the next, so all may be made from many threads at once.
 mod answer;
 mod closed;
+mod interrupt;
 mod raw;
 
 pub use answer::Answer;
 pub use closed::standard_output_was_closed;
+pub use interrupt::{note_interrupts, was_interrupted};
 
 /// A schedule needs an output of so many bytes.
 pub const SCHEDULE: usize = 24;

@@ -1,11 +1,13 @@
-//! How a command that was carried out ends.
+//! How a command ends, from the best to the worst.
 use std::process::ExitCode;
 
-#[derive(Clone, Copy, Debug, PartialEq, Eq)]
+#[derive(Clone, Copy, Debug, PartialEq, Eq, PartialOrd, Ord)]
 pub enum End {
     Answered,
     /// A violation was found, or the judge says no.
     Violation,
+    /// Refused, or bad usage: what is wrong has been told.
+    Refused,
 }
 
 impl End {
@@ -18,10 +20,16 @@ impl End {
         }
     }
 
-    pub fn code(self) -> ExitCode {
-        match self {
-            End::Answered => ExitCode::SUCCESS,
-            End::Violation => ExitCode::from(1),
+    /// The end of one that was interrupted: a violation stays one, and without one nothing is known of the rest.
+    pub fn of_cut(failing: u64) -> End {
+        if failing > 0 {
+            End::Violation
+        } else {
+            End::Refused
         }
+    }
+
+    pub fn code(self) -> ExitCode {
+        ExitCode::from(self as u8)
     }
 }

@@ -1,5 +1,6 @@
 //! Why a command was not carried out, and how that is said.
 use crate::ask::Refusal;
+use crate::json::{list, object, Json};
 use std::fmt;
 use std::io;
 
@@ -61,6 +62,41 @@ pub fn called(name: &str) -> &str {
 impl Error {
     pub fn usage(message: impl Into<String>) -> Error {
         Error::Usage(message.into())
+    }
+}
+
+impl Error {
+    /// The error for programs: its kind, its message, and the places that it tells of.
+    pub fn json(&self) -> Json {
+        let kind = match self {
+            Error::Usage(_) | Error::Words => "usage",
+            Error::File { .. } => "file",
+            Error::TooLong { .. } => "too-long",
+            Error::Refused(_) => "refused",
+            Error::Text { .. } => "text",
+            Error::Output(_) | Error::Closed => "output",
+        };
+        let (number, place) = match self {
+            Error::Refused(Refused { refusal, .. }) => (Some(refusal.number), Some(refusal.place)),
+            _ => (None, None),
+        };
+        let message = match self {
+            Error::Refused(refused) => refused.sentence.clone(),
+            Error::Text { marks, .. } => format!("{} errors", marks.len()),
+            other => other.to_string(),
+        };
+        let marks: &[Mark] = if let Error::Text { marks, .. } = self { marks } else { &[] };
+        let mark = |mark: &Mark| {
+            let place = [("line", Json::from(mark.line as u64)), ("column", Json::from(mark.column as u64))];
+            object([place[0].clone(), place[1].clone(), ("message", mark.message.as_str().into())])
+        };
+        object([
+            ("kind", kind.into()),
+            ("message", message.into()),
+            ("number", number.into()),
+            ("place", place.into()),
+            ("marks", list(marks.iter().map(mark))),
+        ])
     }
 }
 

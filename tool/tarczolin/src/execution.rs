@@ -2,7 +2,7 @@
 use crate::ask::{self, Listed, Refusal};
 use crate::graph::{Event, Graph};
 use crate::machine::{Done, Failure, Machine};
-use crate::program::{number, Instruction, Program};
+use crate::program::{number, Instruction, Operand, Program};
 use crate::schedule::Schedule;
 use std::collections::BTreeMap;
 
@@ -19,28 +19,38 @@ pub enum Source {
     Write(Event, &'static str),
 }
 
-pub struct Execution {
-    /// The place in the list, from 1.
-    pub position: u64,
+pub struct Execution<'a> {
+    pub program: &'a Program,
+    /// The place in the list, from 1; none for a schedule that was given and not looked for in the list.
+    pub position: Option<u64>,
     pub schedule: Schedule,
     /// Threads whose assertion failed before the first step.
     pub at_once: Vec<(u8, Failure)>,
     pub steps: Vec<Step>,
     pub graph: Graph,
     pub fails: bool,
+    /// The values at the end: of the locations, and of each thread's registers.
+    pub memory: [u32; 8],
+    pub registers: Vec<[u32; 4]>,
 }
 
-impl Execution {
-    /// The values are replayed; the sources are those of the library's graph, and whether it fails is the library's word: the
-    /// replay must fit both.
-    pub fn of(file: &[u8], program: &Program, position: u64, listed: &Listed) -> Result<Execution, Refusal> {
-        let Listed { schedule, fails } = *listed;
-        let graph = Graph::of_text(&ask::graph(file, &schedule)?);
+impl<'a> Execution<'a> {
+    /// A listed schedule. Whether it fails is the library's word, and the replay must fit that.
+    pub fn of(file: &[u8], program: &'a Program, position: u64, listed: &Listed) -> Result<Execution<'a>, Refusal> {
+        let mut execution = Execution::replayed(file, program, &listed.schedule)?;
+        assert_eq!(execution.fails, listed.fails, "the replay fails exactly where the library says so");
+        execution.position = Some(position);
+        Ok(execution)
+    }
+
+    /// Any full schedule. The values are replayed; the sources are those of the library's graph, and the replay must fit them.
+    pub fn replayed(file: &[u8], program: &'a Program, schedule: &[u8]) -> Result<Execution<'a>, Refusal> {
+        let graph = Graph::of_text(&ask::graph(file, schedule)?);
         let mut machine = Machine::new(program);
-        let at_once = (0..program.threads.len() as u8).filter_map(|t| Some((t, machine.failure(t)?))).collect();
+        let at_once = program.numbers().filter_map(|t| Some((t, machine.failure(t)?))).collect();
         let mut left: BTreeMap<Event, Done> = BTreeMap::new();
         let mut steps = Vec::new();
-        for &t in schedule.iter() {
+        for &t in schedule {
             let done = machine.step(t);
             let source = done.found.map(|found| {
                 let source = *graph.reads.get(&done.event).expect("each read stands in the library's graph");
@@ -51,43 +61,76 @@ impl Execution {
             left.insert(done.event, done);
             steps.push(Step { done, source });
         }
-        assert_eq!(machine.fails(), fails, "the replay fails exactly where the library says so");
-        Ok(Execution { position, schedule, at_once, steps, graph, fails })
+        let (memory, registers) = machine.values();
+        let (schedule, fails) = (schedule.iter().copied().collect(), machine.fails());
+        Ok(Execution { program, position: None, schedule, at_once, steps, graph, fails, memory, registers })
     }
-}
 
-/// The access for the eye, with its values: `load x3 -> r0 = 5`.
-pub fn access(done: &Done) -> String {
-    let l = done.location;
-    let [first, second] = done.operands.map(number);
-    let found = number(done.found.unwrap_or(0));
-    match (done.instruction, done.left) {
-        (Instruction::Load { r, .. }, _) => format!("load x{l} -> r{r} = {found}"),
-        (Instruction::FetchAdd { r, .. }, Some(left)) => {
-            format!("fetch_add x{l} {first} -> r{r} = {found}, x{l} = {}", number(left))
+    /// The location of an access that the execution did.
+    pub fn location(&self, event: Event) -> u8 {
+        self.steps.iter().find(|step| step.done.event == event).map_or(0, |step| step.done.location)
+    }
+
+    /// What the end is, for the eye: the locations and the registers that the program names, each with its value.
+    pub fn end(&self) -> (Vec<String>, Vec<String>) {
+        let Program { names, .. } = self.program;
+        let value = |l: u8| format!("{} = {}", names.location(l), number(self.memory[l as usize]));
+        let memory = self.program.locations().into_iter().map(value).collect();
+        let of_thread = |t: u8| {
+            let value = move |r: u8| {
+                let value = number(self.registers[t as usize][r as usize]);
+                format!("{}.{} = {value}", names.thread(t), names.register(t, r))
+            };
+            self.program.registers(t).into_iter().map(value)
+        };
+        (memory, self.program.numbers().flat_map(of_thread).collect())
+    }
+
+    /// The access for the eye, with its values: `load x3 -> r0 = 5`.
+    pub fn access(&self, done: &Done) -> String {
+        let names = &self.program.names;
+        let l = names.location(done.location);
+        let [first, second] = done.operands.map(number);
+        let found = number(done.found.unwrap_or(0));
+        let register = |r| names.register(done.event.t, r);
+        match (done.instruction, done.left) {
+            (Instruction::Load { r, .. }, _) => format!("load {l} -> {} = {found}", register(r)),
+            (Instruction::FetchAdd { r, .. }, Some(left)) => {
+                format!("fetch_add {l} {first} -> {} = {found}, {l} = {}", register(r), number(left))
+            }
+            (Instruction::CompareSwap { r, .. }, Some(left)) => {
+                format!("cas {l} {first} {second} -> {} = {found}, {l} = {}", register(r), number(left))
+            }
+            (Instruction::CompareSwap { r, .. }, None) => {
+                format!("cas {l} {first} {second} -> {} = {found}, no swap", register(r))
+            }
+            _ => format!("store {l} = {first}"),
         }
-        (Instruction::CompareSwap { r, .. }, Some(left)) => {
-            format!("cas x{l} {first} {second} -> r{r} = {found}, x{l} = {}", number(left))
+    }
+
+    /// The write that a read saw, for the eye: `T0 store #2` or `initial`.
+    pub fn source(&self, source: &Source) -> String {
+        match source {
+            Source::Initial => "initial".to_string(),
+            Source::Write(event, name) => format!("{} {name} #{}", self.program.names.thread(event.t), event.i),
         }
-        (Instruction::CompareSwap { r, .. }, None) => format!("cas x{l} {first} {second} -> r{r} = {found}, no swap"),
-        _ => format!("store x{l} = {first}"),
     }
-}
 
-/// The write that a read saw, for the eye: `T0 store #2` or `initial`.
-pub fn source(source: &Source) -> String {
-    match source {
-        Source::Initial => "initial".to_string(),
-        Source::Write(event, name) => format!("T{} {name} #{}", event.t, event.i),
+    /// A failed assertion for the eye, as the program's text has it.
+    pub fn failure(&self, t: u8, failure: &Failure) -> String {
+        let names = &self.program.names;
+        let Failure { at, r, asserted, value, wanted } = failure;
+        let (name, value) = (names.register(t, *r), number(*value));
+        match (names.statement(t, *at), asserted) {
+            (Some("fail"), _) => "fail FAILS".to_string(),
+            (Some(statement), _) => format!("{statement} FAILS: {name} = {value}"),
+            (None, Operand::Register(p)) => {
+                let other = names.register(t, *p);
+                format!("assert {name} == {other} FAILS: {name} = {value}, {other} = {}", number(*wanted))
+            }
+            (None, Operand::Constant(_)) => {
+                format!("assert {name} == {} FAILS: {name} = {value}", names.operand(t, *asserted))
+            }
+        }
     }
-}
-
-/// A failed assertion for the eye.
-pub fn failure(failure: &Failure) -> String {
-    let Failure { r, asserted, value, wanted } = failure;
-    let wanted = match asserted {
-        crate::program::Operand::Register(p) => format!(", r{p} = {}", number(*wanted)),
-        crate::program::Operand::Constant(_) => String::new(),
-    };
-    format!("assert r{r} == {asserted} FAILS: r{r} = {}{wanted}", number(*value))
 }

@@ -19,6 +19,7 @@ pub struct Graph {
 /// An edge of the graph and its order.
 #[derive(Clone, Copy, Debug, PartialEq, Eq)]
 pub enum Order {
+    Program,
     ReadsFrom,
     Coherence,
     FromReads,

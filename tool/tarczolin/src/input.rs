@@ -1,6 +1,7 @@
 //! Files named on the command line; `-` is standard input. No more is read than can be of use.
-use crate::error::{called, Error};
-use crate::program::FILE_LIMIT;
+use crate::asm::{self, Assembled};
+use crate::error::{called, Error, Mark};
+use crate::program::{Names, FILE_LIMIT};
 use std::fs::{File, Metadata};
 use std::io::{self, Read};
 use std::os::fd::AsFd;
@@ -8,6 +9,14 @@ use std::os::unix::fs::MetadataExt;
 
 /// At most so many bytes are read of a graph text, of a schedule and of a program in the text form.
 pub const TEXT_LIMIT: usize = 1 << 20;
+
+/// A program: its file as the library takes it, and the names of its text form where it has one.
+pub struct Source {
+    /// What it is called in messages.
+    pub name: String,
+    pub file: Vec<u8>,
+    pub names: Names,
+}
 
 /// The bytes of a file, at most so many.
 fn front(name: &str, most: usize) -> Result<Vec<u8>, Error> {
@@ -22,14 +31,47 @@ fn front(name: &str, most: usize) -> Result<Vec<u8>, Error> {
     }
 }
 
-/// A program file. Of a longer one only so much is read as shows the library that it is too long.
-pub fn program(name: &str) -> Result<Vec<u8>, Error> {
-    front(name, FILE_LIMIT + 1)
+/// A program, as a program file or in the text form: that is told by the name's end, or by how the content begins. Of a
+/// program file that is too long only so much is read as shows that to the library.
+pub fn program(name: &str) -> Result<Source, Error> {
+    let file = front(name, FILE_LIMIT + 1)?;
+    let called = called(name).to_string();
+    if !name.ends_with(".asm") && !asm::is_text(&file) {
+        return Ok(Source { name: called, file, names: Names::default() });
+    }
+    let text = rest(name, file)?;
+    let Assembled { file, names, warnings } =
+        asm::assemble(&text).map_err(|marks| Error::Text { name: called.clone(), marks })?;
+    warn(&called, warnings);
+    Ok(Source { name: called, file, names })
+}
+
+/// Tells on standard error what looks like a slip.
+pub fn warn(name: &str, warnings: Vec<Mark>) {
+    for mut warning in warnings {
+        warning.message = format!("warning: {}", warning.message);
+        eprintln!("tarczolin: {}", warning.told(name));
+    }
+}
+
+/// The whole of a text of which a part has been read.
+fn rest(name: &str, mut front_part: Vec<u8>) -> Result<Vec<u8>, Error> {
+    if front_part.len() <= FILE_LIMIT {
+        return Ok(front_part);
+    }
+    if name != "-" {
+        return text(name);
+    }
+    front_part.extend(front(name, TEXT_LIMIT + 1 - front_part.len())?);
+    limited(name, front_part)
 }
 
 /// A graph text, a schedule, or a program in the text form.
 pub fn text(name: &str) -> Result<Vec<u8>, Error> {
-    let bytes = front(name, TEXT_LIMIT + 1)?;
+    limited(name, front(name, TEXT_LIMIT + 1)?)
+}
+
+fn limited(name: &str, bytes: Vec<u8>) -> Result<Vec<u8>, Error> {
     if bytes.len() > TEXT_LIMIT {
         return Err(Error::TooLong { name: called(name).to_string(), most: TEXT_LIMIT });
     }

@@ -4,9 +4,10 @@ use crate::graph::Event;
 use crate::program::{Instruction, Operand, Program};
 use Instruction::*;
 
-/// An assertion that failed, the value of its register, and the value that it asked for.
-#[derive(Clone, Copy, Debug, PartialEq, Eq)]
+/// An assertion that failed: its place in the thread's code, the value of its register, and the value that it asked for.
+#[derive(Clone, Copy, Debug, PartialEq, Eq, PartialOrd, Ord)]
 pub struct Failure {
+    pub at: usize,
     pub r: u8,
     pub asserted: Operand,
     pub value: u32,
@@ -58,7 +59,7 @@ impl Thread {
                 SkipUnless { .. } => {}
                 Assert { r, p } => {
                     let (value, wanted) = (self.registers[r as usize], self.value(p));
-                    self.failure = (value != wanted).then_some(Failure { r, asserted: p, value, wanted });
+                    self.failure = (value != wanted).then_some(Failure { at: self.next, r, asserted: p, value, wanted });
                 }
                 _ => return,
             }
@@ -130,9 +131,27 @@ impl<'a> Machine<'a> {
         self.threads[t as usize].access(t, &self.program.threads[t as usize], &mut self.memory)
     }
 
+    /// The next access of a thread that has not ended.
+    pub fn next(&self, t: u8) -> Option<(Event, Instruction)> {
+        let thread = self.threads.get(t as usize).filter(|_| self.may(t))?;
+        Some((Event { t, i: thread.accesses }, self.program.threads[t as usize][thread.next]))
+    }
+
+    /// The step of a thread that has not ended, whose read finds this value whatever memory holds.
+    pub fn step_with(&mut self, t: u8, found: u32) -> Done {
+        let location = self.next(t).and_then(|(_, instruction)| instruction.location());
+        self.memory[location.unwrap_or(0) as usize] = found;
+        self.step(t)
+    }
+
     /// The assertion of a thread that has failed so far.
     pub fn failure(&self, t: u8) -> Option<Failure> {
         self.threads[t as usize].failure
+    }
+
+    /// The values of the locations, and of each thread's registers.
+    pub fn values(&self) -> ([u32; 8], Vec<[u32; 4]>) {
+        (self.memory, self.threads[..self.program.threads.len()].iter().map(|thread| thread.registers).collect())
     }
 
     /// Has some assertion failed?

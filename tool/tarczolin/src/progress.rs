@@ -1,13 +1,18 @@
-//! Progress on standard error, when that is a terminal: listed so far, failing so far, and how many a second.
+//! Progress on standard error: listed so far, failing so far, how many a second, and the share of the range that is done. On a
+//! terminal one line that changes; else a line every few seconds.
 use crate::ask::Counts;
 use std::io::{stderr, stdout, IsTerminal, Write};
+use std::sync::mpsc::{channel, RecvTimeoutError};
 use std::time::{Duration, Instant};
 
-const EVERY: Duration = Duration::from_millis(200);
+/// How often it is told, on a terminal and elsewhere.
+const DRAWN: Duration = Duration::from_millis(200);
+const SAID: Duration = Duration::from_secs(3);
 
 pub struct Progress {
     began: Instant,
-    drawn: Instant,
+    told: Instant,
+    every: Duration,
     terminal: bool,
     /// Standard output goes to a terminal too: its lines need the place.
     lines: bool,
@@ -16,25 +21,42 @@ pub struct Progress {
 
 impl Default for Progress {
     fn default() -> Progress {
-        let now = Instant::now();
-        Progress { began: now, drawn: now, terminal: stderr().is_terminal(), lines: stdout().is_terminal(), shown: false }
+        let (now, terminal) = (Instant::now(), stderr().is_terminal());
+        let every = if terminal { DRAWN } else { every() };
+        Progress { began: now, told: now, every, terminal, lines: stdout().is_terminal(), shown: false }
     }
 }
 
+/// How often a line is written where there is no terminal; `TARCZOLIN_PROGRESS` gives another number of milliseconds.
+fn every() -> Duration {
+    let given = std::env::var("TARCZOLIN_PROGRESS").ok().and_then(|text| text.parse().ok());
+    given.map_or(SAID, Duration::from_millis)
+}
+
 /// The line of progress.
-fn line(counts: Counts, seconds: f64) -> String {
+fn line(counts: Counts, seconds: f64, share: f64) -> String {
     let rate = counts.listed as f64 / seconds;
-    format!("{} listed, {} failing, {rate:.0} a second", counts.listed, counts.failing)
+    let percent = share * 100.0;
+    format!("{} listed, {} failing, {rate:.0} a second, {percent:.1} % of the range", counts.listed, counts.failing)
 }
 
 impl Progress {
-    /// Tells how far the list is, now and then.
-    pub fn tell(&mut self, counts: Counts) {
-        if self.terminal && self.drawn.elapsed() >= EVERY {
-            self.drawn = Instant::now();
+    /// Tells how far the list is, now and then; the share is asked for only then.
+    pub fn tell(&mut self, counts: Counts, share: impl FnOnce() -> f64) {
+        if self.told.elapsed() >= self.every {
+            let line = line(counts, self.began.elapsed().as_secs_f64(), share());
+            self.write(&line);
+        }
+    }
+
+    fn write(&mut self, line: &str) {
+        self.told = Instant::now();
+        if self.terminal {
             self.shown = true;
-            eprint!("\r\x1b[K{}", line(counts, self.began.elapsed().as_secs_f64()));
+            eprint!("\r\x1b[K{line}");
             let _ = stderr().flush();
+        } else {
+            eprintln!("tarczolin: {line}");
         }
     }
 
@@ -55,12 +77,35 @@ impl Progress {
     }
 }
 
+/// Waits for a single call that tells nothing on its way, and says now and then that it goes on.
+pub fn waiting<T: Send>(call: impl FnOnce() -> T + Send) -> T {
+    let mut progress = Progress::default();
+    std::thread::scope(|scope| {
+        let (done, wait) = channel();
+        scope.spawn(move || done.send(call()));
+        loop {
+            match wait.recv_timeout(progress.every) {
+                Ok(answer) => {
+                    progress.hide();
+                    return answer;
+                }
+                Err(RecvTimeoutError::Timeout) => {
+                    let seconds = progress.began.elapsed().as_secs();
+                    progress.write(&format!("one call of the library for {seconds} s; --jobs 2 and more tell how far it is"));
+                }
+                Err(RecvTimeoutError::Disconnected) => panic!("the call of the library has failed"),
+            }
+        }
+    })
+}
+
 #[cfg(test)]
 mod tests {
     use super::*;
 
     #[test]
-    fn listed_failing_and_rate() {
-        assert_eq!(line(Counts { listed: 3000, failing: 7 }, 1.5), "3000 listed, 7 failing, 2000 a second");
+    fn listed_failing_rate_and_share() {
+        let wanted = "3000 listed, 7 failing, 2000 a second, 12.5 % of the range";
+        assert_eq!(line(Counts { listed: 3000, failing: 7 }, 1.5, 0.125), wanted);
     }
 }

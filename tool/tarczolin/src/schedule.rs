@@ -24,6 +24,14 @@ impl Schedule {
     }
 }
 
+impl FromIterator<u8> for Schedule {
+    fn from_iter<I: IntoIterator<Item = u8>>(steps: I) -> Schedule {
+        let mut schedule = Schedule::default();
+        steps.into_iter().for_each(|t| schedule.push(t));
+        schedule
+    }
+}
+
 impl Deref for Schedule {
     type Target = [u8];
 

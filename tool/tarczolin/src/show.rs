@@ -1,35 +1,66 @@
-//! An execution in two columns: on the left the steps, on the right the write that each read saw.
-use crate::execution::{access, failure, source, Execution};
+//! An execution in two columns: on the left the steps, on the right the write that each read saw; below, the values at the end.
+use crate::execution::{Execution, Step};
 use std::fmt::Write;
 
-/// The right column begins at least so far from the left edge.
-const RIGHT: usize = 44;
+/// How the left column is sorted.
+#[derive(Clone, Copy, Debug, PartialEq, Eq)]
+pub enum By {
+    /// As the schedule has it.
+    Time,
+    /// One thread after the other.
+    Thread,
+}
 
 /// The header: the place in the list, the schedule, and whether it fails.
 pub fn header(execution: &Execution) -> String {
     let verdict = if execution.fails { "fails" } else { "does not fail" };
     let steps = execution.schedule.iter().map(|t| format!("{t:02x}")).collect::<Vec<_>>().join(" ");
     let schedule = if steps.is_empty() { "(no step)" } else { &steps };
-    format!("execution {}: schedule {schedule}, {verdict}", execution.position)
+    let position = execution.position.map_or("execution".to_string(), |position| format!("execution {position}"));
+    format!("{position}: schedule {schedule}, {verdict}")
 }
 
-/// The header, and a line a step. `#2` in front of a line is the number of that access in its thread.
-pub fn columns(execution: &Execution) -> String {
+/// The header, a line a step, and the end. `#2` in front of a line is the number of that access in its thread. The right
+/// column stands where the longest left line ends.
+pub fn columns(execution: &Execution, by: By) -> String {
+    let lines = match by {
+        By::Time => lines(execution, |_| true),
+        By::Thread => execution.program.numbers().flat_map(|t| lines(execution, move |of| of == t)).collect(),
+    };
+    let width = lines.iter().map(|(left, _)| left.chars().count()).max().unwrap_or(0);
     let mut text = header(execution) + "\n";
-    for (t, failed) in &execution.at_once {
-        writeln!(text, "!!   T{t}  {}, before the first step", failure(failed)).expect("text grows");
+    for (left, right) in lines {
+        let line = if right.is_empty() { left } else { format!("{left:<width$}  {right}") };
+        writeln!(text, "{line}").expect("text grows");
     }
-    for step in &execution.steps {
-        let event = step.done.event;
-        let left = format!("#{:<3} T{}  {}", event.i, event.t, access(&step.done));
-        match &step.source {
-            Some(seen) => writeln!(text, "{left:<RIGHT$}  {}", source(seen)),
-            None => writeln!(text, "{left}"),
-        }
-        .expect("text grows");
-        if let Some(failed) = &step.done.failure {
-            writeln!(text, "!!   T{}  {}", event.t, failure(failed)).expect("text grows");
+    text + &end_lines(execution)
+}
+
+/// The values at the end.
+pub fn end_lines(execution: &Execution) -> String {
+    let (memory, registers) = execution.end();
+    let all = [("memory", memory), ("registers", registers)];
+    let line = |(what, values): (&str, Vec<String>)| format!("{what:<9}  {}\n", values.join(", "));
+    all.into_iter().filter(|(_, values)| !values.is_empty()).map(line).collect()
+}
+
+/// The lines of some threads, left and right.
+fn lines(execution: &Execution, of: impl Fn(u8) -> bool) -> Vec<(String, String)> {
+    let names = &execution.program.names;
+    let width = execution.program.numbers().map(|t| names.thread(t).chars().count()).max().unwrap_or(0);
+    let front = |mark: &str, t: u8| format!("{mark:<4} {:<width$}  ", names.thread(t));
+    let mut lines = Vec::new();
+    for (t, failed) in execution.at_once.iter().filter(|(t, _)| of(*t)) {
+        let left = format!("{}{}, before the first step", front("!!", *t), execution.failure(*t, failed));
+        lines.push((left, String::new()));
+    }
+    for Step { done, source } in execution.steps.iter().filter(|step| of(step.done.event.t)) {
+        let t = done.event.t;
+        let left = front(&format!("#{}", done.event.i), t) + &execution.access(done);
+        lines.push((left, source.map_or(String::new(), |seen| execution.source(&seen))));
+        if let Some(failed) = &done.failure {
+            lines.push((front("!!", t) + &execution.failure(t, failed), String::new()));
         }
     }
-    text
+    lines
 }

@@ -46,7 +46,7 @@ fn imports(all: &BTreeMap<Module, String>) -> BTreeMap<Module, BTreeSet<Module>>
     let of = |(module, text): (&Module, &String)| {
         let code: String = text.lines().filter(|line| !line.trim_start().starts_with("//")).map(|l| format!("{l}\n")).collect();
         let around = module[..module.len().saturating_sub(1)].to_vec();
-        let beside = paths(&code, "super::").into_iter().filter(|p| p != &["*"]).map(|p| [around.clone(), p].concat());
+        let beside = paths(&code, "super::").into_iter().filter(|p| !p.is_empty()).map(|p| [around.clone(), p].concat());
         let inside = paths(&code, "\nmod ").into_iter().chain(paths(&code, "\npub mod ")).map(|p| [module.clone(), p].concat());
         let named = paths(&code, "crate::").into_iter().chain(beside).chain(inside);
         let files = named.filter_map(|path| file(all, path)).filter(|found| found != module);

@@ -2,6 +2,7 @@
 use std::collections::BTreeMap;
 use tarczolin::ask;
 use tarczolin::error::Error;
+use tarczolin::program::Names;
 use tarczolin::refusal::{of_graph, of_program, of_schedule};
 use tarczolin_tests::files::text;
 use tarczolin_tests::oracle::decode::decode;
@@ -36,7 +37,7 @@ fn every_refusal_has_its_sentence() {
         let program = decode(&file).unwrap();
         let steps = schedule::schedule(&mut random, &program, schedule::ALL[k % schedule::ALL.len()]);
         if let Err(refused) = ask::graph(&file, &steps) {
-            hold(&mut seen, of_schedule("FILE", &file, &steps, refused), refused.number, &steps);
+            hold(&mut seen, of_schedule("FILE", &file, &Names::default(), &steps, refused), refused.number, &steps);
         }
         let (_, lines) = graph::text(&mut random, &program, graph::ALL[k % graph::ALL.len()]);
         if let Err(refused) = ask::judge(&file, &lines) {

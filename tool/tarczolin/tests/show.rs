@@ -20,13 +20,17 @@ use tarczolin_tests::share;
 fn two_columns() {
     let shown = "\
 execution 1: schedule 00 01, does not fail
-#0   T0  load x0 -> r0 = 0                    initial
+#0   T0  load x0 -> r0 = 0  initial
 #0   T1  store x0 = 1
+memory     x0 = 1
+registers  T0.r0 = 0
 
 execution 2: schedule 01 00, fails
 #0   T1  store x0 = 1
-#0   T0  load x0 -> r0 = 1                    T1 store #0
+#0   T0  load x0 -> r0 = 1             T1 store #0
 !!   T0  assert r0 == 0 FAILS: r0 = 1
+memory     x0 = 1
+registers  T0.r0 = 1
 ";
     let name = "examples/load-assert-beside-store.hex";
     let ran = run(&["show", name]);
@@ -56,12 +60,14 @@ thread
     let shown = "\
 execution 1: schedule 00 00 00 00 00, does not fail
 #0   T0  store x3 = 2
-#1   T0  load x3 -> r0 = 2                    T0 store #0
+#1   T0  load x3 -> r0 = 2                          T0 store #0
 #2   T0  fetch_add x3 0xffffffff -> r0 = 2, x3 = 1  T0 store #0
-#3   T0  cas x3 2 9 -> r2 = 1, no swap        T0 fetch_add #2
-#4   T0  cas x3 1 9 -> r2 = 1, x3 = 9         T0 fetch_add #2
+#3   T0  cas x3 2 9 -> r2 = 1, no swap              T0 fetch_add #2
+#4   T0  cas x3 1 9 -> r2 = 1, x3 = 9               T0 fetch_add #2
+memory     x3 = 9
+registers  T0.r0 = 2, T0.r1 = 2, T0.r2 = 1
 ";
-    assert_eq!(run_with(&["show", "-"], &assemble(form.as_bytes()).unwrap()).out, shown);
+    assert_eq!(run_with(&["show", "-"], &assemble(form.as_bytes()).unwrap().file).out, shown);
 }
 
 #[test]
@@ -70,7 +76,9 @@ fn assertions_before_the_first_step() {
     let shown = "\
 execution 1: schedule 01, fails
 !!   T0  assert r0 == 1 FAILS: r0 = 0, before the first step
-#0   T1  load x0 -> r0 = 0                    initial
+#0   T1  load x0 -> r0 = 0                                    initial
+memory     x0 = 0
+registers  T0.r0 = 0, T1.r0 = 0, T1.r1 = 0
 ";
     assert_eq!(ran.out, shown);
     let empty = run_with(&["show", "-"], &lines("01"));

@@ -1,41 +1,70 @@
-//! The text form of a program: a statement a line, each for one line of the program file.
-mod names;
+//! The text form of a program: a statement a line, translated to the lines of the program file.
+mod near;
 mod parse;
+mod resolve;
+mod statement;
+mod symbols;
+mod threads;
 mod tokens;
+mod translate;
+mod warnings;
+mod words;
+mod write;
 mod wrong;
 
 use crate::ask;
 use crate::error::Mark;
-use crate::program::{self, Frame, FILE_LIMIT};
+use crate::program::{self, Names, FILE_LIMIT};
 use crate::refusal;
-use parse::Statement;
-pub use wrong::Wrong;
+use symbols::Symbols;
+use threads::Threads;
+use wrong::{Wrong, Wrongs};
 
-/// A line of a text for the eye.
-fn shown(text: &[u8], line: usize) -> String {
-    let line = text.split(|&c| c == b'\n').nth(line - 1).unwrap_or(&[]);
-    let shown: String = String::from_utf8_lossy(line).chars().map(|c| if c.is_control() { ' ' } else { c }).collect();
-    shown.trim_end().to_string()
+pub use near::near;
+pub use words::constant;
+pub use write::text;
+
+/// A program file made of a text, the text's names, and what looks like a slip in it.
+#[derive(Clone, Debug, PartialEq, Eq)]
+pub struct Assembled {
+    pub file: Vec<u8>,
+    pub names: Names,
+    pub warnings: Vec<Mark>,
 }
 
-/// The program file of a text. The library itself says whether the program is accepted.
-pub fn assemble(text: &[u8]) -> Result<Vec<u8>, Mark> {
-    program(text).map_err(|Wrong { line, column, message }| Mark { line, column, shown: shown(text, line), message })
-}
-
-fn program(text: &[u8]) -> Result<Vec<u8>, Wrong> {
-    let mut statements = parse::statements(text)?;
-    names::number(&mut statements)?;
-    let frames: Vec<Frame> = statements.iter().map(Statement::frame).collect();
-    let file = program::file(&frames);
-    match ask::check(within_limit(&file)) {
-        Ok(()) => Ok(file),
-        Err(refused) => {
-            let at = statements.get((refused.place as usize).wrapping_sub(1));
-            let (line, column) = at.map_or((1, 1), |statement| (statement.line, statement.column));
-            Err(Wrong { line, column, message: refusal::sentence(&file, refused) })
-        }
+/// The program file of a text, or all that is wrong with it. The library itself says whether the program is accepted.
+pub fn assemble(text: &[u8]) -> Result<Assembled, Vec<Mark>> {
+    let (statements, unread) = parse::statements(text);
+    let mut wrong = Wrongs::of_lines(text, unread);
+    let symbols = Symbols::of(&statements, &mut wrong);
+    let threads = Threads::of(&statements, &symbols, &mut wrong);
+    let marks = |all: Vec<Wrong>| all.into_iter().map(|one| mark(text, one)).collect::<Vec<_>>();
+    if !wrong.is_empty() {
+        return Err(marks(wrong.sorted()));
     }
+    let file = program::file(&threads.frames());
+    if let Err(refused) = ask::check(within_limit(&file)) {
+        let (line, column) = threads.place(refused.place);
+        return Err(marks(vec![Wrong { line, column, message: refusal::sentence(&file, refused) }]));
+    }
+    let mut warnings = warnings::of_locations(&statements);
+    warnings.extend(threads.unused_labels());
+    Ok(Assembled { file, names: threads.names(&symbols), warnings: marks(warnings) })
+}
+
+/// Does this content begin as the text form does? A program file has digits only.
+pub fn is_text(bytes: &[u8]) -> bool {
+    let lines = bytes.split(|&c| c == b'\n').map(<[u8]>::trim_ascii);
+    let first = lines.into_iter().find(|line| !line.is_empty() && !line.starts_with(b"#"));
+    let word = first.and_then(|line| line.split(|c| !c.is_ascii_alphanumeric() && *c != b'_').next());
+    word.is_some_and(|word| words::KEYWORDS.iter().any(|keyword| keyword.as_bytes() == word))
+}
+
+/// A place in a text, with its line for the eye.
+fn mark(text: &[u8], Wrong { line, column, message }: Wrong) -> Mark {
+    let whole = text.split(|&c| c == b'\n').nth(line - 1).unwrap_or(&[]);
+    let shown: String = String::from_utf8_lossy(whole).chars().map(|c| if c.is_control() { ' ' } else { c }).collect();
+    Mark { line, column, shown: shown.trim_end().to_string(), message }
 }
 
 /// The lines of a file that lie within the limit of its length: where there are more, one of these passes another limit,
@@ -44,24 +73,4 @@ fn within_limit(file: &[u8]) -> &[u8] {
     let end = file.len().min(FILE_LIMIT);
     let lines = file[..end].iter().rposition(|&c| c == b'\n').map_or(0, |k| k + 1);
     &file[..lines]
-}
-
-/// The text form of these frames.
-pub fn text(frames: &[Frame]) -> String {
-    let mut threads = 0;
-    let mut text = String::new();
-    for frame in frames {
-        text += &match frame {
-            Frame::Thread => {
-                threads += 1;
-                format!("thread  # {}\n", threads - 1)
-            }
-            Frame::Instruction(instruction) => format!("  {instruction}\n"),
-            Frame::Alike(members) => {
-                let members: Vec<String> = members.iter().map(u8::to_string).collect();
-                format!("alike {}\n", members.join(" "))
-            }
-        };
-    }
-    text
 }

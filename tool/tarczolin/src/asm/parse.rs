@@ -1,56 +1,44 @@
-//! Statements of the text form, line by line.
+//! Statements of the text form, line by line. What is wrong with a line does not hide what is wrong with the others.
+use super::near::near;
+use super::statement::{Jump, Kind, Statement, Test, Word};
 use super::tokens::{tokens, Token};
+use super::words::{self, KEYWORDS};
 use super::wrong::Wrong;
-use crate::program::{Frame, Instruction, Operand, LOCATIONS, LONGEST_SKIP, REGISTERS};
-use Instruction::*;
 
-/// A location as it is written: by number (`x3`), or by a name that gets a number later.
-#[derive(Clone, Debug, PartialEq, Eq)]
-pub enum Place {
-    Number(u8),
-    Name(String),
-}
-
-/// A statement; its location, if it has one, stands beside it until names have numbers.
-#[derive(Clone, Debug)]
-pub struct Statement {
-    pub line: usize,
-    pub column: usize,
-    frame: Frame,
-    /// The location, and its column.
-    pub place: Option<(Place, usize)>,
-}
-
-impl Statement {
-    /// The frame, with the location's number.
-    pub fn frame(&self) -> Frame {
-        let mut frame = self.frame.clone();
-        if let (Frame::Instruction(instruction), Some((Place::Number(number), _))) = (&mut frame, &self.place) {
-            instruction.put_location(*number);
-        }
-        frame
-    }
-}
-
-/// The statements of a text. Empty lines and remarks are left out.
-pub fn statements(text: &[u8]) -> Result<Vec<Statement>, Wrong> {
-    let mut all = Vec::new();
+/// The statements of a text, and what is wrong with its lines. Empty lines and remarks are left out.
+pub fn statements(text: &[u8]) -> (Vec<Statement>, Vec<Wrong>) {
+    let (mut all, mut wrong) = (Vec::new(), Vec::new());
     for (k, line) in text.split(|&c| c == b'\n').enumerate() {
         let number = k + 1;
-        let line = std::str::from_utf8(line).map_err(|error| {
-            let column = String::from_utf8_lossy(&line[..error.valid_up_to()]).chars().count() + 1;
-            Wrong { line: number, column, message: "the text is not UTF-8 here".to_string() }
-        })?;
-        let tokens = tokens(line, number)?;
-        if let Some(first) = tokens.first() {
-            let end = tokens.last().map_or(1, |t| t.column + t.text.chars().count());
-            let mut reader = Reader { line: number, end, tokens: &tokens, place: None };
-            let frame = reader.statement()?;
-            reader.nothing_more()?;
-            all.push(Statement { line: number, column: first.column, frame, place: reader.place });
+        let tokens = std::str::from_utf8(line).map_err(|error| no_text(line, number, error)).and_then(|l| tokens(l, number));
+        let read = tokens.and_then(|tokens| line_of(&tokens, number, &mut all));
+        wrong.extend(read.err());
+    }
+    (all, wrong)
+}
+
+fn no_text(line: &[u8], number: usize, error: std::str::Utf8Error) -> Wrong {
+    let column = String::from_utf8_lossy(&line[..error.valid_up_to()]).chars().count() + 1;
+    Wrong { line: number, column, message: "the text is not UTF-8 here".to_string() }
+}
+
+/// The statements of a line: a label, a statement, or both.
+fn line_of(tokens: &[Token], line: usize, all: &mut Vec<Statement>) -> Result<(), Wrong> {
+    let mut rest = tokens;
+    if let [label, colon, behind @ ..] = tokens {
+        if colon.text == ":" {
+            let name = Reader::new(line, tokens).name("a label")?;
+            all.push(Statement { line, column: label.column, kind: Kind::Label(name), text: format!("{}:", label.text) });
+            rest = behind;
         }
     }
-    Ok(all)
+    let Some(first) = rest.first() else { return Ok(()) };
+    let mut reader = Reader::new(line, rest);
+    let kind = reader.statement()?;
+    reader.nothing_more()?;
+    let text = rest.iter().map(|token| token.text).collect::<Vec<_>>().join(" ");
+    all.push(Statement { line, column: first.column, kind, text });
+    Ok(())
 }
 
 /// The tokens of a line that are not read yet.
@@ -59,10 +47,14 @@ struct Reader<'a> {
     /// The column behind the last token.
     end: usize,
     tokens: &'a [Token<'a>],
-    place: Option<(Place, usize)>,
 }
 
 impl<'a> Reader<'a> {
+    fn new(line: usize, tokens: &'a [Token<'a>]) -> Reader<'a> {
+        let end = tokens.last().map_or(1, |t| t.column + t.text.chars().count());
+        Reader { line, end, tokens }
+    }
+
     fn error<T>(&self, column: usize, message: String) -> Result<T, Wrong> {
         Err(Wrong { line: self.line, column, message })
     }
@@ -76,6 +68,36 @@ impl<'a> Reader<'a> {
             }
             None => self.error(self.end, format!("{wanted} is missing")),
         }
+    }
+
+    fn word(&mut self, wanted: &str) -> Result<Word, Wrong> {
+        let token = self.token(wanted)?;
+        if !token.text.starts_with(|c: char| c.is_ascii_alphanumeric() || c == '_' || c == '-') {
+            return self.error(token.column, format!("{wanted} is expected here, not {}", token.text));
+        }
+        Ok(Word { text: token.text.to_string(), column: token.column })
+    }
+
+    /// A name of the writer's own.
+    fn name(&mut self, wanted: &str) -> Result<Word, Wrong> {
+        let word = self.word(wanted)?;
+        let letters = word.text.starts_with(|c: char| c.is_ascii_alphabetic() || c == '_') && !word.text.contains('-');
+        if !letters || KEYWORDS.contains(&word.text.as_str()) {
+            return self.error(word.column, format!("{wanted} is expected here, and {} cannot be a name", word.text));
+        }
+        Ok(word)
+    }
+
+    fn register(&mut self) -> Result<Word, Wrong> {
+        self.word("a register")
+    }
+
+    fn operand(&mut self) -> Result<Word, Wrong> {
+        self.word("a number or a register")
+    }
+
+    fn location(&mut self) -> Result<Word, Wrong> {
+        self.word("a location (x0 to x7, or a name)")
     }
 
     fn expect(&mut self, sign: &str) -> Result<(), Wrong> {
@@ -93,37 +115,71 @@ impl<'a> Reader<'a> {
         }
     }
 
-    fn statement(&mut self) -> Result<Frame, Wrong> {
+    fn statement(&mut self) -> Result<Kind, Wrong> {
         let first = self.token("a statement")?;
         Ok(match first.text {
-            "thread" => Frame::Thread,
-            "alike" => Frame::Alike(self.members()?),
-            "store" => Frame::Instruction(Store { l: self.location()?, p: self.operand()? }),
+            "thread" => Kind::Thread(if self.tokens.is_empty() { None } else { Some(self.name("a thread's name")?) }),
+            "alike" => Kind::Alike(self.members()?),
+            "const" => {
+                let name = self.name("the constant's name")?;
+                self.expect("=")?;
+                Kind::Constant { name, value: self.word("a number")? }
+            }
+            "init" => return self.error(first.column, not_yet("init needs memory that starts with other values than 0")),
+            "store" => Kind::Store { l: self.location()?, p: self.operand()? },
             "assert" => {
-                let r = self.register()?;
-                self.expect("==")?;
-                Frame::Instruction(Assert { r, p: self.operand()? })
+                let (r, test, p) = self.condition()?;
+                Kind::Assert { r, test, p }
             }
             "if" => {
-                let r = self.register()?;
-                self.expect("!=")?;
-                let p = self.operand()?;
-                self.expect("skip")?;
-                Frame::Instruction(SkipUnless { r, p, n: self.skip()? })
+                let (r, test, p) = self.condition()?;
+                Kind::If { r, test, p, to: self.jump()? }
             }
-            _ => match register(first.text) {
-                Some(Ok(r)) => Frame::Instruction(self.assignment(r)?),
-                Some(Err(message)) => return self.error(first.column, message),
-                None => return self.error(first.column, unknown(first.text)),
-            },
+            "goto" => Kind::Goto(self.name("a label")?),
+            "fail" => Kind::Fail,
+            _ => return self.assignment(first),
         })
     }
 
-    /// What stands behind a register at the beginning of a line.
-    fn assignment(&mut self, r: u8) -> Result<Instruction, Wrong> {
+    /// `r0 == 1` or `r0 != 1`.
+    fn condition(&mut self) -> Result<(Word, Test, Word), Wrong> {
+        let r = self.register()?;
+        let sign = self.token("== or !=")?;
+        let test = match sign.text {
+            "==" => Test::Equal,
+            "!=" => Test::Unequal,
+            "<=" | "<" | ">" | ">=" => {
+                return self.error(sign.column, not_yet(&format!("{} needs signed comparisons", sign.text)));
+            }
+            other => return self.error(sign.column, format!("== or != is expected here, not {other}")),
+        };
+        Ok((r, test, self.operand()?))
+    }
+
+    fn jump(&mut self) -> Result<Jump, Wrong> {
+        let token = self.token("skip or goto")?;
+        match token.text {
+            "goto" => Ok(Jump::Goto(self.name("a label")?)),
+            "skip" => {
+                let word = self.word("a number of statements (1 to 15)")?;
+                let number = word.text.parse().ok().filter(|n| (1..=15).contains(n));
+                let message = format!("a skip is a number from 1 to 15, not {}", word.text);
+                number.map_or_else(|| self.error(word.column, message), |n| Ok(Jump::Skip(n)))
+            }
+            other => self.error(token.column, format!("skip or goto is expected here, not {other}")),
+        }
+    }
+
+    /// A statement that begins with a register or its name.
+    fn assignment(&mut self, first: Token) -> Result<Kind, Wrong> {
+        let r = Word { text: first.text.to_string(), column: first.column };
+        let assigns = matches!(self.tokens.first(), Some(sign) if ["=", "+="].contains(&sign.text));
+        if !assigns && words::register(first.text).is_none() {
+            return self.error(first.column, unknown(first.text));
+        }
         let sign = self.token("= or +=")?;
         match sign.text {
-            "+=" => return Ok(Add { r, p: self.operand()? }),
+            "+=" => return Ok(Kind::Add { r, p: self.operand()? }),
             "=" => {}
             other => return self.error(sign.column, format!("= or += is expected here, not {other}")),
         }
@@ -132,109 +188,39 @@ impl<'a> Reader<'a> {
             self.token(what)?;
         }
         Ok(match what {
-            "load" => Load { r, l: self.location()? },
-            "fetch_add" => FetchAdd { r, l: self.location()?, p: self.operand()? },
-            "cas" => CompareSwap { r, l: self.location()?, e: self.operand()?, v: self.operand()? },
-            _ => Set { r, p: self.operand()? },
+            "load" => Kind::Load { r, l: self.location()? },
+            "fetch_add" => Kind::FetchAdd { r, l: self.location()?, p: self.operand()? },
+            "cas" => Kind::CompareSwap { r, l: self.location()?, e: self.operand()?, v: self.operand()? },
+            _ => Kind::Set { r, p: self.operand()? },
         })
     }
 
-    fn register(&mut self) -> Result<u8, Wrong> {
-        let token = self.token("a register (r0 to r3)")?;
-        match register(token.text) {
-            Some(Ok(r)) => Ok(r),
-            Some(Err(message)) => self.error(token.column, message),
-            None => self.error(token.column, format!("a register (r0 to r3) is expected here, not {}", token.text)),
-        }
-    }
-
-    fn operand(&mut self) -> Result<Operand, Wrong> {
-        let token = self.token("a number or a register")?;
-        match (register(token.text), constant(token.text)) {
-            (Some(Ok(r)), _) => Ok(Operand::Register(r)),
-            (Some(Err(message)), _) | (_, Some(Err(message))) => self.error(token.column, message),
-            (_, Some(Ok(value))) => Ok(Operand::Constant(value)),
-            _ => self.error(token.column, format!("a number or a register is expected here, not {}", token.text)),
-        }
-    }
-
-    /// A location; 0 stands in the frame until its place has a number.
-    fn location(&mut self) -> Result<u8, Wrong> {
-        let token = self.token("a location (x0 to x7, or a name)")?;
-        match place(token.text) {
-            Ok(place) => self.place = Some((place, token.column)),
-            Err(message) => return self.error(token.column, message),
-        }
-        Ok(0)
-    }
-
-    fn skip(&mut self) -> Result<u8, Wrong> {
-        let token = self.token("a number of instructions (1 to 15)")?;
-        let number = token.text.parse().ok().filter(|n| (1..=LONGEST_SKIP).contains(n));
-        number.map_or_else(|| self.error(token.column, format!("a skip is a number from 1 to 15, not {}", token.text)), Ok)
-    }
-
-    /// The members of an alike line: as many as there are, each a byte.
-    fn members(&mut self) -> Result<Vec<u8>, Wrong> {
+    /// The members of an alike line: as many as there are.
+    fn members(&mut self) -> Result<Vec<Word>, Wrong> {
         let mut members = Vec::new();
         while members.len() < 2 || !self.tokens.is_empty() {
-            let token = self.token("a thread number (alike takes two to six)")?;
-            match token.text.parse() {
-                Ok(_) if members.len() == 6 => return self.error(token.column, "alike takes two to six threads".to_string()),
-                Ok(t) => members.push(t),
-                Err(_) => return self.error(token.column, format!("a thread number is expected here, not {}", token.text)),
+            let word = self.word("a thread (alike takes two to six)")?;
+            if members.len() == 6 {
+                return self.error(word.column, "alike takes two to six threads".to_string());
             }
+            members.push(word);
         }
         Ok(members)
     }
 }
 
+/// What the library cannot do yet.
+fn not_yet(what: &str) -> String {
+    format!("{what}, which the library does not have yet")
+}
+
 /// A statement that begins with an unknown word.
 fn unknown(word: &str) -> String {
-    match word {
-        "load" | "fetch_add" | "cas" => format!("{word} needs a register for the old value: r0 = {word} .."),
-        _ => format!("a statement does not begin with {word}; it begins with thread, alike, store, assert, if or a register"),
+    match (word, near(word, KEYWORDS)) {
+        ("load" | "fetch_add" | "cas", _) => format!("{word} needs a register for the old value: r0 = {word} .."),
+        (_, Some(known)) => format!("a statement does not begin with {word}; is it {known}?"),
+        _ => format!(
+            "a statement does not begin with {word}; it begins with thread, alike, const, store, if, goto, assert, fail or a register"
+        ),
     }
-}
-
-/// A letter and digits: the number behind the letter.
-fn lettered(word: &str, letter: char) -> Option<&str> {
-    word.strip_prefix(letter).filter(|rest| !rest.is_empty() && rest.bytes().all(|c| c.is_ascii_digit()))
-}
-
-/// A register, or what is wrong with its number; none for any other word.
-fn register(word: &str) -> Option<Result<u8, String>> {
-    let number = lettered(word, 'r')?.parse().ok().filter(|r| *r < REGISTERS);
-    Some(number.ok_or_else(|| format!("there is no register {word}; registers are r0 to r3")))
-}
-
-/// A location by number or by name.
-fn place(word: &str) -> Result<Place, String> {
-    if let Some(number) = lettered(word, 'x') {
-        let number = number.parse().ok().filter(|l| *l < LOCATIONS);
-        return number.map(Place::Number).ok_or_else(|| format!("there is no location {word}; locations are x0 to x7, or names"));
-    }
-    let named = word.starts_with(|c: char| c.is_ascii_alphabetic() || c == '_') && !word.contains('-');
-    if !named || lettered(word, 'r').is_some() {
-        return Err(format!("a location (x0 to x7, or a name) is expected here, not {word}"));
-    }
-    Ok(Place::Name(word.to_string()))
-}
-
-/// A number of 32 bits, or what is wrong with it; none for a word that is no number. -1 is ffffffff.
-fn constant(word: &str) -> Option<Result<u32, String>> {
-    let (negative, digits) = match word.strip_prefix('-') {
-        Some(digits) => (true, digits),
-        None => (false, word),
-    };
-    if !digits.starts_with(|c: char| c.is_ascii_digit()) {
-        return None;
-    }
-    let value = match digits.strip_prefix("0x") {
-        Some(digits) => i64::from_str_radix(digits, 16),
-        None => digits.parse(),
-    };
-    let value = value.ok().map(|value| if negative { -value } else { value });
-    let fits = value.filter(|value| (-(1 << 31)..1 << 32).contains(value));
-    Some(fits.map(|value| value as u32).ok_or_else(|| format!("{word} is no number of 32 bits")))
 }

@@ -13,13 +13,15 @@ enum Class {
     Space,
     Word,
     Sign,
+    Colon,
 }
 
 fn class(c: char) -> Option<Class> {
     match c {
         c if c.is_whitespace() => Some(Class::Space),
         'a'..='z' | 'A'..='Z' | '0'..='9' | '_' | '-' => Some(Class::Word),
-        '=' | '!' | '+' => Some(Class::Sign),
+        '=' | '!' | '+' | '<' | '>' => Some(Class::Sign),
+        ':' => Some(Class::Colon),
         _ => None,
     }
 }
@@ -34,16 +36,15 @@ pub fn tokens(line: &str, number: usize) -> Result<Vec<Token<'_>>, Wrong> {
             break;
         }
         let Some(class) = class(c) else {
-            return Err(Wrong { line: number, column: column + 1, message: format!("the character {c} has no meaning here") });
+            let message = format!("the character {c} has no meaning here");
+            return Err(Wrong { line: number, column: column + 1, message });
         };
-        let end = at + c.len_utf8();
-        match tokens.last_mut() {
-            Some(token) if class == last && class != Class::Space => token.text = &line[began..end],
-            _ if class != Class::Space => {
+        if class != Class::Space {
+            if class != last {
                 began = at;
-                tokens.push(Token { text: &line[at..end], column: column + 1 });
+                tokens.push(Token { text: "", column: column + 1 });
             }
-            _ => {}
+            tokens.last_mut().expect("just begun").text = &line[began..at + c.len_utf8()];
         }
         last = class;
     }

@@ -1,6 +1,12 @@
-//! The words behind a command: files and options. Every option takes a value.
+//! The words behind a command: files and options. `--` ends the options.
+use super::opt::Opt;
+use crate::asm::near;
 use crate::error::Error;
+use crate::hex;
+use crate::input;
+use crate::schedule::Schedule;
 
+#[derive(Default)]
 pub struct Arguments {
     words: Vec<String>,
     options: Vec<(String, String)>,
@@ -8,41 +14,65 @@ pub struct Arguments {
 
 impl Arguments {
     /// Sorts the words; an option that is not among these is bad usage.
-    pub fn of(words: &[String], known: &[&str]) -> Result<Arguments, Error> {
-        let mut all = Arguments { words: Vec::new(), options: Vec::new() };
+    pub fn of(words: &[String], known: &[Opt]) -> Result<Arguments, Error> {
+        let mut all = Arguments::default();
         let mut words = words.iter();
         while let Some(word) = words.next() {
+            if word == "--" {
+                all.words.extend(words.cloned());
+                break;
+            }
             if !word.starts_with("--") {
                 all.words.push(word.clone());
                 continue;
             }
-            let (name, value) = match word.split_once('=') {
-                Some((name, value)) => (name.to_string(), Some(value.to_string())),
-                None => (word.clone(), words.next().cloned()),
+            let (name, given) = match word.split_once('=') {
+                Some((name, value)) => (name, Some(value.to_string())),
+                None => (word.as_str(), None),
             };
-            if !known.contains(&name.as_str()) {
-                return Err(Error::usage(format!("there is no option {name} here")));
-            }
-            let value = value.ok_or_else(|| Error::usage(format!("{name} needs a value")))?;
-            all.options.push((name, value));
+            let Some(option) = known.iter().find(|option| option.name == name) else { return Err(unknown(name, known)) };
+            let value = match (option.value, given) {
+                (None, None) => String::new(),
+                (None, Some(_)) => return Err(Error::usage(format!("{name} takes no value"))),
+                (Some(_), given) => {
+                    let next = given.or_else(|| words.next().cloned());
+                    next.ok_or_else(|| Error::usage(format!("{name} needs a value")))?
+                }
+            };
+            all.options.push((name.to_string(), value));
         }
         Ok(all)
     }
 
     /// The words that are no options, exactly so many; any other number is bad usage.
     pub fn files<const N: usize>(&self) -> Result<[&str; N], Error> {
+        self.names()?.try_into().map_err(|_| Error::Words)
+    }
+
+    /// The words that are no options, at least one.
+    pub fn names(&self) -> Result<Vec<&str>, Error> {
         let words: Vec<&str> = self.words.iter().map(String::as_str).collect();
         if words.iter().filter(|word| **word == "-").count() > 1 {
             return Err(Error::usage("standard input can be read only once"));
         }
-        words.try_into().map_err(|_| Error::Words)
+        if words.is_empty() {
+            return Err(Error::Words);
+        }
+        Ok(words)
     }
 
-    /// The first word, and all that follow it, at least one.
-    pub fn file_and_rest(&self) -> Result<(&str, &[String]), Error> {
+    /// The first word, and the schedule that the others write, if there are any.
+    pub fn file_and_schedule(&self) -> Result<(&str, Option<Vec<u8>>), Error> {
         match self.words.split_first() {
-            Some((file, rest)) if !rest.is_empty() => Ok((file, rest)),
-            _ => Err(Error::Words),
+            None => Err(Error::Words),
+            Some((file, [])) => Ok((file, None)),
+            Some((file, words)) if words == ["-"] => {
+                if file == "-" {
+                    return Err(Error::usage("standard input can be read only once"));
+                }
+                Ok((file, Some(schedule(&input::text("-")?)?)))
+            }
+            Some((file, words)) => Ok((file, Some(schedule(words.concat().as_bytes())?))),
         }
     }
 
@@ -51,10 +81,39 @@ impl Arguments {
         self.options.iter().rev().find(|(known, _)| known == name).map(|(_, value)| value.as_str())
     }
 
+    /// Is this option given?
+    pub fn flag(&self, name: &str) -> bool {
+        self.option(name).is_some()
+    }
+
     /// The value of an option that is a number from 1 to some limit; 1 where it is not given.
     pub fn number(&self, name: &str, most: u64) -> Result<u64, Error> {
         let Some(value) = self.option(name) else { return Ok(1) };
         let number = value.parse().ok().filter(|number| (1..=most).contains(number));
         number.ok_or_else(|| Error::usage(format!("{name} takes a number from 1 to {most}, not {value}")))
     }
+
+    /// The value of an option that is a schedule of at most 24 steps.
+    pub fn schedule(&self, name: &str) -> Result<Option<Schedule>, Error> {
+        let Some(value) = self.option(name) else { return Ok(None) };
+        let steps = schedule(value.as_bytes())?;
+        if steps.len() > tarczolin_sys::SCHEDULE {
+            return Err(Error::usage(format!("{name} takes a schedule of at most {} steps", tarczolin_sys::SCHEDULE)));
+        }
+        Ok(Some(steps.into_iter().collect()))
+    }
+}
+
+/// The schedule of these digits.
+fn schedule(digits: &[u8]) -> Result<Vec<u8>, Error> {
+    let digits: Vec<u8> = digits.iter().copied().filter(|c| !c.is_ascii_whitespace()).collect();
+    hex::bytes(&digits).ok_or_else(|| {
+        let text = String::from_utf8_lossy(&digits);
+        Error::usage(format!("{text} is no schedule: it takes two digits (0-9, a-f) a step, as in 00000101"))
+    })
+}
+
+fn unknown(name: &str, known: &[Opt]) -> Error {
+    let hint = near(name, known.iter().map(|option| option.name)).map_or(String::new(), |other| format!("; is it {other}?"));
+    Error::usage(format!("there is no option {name} here{hint}"))
 }

@@ -1,12 +1,19 @@
 //! asm: from the text form to a program file.
 use super::arguments::Arguments;
+use super::reply::{each, Question};
 use crate::end::End;
 use crate::error::{called, Error};
-use crate::{asm, input, output};
+use crate::{asm, input};
 
-pub fn run(arguments: Arguments) -> Result<End, Error> {
-    let [name] = arguments.files()?;
-    let text = input::text(name)?;
-    let file = asm::assemble(&text).map_err(|mark| Error::Text { name: called(name).to_string(), marks: vec![mark] })?;
-    output::answer(file, End::Answered)
+pub fn run(arguments: &Arguments) -> Result<End, Error> {
+    each("asm", arguments, assembled)
+}
+
+fn assembled(question: &Question) -> Result<End, Error> {
+    let text = input::text(question.file)?;
+    let name = called(question.file);
+    let made = asm::assemble(&text).map_err(|marks| Error::Text { name: name.to_string(), marks })?;
+    input::warn(name, made.warnings);
+    let file = String::from_utf8(made.file).expect("digits only");
+    question.answer_text(file.clone(), [("text", file.into())], End::Answered)
 }

@@ -1,12 +1,12 @@
 //! check: is this a program file?
 use super::arguments::Arguments;
+use super::reply::each;
 use crate::end::End;
 use crate::error::Error;
-use crate::{ask, input, output, refusal};
 
-pub fn run(arguments: Arguments) -> Result<End, Error> {
-    let [name] = arguments.files()?;
-    let file = input::program(name)?;
-    ask::check(&file).map_err(|r| refusal::of_program(name, &file, r))?;
-    output::answer("accepted\n", End::Answered)
+pub fn run(arguments: &Arguments) -> Result<End, Error> {
+    each("check", arguments, |question| {
+        question.source()?;
+        question.answer("accepted", [("accepted", true.into())], End::Answered)
+    })
 }

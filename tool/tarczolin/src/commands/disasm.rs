@@ -1,13 +1,15 @@
 //! disasm: from a program file to the text form.
 use super::arguments::Arguments;
+use super::reply::each;
 use crate::end::End;
 use crate::error::Error;
-use crate::{ask, asm, input, output, program, refusal};
+use crate::{asm, program};
 
-pub fn run(arguments: Arguments) -> Result<End, Error> {
-    let [name] = arguments.files()?;
-    let file = input::program(name)?;
-    ask::check(&file).map_err(|r| refusal::of_program(name, &file, r))?;
-    let frames = program::frames(&file).expect("an accepted file has frames only");
-    output::answer(asm::text(&frames), End::Answered)
+pub fn run(arguments: &Arguments) -> Result<End, Error> {
+    each("disasm", arguments, |question| {
+        let source = question.source()?;
+        let frames = program::frames(&source.file).expect("an accepted file has frames only");
+        let text = asm::text(&frames, &source.names);
+        question.answer_text(text.clone(), [("text", text.into())], End::Answered)
+    })
 }

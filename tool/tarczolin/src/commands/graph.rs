@@ -1,29 +1,35 @@
-//! graph: the graph text of a full schedule.
+//! graph: the graph of a full schedule, as a text, for Graphviz, or drawn.
 use super::arguments::Arguments;
+use super::record;
+use super::reply::{asked, Question};
 use crate::end::End;
 use crate::error::Error;
-use crate::{ask, hex, input, output, refusal};
+use crate::execution::Execution;
+use crate::graph::Graph;
+use crate::html;
+use crate::program::Program;
+use crate::{ask, dot, output, refusal};
 
-pub fn run(arguments: Arguments) -> Result<End, Error> {
-    let (name, words) = arguments.file_and_rest()?;
-    let schedule = schedule(name, words)?;
-    let file = input::program(name)?;
-    let text = ask::graph(&file, &schedule).map_err(|r| refusal::of_schedule(name, &file, &schedule, r))?;
-    output::answer(text, End::Answered)
+pub fn run(arguments: &Arguments) -> Result<End, Error> {
+    let (name, schedule) = arguments.file_and_schedule()?;
+    let schedule = schedule.ok_or(Error::Words)?;
+    asked(&Question::of("graph", arguments, name), |question| graph(question, arguments, &schedule))
 }
 
-/// The schedule of one or more words of digits, or of standard input.
-fn schedule(name: &str, words: &[String]) -> Result<Vec<u8>, Error> {
-    let mut digits = words.concat().into_bytes();
-    if digits == b"-" {
-        if name == "-" {
-            return Err(Error::usage("standard input can be read only once"));
-        }
-        digits = input::text("-")?;
+fn graph(question: &Question, arguments: &Arguments, schedule: &[u8]) -> Result<End, Error> {
+    let source = question.source()?;
+    let refused = |r| refusal::of_schedule(&source.name, &source.file, &source.names, schedule, r);
+    let text = ask::graph(&source.file, schedule).map_err(refused)?;
+    if arguments.flag("--dot") || arguments.flag("--svg") {
+        let program = Program::of_accepted(&source.file).named(&source.names);
+        let execution = Execution::replayed(&source.file, &program, schedule).expect("the schedule is full");
+        let drawn = if arguments.flag("--dot") { dot::text(&execution) } else { html::drawing(&execution) };
+        return output::answer(drawn, End::Answered);
     }
-    digits.retain(|c| !c.is_ascii_whitespace());
-    hex::bytes(&digits).ok_or_else(|| {
-        let text = String::from_utf8_lossy(&digits);
-        Error::usage(format!("{text} is no schedule: it takes two digits (0-9, a-f) a step, as in 00000101"))
-    })
+    if question.json {
+        let [reads, writes] = record::graph(&Graph::of_text(&text));
+        let digits = crate::hex::digits(schedule);
+        return output::answer(question.object([("schedule", digits.into()), reads, writes]), End::Answered);
+    }
+    output::answer(text, End::Answered)
 }

@@ -1,15 +1,75 @@
-//! judge: can this graph happen?
+//! judge: can this graph happen? A no is explained.
 use super::arguments::Arguments;
+use super::reply::{asked, Question};
 use crate::end::End;
 use crate::error::Error;
-use crate::{ask, input, output, refusal};
+use crate::graph::{Event, Graph, Order};
+use crate::input::{self, Source};
+use crate::json::{list, object, Json};
+use crate::program::{Names, Program};
+use crate::schedule::Schedule;
+use crate::why::{why, Edge, Why};
+use crate::{ask, refusal};
 
-pub fn run(arguments: Arguments) -> Result<End, Error> {
+pub fn run(arguments: &Arguments) -> Result<End, Error> {
     let [name, graph] = arguments.files()?;
-    let file = input::program(name)?;
+    asked(&Question::of("judge", arguments, name), |question| judged(question, graph))
+}
+
+fn judged(question: &Question, graph: &str) -> Result<End, Error> {
+    let source = question.source()?;
     let text = input::text(graph)?;
-    match ask::judge(&file, &text).map_err(|r| refusal::of_graph([name, graph], &file, &text, r))? {
-        Some(schedule) => output::answer(format!("yes {schedule}\n"), End::Answered),
-        None => output::answer("no\n", End::Violation),
+    let answer = ask::judge(&source.file, &text);
+    match answer.map_err(|r| refusal::of_graph([question.file, graph], &source.file, &text, r))? {
+        Some(schedule) => yes(question, graph, &schedule),
+        None => no(question, graph, &source, &text),
+    }
+}
+
+fn yes(question: &Question, graph: &str, schedule: &Schedule) -> Result<End, Error> {
+    let possible = [("graph", graph.into()), ("possible", true.into()), ("schedule", schedule.to_string().into())];
+    question.answer(&format!("yes {schedule}"), possible, End::Answered)
+}
+
+fn no(question: &Question, graph: &str, source: &Source, text: &[u8]) -> Result<End, Error> {
+    let program = Program::of_accepted(&source.file).named(&source.names);
+    let why = why(&program, &Graph::of_text(text));
+    let words = why.as_ref().map_or(String::new(), |why| told(&program.names, why));
+    let fields = [("graph", graph.into()), ("possible", false.into()), ("why", why.as_ref().map(json).into())];
+    question.answer(&format!("no{words}"), fields, End::Violation)
+}
+
+/// An order's name, in words and for programs.
+fn order(order: Order) -> (&'static str, &'static str) {
+    match order {
+        Order::Program => ("program order", "po"),
+        Order::ReadsFrom => ("reads from", "rf"),
+        Order::Coherence => ("coherence", "co"),
+        Order::FromReads => ("from reads", "fr"),
+    }
+}
+
+/// The explanation for the eye.
+fn told(names: &Names, why: &Why) -> String {
+    const NOTE: &str = "(explained by plain Rust, which is not proved; the answer is)";
+    let event = |event: Event| format!("{} #{}", names.thread(event.t), event.i);
+    match why {
+        Why::Misfit(message) => format!("\nthe program does not make this graph: {message} {NOTE}"),
+        Why::Cycle(edges) => {
+            let line = |edge: &Edge| format!("\n  {} before {}: {}", event(edge.from), event(edge.to), order(edge.order).0);
+            format!("\nthese go in a circle {NOTE}:{}", edges.iter().map(line).collect::<String>())
+        }
+    }
+}
+
+fn json(why: &Why) -> Json {
+    let event = |event: Event| object([("thread", event.t.into()), ("access", event.i.into())]);
+    match why {
+        Why::Misfit(message) => object([("kind", "misfit".into()), ("message", message.as_str().into())]),
+        Why::Cycle(edges) => {
+            let edge =
+                |edge: &Edge| object([("from", event(edge.from)), ("order", order(edge.order).1.into()), ("to", event(edge.to))]);
+            object([("kind", "cycle".into()), ("edges", list(edges.iter().map(edge)))])
+        }
     }
 }

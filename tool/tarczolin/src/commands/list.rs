@@ -1,46 +1,58 @@
 //! list: the lines of the listing program.
 use super::arguments::Arguments;
-use crate::ask::Counts;
+use super::piece::{self, Found, Piece};
+use super::reply::{each, Question};
+use crate::ask::{Counts, Listed};
 use crate::end::End;
-use crate::error::Error;
-use crate::jobs::{self, List};
-use crate::output;
-use crate::progress::Progress;
-use crate::{hex, input, refusal};
+use crate::error::{Error, Refused, Subject};
+use crate::jobs::List;
+use crate::{hex, output};
 use std::io::{self, Write};
 
-/// At most so many jobs.
-pub const JOBS: u64 = 256;
-
-pub fn run(arguments: Arguments) -> Result<End, Error> {
-    let [name] = arguments.files()?;
-    let jobs = arguments.number("--jobs", JOBS)? as usize;
-    let file = input::program(name)?;
-    let list = match List::of(&file, true) {
-        Ok(list) => list,
-        Err(r) => {
-            let place = (r.place as u16).to_be_bytes();
-            output::answer(hex::line(&[0x52, r.number, place[0], place[1]]), End::Answered)?;
-            return Err(refusal::of_program(name, &file, r));
-        }
-    };
-    let mut counts = Counts::default();
-    let written = lines(&list, jobs, &mut *output::standard(), &mut counts);
-    output::ended(written, End::of_failing(counts.failing))
+pub fn run(arguments: &Arguments) -> Result<End, Error> {
+    let piece = Piece::of(arguments)?;
+    each("list", arguments, |question| listed(question, &piece))
 }
 
-/// Prints a line for each listed schedule and counts them, then the line of the counts.
-fn lines(list: &List, jobs: usize, out: &mut dyn Write, counts: &mut Counts) -> io::Result<()> {
-    let mut progress = Progress::default();
-    jobs::parts(list, jobs, |part| {
-        *counts += part.counts;
-        progress.give_way();
-        out.write_all(&part.lines)?;
-        progress.tell(*counts);
-        Ok(())
-    })?;
-    progress.hide();
-    let frame = [&[0x51], &counts.listed.to_be_bytes()[..], &counts.failing.to_be_bytes()].concat();
-    out.write_all(hex::line(&frame).as_bytes())?;
-    out.flush()
+fn listed(question: &Question, piece: &Piece) -> Result<End, Error> {
+    let source = question.source().inspect_err(|error| refused(question, error))?;
+    let list = piece.list(List::of(&source, true).expect("the file is accepted"));
+    let mut out = output::standard();
+    let headed = if question.json { Ok(()) } else { out.write_all(question.heading().as_bytes()) };
+    let found = piece::walk(&list, piece.jobs, |part| {
+        part.listed.iter().try_for_each(|listed| out.write_all(line(question, listed).as_bytes()))
+    });
+    let Found { counts, cut, .. } = found;
+    let written = headed.and(found.written.as_ref().map_or(Ok(()), |error| Err(io::Error::from(error.kind()))));
+    let written = written.and_then(|()| match cut {
+        true => out.flush(),
+        false => out.write_all(last_line(question, counts).as_bytes()).and_then(|()| out.flush()),
+    });
+    piece::tell_cut(&found);
+    output::ended(written, if cut { End::of_cut(counts.failing) } else { End::of_failing(counts.failing) })
+}
+
+/// A refused file gets the line of the listing program too.
+fn refused(question: &Question, error: &Error) {
+    if let (Error::Refused(Refused { subject: Subject::File(_), refusal, .. }), false) = (error, question.json) {
+        let place = (refusal.place as u16).to_be_bytes();
+        // a pipe that is closed changes nothing: the refusal is told on standard error
+        let _ = output::answer(hex::line(&[0x52, refusal.number, place[0], place[1]]), End::Refused);
+    }
+}
+
+/// The line of a listed schedule.
+fn line(question: &Question, listed: &Listed) -> String {
+    if question.json {
+        return question.object([("schedule", listed.schedule.to_string().into()), ("fails", listed.fails.into())]);
+    }
+    hex::line(&[&[0x50, listed.fails as u8], &listed.schedule[..]].concat())
+}
+
+/// The line of the counts.
+fn last_line(question: &Question, counts: Counts) -> String {
+    if question.json {
+        return question.object([("listed", counts.listed.into()), ("failing", counts.failing.into())]);
+    }
+    hex::line(&[&[0x51], &counts.listed.to_be_bytes()[..], &counts.failing.to_be_bytes()].concat())
 }

@@ -1,97 +1,129 @@
-//! show: listed executions in two columns, or as a page. Totals and exit status are those of the whole list.
+//! show: executions in two columns, as a page, or drawn. Totals and exit status are those of the whole list.
 use super::arguments::Arguments;
+use super::pages;
+use super::record;
+use super::reply::{asked, each, Question};
 use crate::ask::{Counts, Listed};
 use crate::end::End;
 use crate::error::{called, Error};
 use crate::execution::Execution;
-use crate::html::{Page, Pick};
-use crate::jobs::List;
-use crate::{input, output, refusal, show};
+use crate::jobs::{self, List};
+use crate::progress::Progress;
+use crate::show::{columns, By};
+use crate::{input, output, refusal};
 use std::io::{self, Write};
 
-/// Which executions are shown.
-struct Choice {
+/// Which executions are shown, and how.
+pub struct Choice<'a> {
     from: u64,
     failing_only: bool,
+    by: By,
+    html: Option<&'a str>,
+    svg: Option<&'a str>,
 }
 
-pub fn run(arguments: Arguments) -> Result<End, Error> {
-    let [name] = arguments.files()?;
-    let from = arguments.number("--from", u64::MAX)?;
-    let failing_only = match arguments.option("--only") {
-        None => false,
-        Some("failing") => true,
-        Some(other) => return Err(Error::usage(format!("--only takes the word failing, not {other}"))),
-    };
-    let page = arguments.option("--html");
-    if page.is_some_and(|page| page != "-" && input::is_input(page, name)) {
+/// The word that an option takes, one of these.
+fn one_of<T: Copy>(arguments: &Arguments, name: &str, words: &[(&str, T)], otherwise: T) -> Result<T, Error> {
+    let Some(given) = arguments.option(name) else { return Ok(otherwise) };
+    let known: Vec<&str> = words.iter().map(|(word, _)| *word).collect();
+    let found = words.iter().find(|(word, _)| *word == given);
+    found
+        .map(|(_, value)| *value)
+        .ok_or_else(|| Error::usage(format!("{name} takes the word {}, not {given}", known.join(" or "))))
+}
+
+impl<'a> Choice<'a> {
+    fn of(arguments: &'a Arguments) -> Result<Choice<'a>, Error> {
+        Ok(Choice {
+            from: arguments.number("--from", u64::MAX)?,
+            failing_only: one_of(arguments, "--only", &[("failing", true)], false)?,
+            by: one_of(arguments, "--by", &[("time", By::Time), ("thread", By::Thread)], By::Time)?,
+            html: arguments.option("--html"),
+            svg: arguments.option("--svg"),
+        })
+    }
+}
+
+pub fn run(arguments: &Arguments) -> Result<End, Error> {
+    let choice = Choice::of(arguments)?;
+    let names = arguments.names()?;
+    let is_schedule = |word: &&str| *word == "-" || word.bytes().all(|c| c.is_ascii_hexdigit());
+    if names.len() > 1 && names[1..].iter().all(is_schedule) {
+        let (name, schedule) = arguments.file_and_schedule()?;
+        let schedule = schedule.ok_or(Error::Words)?;
+        return asked(&Question::of("show", arguments, name), |question| one(question, &choice, &schedule));
+    }
+    if names.len() > 1 && (choice.html.is_some() || choice.svg.is_some()) {
+        return Err(Error::usage("a page or drawings are made of one file"));
+    }
+    each("show", arguments, |question| shown(question, &choice))
+}
+
+fn shown(question: &Question, choice: &Choice) -> Result<End, Error> {
+    if choice.html.is_some_and(|page| page != "-" && input::is_input(page, question.file)) {
         let message = "the page would overwrite the program that it shows; name another file behind --html";
-        return Err(Error::usage(format!("{}: {message}", called(name))));
+        return Err(Error::usage(format!("{}: {message}", called(question.file))));
     }
-    let file = input::program(name)?;
-    let list = List::of(&file, false).map_err(|r| refusal::of_program(name, &file, r))?;
-    let choice = Choice { from, failing_only };
-    match page {
-        Some(page) => to_page(&list, &choice, called(name), page),
-        None => to_standard_output(&list, &choice),
+    let source = question.source()?;
+    let list = List::of(&source, false).expect("the file is accepted");
+    let walk = |each: &mut dyn FnMut(u64, &Listed) -> io::Result<()>| walk(&list, choice, each);
+    match (choice.html, choice.svg) {
+        (Some(page), _) => pages::page(&list, called(question.file), page, walk),
+        (_, Some(folder)) => pages::drawings(&list, folder, walk),
+        _ => to_standard_output(question, &list, choice),
     }
+}
+
+/// One execution by its schedule.
+fn one(question: &Question, choice: &Choice, schedule: &[u8]) -> Result<End, Error> {
+    let source = question.source()?;
+    let list = List::of(&source, false).expect("the file is accepted");
+    let refused = |r| refusal::of_schedule(&source.name, &source.file, &source.names, schedule, r);
+    let execution = Execution::replayed(&source.file, &list.program, schedule).map_err(refused)?;
+    let found = End::of_failing(execution.fails as u64);
+    question.answer_text(columns(&execution, choice.by), record::execution(&execution), found)
 }
 
 /// Walks the whole list and counts it; hands each chosen execution with its position to `each`, until that fails.
-fn walk(list: &List, choice: &Choice, mut each: impl FnMut(u64, &Listed) -> io::Result<()>) -> (Counts, io::Result<()>) {
+fn walk(list: &List, choice: &Choice, each: &mut dyn FnMut(u64, &Listed) -> io::Result<()>) -> (Counts, io::Result<()>) {
     let mut counts = Counts::default();
+    let mut progress = Progress::default();
     let mut done = Ok(());
-    let walked = list.walk(None, |listed| {
+    list.walk(None, |listed| {
         counts.add(listed);
         let chosen = counts.listed >= choice.from && (listed.fails || !choice.failing_only);
         if chosen {
+            progress.give_way();
             done = each(counts.listed, listed);
         }
+        progress.tell(counts, || jobs::share(&list.program, &listed.schedule));
         done.is_err()
     });
-    walked.expect("the file is accepted");
+    progress.hide();
     (counts, done)
 }
 
-/// An execution of the list, ready to be shown.
-fn execution(list: &List, position: u64, listed: &Listed) -> Execution {
-    Execution::of(list.file, &list.program, position, listed).expect("a listed schedule of an accepted file is full")
-}
-
-fn to_standard_output(list: &List, choice: &Choice) -> Result<End, Error> {
+fn to_standard_output(question: &Question, list: &List, choice: &Choice) -> Result<End, Error> {
     let mut out = output::standard();
     let mut shown = 0;
-    let (counts, written) = walk(list, choice, |position, listed| {
+    let headed = if question.json { Ok(()) } else { out.write_all(question.heading().as_bytes()) };
+    let (counts, written) = walk(list, choice, &mut |position, listed| {
         let blank = if shown > 0 { "\n" } else { "" };
         shown += 1;
-        write!(out, "{blank}{}", show::columns(&execution(list, position, listed)))
+        let execution = pages::execution(list, position, listed);
+        match question.json {
+            true => out.write_all(question.object(record::execution(&execution)).as_bytes()),
+            false => write!(out, "{blank}{}", columns(&execution, choice.by)),
+        }
     });
-    let written = written.and_then(|()| {
-        if shown == 0 {
-            let Counts { listed, failing } = counts;
+    let written = headed.and(written).and_then(|()| {
+        let Counts { listed, failing } = counts;
+        if question.json {
+            out.write_all(question.object([("listed", listed.into()), ("failing", failing.into())]).as_bytes())?;
+        } else if shown == 0 {
             writeln!(out, "nothing to show: none of the listed executions is chosen ({listed} listed, {failing} failing)")?;
         }
         out.flush()
     });
     output::ended(written, End::of_failing(counts.failing))
-}
-
-fn to_page(list: &List, choice: &Choice, name: &str, to: &str) -> Result<End, Error> {
-    let mut pick = Pick::default();
-    let (counts, _) = walk(list, choice, |position, listed| {
-        pick.add(position, listed);
-        Ok(())
-    });
-    let left_out = pick.left_out();
-    let executions = pick.picked().iter().map(|(position, listed)| execution(list, *position, listed)).collect();
-    let page = Page { name, program: &list.program, listed: counts, executions, left_out };
-    if let Some(left_out) = page.tell_left_out() {
-        eprintln!("tarczolin: {left_out}");
-    }
-    let found = End::of_failing(counts.failing);
-    if to == "-" {
-        return output::answer(page.text(), found);
-    }
-    std::fs::write(to, page.text()).map_err(|cause| Error::File { name: to.to_string(), cause })?;
-    output::answer(format!("{}, in {to}\n", page.counts()), found)
 }

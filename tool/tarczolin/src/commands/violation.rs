@@ -1,14 +1,53 @@
 //! violation: the first listed schedule that fails.
 use super::arguments::Arguments;
+use super::piece::{self, Piece};
+use super::record;
+use super::reply::{each, Question};
+use crate::ask;
 use crate::end::End;
 use crate::error::Error;
-use crate::{ask, input, output, refusal};
+use crate::execution::Execution;
+use crate::jobs::List;
+use crate::progress::waiting;
+use crate::schedule::Schedule;
+use crate::show::{columns, By};
+use std::io;
 
-pub fn run(arguments: Arguments) -> Result<End, Error> {
-    let [name] = arguments.files()?;
-    let file = input::program(name)?;
-    match ask::violation(&file).map_err(|r| refusal::of_program(name, &file, r))? {
-        Some(schedule) => output::answer(format!("{schedule}\n"), End::Violation),
-        None => output::answer("none\n", End::Answered),
+pub fn run(arguments: &Arguments) -> Result<End, Error> {
+    let piece = Piece::of(arguments)?;
+    each("violation", arguments, |question| violation(question, &piece, arguments.flag("--show")))
+}
+
+fn violation(question: &Question, piece: &Piece, show: bool) -> Result<End, Error> {
+    let source = question.source()?;
+    let list = List::of(&source, false).expect("the file is accepted");
+    let found = match piece.jobs {
+        1 => waiting(|| ask::violation(&source.file)).expect("the file is accepted"),
+        jobs => match in_pieces(&list, jobs) {
+            Ok(found) => found,
+            Err(end) => return Ok(end),
+        },
+    };
+    let Some(schedule) = found else { return question.answer("none", [("violation", None::<String>.into())], End::Answered) };
+    let field = ("violation", schedule.to_string().into());
+    if !show {
+        return question.answer(&schedule.to_string(), [field], End::Violation);
     }
+    let execution = Execution::replayed(&source.file, &list.program, &schedule).expect("a listed schedule is full");
+    let [position, _, fails, steps, at_once, memory, registers] = record::execution(&execution);
+    let fields = [field, position, fails, steps, at_once, memory, registers];
+    question.answer_text(columns(&execution, By::Time), fields, End::Violation)
+}
+
+/// The first one that fails, by pieces: their parts come in order, so the first part that has one has the first of all.
+fn in_pieces(list: &List, jobs: usize) -> Result<Option<Schedule>, End> {
+    let found = piece::walk(list, jobs, |part| match part.first_failing {
+        Some(_) => Err(io::Error::other("found")),
+        None => Ok(()),
+    });
+    if found.cut && found.first_failing.is_none() {
+        piece::tell_cut(&found);
+        return Err(End::Refused);
+    }
+    Ok(found.first_failing)
 }

@@ -3,17 +3,22 @@ use super::escape::escaped;
 use super::layout::{middle, words, Layout, Row};
 use crate::execution::Execution;
 use crate::graph::{Event, Order};
-use crate::program::Program;
+use crate::program::Names;
 use std::fmt::Write;
 
 /// The heads of arrows, once for the whole page, one for each colour.
 pub fn arrow_heads() -> String {
+    format!("<svg width=\"0\" height=\"0\" style=\"position:absolute\">{}</svg>\n", heads())
+}
+
+/// The heads themselves.
+pub fn heads() -> String {
     let head = |class| {
         let size = "viewBox=\"0 0 8 8\" refX=\"7\" refY=\"4\" markerWidth=\"7\" markerHeight=\"7\"";
         format!("<marker id=\"{class}\" {size} orient=\"auto\"><path d=\"M0 0 8 4 0 8z\"/></marker>")
     };
     let heads = ["po", "rf", "co", "fr"].map(head).concat();
-    format!("<svg width=\"0\" height=\"0\" style=\"position:absolute\"><defs>{heads}</defs></svg>\n")
+    format!("<defs>{heads}</defs>")
 }
 
 /// Half the height of a box, and where the initial writes stand.
@@ -23,36 +28,37 @@ const INITIAL: f64 = 50.0;
 /// How an order is drawn: its class, its word, how far its ends lie off the middle of a box, how far it swings out.
 fn drawn(order: Order) -> (&'static str, &'static str, f64, f64) {
     match order {
+        Order::Program => ("po", "is followed by", 0.0, 20.0),
         Order::ReadsFrom => ("rf", "is read by", -7.0, 34.0),
         Order::Coherence => ("co", "comes before", 0.0, 26.0),
         Order::FromReads => ("fr", "reads before", 7.0, 46.0),
     }
 }
 
-pub fn svg(program: &Program, execution: &Execution, rows: &[Row]) -> String {
-    let threads = program.threads.len();
-    let layout = Layout::of(threads, rows);
+pub fn svg(execution: &Execution, rows: &[Row]) -> String {
+    let program = execution.program;
+    let layout = Layout::of(program, rows);
     let (width, height) = (layout.width, layout.height);
     let mut text = format!(
         "<svg class=\"graph\" width=\"{width:.0}\" height=\"{height:.0}\" viewBox=\"0 0 {width:.0} {height:.0}\" role=\"img\" \
          aria-label=\"graph of execution {}\">\n",
-        execution.position
+        execution.position.unwrap_or(0)
     );
-    text += &head(threads, &layout);
+    text += &head(&program.names, program.threads.len(), &layout);
     text += &program_order(execution, &layout);
-    let location = |event: Event| execution.steps.iter().find(|s| s.done.event == event).map_or(0, |s| s.done.location);
-    for (order, from, to) in execution.graph.edges(location) {
-        text += &arrow(order, from, to, &layout);
+    for (order, from, to) in execution.graph.edges(|event| execution.location(event)) {
+        text += &arrow(&program.names, order, from, to, &layout);
     }
-    text += &boxes(rows, &layout);
+    text += &boxes(&program.names, rows, &layout);
     text + "</svg>\n"
 }
 
 /// The threads' names, and below them the initial writes.
-fn head(threads: usize, layout: &Layout) -> String {
+fn head(names: &Names, threads: usize, layout: &Layout) -> String {
     let mut text = String::new();
     for t in 0..threads as u8 {
-        writeln!(text, "<text class=\"name t{t}\" x=\"{:.1}\" y=\"22\">T{t}</text>", layout.x(t)).expect("text grows");
+        let name = escaped(&names.thread(t));
+        writeln!(text, "<text class=\"name t{t}\" x=\"{:.1}\" y=\"22\">{name}</text>", layout.x(t)).expect("text grows");
     }
     let (left, right) = (16.0, layout.width - 16.0);
     let line = format!("<line class=\"initial\" x1=\"{left}\" x2=\"{right:.1}\" y1=\"{INITIAL}\" y2=\"{INITIAL}\"/>\n");
@@ -75,7 +81,7 @@ fn program_order(execution: &Execution, layout: &Layout) -> String {
 }
 
 /// An arrow between two boxes, or from the initial writes.
-fn arrow(order: Order, from: Option<Event>, to: Event, layout: &Layout) -> String {
+fn arrow(names: &Names, order: Order, from: Option<Event>, to: Event, layout: &Layout) -> String {
     let (class, word, off, swing) = drawn(order);
     let y = layout.y(to) + off;
     let (path, source) = match from {
@@ -84,9 +90,9 @@ fn arrow(order: Order, from: Option<Event>, to: Event, layout: &Layout) -> Strin
             let out = x - 30.0;
             (format!("M{out:.1} {INITIAL}C{out:.1} {y:.1} {out:.1} {y:.1} {x:.1} {y:.1}"), "initial".to_string())
         }
-        Some(event) => (curve(event, to, off, swing, layout), format!("T{} #{}", event.t, event.i)),
+        Some(event) => (curve(event, to, off, swing, layout), escaped(&format!("{} #{}", names.thread(event.t), event.i))),
     };
-    let title = format!("{source} {word} T{} #{}", to.t, to.i);
+    let title = format!("{source} {word} {} #{}", escaped(&names.thread(to.t)), to.i);
     format!("<path class=\"{class}\" d=\"{path}\" marker-end=\"url(#{class})\"><title>{title}</title></path>\n")
 }
 
@@ -105,14 +111,14 @@ fn curve(from: Event, to: Event, off: f64, swing: f64, layout: &Layout) -> Strin
 }
 
 /// The steps and the failed assertions, above the arrows.
-fn boxes(rows: &[Row], layout: &Layout) -> String {
+fn boxes(names: &Names, rows: &[Row], layout: &Layout) -> String {
     let mut text = String::new();
     for (k, row) in rows.iter().enumerate() {
         let (t, class, label) = match row {
-            Row::Failure(t, failed) => (*t, "failed".to_string(), format!("✗ assert r{}", failed.r)),
+            Row::Failure(t, failed) => (*t, "failed".to_string(), format!("✗ assert {}", names.register(*t, failed.r))),
             Row::Step(step) => {
                 let event = step.done.event;
-                (event.t, format!("step t{}", event.t), words(event.i, &step.done))
+                (event.t, format!("step t{}", event.t), words(names, &step.done))
             }
         };
         let (x, y) = (layout.x(t), middle(k));

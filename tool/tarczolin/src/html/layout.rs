@@ -2,7 +2,7 @@
 use crate::execution::{Execution, Step};
 use crate::graph::Event;
 use crate::machine::{Done, Failure};
-use crate::program::{number, Instruction};
+use crate::program::{number, Instruction, Names, Program};
 use std::collections::BTreeMap;
 
 /// The height of a row and of the head above the rows, for the table and for the drawing, in pixels.
@@ -20,7 +20,7 @@ pub enum Row<'a> {
 }
 
 /// The rows of an execution, in order.
-pub fn rows(execution: &Execution) -> Vec<Row<'_>> {
+pub fn rows<'e>(execution: &'e Execution) -> Vec<Row<'e>> {
     let mut rows: Vec<Row> = execution.at_once.iter().map(|(t, failed)| Row::Failure(*t, *failed)).collect();
     for step in &execution.steps {
         rows.push(Row::Step(step));
@@ -30,18 +30,18 @@ pub fn rows(execution: &Execution) -> Vec<Row<'_>> {
 }
 
 /// The words in a box: the access's number, and what it did, shorter than in the columns.
-pub fn words(i: u8, done: &Done) -> String {
-    format!("#{i} {}", label(done))
+pub fn words(names: &Names, done: &Done) -> String {
+    format!("#{} {}", done.event.i, label(names, done))
 }
 
-fn label(done: &Done) -> String {
-    let l = done.location;
+fn label(names: &Names, done: &Done) -> String {
+    let l = names.location(done.location);
     let found = number(done.found.unwrap_or(0));
     match (done.instruction, done.left) {
-        (Instruction::Load { .. }, _) => format!("load x{l}: {found}"),
-        (Instruction::Store { .. }, Some(left)) => format!("store x{l} = {}", number(left)),
-        (instruction, Some(left)) => format!("{} x{l}: {found} → {}", instruction.access().unwrap_or(""), number(left)),
-        (instruction, None) => format!("{} x{l}: {found} kept", instruction.access().unwrap_or("")),
+        (Instruction::Load { .. }, _) => format!("load {l}: {found}"),
+        (Instruction::Store { .. }, Some(left)) => format!("store {l} = {}", number(left)),
+        (instruction, Some(left)) => format!("{} {l}: {found} → {}", instruction.access().unwrap_or(""), number(left)),
+        (instruction, None) => format!("{} {l}: {found} kept", instruction.access().unwrap_or("")),
     }
 }
 
@@ -56,14 +56,14 @@ pub struct Layout {
 }
 
 impl Layout {
-    pub fn of(threads: usize, rows: &[Row]) -> Layout {
+    pub fn of(program: &Program, rows: &[Row]) -> Layout {
         let mut y = BTreeMap::new();
-        let mut longest = vec![11; threads];
+        let mut longest: Vec<usize> = program.numbers().map(|t| program.names.thread(t).chars().count().max(11)).collect();
         for (k, row) in rows.iter().enumerate() {
             if let Row::Step(step) = row {
-                let Event { t, i } = step.done.event;
+                let Event { t, .. } = step.done.event;
                 y.insert(step.done.event, middle(k));
-                let characters = words(i, &step.done).chars().count();
+                let characters = words(&program.names, &step.done).chars().count();
                 longest[t as usize] = characters.max(longest[t as usize]);
             }
         }

@@ -13,6 +13,15 @@ use std::fmt::Write;
 
 pub use pick::{Pick, MOST};
 
+/// The drawing of one execution, as a file of its own.
+pub fn drawing(execution: &Execution) -> String {
+    let style = include_str!("style.css");
+    let svg = drawing::svg(execution, &layout::rows(execution));
+    let (front, inner) = svg.split_once('>').expect("a tag ends");
+    let space = " xmlns=\"http://www.w3.org/2000/svg\"";
+    format!("{front}{space}>\n<style>\n{style}</style>\n{}{inner}", drawing::heads())
+}
+
 /// What a page tells of a program's list.
 pub struct Page<'a> {
     pub name: &'a str,
@@ -20,7 +29,7 @@ pub struct Page<'a> {
     /// The counts of the whole list.
     pub listed: Counts,
     /// The executions that the page shows, in its order.
-    pub executions: Vec<Execution>,
+    pub executions: Vec<Execution<'a>>,
     /// How many were chosen to be shown and have no place.
     pub left_out: Counts,
 }
@@ -64,7 +73,7 @@ impl Page<'_> {
         page += &code(self.program);
         page += LEGEND;
         for execution in &self.executions {
-            page += &section::section(self.program, execution);
+            page += &section::section(execution);
         }
         page + "</body>\n</html>\n"
     }
@@ -82,6 +91,7 @@ impl Page<'_> {
         }
         text += "</p>\n<nav>";
         for Execution { position, fails, .. } in &self.executions {
+            let position = position.unwrap_or(0);
             let class = if *fails { " class=\"fails\"" } else { "" };
             write!(text, "<a href=\"#e{position}\"{class}>{position}</a> ").expect("text grows");
         }
@@ -93,12 +103,14 @@ impl Page<'_> {
 fn code(program: &Program) -> String {
     let mut text = String::from("<div class=\"code\">\n");
     for (t, code) in program.threads.iter().enumerate() {
-        let lines: Vec<String> = code.iter().map(|i| escaped(&i.to_string())).collect();
-        writeln!(text, "<div><h2 class=\"t{t}\">T{t}</h2><pre>{}</pre></div>", lines.join("\n")).expect("text grows");
+        let (names, of) = (&program.names, t as u8);
+        let lines: Vec<String> = code.iter().map(|i| escaped(&names.instruction(of, i))).collect();
+        let name = escaped(&names.thread(of));
+        writeln!(text, "<div><h2 class=\"t{t}\">{name}</h2><pre>{}</pre></div>", lines.join("\n")).expect("text grows");
     }
     text += "</div>\n";
     for members in &program.alike {
-        let members: Vec<String> = members.iter().map(|t| format!("T{t}")).collect();
+        let members: Vec<String> = members.iter().map(|t| escaped(&program.names.thread(*t))).collect();
         writeln!(text, "<p class=\"alike\">alike: {}</p>", members.join(", ")).expect("text grows");
     }
     text

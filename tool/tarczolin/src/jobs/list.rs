@@ -1,61 +1,89 @@
 //! A program whose list is walked, and parts of it.
 use crate::ask::{self, Counts, Listed, Refusal, Rows};
+use crate::input::Source;
 use crate::program::Program;
 use crate::schedule::Schedule;
+use std::time::{Duration, Instant};
 
 /// So many schedules are asked for at first, and at most so many at a time; of so many a part is handed on.
 const FEW: usize = 16;
 const MANY: usize = 1024;
+/// A part that is so old is handed on, however small it is.
+const OLD: Duration = Duration::from_millis(200);
 
-/// Listed schedules, in order: so many, and their lines where these are wanted.
-#[derive(Default)]
+/// Listed schedules, in order: so many, the first that fails, the last of all, and those to be printed.
 pub struct Part {
     pub counts: Counts,
-    pub lines: Vec<u8>,
+    pub first_failing: Option<Schedule>,
+    pub last: Option<Schedule>,
+    pub listed: Vec<Listed>,
+    /// The walk was interrupted behind it.
+    pub cut: bool,
+    began: Instant,
 }
 
-/// A program whose list is walked.
+/// A program whose list is walked, or a piece of it.
 pub struct List<'a> {
     pub file: &'a [u8],
     pub program: Program,
-    /// Whether lines are wanted, or only counts.
-    pub lines: bool,
+    /// Whether the schedules themselves are wanted, or only counts.
+    pub schedules: bool,
+    /// Behind this schedule, where there is one, and up to this one.
+    pub after: Option<Schedule>,
+    pub until: Option<Schedule>,
+}
+
+impl Default for Part {
+    fn default() -> Part {
+        let counts = Counts::default();
+        Part { counts, first_failing: None, last: None, listed: Vec::new(), cut: false, began: Instant::now() }
+    }
 }
 
 impl Part {
     /// Is it time to hand it on?
     pub fn is_large(&self) -> bool {
-        self.counts.listed >= MANY as u64
+        self.counts.listed >= MANY as u64 || (self.counts.listed.is_multiple_of(16) && self.began.elapsed() > OLD)
     }
 
     pub fn add(&mut self, list: &List, listed: &Listed) {
         self.counts.add(listed);
-        if list.lines {
-            let frame = [&[0x50, listed.fails as u8], &listed.schedule[..]].concat();
-            self.lines.extend(crate::hex::line(&frame).bytes());
+        self.last = Some(listed.schedule);
+        if listed.fails && self.first_failing.is_none() {
+            self.first_failing = Some(listed.schedule);
+        }
+        if list.schedules {
+            self.listed.push(*listed);
         }
     }
 }
 
 impl<'a> List<'a> {
-    /// The list of an accepted file.
-    pub fn of(file: &'a [u8], lines: bool) -> Result<List<'a>, Refusal> {
+    /// The whole list of an accepted file.
+    pub fn of(source: &'a Source, schedules: bool) -> Result<List<'a>, Refusal> {
+        let file = source.file.as_slice();
         ask::check(file)?;
-        Ok(List { file, program: Program::of_accepted(file), lines })
+        let program = Program::of_accepted(file).named(&source.names);
+        Ok(List { file, program, schedules, after: None, until: None })
+    }
+
+    /// Is this schedule behind the piece?
+    pub fn is_past(&self, schedule: &Schedule) -> bool {
+        self.until.is_some_and(|until| *schedule > until)
     }
 
     /// Hands each listed schedule behind one schedule, or from the beginning, to `each` until that says stop.
     /// Says the schedule at which it was stopped.
-    pub fn walk(&self, behind: Option<Schedule>, mut each: impl FnMut(&Listed) -> bool) -> Result<Option<Schedule>, Refusal> {
+    pub fn walk(&self, behind: Option<Schedule>, mut each: impl FnMut(&Listed) -> bool) -> Option<Schedule> {
         let mut last = behind;
         let mut rows = Rows::new(FEW);
         loop {
-            let more = rows.fill(self.file, last.as_deref())?;
+            let more = rows.fill(self.file, last.as_deref()).expect("the file is accepted");
             if let Some(stopped) = rows.listed().find(&mut each) {
-                return Ok(Some(stopped.schedule));
+                return Some(stopped.schedule);
             }
             if !more {
-                return Ok(None);
+                return None;
             }
             last = rows.listed().next_back().map(|listed| listed.schedule);
             rows = Rows::new(MANY.min(2 * rows.room()));

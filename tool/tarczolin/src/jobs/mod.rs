@@ -2,27 +2,37 @@
 //! behind any schedule, listed or not, so the pieces one after the other are the whole list.
 mod list;
 mod pool;
+mod share;
 mod split;
 
 use std::io;
+use tarczolin_sys::was_interrupted;
 
 pub use list::{List, Part};
-pub use split::bounds;
+pub use share::share;
+pub use split::{bounds, cuts};
 
-/// Hands the whole list, part by part and in order, to `each`, worked out by so many jobs.
+/// Hands the list, part by part and in order, to `each`, worked out by so many jobs. Ctrl-C ends it behind the part at hand,
+/// which is then marked as cut.
 pub fn parts(list: &List, jobs: usize, mut each: impl FnMut(Part) -> io::Result<()>) -> io::Result<()> {
     if jobs > 1 {
         return pool::parts(list, jobs, &mut each);
     }
     let mut part = Part::default();
     let mut handed = Ok(());
-    let walked = list.walk(None, |listed| {
+    list.walk(list.after, |listed| {
+        if list.is_past(&listed.schedule) {
+            return true;
+        }
+        if was_interrupted() {
+            part.cut = true;
+            return true;
+        }
         part.add(list, listed);
         if part.is_large() {
             handed = each(std::mem::take(&mut part));
         }
         handed.is_err()
     });
-    walked.expect("the file is accepted");
     handed.and_then(|()| each(part))
 }

@@ -5,6 +5,7 @@ use crate::schedule::Schedule;
 use std::io;
 use std::sync::mpsc::{sync_channel, Receiver, SyncSender};
 use std::sync::Mutex;
+use tarczolin_sys::was_interrupted;
 
 /// So many pieces for each job: the pieces are of very different length.
 const PIECES: usize = 32;
@@ -40,9 +41,13 @@ impl Pieces {
 fn walk(list: &List, bounds: &[Schedule], piece: usize, sender: &SyncSender<Part>) -> Result<Option<Schedule>, ()> {
     let mut part = Part::default();
     let mut open = true;
-    let behind = piece.checked_sub(1).map(|before| bounds[before]);
+    let behind = piece.checked_sub(1).map_or(list.after, |before| Some(bounds[before]));
     let first = list.walk(behind, |listed| {
         if listed.schedule > bounds[piece] {
+            return true;
+        }
+        if was_interrupted() {
+            part.cut = true;
             return true;
         }
         part.add(list, listed);
@@ -51,10 +56,11 @@ fn walk(list: &List, bounds: &[Schedule], piece: usize, sender: &SyncSender<Part
         }
         !open
     });
-    if !open || sender.send(part).is_err() {
+    let cut = part.cut;
+    if !open || sender.send(part).is_err() || cut {
         return Err(());
     }
-    Ok(first.expect("the file is accepted"))
+    Ok(first)
 }
 
 /// Takes pieces until none is left.
@@ -72,9 +78,17 @@ fn work(list: &List, bounds: &[Schedule], pieces: &Mutex<Pieces>) {
     }
 }
 
+/// The bounds of the pieces of a list: those inside it, and its end.
+fn inside(list: &List, pieces: usize) -> Vec<Schedule> {
+    let mut bounds = bounds(&list.program, pieces);
+    bounds.retain(|bound| list.after.is_none_or(|after| *bound > after) && list.until.is_none_or(|until| *bound < until));
+    bounds.extend(list.until);
+    bounds
+}
+
 /// Hands the parts of all pieces in order to `each`. A job waits when too many of its parts wait.
 pub fn parts(list: &List, jobs: usize, each: &mut dyn FnMut(Part) -> io::Result<()>) -> io::Result<()> {
-    let bounds = bounds(&list.program, PIECES * jobs);
+    let bounds = inside(list, PIECES * jobs);
     let (senders, receivers): (Vec<_>, Vec<Receiver<Part>>) = bounds.iter().map(|_| sync_channel(WAITING)).unzip();
     let pieces = Mutex::new(Pieces { next: 0, senders: senders.into_iter().map(Some).collect() });
     std::thread::scope(|scope| {
@@ -84,7 +98,11 @@ pub fn parts(list: &List, jobs: usize, each: &mut dyn FnMut(Part) -> io::Result<
         // moved in, so that a failed write closes every channel and the jobs end
         let receivers = receivers;
         for part in receivers.iter().flatten() {
+            let cut = part.cut;
             each(part)?;
+            if cut {
+                break;
+            }
         }
         Ok(())
     })

@@ -2,6 +2,7 @@
 use crate::machine::Machine;
 use crate::program::Program;
 use crate::schedule::Schedule;
+use std::collections::BTreeSet;
 
 /// A beginning of a schedule, and the machine behind it.
 #[derive(Clone)]
@@ -38,6 +39,13 @@ pub fn bounds(program: &Program, pieces: usize) -> Vec<Schedule> {
         begun = begun.iter().flat_map(longer).collect();
     }
     begun.into_iter().map(Begun::greatest).collect()
+}
+
+/// So many ascending full schedules, or all there are: cuts of the range in pieces. Every full schedule is at most the last.
+pub fn cuts(program: &Program, pieces: usize) -> Vec<Schedule> {
+    let bounds = bounds(program, pieces);
+    let last = |piece: usize| (piece + 1) * bounds.len() / pieces;
+    (0..pieces).map(last).filter(|end| *end > 0).map(|end| bounds[end - 1]).collect::<BTreeSet<_>>().into_iter().collect()
 }
 
 /// The beginnings that are one step longer, ascending; a full schedule stays as it is.

@@ -1,7 +1,6 @@
 //! Instructions, and their words.
-use std::fmt;
 
-#[derive(Clone, Copy, Debug, PartialEq, Eq)]
+#[derive(Clone, Copy, Debug, PartialEq, Eq, PartialOrd, Ord)]
 pub enum Operand {
     Constant(u32),
     Register(u8),
@@ -23,11 +22,27 @@ pub enum Instruction {
 use Instruction::*;
 
 impl Instruction {
-    /// Puts another location into an access; any other instruction stays as it is.
-    pub fn put_location(&mut self, number: u8) {
-        if let Store { l, .. } | Load { l, .. } | FetchAdd { l, .. } | CompareSwap { l, .. } = self {
-            *l = number;
+    /// The location of an access.
+    pub fn location(&self) -> Option<u8> {
+        match *self {
+            Store { l, .. } | Load { l, .. } | FetchAdd { l, .. } | CompareSwap { l, .. } => Some(l),
+            _ => None,
         }
+    }
+
+    /// The registers that it names.
+    pub fn registers(&self) -> Vec<u8> {
+        let (own, operands) = match *self {
+            Store { p, .. } => (None, vec![p]),
+            Load { r, .. } => (Some(r), vec![]),
+            CompareSwap { r, e, v, .. } => (Some(r), vec![e, v]),
+            FetchAdd { r, p, .. } | Set { r, p } | Add { r, p } | SkipUnless { r, p, .. } | Assert { r, p } => (Some(r), vec![p]),
+        };
+        let named = operands.into_iter().filter_map(|p| match p {
+            Operand::Register(r) => Some(r),
+            Operand::Constant(_) => None,
+        });
+        own.into_iter().chain(named).collect()
     }
 
     /// The name of an access, or none for an instruction on registers only.
@@ -48,30 +63,5 @@ pub fn number(value: u32) -> String {
         value.to_string()
     } else {
         format!("{value:#x}")
-    }
-}
-
-impl fmt::Display for Operand {
-    fn fmt(&self, f: &mut fmt::Formatter) -> fmt::Result {
-        match self {
-            Operand::Constant(value) => f.write_str(&number(*value)),
-            Operand::Register(r) => write!(f, "r{r}"),
-        }
-    }
-}
-
-/// The instruction in the text form.
-impl fmt::Display for Instruction {
-    fn fmt(&self, f: &mut fmt::Formatter) -> fmt::Result {
-        match self {
-            Store { l, p } => write!(f, "store x{l} {p}"),
-            Load { r, l } => write!(f, "r{r} = load x{l}"),
-            FetchAdd { r, l, p } => write!(f, "r{r} = fetch_add x{l} {p}"),
-            CompareSwap { r, l, e, v } => write!(f, "r{r} = cas x{l} {e} {v}"),
-            Set { r, p } => write!(f, "r{r} = {p}"),
-            Add { r, p } => write!(f, "r{r} += {p}"),
-            SkipUnless { r, p, n } => write!(f, "if r{r} != {p} skip {n}"),
-            Assert { r, p } => write!(f, "assert r{r} == {p}"),
-        }
     }
 }

@@ -2,16 +2,21 @@
 mod frame;
 mod instruction;
 mod limits;
+mod names;
+
+use std::collections::BTreeSet;
 
 pub use frame::Frame;
 pub use instruction::{number, Instruction, Operand};
 pub use limits::*;
+pub use names::{Names, ThreadNames};
 
-/// The code of each thread, and the threads that each `02` line declares alike.
+/// The code of each thread, the threads that each `02` line declares alike, and the names of the text form.
 #[derive(Clone, Debug, Default, PartialEq, Eq)]
 pub struct Program {
     pub threads: Vec<Vec<Instruction>>,
     pub alike: Vec<Vec<u8>>,
+    pub names: Names,
 }
 
 impl Program {
@@ -26,6 +31,26 @@ impl Program {
             }
         }
         program
+    }
+
+    /// The same with names.
+    pub fn named(self, names: &Names) -> Program {
+        Program { names: names.clone(), ..self }
+    }
+
+    /// The threads' numbers.
+    pub fn numbers(&self) -> std::ops::Range<u8> {
+        0..self.threads.len() as u8
+    }
+
+    /// The locations that its code names, ascending.
+    pub fn locations(&self) -> BTreeSet<u8> {
+        self.threads.iter().flatten().filter_map(Instruction::location).collect()
+    }
+
+    /// The registers that a thread's code names, ascending.
+    pub fn registers(&self, t: u8) -> BTreeSet<u8> {
+        self.threads[t as usize].iter().flat_map(Instruction::registers).collect()
     }
 }
 

@@ -7,6 +7,7 @@ mod schedule;
 
 use crate::ask::Refusal;
 use crate::error::{called, Error, Refused, Subject};
+use crate::program::Names;
 use line::line_at;
 pub use program::sentence;
 
@@ -32,7 +33,7 @@ pub fn of_program(name: &str, file: &[u8], refusal: Refusal) -> Error {
 }
 
 /// The message about a refused schedule, or about its refused program.
-pub fn of_schedule(name: &str, file: &[u8], schedule: &[u8], refusal: Refusal) -> Error {
+pub fn of_schedule(name: &str, file: &[u8], names: &Names, schedule: &[u8], refusal: Refusal) -> Error {
     if refusal.number < 20 {
         return of_program(name, file, refusal);
     }
@@ -42,7 +43,7 @@ pub fn of_schedule(name: &str, file: &[u8], schedule: &[u8], refusal: Refusal) -
         Some((wrong, rest)) => [before, &[format!("[{wrong}]")], rest].concat(),
         None => [before, &["[]".to_string()]].concat(),
     };
-    let sentence = schedule::sentence(file, schedule, refusal);
+    let sentence = schedule::sentence(file, names, schedule, refusal);
     Error::Refused(Refused { subject: Subject::Schedule, refusal, sentence, shown: marked.join(" ") })
 }
 

@@ -1,10 +1,10 @@
 //! What is wrong with a schedule.
 use crate::ask::Refusal;
 use crate::machine::Machine;
-use crate::program::Program;
+use crate::program::{Names, Program};
 
 /// The sentence about a refusal of a schedule of an accepted program.
-pub fn sentence(file: &[u8], schedule: &[u8], refusal: Refusal) -> String {
+pub fn sentence(file: &[u8], names: &Names, schedule: &[u8], refusal: Refusal) -> String {
     let program = Program::of_accepted(file);
     let mut machine = Machine::new(&program);
     let place = (refusal.place as usize).min(schedule.len());
@@ -12,11 +12,12 @@ pub fn sentence(file: &[u8], schedule: &[u8], refusal: Refusal) -> String {
         machine.step(t);
     }
     let threads = program.threads.len();
+    let called = |t: u8| names.threads.get(t as usize).and_then(|n| n.name.clone()).unwrap_or_else(|| t.to_string());
     match (refusal.number, schedule.get(place)) {
-        (20, Some(&t)) if (t as usize) < threads => format!("thread {t} has ended by then and has no further step"),
+        (20, Some(&t)) if (t as usize) < threads => format!("thread {} has ended by then and has no further step", called(t)),
         (20, Some(&t)) => format!("there is no thread {t}; the program has {threads}, numbered from 0"),
         _ => {
-            let going: Vec<String> = machine.going().map(|t| t.to_string()).collect();
+            let going: Vec<String> = machine.going().map(called).collect();
             format!("the schedule ends too early: not ended yet are threads {}", going.join(", "))
         }
     }

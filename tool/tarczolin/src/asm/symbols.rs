@@ -1,0 +1,84 @@
+//! Names that hold in the whole text: constants, locations and threads.
+use super::statement::{Kind, Statement, Word};
+use super::words::{constant, is_name, location};
+use super::wrong::Wrongs;
+use crate::program::LOCATIONS;
+use std::collections::BTreeMap;
+
+#[derive(Debug, Default)]
+pub struct Symbols {
+    pub constants: BTreeMap<String, u32>,
+    pub locations: BTreeMap<String, u8>,
+    pub threads: BTreeMap<String, u8>,
+}
+
+impl Symbols {
+    pub fn of(statements: &[Statement], wrong: &mut Wrongs) -> Symbols {
+        let mut symbols = Symbols::default();
+        symbols.find_constants(statements, wrong);
+        symbols.find_locations(statements, wrong);
+        symbols.find_threads(statements, wrong);
+        symbols
+    }
+
+    /// The value of a number or of a constant's name.
+    pub fn value(&self, word: &str) -> Option<Result<u32, String>> {
+        constant(word).or_else(|| self.constants.get(word).map(|value| Ok(*value)))
+    }
+
+    fn find_constants(&mut self, statements: &[Statement], wrong: &mut Wrongs) {
+        for statement in statements {
+            let Kind::Constant { name, value } = &statement.kind else { continue };
+            match self.value(&value.text) {
+                Some(Ok(_)) if !is_name(&name.text) => wrong.add(statement, name, format!("{} cannot be a name", name.text)),
+                Some(Ok(_)) if self.constants.contains_key(&name.text) => {
+                    wrong.add(statement, name, format!("{} is a constant already", name.text));
+                }
+                Some(Ok(number)) => {
+                    self.constants.insert(name.text.clone(), number);
+                }
+                Some(Err(message)) => wrong.add(statement, value, message),
+                None => wrong.add(statement, value, format!("a number is expected here, not {}", value.text)),
+            }
+        }
+    }
+
+    /// Numbers for named locations: in order of first use, each the least that nothing else has.
+    fn find_locations(&mut self, statements: &[Statement], wrong: &mut Wrongs) {
+        let words: Vec<(&Statement, &Word)> = statements.iter().filter_map(|s| Some((s, s.kind.location()?))).collect();
+        let taken: Vec<u8> = words.iter().filter_map(|(_, word)| location(&word.text)?.ok()).collect();
+        let mut free = (0..LOCATIONS).filter(|l| !taken.contains(l));
+        for (statement, word) in words {
+            let name = &word.text;
+            if let Some(numbered) = location(name) {
+                wrong.extend(statement, word, numbered.err());
+            } else if !is_name(name) {
+                wrong.add(statement, word, format!("a location (x0 to x7, or a name) is expected here, not {name}"));
+            } else if self.constants.contains_key(name) {
+                wrong.add(statement, word, format!("{name} is a constant, and a location is expected here"));
+            } else if !self.locations.contains_key(name) {
+                match free.next() {
+                    Some(l) => {
+                        self.locations.insert(name.clone(), l);
+                    }
+                    None => {
+                        let message = format!("{name} is one location too many; a program has at most {LOCATIONS}");
+                        wrong.add(statement, word, message);
+                    }
+                }
+            }
+        }
+    }
+
+    fn find_threads(&mut self, statements: &[Statement], wrong: &mut Wrongs) {
+        let opened = statements.iter().filter(|s| matches!(s.kind, Kind::Thread(_)));
+        for (t, statement) in opened.enumerate() {
+            let Kind::Thread(Some(name)) = &statement.kind else { continue };
+            if !is_name(&name.text) {
+                wrong.add(statement, name, format!("{} cannot be a name", name.text));
+            } else if self.threads.insert(name.text.clone(), t as u8).is_some() {
+                wrong.add(statement, name, format!("a thread above is called {} already", name.text));
+            }
+        }
+    }
+}

@@ -1,0 +1,144 @@
+//! The threads of a text: where each begins, its code, and the limits that it keeps.
+use super::resolve::Scope;
+use super::statement::{Kind, Statement, Word};
+use super::symbols::Symbols;
+use super::translate::{instructions, Made};
+use super::words;
+use super::wrong::{Wrong, Wrongs};
+use crate::program::{Frame, Names, ThreadNames, ACCESSES, INSTRUCTIONS, THREADS};
+use std::collections::BTreeMap;
+
+/// A thread: the statement that opens it, its instructions, its registers' names.
+struct Thread<'a> {
+    opens: &'a Statement,
+    made: Vec<Made<'a>>,
+    registers: BTreeMap<String, u8>,
+    unused_labels: Vec<&'a Statement>,
+}
+
+pub struct Threads<'a> {
+    threads: Vec<Thread<'a>>,
+    alike: Vec<(&'a Statement, Vec<u8>)>,
+}
+
+/// The statements of each thread, behind the one that opens it.
+fn split<'a>(statements: &'a [Statement], wrong: &mut Wrongs) -> Vec<(&'a Statement, Vec<&'a Statement>)> {
+    let mut threads: Vec<(&Statement, Vec<&Statement>)> = Vec::new();
+    let mut declared = false;
+    for statement in statements {
+        match &statement.kind {
+            Kind::Constant { .. } => continue,
+            Kind::Alike(_) => declared = true,
+            _ if declared => {
+                let message = "threads and instructions must stand in front of the first declaration of alike threads";
+                wrong.add_at(statement, message.to_string());
+            }
+            Kind::Thread(_) if threads.len() == THREADS => {
+                wrong.add_at(statement, format!("this is thread number {}; a program has at most {THREADS}", THREADS + 1));
+                return threads;
+            }
+            Kind::Thread(_) => threads.push((statement, Vec::new())),
+            _ => match threads.last_mut() {
+                Some((_, code)) => code.push(statement),
+                None => wrong.add_at(statement, "an instruction stands in front of the first thread".to_string()),
+            },
+        }
+    }
+    threads
+}
+
+impl<'a> Threads<'a> {
+    pub fn of(statements: &'a [Statement], symbols: &'a Symbols, wrong: &mut Wrongs) -> Threads<'a> {
+        let mut threads = Vec::new();
+        let mut accesses = 0;
+        for (opens, code) in split(statements, wrong) {
+            let scope = Scope::of(symbols, &code, wrong);
+            let made = instructions(&scope.code(wrong));
+            limits(&made, &mut accesses, wrong);
+            let unused_labels = scope.unused_labels();
+            threads.push(Thread { opens, made, registers: scope.registers, unused_labels });
+        }
+        let mut alike = Vec::new();
+        for statement in statements {
+            if let Kind::Alike(members) = &statement.kind {
+                let numbers = members.iter().map(|word| member(symbols, statement, word, wrong)).collect();
+                alike.push((statement, numbers));
+            }
+        }
+        Threads { threads, alike }
+    }
+
+    /// The frames of the program, in order.
+    pub fn frames(&self) -> Vec<Frame> {
+        let code = |thread: &Thread| thread.made.iter().map(|made| Frame::Instruction(made.instruction)).collect::<Vec<_>>();
+        let threads = self.threads.iter().flat_map(|thread| [vec![Frame::Thread], code(thread)].concat());
+        threads.chain(self.alike.iter().map(|(_, members)| Frame::Alike(members.clone()))).collect()
+    }
+
+    /// The place in the text of a line of the program file, from 1.
+    pub fn place(&self, line: u64) -> (usize, usize) {
+        let code = |thread: &Thread<'a>| thread.made.iter().map(|made| made.statement).collect::<Vec<_>>();
+        let threads = self.threads.iter().flat_map(|thread| [vec![thread.opens], code(thread)].concat());
+        let mut all = threads.chain(self.alike.iter().map(|(statement, _)| *statement));
+        all.nth((line as usize).wrapping_sub(1)).map_or((1, 1), |statement| (statement.line, statement.column))
+    }
+
+    pub fn names(&self, symbols: &Symbols) -> Names {
+        let mut names = Names::default();
+        for (name, l) in &symbols.locations {
+            names.locations[*l as usize] = Some(name.clone());
+        }
+        names.threads = self.threads.iter().map(Thread::names).collect();
+        names
+    }
+
+    pub fn unused_labels(&self) -> impl Iterator<Item = Wrong> + '_ {
+        self.threads.iter().flat_map(|thread| &thread.unused_labels).map(|statement| {
+            let message = format!("no jump goes to {}", statement.text.trim_end_matches(':'));
+            Wrong { line: statement.line, column: statement.column, message }
+        })
+    }
+}
+
+impl Thread<'_> {
+    fn names(&self) -> ThreadNames {
+        let name = match &self.opens.kind {
+            Kind::Thread(Some(name)) => Some(name.text.clone()),
+            _ => None,
+        };
+        let mut registers = [const { None }; 4];
+        for (name, r) in &self.registers {
+            registers[*r as usize] = Some(name.clone());
+        }
+        let several = |made: &Made| self.made.iter().filter(|other| other.statement.line == made.statement.line).count() > 1;
+        let statements = self.made.iter().map(|made| several(made).then(|| made.statement.text.clone())).collect();
+        ThreadNames { name, registers, statements }
+    }
+}
+
+/// Tells where a thread has too many instructions, and where the program has too many accesses.
+fn limits(made: &[Made], accesses: &mut usize, wrong: &mut Wrongs) {
+    if let Some(first) = made.get(INSTRUCTIONS) {
+        let takes = made.iter().filter(|other| std::ptr::eq(other.statement, first.statement)).count();
+        let several = if takes > 1 { format!("; the statement takes {takes}") } else { String::new() };
+        let number = INSTRUCTIONS + 1;
+        let message = format!("this is instruction number {number} of its thread; a thread has at most {INSTRUCTIONS}{several}");
+        wrong.add_at(first.statement, message);
+    }
+    for made in made.iter().filter(|made| made.instruction.access().is_some()) {
+        *accesses += 1;
+        if *accesses == ACCESSES + 1 {
+            let message = format!("this is access number {accesses} of the program, which has at most {ACCESSES}");
+            wrong.add_at(made.statement, message);
+        }
+    }
+}
+
+/// The number of a thread that an alike line names.
+fn member(symbols: &Symbols, statement: &Statement, word: &Word, wrong: &mut Wrongs) -> u8 {
+    let number = symbols.threads.get(&word.text).copied().or_else(|| words::thread(&word.text));
+    if number.is_none() {
+        wrong.add(statement, word, format!("a thread number or a thread's name is expected here, not {}", word.text));
+    }
+    number.unwrap_or(0)
+}

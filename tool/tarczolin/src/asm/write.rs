@@ -1,0 +1,26 @@
+//! The text form of a program file.
+use crate::program::{Frame, Names};
+
+/// The text of these frames, by these names.
+pub fn text(frames: &[Frame], names: &Names) -> String {
+    let mut thread = 0u8;
+    let mut opened = 0u8;
+    let mut text = String::new();
+    for frame in frames {
+        text += &match frame {
+            Frame::Thread => {
+                thread = opened;
+                opened += 1;
+                let name = names.threads.get(thread as usize).and_then(|names| names.name.as_ref());
+                name.map_or(format!("thread  # {thread}\n"), |name| format!("thread {name}\n"))
+            }
+            Frame::Instruction(instruction) => format!("  {}\n", names.instruction(thread, instruction)),
+            Frame::Alike(members) => {
+                let named = |t: &u8| names.threads.get(*t as usize).and_then(|thread| thread.name.clone());
+                let members: Vec<String> = members.iter().map(|t| named(t).unwrap_or_else(|| t.to_string())).collect();
+                format!("alike {}\n", members.join(" "))
+            }
+        };
+    }
+    text
+}

@@ -1,0 +1,23 @@
+//! The manual page, for man(1).
+use super::command::Command;
+use std::fmt::Write;
+
+fn escaped(text: &str) -> String {
+    text.replace('\\', "\\e").replace('-', "\\-")
+}
+
+pub fn page(commands: &[Command]) -> String {
+    let mut text = String::from(
+        ".TH TARCZOLIN 1\n.SH NAME\ntarczolin \\- explores the executions of small concurrent programs\n.SH SYNOPSIS\n\
+         .B tarczolin\nCOMMAND ..\n.SH DESCRIPTION\nLists, counts, shows and judges the executions of a program under sequential \
+         consistency. What is listed, counted, judged or refused is the answer of a proved library.\n.SH COMMANDS\n",
+    );
+    for command in commands {
+        write!(text, ".TP\n.B {}\n{}\n", escaped(&command.usage()), escaped(command.about)).expect("text grows");
+        for option in command.options {
+            write!(text, ".br\n{}: {}\n", escaped(option.name), escaped(option.about)).expect("text grows");
+        }
+        write!(text, ".br\nExample: {}\n", escaped(command.example)).expect("text grows");
+    }
+    text + ".SH EXIT STATUS\n0 answered; 1 a violation was found, an outcome matches, or the judge says no; 2 refused, or bad usage.\n"
+}

@@ -1,0 +1,125 @@
+//! outcomes: each different end of the listed executions, how many end so, and the first that does.
+use super::arguments::Arguments;
+use super::piece::{self, Found, Piece};
+use super::record;
+use super::reply::{each, Question};
+use crate::ask::Listed;
+use crate::end::End;
+use crate::error::Error;
+use crate::execution::Execution;
+use crate::jobs::List;
+use crate::json::list as json_list;
+use crate::outcome::{exchanges, Condition, Exchange, Final};
+use crate::output;
+use crate::program::Program;
+use crate::schedule::Schedule;
+use crate::show::end_lines;
+use std::collections::BTreeMap;
+
+pub fn run(arguments: &Arguments) -> Result<End, Error> {
+    let piece = Piece::of(arguments)?;
+    each("outcomes", arguments, |question| outcomes(question, &piece, arguments.option("--where")))
+}
+
+/// Executions that end alike: so many, and the first of them.
+struct Outcome {
+    end: Final,
+    listed: u64,
+    first: Schedule,
+}
+
+/// The outcomes of a list, in the order of their first executions.
+#[derive(Default)]
+struct Outcomes {
+    all: Vec<Outcome>,
+    places: BTreeMap<Final, usize>,
+}
+
+impl Outcomes {
+    fn add(&mut self, program: &Program, listed: &Listed) {
+        let end = Final::of(program, &listed.schedule);
+        let next = self.all.len();
+        let place = *self.places.entry(end.clone()).or_insert(next);
+        if place == next {
+            self.all.push(Outcome { end, listed: 0, first: listed.schedule });
+        }
+        self.all[place].listed += 1;
+    }
+
+    /// Those for which a condition holds, as they are or with alike threads exchanged: then by the first exchange that does.
+    fn matching(self, program: &Program, condition: &Condition) -> Vec<(Outcome, bool)> {
+        let exchanges = exchanges(program);
+        let moved = |outcome: Outcome| {
+            let holds = |exchange: &&Exchange| condition.holds(&exchange.end(&outcome.end));
+            let exchange = exchanges.iter().find(holds)?;
+            let end = exchange.end(&outcome.end);
+            let first = exchange.schedule(&outcome.first);
+            Some((Outcome { end, first, ..outcome }, !exchange.is_identity()))
+        };
+        self.all.into_iter().filter_map(moved).collect()
+    }
+}
+
+fn outcomes(question: &Question, piece: &Piece, condition: Option<&str>) -> Result<End, Error> {
+    let source = question.source()?;
+    let list = piece.list(List::of(&source, true).expect("the file is accepted"));
+    let condition = condition.map(|text| Condition::of(text, &list.program)).transpose()?;
+    let mut all = Outcomes::default();
+    let found = piece::walk(&list, piece.jobs, |part| {
+        part.listed.iter().for_each(|listed| all.add(&list.program, listed));
+        Ok(())
+    });
+    piece::tell_cut(&found);
+    let chosen = match &condition {
+        None => all.all.into_iter().map(|outcome| (outcome, false)).collect(),
+        Some(condition) => all.matching(&list.program, condition),
+    };
+    let matched = chosen.iter().map(|(outcome, _)| outcome.listed).sum();
+    let mut text = if question.json { String::new() } else { question.heading() };
+    for (number, (outcome, exchanged)) in (1u64..).zip(&chosen) {
+        text += &told(question, &list, number, outcome, *exchanged);
+    }
+    text += &last_line(question, &found, chosen.len() as u64, condition.is_some().then_some(matched));
+    let bad = if condition.is_some() { matched } else { found.counts.failing };
+    output::answer(text, if found.cut { End::of_cut(bad) } else { End::of_failing(bad) })
+}
+
+/// One outcome.
+fn told(question: &Question, list: &List, number: u64, outcome: &Outcome, exchanged: bool) -> String {
+    let execution = Execution::replayed(list.file, &list.program, &outcome.first).expect("a full schedule");
+    let Outcome { end, listed, first } = outcome;
+    let failures = end.failed.iter().enumerate().filter_map(|(t, failed)| Some((t as u8, (*failed)?)));
+    let failures: Vec<String> =
+        failures.map(|(t, failed)| format!("{}: {}", list.program.names.thread(t), execution.failure(t, &failed))).collect();
+    if question.json {
+        let [memory, registers] = record::values(&execution);
+        return question.object([
+            ("outcome", number.into()),
+            ("listed", (*listed).into()),
+            ("schedule", first.to_string().into()),
+            ("exchanged", exchanged.into()),
+            ("fails", end.fails().into()),
+            ("failures", json_list(failures)),
+            memory,
+            registers,
+        ]);
+    }
+    let by = if exchanged { ", with alike threads exchanged" } else { "" };
+    let failed: String = failures.iter().map(|failure| format!("fails      {failure}\n")).collect();
+    format!("outcome {number}: {listed} listed, first {first}{by}\n{}{failed}\n", end_lines(&execution))
+}
+
+fn last_line(question: &Question, found: &Found, outcomes: u64, matched: Option<u64>) -> String {
+    let counts = found.counts;
+    if question.json {
+        return question.object([
+            ("outcomes", outcomes.into()),
+            ("listed", counts.listed.into()),
+            ("failing", counts.failing.into()),
+            ("matching", matched.into()),
+            ("interrupted", found.cut.into()),
+        ]);
+    }
+    let matching = matched.map_or(String::new(), |matched| format!(", {matched} matching"));
+    format!("{outcomes} outcomes, {} listed, {} failing{matching}\n", counts.listed, counts.failing)
+}

@@ -1,0 +1,72 @@
+//! Executions of a list as a page, or each as a drawing of its own.
+use crate::ask::{Counts, Listed};
+use crate::end::End;
+use crate::error::Error;
+use crate::execution::Execution;
+use crate::html::{self, Page, Pick};
+use crate::jobs::List;
+use crate::output;
+use std::io;
+use std::path::Path;
+
+/// A walk over the chosen executions of a list, which counts the whole of it.
+type Walked = (Counts, io::Result<()>);
+
+/// An execution of the list, ready to be shown.
+pub fn execution<'a>(list: &'a List, position: u64, listed: &Listed) -> Execution<'a> {
+    Execution::of(list.file, &list.program, position, listed).expect("a listed schedule of an accepted file is full")
+}
+
+/// What comes onto a page.
+fn page_of<'a>(
+    list: &'a List,
+    name: &'a str,
+    walk: impl FnOnce(&mut dyn FnMut(u64, &Listed) -> io::Result<()>) -> Walked,
+) -> Page<'a> {
+    let mut pick = Pick::default();
+    let (listed, _) = walk(&mut |position, listed| {
+        pick.add(position, listed);
+        Ok(())
+    });
+    let left_out = pick.left_out();
+    let executions = pick.picked().iter().map(|(position, listed)| execution(list, *position, listed)).collect();
+    let page = Page { name, program: &list.program, listed, executions, left_out };
+    if let Some(left_out) = page.tell_left_out() {
+        eprintln!("tarczolin: {left_out}");
+    }
+    page
+}
+
+/// Writes a page.
+pub fn page(
+    list: &List,
+    name: &str,
+    to: &str,
+    walk: impl FnOnce(&mut dyn FnMut(u64, &Listed) -> io::Result<()>) -> Walked,
+) -> Result<End, Error> {
+    let page = page_of(list, name, walk);
+    let found = End::of_failing(page.listed.failing);
+    if to == "-" {
+        return output::answer(page.text(), found);
+    }
+    std::fs::write(to, page.text()).map_err(|cause| Error::File { name: to.to_string(), cause })?;
+    output::answer(format!("{}, in {to}\n", page.counts()), found)
+}
+
+/// Writes a drawing of each execution into a folder: `2.svg`, or `2-fails.svg`.
+pub fn drawings(
+    list: &List,
+    folder: &str,
+    walk: impl FnOnce(&mut dyn FnMut(u64, &Listed) -> io::Result<()>) -> Walked,
+) -> Result<End, Error> {
+    let page = page_of(list, "", walk);
+    let written = std::fs::create_dir_all(folder).and_then(|()| {
+        page.executions.iter().try_for_each(|execution| {
+            let fails = if execution.fails { "-fails" } else { "" };
+            let name = format!("{}{fails}.svg", execution.position.unwrap_or(0));
+            std::fs::write(Path::new(folder).join(name), html::drawing(execution))
+        })
+    });
+    written.map_err(|cause| Error::File { name: folder.to_string(), cause })?;
+    output::answer(format!("{}, in {folder}\n", page.counts()), End::of_failing(page.listed.failing))
+}

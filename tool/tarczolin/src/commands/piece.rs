@@ -1,0 +1,78 @@
+//! A piece of the list: what `--after`, `--until` and `--jobs` ask for, walked with progress and until Ctrl-C.
+use super::arguments::Arguments;
+use super::opt::Opt;
+use crate::ask::Counts;
+use crate::error::Error;
+use crate::jobs::{self, List, Part};
+use crate::progress::Progress;
+use crate::schedule::Schedule;
+use std::io;
+
+/// At most so many jobs.
+pub const JOBS: u64 = 256;
+
+pub const JOBS_OPTION: Opt = Opt { name: "--jobs", value: Some("N"), about: "so many threads walk pieces of the list" };
+pub const AFTER: Opt = Opt { name: "--after", value: Some("SCHEDULE"), about: "only what is listed behind this schedule" };
+pub const UNTIL: Opt = Opt { name: "--until", value: Some("SCHEDULE"), about: "only what is listed up to this schedule" };
+
+pub struct Piece {
+    pub after: Option<Schedule>,
+    pub until: Option<Schedule>,
+    pub jobs: usize,
+}
+
+/// What was found of a list: its counts, the last schedule, the first that fails, and whether Ctrl-C cut it short.
+#[derive(Default)]
+pub struct Found {
+    pub counts: Counts,
+    pub last: Option<Schedule>,
+    pub first_failing: Option<Schedule>,
+    pub cut: bool,
+    pub written: Option<io::Error>,
+}
+
+impl Piece {
+    pub fn of(arguments: &Arguments) -> Result<Piece, Error> {
+        let jobs = arguments.number("--jobs", JOBS)? as usize;
+        Ok(Piece { after: arguments.schedule("--after")?, until: arguments.schedule("--until")?, jobs })
+    }
+
+    pub fn is_whole(&self) -> bool {
+        self.after.is_none() && self.until.is_none()
+    }
+
+    /// The list, no more of it than the piece.
+    pub fn list<'a>(&self, list: List<'a>) -> List<'a> {
+        List { after: self.after, until: self.until, ..list }
+    }
+}
+
+/// Walks a list and tells progress; `each` gets the parts in order, until it cannot write.
+pub fn walk(list: &List, jobs: usize, mut each: impl FnMut(&Part) -> io::Result<()>) -> Found {
+    tarczolin_sys::note_interrupts();
+    let mut found = Found::default();
+    let mut progress = Progress::default();
+    let done = jobs::parts(list, jobs, |part| {
+        found.counts += part.counts;
+        found.last = part.last.or(found.last);
+        found.first_failing = found.first_failing.or(part.first_failing);
+        found.cut = part.cut;
+        progress.give_way();
+        each(&part)?;
+        let last = found.last;
+        progress.tell(found.counts, || last.map_or(0.0, |last| jobs::share(&list.program, &last)));
+        Ok(())
+    });
+    progress.hide();
+    found.written = done.err();
+    found
+}
+
+/// Says how far a walk came that Ctrl-C cut short, and from where it can go on.
+pub fn tell_cut(found: &Found) {
+    if found.cut {
+        let Counts { listed, failing } = found.counts;
+        let further = found.last.map_or(String::new(), |last| format!("; go on with --after {last}"));
+        eprintln!("tarczolin: interrupted: {listed} listed, {failing} failing so far{further}");
+    }
+}

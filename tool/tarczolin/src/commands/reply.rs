@@ -1,0 +1,100 @@
+//! How answers are told: in words or as JSON, for one file or for several.
+use super::arguments::Arguments;
+use super::opt::Opt;
+use crate::end::End;
+use crate::error::{called, Error};
+use crate::input::{self, Source};
+use crate::json::Json;
+use crate::output;
+use crate::{ask, refusal};
+
+/// The option that all commands share.
+pub const JSON: Opt = Opt { name: "--json", value: None, about: "answers as JSON, an object a line (docs/JSON.md)" };
+
+/// One question: a command and a file.
+#[derive(Clone, Copy)]
+pub struct Question<'a> {
+    pub command: &'static str,
+    pub file: &'a str,
+    pub json: bool,
+    /// There are several files: each answer has its file's name.
+    pub several: bool,
+}
+
+impl<'a> Question<'a> {
+    pub fn of(command: &'static str, arguments: &Arguments, file: &'a str) -> Question<'a> {
+        Question { command, file, json: arguments.flag("--json"), several: false }
+    }
+
+    /// The program that it is about, if the library accepts it.
+    pub fn source(&self) -> Result<Source, Error> {
+        let source = input::program(self.file)?;
+        ask::check(&source.file).map_err(|r| refusal::of_program(&source.name, &source.file, r))?;
+        Ok(source)
+    }
+
+    /// An object of the command, its file and these fields, as a line.
+    pub fn object<const N: usize>(&self, fields: [(&str, Json); N]) -> String {
+        let front = [("command", self.command.into()), ("file", called(self.file).into())];
+        let fields = front.into_iter().chain(fields).map(|(name, value)| (name.to_string(), value));
+        format!("{}\n", Json::Object(fields.collect()))
+    }
+
+    /// What stands in front of a line of words.
+    pub fn front(&self) -> String {
+        if self.several {
+            format!("{}: ", called(self.file))
+        } else {
+            String::new()
+        }
+    }
+
+    /// Answers in one line of words, or in one object.
+    pub fn answer<const N: usize>(&self, words: &str, fields: [(&str, Json); N], found: End) -> Result<End, Error> {
+        let text = if self.json { self.object(fields) } else { format!("{}{words}\n", self.front()) };
+        output::answer(text, found)
+    }
+
+    /// Answers in many lines of words, or in one object.
+    pub fn answer_text<const N: usize>(&self, text: String, fields: [(&str, Json); N], found: End) -> Result<End, Error> {
+        output::answer(if self.json { self.object(fields) } else { self.heading() + &text }, found)
+    }
+
+    /// What stands above many lines of words, as head(1) has it.
+    pub fn heading(&self) -> String {
+        if self.several {
+            format!("==> {} <==\n", called(self.file))
+        } else {
+            String::new()
+        }
+    }
+
+    /// Tells an error of this question, and that it was not carried out.
+    pub fn failed(&self, error: &Error) -> Result<End, Error> {
+        eprintln!("tarczolin: {error}");
+        if self.json {
+            return output::answer(self.object([("error", error.json())]), End::Refused);
+        }
+        Ok(End::Refused)
+    }
+}
+
+/// Asks a question of each file. What is wrong with one does not stop the others; the worst end is that of all.
+pub fn each(command: &'static str, arguments: &Arguments, ask: impl Fn(&Question) -> Result<End, Error>) -> Result<End, Error> {
+    let names = arguments.names()?;
+    let mut end = End::Answered;
+    for name in &names {
+        let question = Question { several: names.len() > 1, ..Question::of(command, arguments, name) };
+        end = end.max(asked(&question, &ask)?);
+    }
+    Ok(end)
+}
+
+/// Asks one question, and tells what is wrong with it.
+pub fn asked(question: &Question, ask: impl Fn(&Question) -> Result<End, Error>) -> Result<End, Error> {
+    match ask(question) {
+        Err(error @ (Error::Usage(_) | Error::Words | Error::Output(_) | Error::Closed)) => Err(error),
+        Err(error) => question.failed(&error),
+        done => done,
+    }
+}

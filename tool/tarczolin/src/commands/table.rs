@@ -1,0 +1,124 @@
+//! The commands, each with its words, its options and an example.
+use super::command::Command;
+use super::opt::Opt;
+use super::piece::{AFTER, JOBS_OPTION, UNTIL};
+use super::reply::JSON;
+use super::{asm, check, count, cuts, disasm, graph, join, judge, list, outcomes, show, violation};
+
+const SHOW: Opt = Opt { name: "--show", value: None, about: "the whole execution in two columns, not only its schedule" };
+const WHERE: Opt = Opt {
+    name: "--where",
+    value: Some("CONDITION"),
+    about: "only these, and status 1 where some execution ends so: 'tail=2 & T2.r1=0'; also fails, T2.fails, |, !, ( )",
+};
+const SHOW_OPTIONS: &[Opt] = &[
+    Opt { name: "--from", value: Some("K"), about: "from place K of the list on" },
+    Opt { name: "--only", value: Some("failing"), about: "only those that fail" },
+    Opt { name: "--by", value: Some("time|thread"), about: "the left column by time, or one thread after the other" },
+    Opt { name: "--html", value: Some("OUT"), about: "one page with the graphs drawn, into this file; - is standard output" },
+    Opt { name: "--svg", value: Some("DIR"), about: "a drawing of each execution, into this folder" },
+    JSON,
+];
+
+pub const COMMANDS: [Command; 12] = [
+    Command {
+        name: "list",
+        words: "FILE..",
+        about: "every listed schedule, a line each: 50, 01 if it fails else 00, the steps; last 51 and the two counts",
+        options: &[JOBS_OPTION, AFTER, UNTIL, JSON],
+        example: "tarczolin list examples/whole.hex --jobs 2",
+        run: list::run,
+    },
+    Command {
+        name: "count",
+        words: "FILE..",
+        about: "how many schedules are listed, and how many of these fail",
+        options: &[JOBS_OPTION, AFTER, UNTIL, JSON],
+        example: "tarczolin count examples/*.hex",
+        run: count::run,
+    },
+    Command {
+        name: "violation",
+        words: "FILE..",
+        about: "the first listed schedule that fails, or none",
+        options: &[SHOW, JOBS_OPTION, JSON],
+        example: "tarczolin violation --show examples/queue-broken.asm",
+        run: violation::run,
+    },
+    Command {
+        name: "outcomes",
+        words: "FILE..",
+        about: "each different final memory, registers and failure, how many listed executions end so, and the first that does",
+        options: &[WHERE, JOBS_OPTION, JSON],
+        example: "tarczolin outcomes examples/queue-broken.asm --where 'consumer.item = 0 & tail = 2'",
+        run: outcomes::run,
+    },
+    Command {
+        name: "show",
+        words: "FILE [SCHEDULE]",
+        about: "listed executions, or one, in two columns: the steps, and the write that each read saw",
+        options: SHOW_OPTIONS,
+        example: "tarczolin show examples/queue-broken.asm 00000102020201",
+        run: show::run,
+    },
+    Command {
+        name: "check",
+        words: "FILE..",
+        about: "is this a program? accepted, or why not",
+        options: &[JSON],
+        example: "tarczolin check examples/whole.hex",
+        run: check::run,
+    },
+    Command {
+        name: "graph",
+        words: "FILE SCHEDULE",
+        about: "the graph of a full schedule, as a text, for Graphviz, or drawn",
+        options: &[
+            Opt { name: "--dot", value: None, about: "for Graphviz" },
+            Opt { name: "--svg", value: None, about: "drawn" },
+            JSON,
+        ],
+        example: "tarczolin graph examples/store-load-pair.hex 00000101",
+        run: graph::run,
+    },
+    Command {
+        name: "judge",
+        words: "FILE GRAPH",
+        about: "can this graph happen? yes with the least schedule that makes it, or no and why",
+        options: &[JSON],
+        example: "tarczolin graph examples/store-load-pair.hex 00000101 | tarczolin judge examples/store-load-pair.hex -",
+        run: judge::run,
+    },
+    Command {
+        name: "cuts",
+        words: "FILE N",
+        about: "N full schedules that cut the list into pieces, for list --after A --until B on more than one machine",
+        options: &[JSON],
+        example: "tarczolin cuts examples/queue-broken.asm 4",
+        run: cuts::run,
+    },
+    Command {
+        name: "join",
+        words: "PIECE..",
+        about: "pieces of a list as list --after A --until B printed them, put together to the whole list",
+        options: &[JSON],
+        example: "tarczolin join piece-1 piece-2",
+        run: join::run,
+    },
+    Command {
+        name: "asm",
+        words: "FILE..",
+        about: "from the text form to a program file",
+        options: &[JSON],
+        example: "tarczolin asm examples/queue-broken.asm > queue.hex",
+        run: asm::run,
+    },
+    Command {
+        name: "disasm",
+        words: "FILE..",
+        about: "from a program file to the text form",
+        options: &[JSON],
+        example: "tarczolin disasm examples/whole.hex",
+        run: disasm::run,
+    },
+];

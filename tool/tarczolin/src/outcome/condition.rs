@@ -1,0 +1,169 @@
+//! Questions about the end of an execution: `tail=2 & T2.r1=0`, `fails | !(consumer.item = 7)`.
+use super::end::Final;
+use crate::asm::{constant, near};
+use crate::error::Error;
+use crate::program::{Program, LOCATIONS, REGISTERS};
+
+#[derive(Clone, Debug, PartialEq, Eq)]
+pub enum Condition {
+    Equal(Value, Value),
+    /// Some thread fails, or this one.
+    Fails(Option<u8>),
+    Not(Box<Condition>),
+    And(Box<Condition>, Box<Condition>),
+    Or(Box<Condition>, Box<Condition>),
+}
+
+#[derive(Clone, Copy, Debug, PartialEq, Eq)]
+pub enum Value {
+    Number(u32),
+    Location(u8),
+    Register(u8, u8),
+}
+
+impl Value {
+    fn of(self, end: &Final) -> u32 {
+        match self {
+            Value::Number(value) => value,
+            Value::Location(l) => end.memory[l as usize],
+            Value::Register(t, r) => end.registers[t as usize][r as usize],
+        }
+    }
+}
+
+impl Condition {
+    /// Reads a condition; names are those of the program.
+    pub fn of(text: &str, program: &Program) -> Result<Condition, Error> {
+        let mut reader = Reader { tokens: tokens(text)?, program };
+        let condition = reader.either()?;
+        match reader.tokens.first() {
+            None => Ok(condition),
+            Some(token) => Err(Error::usage(format!("--where: the condition has ended; {token} is too much"))),
+        }
+    }
+
+    pub fn holds(&self, end: &Final) -> bool {
+        match self {
+            Condition::Equal(a, b) => a.of(end) == b.of(end),
+            Condition::Fails(None) => end.fails(),
+            Condition::Fails(Some(t)) => end.failed[*t as usize].is_some(),
+            Condition::Not(inner) => !inner.holds(end),
+            Condition::And(a, b) => a.holds(end) && b.holds(end),
+            Condition::Or(a, b) => a.holds(end) || b.holds(end),
+        }
+    }
+}
+
+/// The words and signs of a condition.
+fn tokens(text: &str) -> Result<Vec<String>, Error> {
+    let mut tokens: Vec<String> = Vec::new();
+    let mut inside = false;
+    for c in text.chars() {
+        let word = c.is_ascii_alphanumeric() || "_.-".contains(c);
+        match c {
+            _ if c.is_whitespace() => {}
+            _ if word && inside => tokens.last_mut().expect("begun").push(c),
+            _ if word || "()&|".contains(c) => tokens.push(c.to_string()),
+            '=' if matches!(tokens.last().map(String::as_str), Some("=" | "!")) => tokens.last_mut().expect("one").push(c),
+            '=' | '!' => tokens.push(c.to_string()),
+            _ => return Err(Error::usage(format!("--where: the character {c} has no meaning here"))),
+        }
+        inside = word;
+    }
+    Ok(tokens)
+}
+
+struct Reader<'a> {
+    tokens: Vec<String>,
+    program: &'a Program,
+}
+
+impl Reader<'_> {
+    fn take(&mut self, sign: &str) -> bool {
+        let found = self.tokens.first().is_some_and(|token| token == sign);
+        if found {
+            self.tokens.remove(0);
+        }
+        found
+    }
+
+    fn word(&mut self) -> Result<String, Error> {
+        match self.tokens.first() {
+            Some(token) if token.starts_with(|c: char| c.is_ascii_alphanumeric() || "_-".contains(c)) => {
+                Ok(self.tokens.remove(0))
+            }
+            Some(token) => Err(Error::usage(format!("--where: a location, a register or a number is expected, not {token}"))),
+            None => Err(Error::usage("--where: a location, a register or a number is missing")),
+        }
+    }
+
+    fn either(&mut self) -> Result<Condition, Error> {
+        let mut left = self.both()?;
+        while self.take("|") {
+            left = Condition::Or(Box::new(left), Box::new(self.both()?));
+        }
+        Ok(left)
+    }
+
+    fn both(&mut self) -> Result<Condition, Error> {
+        let mut left = self.single()?;
+        while self.take("&") {
+            left = Condition::And(Box::new(left), Box::new(self.single()?));
+        }
+        Ok(left)
+    }
+
+    fn single(&mut self) -> Result<Condition, Error> {
+        if self.take("!") {
+            return Ok(Condition::Not(Box::new(self.single()?)));
+        }
+        if self.take("(") {
+            let inner = self.either()?;
+            return if self.take(")") { Ok(inner) } else { Err(Error::usage("--where: ) is missing")) };
+        }
+        let word = self.word()?;
+        match word.strip_suffix("fails").map(|thread| thread.strip_suffix('.').unwrap_or(thread)) {
+            Some("") => return Ok(Condition::Fails(None)),
+            Some(thread) if word.ends_with(".fails") => return Ok(Condition::Fails(Some(self.thread(thread)?))),
+            _ => {}
+        }
+        let left = self.value(&word)?;
+        let differs = self.take("!=");
+        if !differs && !self.take("=") && !self.take("==") {
+            return Err(Error::usage(format!("--where: = or != is expected behind {word}")));
+        }
+        let right = self.word()?;
+        let equal = Condition::Equal(left, self.value(&right)?);
+        Ok(if differs { Condition::Not(Box::new(equal)) } else { equal })
+    }
+
+    fn thread(&self, word: &str) -> Result<u8, Error> {
+        let names = &self.program.names;
+        let called = |t: &u8| names.thread(*t) == word || format!("T{t}") == word;
+        let found = self.program.numbers().find(called);
+        found.ok_or_else(|| self.unknown("thread", word, self.program.numbers().map(|t| names.thread(t)).collect()))
+    }
+
+    fn value(&self, word: &str) -> Result<Value, Error> {
+        if let Some(number) = constant(word) {
+            return number.map(Value::Number).map_err(|message| Error::usage(format!("--where: {message}")));
+        }
+        let names = &self.program.names;
+        if let Some((thread, register)) = word.split_once('.') {
+            let t = self.thread(thread)?;
+            let called = |r: &u8| names.register(t, *r) == register || format!("r{r}") == register;
+            let found = (0..REGISTERS).find(called);
+            let known = || (0..REGISTERS).map(|r| names.register(t, r)).collect();
+            return found.map(|r| Value::Register(t, r)).ok_or_else(|| self.unknown("register", register, known()));
+        }
+        let called = |l: &u8| names.location(*l) == word || format!("x{l}") == word;
+        let found = (0..LOCATIONS).find(called);
+        let known = || (0..LOCATIONS).map(|l| names.location(l)).collect();
+        found.map(Value::Location).ok_or_else(|| self.unknown("location", word, known()))
+    }
+
+    fn unknown(&self, what: &str, word: &str, known: Vec<String>) -> Error {
+        let hint = near(word, known.iter().map(String::as_str)).map_or(String::new(), |other| format!("; is it {other}?"));
+        Error::usage(format!("--where: there is no {what} {word}{hint}"))
+    }
+}

@@ -1,0 +1,64 @@
+//! Names that the text form gives to locations, threads and registers, and how things are called by them.
+use super::instruction::{number, Instruction, Operand};
+use super::limits::{LOCATIONS, REGISTERS};
+use Instruction::*;
+
+/// Names, where there are any: `x3`, `T1` and `r0` stand in place of those that are missing.
+#[derive(Clone, Debug, Default, PartialEq, Eq)]
+pub struct Names {
+    pub locations: [Option<String>; LOCATIONS as usize],
+    pub threads: Vec<ThreadNames>,
+}
+
+/// The names of one thread.
+#[derive(Clone, Debug, Default, PartialEq, Eq)]
+pub struct ThreadNames {
+    pub name: Option<String>,
+    pub registers: [Option<String>; REGISTERS as usize],
+    /// For each instruction the statement that it was made of, where that is another one.
+    pub statements: Vec<Option<String>>,
+}
+
+impl Names {
+    pub fn location(&self, l: u8) -> String {
+        self.locations[l as usize].clone().unwrap_or_else(|| format!("x{l}"))
+    }
+
+    pub fn thread(&self, t: u8) -> String {
+        let name = self.threads.get(t as usize).and_then(|thread| thread.name.clone());
+        name.unwrap_or_else(|| format!("T{t}"))
+    }
+
+    pub fn register(&self, t: u8, r: u8) -> String {
+        let name = self.threads.get(t as usize).and_then(|thread| thread.registers[r as usize].clone());
+        name.unwrap_or_else(|| format!("r{r}"))
+    }
+
+    pub fn operand(&self, t: u8, p: Operand) -> String {
+        match p {
+            Operand::Constant(value) => number(value),
+            Operand::Register(r) => self.register(t, r),
+        }
+    }
+
+    /// The statement that a thread's instruction was made of, where that is another one.
+    pub fn statement(&self, t: u8, at: usize) -> Option<&str> {
+        self.threads.get(t as usize)?.statements.get(at)?.as_deref()
+    }
+
+    /// An instruction of a thread in the text form.
+    pub fn instruction(&self, t: u8, instruction: &Instruction) -> String {
+        let (register, operand) = (|r| self.register(t, r), |p| self.operand(t, p));
+        let location = |l| self.location(l);
+        match *instruction {
+            Store { l, p } => format!("store {} {}", location(l), operand(p)),
+            Load { r, l } => format!("{} = load {}", register(r), location(l)),
+            FetchAdd { r, l, p } => format!("{} = fetch_add {} {}", register(r), location(l), operand(p)),
+            CompareSwap { r, l, e, v } => format!("{} = cas {} {} {}", register(r), location(l), operand(e), operand(v)),
+            Set { r, p } => format!("{} = {}", register(r), operand(p)),
+            Add { r, p } => format!("{} += {}", register(r), operand(p)),
+            SkipUnless { r, p, n } => format!("if {} != {} skip {n}", register(r), operand(p)),
+            Assert { r, p } => format!("assert {} == {}", register(r), operand(p)),
+        }
+    }
+}

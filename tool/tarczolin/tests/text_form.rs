@@ -1,0 +1,143 @@
+//! The text form from end to end: what statements do when they run, names in every answer, all errors in one run, warnings.
+mod common;
+
+use common::{folder, run, run_with};
+use tarczolin::asm::assemble;
+use tarczolin::execution::Execution;
+use tarczolin::program::Program;
+
+/// Runs a text of one thread: the value of x7 at the end, and whether it fails. x7 is location 7, whatever has names.
+fn ran(body: &str) -> (u32, bool) {
+    let form = format!("thread\n{body}");
+    let made = assemble(form.as_bytes()).unwrap_or_else(|marks| panic!("{form}\n{marks:?}"));
+    let program = Program::of_accepted(&made.file).named(&made.names);
+    let accesses = program.threads[0].iter().filter(|i| i.access().is_some()).count();
+    // the schedule is as long as the run does accesses
+    let full = (0..=accesses).find_map(|n| Execution::replayed(&made.file, &program, &vec![0; n]).ok());
+    let execution = full.expect("a full schedule");
+    (execution.memory[7], execution.fails)
+}
+
+const VALUES: [u32; 6] = [0, 1, 2, 0x7fff_ffff, 0x8000_0000, 0xffff_ffff];
+
+/// Every condition on every pair of values, the operand a number or a register: what the condition says is what happens.
+#[test]
+fn conditions_and_jumps() {
+    for v in VALUES {
+        for k in VALUES {
+            for (set, operand) in [(String::new(), k.to_string()), (format!("r1 = {k}\n"), "r1".to_string())] {
+                let front = format!("r0 = {v}\n{set}");
+                let holds = |sign: &str| if sign == "==" { v == k } else { v != k };
+                for sign in ["==", "!="] {
+                    let jump = ran(&format!("{front}if r0 {sign} {operand} goto there\nstore x7 5\nthere:\n"));
+                    assert_eq!(jump, (if holds(sign) { 0 } else { 5 }, false), "if {v} {sign} {operand} goto");
+                    let skip = ran(&format!("{front}if r0 {sign} {operand} skip 2\nstore x7 5\nr2 = 1\nr3 = 1"));
+                    assert_eq!(skip, jump, "if {v} {sign} {operand} skip");
+                    let assert = ran(&format!("{front}assert r0 {sign} {operand}\nstore x7 9"));
+                    assert_eq!(assert, if holds(sign) { (9, false) } else { (0, true) }, "assert {v} {sign} {operand}");
+                }
+            }
+        }
+        assert_eq!(ran(&format!("r0 = {v}\nfail\nstore x7 1")), (0, true), "fail");
+        assert_eq!(ran(&format!("r0 = {v}\ngoto there\nstore x7 1\nr1 = 2\nthere:\nr2 = 1\nstore x7 r0")), (v, false), "goto");
+    }
+}
+
+/// Jumps over jumps, to the next statement, to the end; a skip goes over statements, whatever these take.
+#[test]
+fn jumps_of_every_length() {
+    assert_eq!(ran("goto here\nhere:\nstore x7 1"), (1, false));
+    assert_eq!(ran("if r0 == 0 goto a\ngoto b\na: store x7 3\nb:"), (3, false));
+    assert_eq!(ran("r0 = 1\nif r0 == 0 goto a\ngoto b\na: store x7 3\nb:"), (0, false));
+    assert_eq!(ran("if r0 == 0 skip 2\nassert r0 != 0\nfail\nstore x7 4"), (4, false));
+    assert_eq!(ran("const FOUR = 0x4\nconst ALSO = FOUR\nr0 = -1\nr0 += 1\nr0 += ALSO\nstore x7 r0"), (4, false));
+}
+
+const SLIPS: &str = "\
+thread producer
+  mine = fetch_add tail 1
+  store slto 7
+  goto nowhere
+  assert mnie == 1
+thread consumer
+  stor slot 1
+  item = load slot
+  if item <= 7 skip 1
+alike producer consumr
+";
+
+/// All that is wrong, in one run, each with line, column and a mark.
+#[test]
+fn all_errors_at_once() {
+    let ran = run_with(&["count", "-"], SLIPS.as_bytes());
+    assert_eq!((ran.status, ran.out.as_str()), (2, ""));
+    let places: Vec<&str> = ran.err.lines().filter(|line| line.contains("standard input:")).collect();
+    let wanted = ["4:8: there is no label nowhere", "5:10: a register", "7:3: a statement", "9:11: <= needs", "10:16: a thread"];
+    assert_eq!(places.len(), wanted.len(), "{}", ran.err);
+    for (place, words) in places.iter().zip(wanted) {
+        assert!(place.contains(&format!("standard input:{words}")), "{place}: {words}");
+    }
+    assert!(ran.err.contains("     5 |   assert mnie == 1\n       |          ^"), "{}", ran.err);
+    assert!(places[1].contains("is it mine?"));
+}
+
+#[test]
+fn warnings() {
+    let form = "thread\n  store slot 7\n  r0 = load slot\n  store slto 1\n  r1 = load head\nend:\n";
+    let ran = run_with(&["check", "-"], form.as_bytes());
+    assert_eq!((ran.status, ran.out.as_str()), (0, "accepted\n"));
+    let said: Vec<&str> = ran.err.lines().filter(|line| line.contains("warning")).collect();
+    assert_eq!(said.len(), 3, "{}", ran.err);
+    assert!(said[0].contains("4:9: warning: slto is written only here, and there is slot"), "{}", said[0]);
+    assert!(said[1].contains("5:13: warning: head is read and never written"), "{}", said[1]);
+    assert!(said[2].contains("6:1: warning: no jump goes to end"), "{}", said[2]);
+    let quiet = run(&["check", "examples/queue-broken.asm"]);
+    assert_eq!(quiet.err, "", "slot0 and slot1 are meant to differ");
+}
+
+/// Every command takes a text as it is, by the name of its file or by what stands in it.
+#[test]
+fn every_command_takes_a_text() {
+    let (form, file) = ("examples/queue-broken.asm", "examples/queue-broken.hex");
+    for command in ["list", "count", "violation", "check"] {
+        assert_eq!(run(&[command, form]), run(&[command, file]), "{command}");
+    }
+    let bytes = std::fs::read(tarczolin_tests::files::path(form)).unwrap();
+    assert_eq!(run_with(&["list", "-"], &bytes), run(&["list", file]));
+    let schedule = "00000102020201";
+    assert_eq!(run(&["graph", form, schedule]), run(&["graph", file, schedule]));
+    let graph = run(&["graph", form, schedule]).out;
+    assert_eq!(run_with(&["judge", form, "-"], graph.as_bytes()).out, format!("yes {schedule}\n"));
+    // a name that tells, and content that does not
+    let empty = folder("text_form").join("empty.asm");
+    std::fs::write(&empty, "# nothing\n").unwrap();
+    let ran = run(&["check", &empty.display().to_string()]);
+    assert!(ran.status == 2 && ran.err.contains("empty.asm:1:1: the file has no thread"), "{}", ran.err);
+}
+
+#[test]
+fn names_in_columns_page_messages_and_disasm() {
+    let form = "examples/queue-broken.asm";
+    let columns = run(&["show", form, "--only", "failing"]).out;
+    assert!(columns.contains("#0   consumer  load tail -> filled = 2                 second fetch_add #0\n"), "{columns}");
+    assert!(columns.contains("!!   consumer  assert item == 7 FAILS: item = 0\n"));
+    let page = run(&["show", form, "--html", "-"]).out;
+    for words in [">consumer</text>", "load slot1 -&gt; item = 0", "<td>first store #1</td>", "✗ assert item", "#0 load tail: 2"]
+    {
+        assert!(page.contains(words), "{words}");
+    }
+    let ended = run(&["graph", form, "000000"]);
+    assert!(ended.err.contains("thread first has ended by then"), "{}", ended.err);
+    let back = run(&["disasm", form]).out;
+    assert!(back.contains("thread consumer\n  filled = load tail\n") && back.ends_with("alike first second\n"), "{back}");
+    assert_eq!(run_with(&["asm", "-"], back.as_bytes()), run(&["asm", form]));
+}
+
+/// A failure is told by the statement that was written, not by what it was translated to.
+#[test]
+fn failures_by_their_statements() {
+    let show = |body: &str| run_with(&["show", "-"], format!("thread\n  n = load x\n  {body}\n").as_bytes()).out;
+    assert!(show("assert n != 0").contains("!!   T0  assert n != 0 FAILS: n = 0\n"));
+    assert!(show("fail").contains("!!   T0  fail FAILS\n"));
+    assert!(show("assert n == n\n  m = 1\n  assert n == m").contains("assert n == m FAILS: n = 0, m = 1\n"));
+}
