@@ -4,8 +4,22 @@ mod common;
 use common::run;
 use std::process::Command;
 
-const COMMANDS: [&str; 12] =
-    ["list", "count", "violation", "outcomes", "show", "check", "graph", "judge", "cuts", "join", "asm", "disasm"];
+const COMMANDS: [&str; 14] = [
+    "list",
+    "count",
+    "violation",
+    "outcomes",
+    "show",
+    "check",
+    "graph",
+    "judge",
+    "cuts",
+    "join",
+    "asm",
+    "disasm",
+    "import-litmus",
+    "export-litmus",
+];
 
 #[test]
 fn help_of_each_command() {
@@ -52,7 +66,10 @@ fn the_end_of_options() {
 #[test]
 fn manual_page_and_completions() {
     let man = run(&["man"]).out;
-    assert!(man.starts_with(".TH TARCZOLIN 1\n") && COMMANDS.iter().all(|command| man.contains(&format!(".B {command} "))));
+    assert!(
+        man.starts_with(".TH TARCZOLIN 1\n")
+            && COMMANDS.iter().all(|command| man.contains(&format!(".B {} ", command.replace('-', "\\-"))))
+    );
     let bash = run(&["completions", "bash"]).out;
     let script = format!(
         "{bash}\nCOMP_WORDS=(tarczolin li); COMP_CWORD=1; _tarczolin; echo \"${{COMPREPLY[*]}}\"\n\
