@@ -7,8 +7,7 @@
  *   bits  0 to 47   the length of an answer in bytes, 0 where there is none; of rows their number;
  *                   or a refusal's place, modulo 2^48
  *
- * A call reads only the bytes that it is lent and keeps nothing for the next. Buffers that are lent to one call must not
- * overlap, save those that it only reads.
+ * A call reads only the bytes that it is lent and keeps nothing for the next.
  */
 #ifndef TARCZOLIN_H
 #define TARCZOLIN_H
