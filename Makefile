@@ -1,12 +1,15 @@
+# make help              this list
 # make test              every check: formatting, proofs, edits that must be refused, Rust tests over the static library
 # make check FILE=F      is F a program file? prints accepted, or the refusal's number, place, line and reason
 # make list FILE=F       the list of F, or its refusal, as the listing program prints it
 # make explorer          the listing program itself: target/bin/explorer
 # make tool              builds the command: target/cargo/release/tarczolin
+# make install PREFIX=P  the command, the library, the header, pkg-config, the manual page, completions, below P (DESTDIR before it)
 # make bench             times of the library beside plain Rust
 # make fuzz SECONDS=N    random bytes to every call, for so long
 # make valgrind          the Rust tests, few cases each, under valgrind
 FILE ?= examples/whole.hex
+PREFIX ?= /usr/local
 SECONDS ?= 600
 CARGO = cargo
 QUIET = --quiet --release --offline --locked
@@ -16,7 +19,10 @@ SOURCES = crates.txt $(shell find crates -name '*.rt' -o -name '*.antt')
 VALGRIND = valgrind --quiet --error-exitcode=9 --leak-check=full --show-leak-kinds=definite --errors-for-leak-kinds=definite \
   --trace-children=yes --log-file=$(CURDIR)/target/valgrind/%p.log
 
-.PHONY: test check list explorer tool bench fuzz valgrind
+.PHONY: help test check list explorer tool install bench fuzz valgrind
+
+help:
+	@sed -n 's/^# make/make/p' Makefile
 
 test:
 	@rm -f target/tally
@@ -32,6 +38,23 @@ explorer: $(EXPLORER)
 
 tool: $(LIBRARY)
 	@$(CARGO) build $(QUIET) --bin tarczolin
+
+TOOL = target/cargo/release/tarczolin
+TO = $(DESTDIR)$(PREFIX)
+
+install: tool
+	@install -d $(TO)/bin $(TO)/lib/pkgconfig $(TO)/include $(TO)/share/man/man1
+	@install -d $(TO)/share/bash-completion/completions $(TO)/share/zsh/site-functions $(TO)/share/fish/vendor_completions.d
+	@install -m 755 $(TOOL) $(TO)/bin/tarczolin
+	@install -m 644 $(LIBRARY) $(TO)/lib/libtarczolin.a
+	@install -m 644 include/tarczolin.h $(TO)/include/tarczolin.h
+	@$(TOOL) man > $(TO)/share/man/man1/tarczolin.1
+	@$(TOOL) completions bash > $(TO)/share/bash-completion/completions/tarczolin
+	@$(TOOL) completions zsh > $(TO)/share/zsh/site-functions/_tarczolin
+	@$(TOOL) completions fish > $(TO)/share/fish/vendor_completions.d/tarczolin.fish
+	@printf '%s\n' 'prefix=$(PREFIX)' 'Name: tarczolin' 'Description: explores the executions of small concurrent programs' \
+	  "Version: $$($(TOOL) --version | cut -d ' ' -f 2)" 'Cflags: -I$${prefix}/include' 'Libs: -L$${prefix}/lib -ltarczolin' \
+	  > $(TO)/lib/pkgconfig/tarczolin.pc
 
 bench: $(LIBRARY)
 	@$(CARGO) run $(QUIET) --bin bench

@@ -19,6 +19,25 @@
 #include <stddef.h>
 #include <stdint.h>
 
+/* The version of this header. */
+#define TARCZOLIN_VERSION "0.1.0"
+
+/* Sizes in bytes: the longest accepted file, what an output for a schedule and for a graph text needs, a row. */
+#define TARCZOLIN_FILE 4096
+#define TARCZOLIN_SCHEDULE 24
+#define TARCZOLIN_GRAPH 512
+#define TARCZOLIN_ROW 26
+
+/* An answer word taken apart: its kind, a refusal's number, the length, number of rows or place. */
+#define TARCZOLIN_KIND(word) ((unsigned)((uint64_t)(word) >> 56))
+#define TARCZOLIN_NUMBER(word) ((unsigned)((uint64_t)(word) >> 48) & 0xffu)
+#define TARCZOLIN_VALUE(word) ((uint64_t)(word) & (((uint64_t)1 << 48) - 1))
+
+/* The kinds. */
+#define TARCZOLIN_ANSWERED 1u
+#define TARCZOLIN_NONE 2u
+#define TARCZOLIN_REFUSED 3u
+
 #ifdef __cplusplus
 extern "C" {
 #endif

@@ -18,6 +18,8 @@ pub enum Error {
     Refused(Refused),
     /// What is wrong with a program in the text form.
     Text { name: String, marks: Vec<Mark> },
+    /// A litmus test or a program that does not fit the other form.
+    Unfit { name: String, message: String },
     /// Standard output cannot be written.
     Output(io::Error),
     /// Standard output was closed from the start.
@@ -74,6 +76,7 @@ impl Error {
             Error::TooLong { .. } => "too-long",
             Error::Refused(_) => "refused",
             Error::Text { .. } => "text",
+            Error::Unfit { .. } => "unfit",
             Error::Output(_) | Error::Closed => "output",
         };
         let (number, place) = match self {
@@ -112,6 +115,7 @@ impl fmt::Display for Error {
                 let marks: Vec<String> = marks.iter().map(|mark| mark.told(name)).collect();
                 f.write_str(&marks.join("\n"))
             }
+            Error::Unfit { name, message } => write!(f, "{name}: {message}"),
             Error::Output(cause) => write!(f, "the output cannot be written: {cause}"),
             Error::Closed => f.write_str("standard output is closed; there is nowhere to write the answer"),
         }

@@ -15,6 +15,7 @@ pub mod html;
 pub mod input;
 pub mod jobs;
 pub mod json;
+pub mod litmus;
 pub mod machine;
 pub mod outcome;
 pub mod output;

@@ -23,7 +23,7 @@ registers  T0.r0 = 0
 outcome 2: 1 listed, first 0100
 memory     x0 = 1
 registers  T0.r0 = 1
-fails      T0: assert r0 == 0 FAILS: r0 = 1
+fails      T0: assert r0 == 0 FAILS: r0 = 1 (instruction 1)
 
 2 outcomes, 2 listed, 1 failing
 ";

@@ -44,12 +44,15 @@ fn columns_and_graph() {
     balanced(&text);
     assert_eq!((count(&text, "<section "), count(&text, "class=\"fails\">\n<h2>")), (6, 3));
     assert_eq!(count(&text, "<svg class=\"graph\""), 6);
+    assert_eq!(count(&text, "<p class=\"end\">at the end: x0 = "), 6);
+    assert!(text.contains("<select id=\"thread\"><option value=\"\">all</option><option value=\"0\">T0</option>"));
+    assert!(text.contains("keys: <kbd>n</kbd> next"));
     let second = text.split("<section ").find(|part| part.starts_with("id=\"e2\"")).unwrap();
     assert!(second.contains("<td>load x2 -&gt; r1 = 0</td><td>initial</td>"), "{second}");
     assert!(second.contains("<td>load x1 -&gt; r1 = 7</td><td>T0 store #1</td>"));
     assert!(second.contains("assert r1 == 7 FAILS: r1 = 0"));
     // seven steps and one failed assertion; two, two and three steps of the threads follow each other
-    assert_eq!((count(second, "<g class=\"step"), count(second, "<g class=\"failed\"")), (7, 1));
+    assert_eq!((count(second, "<g class=\"step"), count(second, "<g class=\"failed\" ")), (7, 1));
     assert_eq!(count(second, "<path class=\"po\""), 4);
     // five reads; two writes of tail; from the first fetch and add to the second, and from the load of slot 1 to its store
     assert_eq!((count(second, "<path class=\"rf\""), count(second, "<path class=\"co\"")), (5, 1));
@@ -58,11 +61,46 @@ fn columns_and_graph() {
     assert!(second.contains("<title>T2 #2 reads before T1 #1</title>"));
 }
 
+/// How light a colour is, by WCAG 2.
+fn luminance(colour: &str) -> f64 {
+    let part = |k: usize| {
+        let value = u8::from_str_radix(&colour[k..k + 2], 16).unwrap() as f64 / 255.0;
+        if value <= 0.03928 {
+            value / 12.92
+        } else {
+            ((value + 0.055) / 1.055).powf(2.4)
+        }
+    };
+    0.2126 * part(1) + 0.7152 * part(3) + 0.0722 * part(5)
+}
+
+/// Every colour of words and lines stands out from what it is written on by 4.5 to 1 (AA), light and dark.
+#[test]
+fn contrast() {
+    let style = include_str!("../src/html/style.css");
+    let themes: Vec<&str> = style.split(":root {").skip(1).map(|rest| rest.split('}').next().unwrap()).collect();
+    assert_eq!(themes.len(), 2, "light and dark");
+    for theme in themes {
+        let colour =
+            |name: &str| theme.split(&format!("--{name}: ")).nth(1).unwrap_or_else(|| panic!("{name}")).get(..7).unwrap();
+        let ratio = |ink: &str, paper: &str| {
+            let (a, b) = (luminance(colour(ink)), luminance(colour(paper)));
+            (a.max(b) + 0.05) / (a.min(b) + 0.05)
+        };
+        for ink in ["ink", "soft", "rf", "co", "fr", "po", "bad", "t0", "t1", "t2", "t3", "t4", "t5"] {
+            for paper in ["paper", "box"] {
+                assert!(ratio(ink, paper) >= 4.5, "{ink} on {paper}: {:.2}", ratio(ink, paper));
+            }
+        }
+        assert!(ratio("on-bad", "bad") >= 4.5 && ratio("bad", "bad-paper") >= 4.5);
+    }
+}
+
 /// Nothing is fetched from anywhere: no address, no script, no picture, no style of another file.
 #[test]
 fn self_contained() {
     let (_, text) = page("whole", "examples/whole.hex", &[]);
-    for word in ["http", "//", "<script", "<link", "<img", "@import", "src=", "url(\""] {
+    for word in ["http", "//", "<script ", "<link", "<img", "@import", "src=", "url(\""] {
         assert!(!text.contains(word), "{word}");
     }
     assert_eq!(count(&text, "url("), count(&text, "url(#"), "only arrow heads of the page itself");

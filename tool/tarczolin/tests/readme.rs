@@ -1,4 +1,4 @@
-//! What README.md shows of the command is what the command prints.
+//! What README.md, docs/JSON.md and docs/CLUSTER.md show of the command is what the command prints.
 use std::path::Path;
 use std::process::Command;
 use tarczolin_tests::files::{path, read};
@@ -11,7 +11,8 @@ struct Shown {
 
 /// The indented lines that begin with a dollar, each with those that follow it.
 fn shown() -> Vec<Shown> {
-    let readme = String::from_utf8(read("README.md")).unwrap();
+    let documents = ["README.md", "docs/JSON.md", "docs/CLUSTER.md"].map(|name| String::from_utf8(read(name)).unwrap());
+    let readme = documents.join("\n\n");
     let mut all: Vec<Shown> = Vec::new();
     let mut open = false;
     for line in readme.lines() {
@@ -50,5 +51,5 @@ fn commands_print_what_is_shown() {
             _ => assert_eq!(printed, *lines, "{command}"),
         }
     }
-    assert!(all.len() >= 7, "{} commands", all.len());
+    assert!(all.len() >= 11, "{} commands", all.len());
 }

@@ -12,6 +12,7 @@ mod help;
 mod join;
 mod judge;
 mod list;
+mod litmus;
 mod man;
 mod opt;
 mod outcomes;

@@ -89,8 +89,12 @@ fn told(question: &Question, list: &List, number: u64, outcome: &Outcome, exchan
     let execution = Execution::replayed(list.file, &list.program, &outcome.first).expect("a full schedule");
     let Outcome { end, listed, first } = outcome;
     let failures = end.failed.iter().enumerate().filter_map(|(t, failed)| Some((t as u8, (*failed)?)));
-    let failures: Vec<String> =
-        failures.map(|(t, failed)| format!("{}: {}", list.program.names.thread(t), execution.failure(t, &failed))).collect();
+    let failures: Vec<String> = failures
+        .map(|(t, failed)| {
+            let thread = list.program.names.thread(t);
+            format!("{thread}: {} (instruction {})", execution.failure(t, &failed), failed.at)
+        })
+        .collect();
     if question.json {
         let [memory, registers] = record::values(&execution);
         return question.object([

@@ -3,7 +3,7 @@ use super::command::Command;
 use super::opt::Opt;
 use super::piece::{AFTER, JOBS_OPTION, UNTIL};
 use super::reply::JSON;
-use super::{asm, check, count, cuts, disasm, graph, join, judge, list, outcomes, show, violation};
+use super::{asm, check, count, cuts, disasm, graph, join, judge, list, litmus, outcomes, show, violation};
 
 const SHOW: Opt = Opt { name: "--show", value: None, about: "the whole execution in two columns, not only its schedule" };
 const WHERE: Opt = Opt {
@@ -20,7 +20,7 @@ const SHOW_OPTIONS: &[Opt] = &[
     JSON,
 ];
 
-pub const COMMANDS: [Command; 12] = [
+pub const COMMANDS: [Command; 14] = [
     Command {
         name: "list",
         words: "FILE..",
@@ -120,5 +120,21 @@ pub const COMMANDS: [Command; 12] = [
         options: &[JSON],
         example: "tarczolin disasm examples/whole.hex",
         run: disasm::run,
+    },
+    Command {
+        name: "import-litmus",
+        words: "FILE..",
+        about: "from a litmus test for x86 to the text form, its condition as a remark for outcomes --where",
+        options: &[JSON],
+        example: "tarczolin import-litmus sb.litmus > sb.asm",
+        run: litmus::import,
+    },
+    Command {
+        name: "export-litmus",
+        words: "FILE..",
+        about: "from a program to a litmus test for x86",
+        options: &[JSON],
+        example: "tarczolin export-litmus examples/store-load-pair.hex",
+        run: litmus::export,
     },
 ];

@@ -1,6 +1,6 @@
 //! The graph drawn: threads as columns, a row a step, and the orders as arrows.
 use super::escape::escaped;
-use super::layout::{middle, words, Layout, Row};
+use super::layout::{data, middle, words, Layout, Row};
 use crate::execution::Execution;
 use crate::graph::{Event, Order};
 use crate::program::Names;
@@ -126,7 +126,7 @@ fn boxes(names: &Names, rows: &[Row], layout: &Layout) -> String {
         let (left, top, width, height) = (x - half, y - BOX, 2.0 * half, 2.0 * BOX);
         let rect = format!("<rect x=\"{left:.1}\" y=\"{top:.1}\" width=\"{width:.1}\" height=\"{height}\" rx=\"5\"/>");
         let label = format!("<text x=\"{x:.1}\" y=\"{:.1}\">{}</text>", y + 4.0, escaped(&label));
-        writeln!(text, "<g class=\"{class}\">{rect}{label}</g>").expect("text grows");
+        writeln!(text, "<g class=\"{class}\" {}>{rect}{label}</g>", data(row)).expect("text grows");
     }
     text
 }

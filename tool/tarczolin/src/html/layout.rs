@@ -29,6 +29,14 @@ pub fn rows<'e>(execution: &'e Execution) -> Vec<Row<'e>> {
     rows
 }
 
+/// What a row is about, for the page's filter: its thread, and the location of a step.
+pub fn data(row: &Row) -> String {
+    match row {
+        Row::Failure(t, _) => format!("data-t=\"{t}\""),
+        Row::Step(step) => format!("data-t=\"{}\" data-l=\"{}\"", step.done.event.t, step.done.location),
+    }
+}
+
 /// The words in a box: the access's number, and what it did, shorter than in the columns.
 pub fn words(names: &Names, done: &Done) -> String {
     format!("#{} {}", done.event.i, label(names, done))

@@ -70,12 +70,13 @@ impl Page<'_> {
             drawing::arrow_heads()
         );
         page += &self.summary();
+        page += &filter(self.program);
         page += &code(self.program);
         page += LEGEND;
         for execution in &self.executions {
             page += &section::section(execution);
         }
-        page + "</body>\n</html>\n"
+        page + "<script>\n" + include_str!("script.js") + "</script>\n</body>\n</html>\n"
     }
 
     /// How many executions there are, how many of them stand here, and a way to each.
@@ -97,6 +98,21 @@ impl Page<'_> {
         }
         text + "</nav>\n"
     }
+}
+
+/// What chooses among executions, threads and locations, and the keys.
+fn filter(program: &Program) -> String {
+    let names = &program.names;
+    let option = |(value, name): (u8, String)| format!("<option value=\"{value}\">{}</option>", escaped(&name));
+    let threads: String = program.numbers().map(|t| option((t, names.thread(t)))).collect();
+    let places: String = program.locations().into_iter().map(|l| option((l, names.location(l)))).collect();
+    let all = "<option value=\"\">all</option>";
+    format!(
+        "<p class=\"filter\"><label>thread <select id=\"thread\">{all}{threads}</select></label>\
+         <label>location <select id=\"place\">{all}{places}</select></label>\
+         <label><input type=\"checkbox\" id=\"failing\"/> failing only</label>\
+         keys: <kbd>n</kbd> next, <kbd>p</kbd> the one before, <kbd>f</kbd> next failing</p>\n"
+    )
 }
 
 /// The program in the text form, thread beside thread.

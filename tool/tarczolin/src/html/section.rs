@@ -1,7 +1,7 @@
 //! One execution: a header, the two columns, and the drawing beside them.
 use super::drawing;
 use super::escape::escaped;
-use super::layout::{rows, Row, HEAD, ROW};
+use super::layout::{data, rows, Row, HEAD, ROW};
 use crate::execution::Execution;
 use std::fmt::Write;
 
@@ -13,10 +13,18 @@ pub fn section(execution: &Execution) -> String {
     let rows = rows(execution);
     format!(
         "<section id=\"e{position}\" class=\"{class}\">\n<h2>Execution {position} <span class=\"verdict\">{verdict}</span> \
-         <span class=\"schedule\">schedule {schedule}</span></h2>\n<div class=\"both\">\n{}{}</div>\n</section>\n",
+         <span class=\"schedule\">schedule {schedule}</span></h2>\n<div class=\"both\">\n{}{}</div>\n{}</section>\n",
         table(execution, &rows),
-        drawing::svg(execution, &rows)
+        drawing::svg(execution, &rows),
+        end(execution)
     )
+}
+
+/// The values at the end.
+fn end(execution: &Execution) -> String {
+    let (memory, registers) = execution.end();
+    let all: Vec<String> = memory.into_iter().chain(registers).collect();
+    format!("<p class=\"end\">at the end: {}</p>\n", escaped(&all.join(", ")))
 }
 
 /// The two columns. Rows are as high as those of the drawing.
@@ -26,7 +34,7 @@ fn table(execution: &Execution, rows: &[Row]) -> String {
         "<table>\n<tr style=\"height:{HEAD}px\"><th class=\"number\"></th><th></th><th>step</th><th>its read saw</th></tr>\n"
     );
     for row in rows {
-        write!(text, "<tr style=\"height:{ROW}px\"").expect("text grows");
+        write!(text, "<tr style=\"height:{ROW}px\" {}", data(row)).expect("text grows");
         match row {
             Row::Failure(t, failed) => {
                 let (words, name) = (escaped(&execution.failure(*t, failed)), thread(*t));

@@ -1,5 +1,7 @@
 //! Runs the command as a user does.
 #![allow(dead_code, reason = "not every test file uses all of it")]
+pub mod json;
+
 use std::io::Write;
 use std::path::PathBuf;
 use std::process::{Command, Stdio};

@@ -1,0 +1,101 @@
+//! The list made in pieces by separate runs of the command, joined: byte for byte the list.
+mod common;
+
+use common::{folder, run, run_with};
+use std::process::Command;
+use tarczolin_tests::files::{lines, read};
+
+/// The script of docs/CLUSTER.md.
+fn script() -> String {
+    let document = String::from_utf8(read("docs/CLUSTER.md")).unwrap();
+    let code = document.split("    #!/bin/sh\n    # piece K").nth(1).expect("the script").split("\n\n").next().unwrap();
+    format!("#!/bin/sh\n# piece K{code}\n").replace("\n    ", "\n")
+}
+
+/// Makes the pieces by a shell command in a folder of its own, and joins them.
+fn joined(name: &str, program: &[u8], pieces: usize, make: &str) -> (String, String) {
+    let folder = folder(&format!("cluster-{name}"));
+    std::fs::write(folder.join("program.hex"), program).unwrap();
+    std::fs::write(folder.join("piece"), script()).unwrap();
+    let tool = std::path::Path::new(env!("CARGO_BIN_EXE_tarczolin")).parent().unwrap().display();
+    let script = format!(
+        "export PATH=\"{tool}:$PATH\"; chmod +x piece; rm -f piece-*; tarczolin cuts program.hex {pieces} > cuts\n{make}\n\
+         tarczolin join $(seq -f piece-%g $(wc -l < cuts)) > list; tarczolin list program.hex > whole"
+    );
+    let done = Command::new("bash").args(["-c", &script]).current_dir(&folder).output().unwrap();
+    assert!(done.stderr.is_empty(), "{}", String::from_utf8_lossy(&done.stderr));
+    let text = |name: &str| std::fs::read_to_string(folder.join(name)).unwrap();
+    (text("list"), text("whole"))
+}
+
+fn program() -> Vec<u8> {
+    lines(&format!("01 {} 01 {} 23000000000001", "10000000000001 ".repeat(7), "110000 ".repeat(7)))
+}
+
+/// The pieces by xargs, which is everywhere.
+#[test]
+fn pieces_by_xargs() {
+    let make = "seq $(wc -l < cuts) | xargs -P 2 -I{} sh -c './piece {} > piece-{}; true'";
+    let (list, whole) = joined("xargs", &program(), 12, make);
+    assert!(list == whole && whole.lines().count() == 3_433);
+}
+
+/// The pieces by GNU parallel, as docs/CLUSTER.md has it, on this machine.
+#[test]
+fn pieces_by_gnu_parallel() {
+    let there = Command::new("parallel").arg("--version").output().is_ok_and(|out| out.stdout.starts_with(b"GNU parallel"));
+    if !there {
+        println!("not run: GNU parallel is not installed here");
+        return;
+    }
+    let make = "seq $(wc -l < cuts) | parallel --will-cite -j 2 './piece {} > piece-{}; true'";
+    let (list, whole) = joined("parallel", &program(), 12, make);
+    assert!(list == whole);
+}
+
+#[test]
+fn cuts_and_counts_of_pieces() {
+    for (file, wanted) in [(program(), 5), (lines("01"), 1), (read("examples/whole.hex"), 4)] {
+        let cuts = run_with(&["cuts", "-", &wanted.to_string()], &file).out;
+        let cuts: Vec<&str> = cuts.lines().collect();
+        assert_eq!(cuts.len(), wanted);
+        let mut sum = (0, 0);
+        for (k, until) in cuts.iter().enumerate() {
+            let after = if k == 0 { vec![] } else { vec!["--after", cuts[k - 1]] };
+            let words = [&["count", "-", "--until", until], &after[..]].concat();
+            let out = run_with(&words, &file).out;
+            assert_eq!(run_with(&[&words[..], &["--jobs", "3"]].concat(), &file).out, out);
+            let numbers: Vec<u64> = out.split(' ').filter_map(|word| word.parse().ok()).collect();
+            sum = (sum.0 + numbers[0], sum.1 + numbers[1]);
+        }
+        assert_eq!(format!("{} listed, {} failing\n", sum.0, sum.1), run_with(&["count", "-"], &file).out);
+    }
+    assert_eq!(run(&["cuts", "examples/whole.hex", "0"]).status, 2);
+}
+
+/// A run that was stopped goes on behind its last schedule.
+#[test]
+fn list_goes_on_behind_a_schedule() {
+    let whole = run_with(&["list", "-"], &program()).out;
+    let lines: Vec<&str> = whole.lines().collect();
+    let rest = run_with(&["list", "-", "--after", &lines[1999][4..]], &program()).out;
+    let rest: Vec<&str> = rest.lines().collect();
+    assert_eq!(rest[..rest.len() - 1], lines[2000..3432]);
+    assert_eq!(rest[rest.len() - 1], format!("51{:016x}{:016x}", 1432, 1));
+}
+
+#[test]
+fn join_sees_what_is_missing() {
+    let folder = folder("cluster-join");
+    let [front, back, short] = ["front", "back", "short"].map(|name| folder.join(name));
+    let whole = run(&["list", "examples/whole.hex"]).out;
+    std::fs::write(&front, run(&["list", "examples/whole.hex", "--until", "000102"]).out).unwrap();
+    std::fs::write(&back, run(&["list", "examples/whole.hex", "--after", "000102"]).out).unwrap();
+    std::fs::write(&short, "5000000102\n").unwrap();
+    let [front, back, short] = [front, back, short].map(|path| path.display().to_string());
+    assert_eq!(run(&["join", &front, &back]).out, whole);
+    let wrong = run(&["join", &back, &front]);
+    assert!(wrong.status == 2 && wrong.err.contains("does not go on with the list"), "{}", wrong.err);
+    let wrong = run(&["join", &short, &back]);
+    assert!(wrong.status == 2 && wrong.err.contains("cut short"), "{}", wrong.err);
+}

@@ -1,0 +1,89 @@
+//! The programs of README in C, C++ and Rust, compiled and run, and what `make install` puts where.
+mod common;
+
+use common::folder;
+use std::path::Path;
+use std::process::{Command, Output};
+use tarczolin_tests::files::{path, read};
+
+/// Runs a shell command from the top of the repository.
+fn shell(script: &str) -> Output {
+    let output = Command::new("sh").args(["-c", script]).current_dir(path(".")).output().unwrap();
+    assert!(output.status.code().is_some(), "{script}");
+    output
+}
+
+fn text(name: &str) -> String {
+    String::from_utf8(read(name)).unwrap()
+}
+
+#[test]
+fn the_readme_shows_the_programs() {
+    let readme = text("README.md");
+    assert!(readme.contains(&format!("```c\n{}```", text("examples/first.c"))));
+    assert!(readme.contains(&format!("```rust\n{}```", text("tool/tarczolin-sys/examples/first.rs"))));
+}
+
+#[test]
+fn c_and_cpp() {
+    let folder = folder("c").display().to_string();
+    let library = "target/staticlib/libtarczolin.a";
+    let strict = "-Wall -Wextra -Werror -pedantic -Iinclude";
+    for compile in [
+        format!("cc -std=c99 {strict} examples/first.c {library} -o {folder}/first"),
+        format!("c++ -x c++ {strict} examples/first.c -x none {library} -o {folder}/first"),
+    ] {
+        let built = shell(&compile);
+        assert!(built.status.success(), "{compile}\n{}", String::from_utf8_lossy(&built.stderr));
+        for (file, status, said) in [
+            ("queue-broken", 1, "00000102020201\n"),
+            ("queue-repaired", 0, "none\n"),
+            ("accesses-25-refused", 2, "refusal 6 at line 27\n"),
+        ] {
+            let ran = shell(&format!("{folder}/first < examples/{file}.hex"));
+            assert_eq!((ran.status.code(), String::from_utf8_lossy(&ran.stdout).as_ref()), (Some(status), said), "{file}");
+        }
+    }
+}
+
+/// Every name of a call in the header is in the library, and the constants are those of the Rust wrapper.
+#[test]
+fn the_header_fits() {
+    let header = text("include/tarczolin.h");
+    for (name, value) in [("SCHEDULE", tarczolin_sys::SCHEDULE), ("GRAPH", tarczolin_sys::GRAPH), ("ROW", tarczolin_sys::ROW)] {
+        assert!(header.contains(&format!("#define TARCZOLIN_{name} {value}\n")), "{name}");
+    }
+    assert!(header.contains(concat!("#define TARCZOLIN_VERSION \"", env!("CARGO_PKG_VERSION"), "\"")));
+}
+
+/// `make install`, with the build left out: what cargo built is there already.
+#[test]
+fn make_install() {
+    let to = folder("installed").display().to_string();
+    let tool = env!("CARGO_BIN_EXE_tarczolin");
+    let script =
+        format!("make -s install -o tool DESTDIR={to} PREFIX=/usr TOOL={tool} LIBRARY=target/staticlib/libtarczolin.a SOURCES=");
+    let done = shell(&script);
+    assert!(done.status.success(), "{}", String::from_utf8_lossy(&done.stderr));
+    for name in [
+        "bin/tarczolin",
+        "lib/libtarczolin.a",
+        "include/tarczolin.h",
+        "lib/pkgconfig/tarczolin.pc",
+        "share/man/man1/tarczolin.1",
+        "share/bash-completion/completions/tarczolin",
+        "share/zsh/site-functions/_tarczolin",
+        "share/fish/vendor_completions.d/tarczolin.fish",
+    ] {
+        assert!(std::fs::metadata(Path::new(&to).join("usr").join(name)).is_ok_and(|file| file.len() > 0), "{name}");
+    }
+    let config = std::fs::read_to_string(format!("{to}/usr/lib/pkgconfig/tarczolin.pc")).unwrap();
+    assert!(config.contains("Libs: -L${prefix}/lib -ltarczolin\n") && config.contains("prefix=/usr\n"), "{config}");
+    assert!(config.contains(concat!("Version: ", env!("CARGO_PKG_VERSION"), "\n")), "{config}");
+}
+
+#[test]
+fn make_alone_says_what_there_is() {
+    let said = String::from_utf8(shell("make -s").stdout).unwrap();
+    assert!(said.contains("make test ") && said.contains("make install PREFIX=P"), "{said}");
+}

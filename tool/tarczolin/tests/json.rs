@@ -1,0 +1,92 @@
+//! Every command's answers as JSON fit the schema of docs/JSON.md, and say what the words say.
+mod common;
+
+use common::json::{fits, parse, Value};
+use common::{folder, run, run_with};
+use tarczolin_tests::files::read;
+
+const QUEUE: &str = "examples/queue-broken.asm";
+
+fn schema() -> Value {
+    let document = String::from_utf8(read("docs/JSON.md")).unwrap();
+    parse(document.split("```json").nth(1).expect("a schema").split("```").next().unwrap())
+}
+
+/// The objects of an answer, each held to the schema.
+fn held(words: &[&str], input: &[u8]) -> (i32, Vec<Value>) {
+    let schema = schema();
+    let ran = run_with(&[words, &["--json"]].concat(), input);
+    let objects: Vec<Value> = ran.out.lines().map(parse).collect();
+    for object in &objects {
+        assert!(fits(object, &schema, schema.get("definitions").unwrap()), "{words:?}: {object:?}");
+    }
+    assert!(!objects.is_empty(), "{words:?}: {}", ran.err);
+    (ran.status, objects)
+}
+
+#[test]
+fn every_command_fits_the_schema() {
+    let folder = folder("json");
+    let (graph, piece) = (folder.join("graph"), folder.join("piece"));
+    std::fs::write(&graph, run(&["graph", QUEUE, "00000102020201"]).out).unwrap();
+    std::fs::write(&piece, run(&["list", QUEUE]).out).unwrap();
+    let (graph, piece) = (graph.display().to_string(), piece.display().to_string());
+    let no = b"400001ffff\n400101ffff\n41000000\n41010100\n";
+    let pair = "examples/store-load-pair.hex";
+    let cases: [(&[&str], &[u8], i32, usize); 20] = [
+        (&["list", QUEUE], b"", 1, 7),
+        (&["count", QUEUE], b"", 1, 1),
+        (&["count", QUEUE, "--jobs", "2"], b"", 1, 1),
+        (&["violation", QUEUE], b"", 1, 1),
+        (&["violation", QUEUE, "--show"], b"", 1, 1),
+        (&["outcomes", QUEUE], b"", 1, 7),
+        (&["outcomes", QUEUE, "--where", "second.mine = 0"], b"", 1, 7),
+        (&["show", QUEUE], b"", 1, 7),
+        (&["show", QUEUE, "00000102020201"], b"", 1, 1),
+        (&["show", "-"], b"01\n23000000000001\n", 1, 2),
+        (&["check", QUEUE], b"", 0, 1),
+        (&["check", "-"], b"01\n110400\n", 2, 1),
+        (&["check", "-"], b"thread\n  stor x 1\n", 2, 1),
+        (&["check", "no/such/file"], b"", 2, 1),
+        (&["graph", QUEUE, "00000102020201"], b"", 0, 1),
+        (&["judge", QUEUE, &graph], b"", 0, 1),
+        (&["judge", pair, "-"], no, 1, 1),
+        (&["cuts", QUEUE, "3"], b"", 0, 1),
+        (&["join", &piece], b"", 1, 7),
+        (&["disasm", QUEUE], b"", 0, 1),
+    ];
+    for (words, input, status, objects) in cases {
+        let (ended, found) = held(words, input);
+        assert_eq!((ended, found.len()), (status, objects), "{words:?}: {found:?}");
+    }
+    let (_, found) = held(&["asm", QUEUE], b"");
+    assert_eq!(found[0].get("text"), Some(&Value::Text(run(&["asm", QUEUE]).out)));
+    assert!(held(&["judge", pair, "-"], b"400001ffff\n41000000\n41010100\n").1[0].get("why").is_some());
+}
+
+#[test]
+fn a_refusal_by_its_number_and_place() {
+    let (status, found) = held(&["check", "-"], b"01\n110400\n");
+    let error = found[0].get("error").unwrap();
+    assert_eq!((status, error.get("number"), error.get("place")), (2, Some(&Value::Number(4)), Some(&Value::Number(2))));
+    let (_, found) = held(&["list", "-"], b"thread\n  stor x 1\n  fial\n");
+    let Some(Value::List(marks)) = found[0].get("error").unwrap().get("marks") else { panic!("{found:?}") };
+    assert_eq!(marks.len(), 2);
+}
+
+/// Several files: each answer with its file's name, what is wrong with one does not stop the others, the worst status.
+#[test]
+fn several_files() {
+    let files = ["examples/whole.hex", "no/such/file", QUEUE];
+    let (status, found) = held(&[&["count"], &files[..]].concat(), b"");
+    let names: Vec<Option<&Value>> = found.iter().map(|object| object.get("file")).collect();
+    assert_eq!((status, names), (2, files.map(|name| Value::Text(name.to_string())).iter().map(Some).collect()));
+    let ran = run(&["count", "examples/whole.hex", QUEUE]);
+    let words = format!("examples/whole.hex: 3 listed, 0 failing\n{QUEUE}: 6 listed, 3 failing\n");
+    assert_eq!((ran.status, ran.out), (1, words));
+    let ran = run(&["list", "examples/whole.hex", "examples/empty-thread.hex"]);
+    assert!(
+        ran.out.starts_with("==> examples/whole.hex <==\n5000000102\n")
+            && ran.out.contains("==> examples/empty-thread.hex <==\n5000\n")
+    );
+}

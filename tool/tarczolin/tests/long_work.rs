@@ -1,0 +1,64 @@
+//! Work that takes long: progress where there is no terminal, and Ctrl-C.
+mod common;
+
+use common::{run_with, tool};
+use std::io::Write;
+use std::process::{Command, Stdio};
+use std::time::Duration;
+use tarczolin_tests::files::lines;
+
+/// Twelve stores beside twelve loads: millions are listed.
+fn long() -> Vec<u8> {
+    lines(&format!("01 {} 01 {}", "10000000000001 ".repeat(12), "110000 ".repeat(12)))
+}
+
+/// What a command had told when it was interrupted after a while.
+fn interrupted(words: &[&str]) -> (Option<i32>, String, String) {
+    let mut child = tool(words)
+        .env("TARCZOLIN_PROGRESS", "50")
+        .stdin(Stdio::piped())
+        .stdout(Stdio::piped())
+        .stderr(Stdio::piped())
+        .spawn()
+        .unwrap();
+    child.stdin.take().unwrap().write_all(&long()).unwrap();
+    let id = child.id().to_string();
+    let waiter = std::thread::spawn(move || child.wait_with_output().unwrap());
+    std::thread::sleep(Duration::from_millis(700));
+    assert!(Command::new("kill").args(["-INT", &id]).status().unwrap().success());
+    let output = waiter.join().unwrap();
+    let text = |bytes| String::from_utf8(bytes).unwrap();
+    (output.status.code(), text(output.stdout), text(output.stderr))
+}
+
+/// The counts so far, the schedule to go on from, and lines of progress before.
+#[test]
+fn interrupted_list_tells_from_where_to_go_on() {
+    for jobs in ["1", "2"] {
+        let (status, out, err) = interrupted(&["list", "-", "--jobs", jobs]);
+        assert_eq!(status, Some(2), "nothing has failed so far, and the rest is not known: {err}");
+        let last = out.lines().last().unwrap().strip_prefix("5000").expect("a listed schedule, and no line of counts");
+        let said = err.lines().last().unwrap();
+        assert!(said.contains(&format!("{} listed, 0 failing so far; go on with --after {last}", out.lines().count())), "{said}");
+        assert!(err.contains(" % of the range\n"), "progress: {err}");
+        let next = run_with(&["list", "-", "--after", last, "--until", &"01".repeat(12)], &long());
+        assert!(next.status == 0, "{}", next.err);
+    }
+}
+
+#[test]
+fn interrupted_count_and_outcomes() {
+    let (status, out, err) = interrupted(&["count", "-", "--jobs", "2"]);
+    assert_eq!(status, Some(2), "{err}");
+    assert!(out.ends_with(" listed, 0 failing\n") && err.contains("interrupted: "), "{out}{err}");
+    let (status, _, err) = interrupted(&["outcomes", "-", "--json"]);
+    assert!(status == Some(2) && err.contains("interrupted: "), "{err}");
+}
+
+/// A single call of the library tells that it goes on, and Ctrl-C ends it.
+#[test]
+fn one_long_call() {
+    let (status, out, err) = interrupted(&["count", "-"]);
+    assert!(status.is_none() || out.ends_with("failing\n"), "ended by the signal, or done before it");
+    assert!(err.contains("one call of the library for") || status.is_some(), "{err}");
+}
