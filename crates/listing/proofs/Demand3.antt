@@ -91,4 +91,7 @@ module _ (file : List ℕ) (p : Program) (e : decode file ≡ accepted p) where
         violation-first = λ out h s. same-answer (violation-file file out) (d .violation-first out h s);
         violation-none = λ out h. same-answer (violation-file file out) (d .violation-none out h);
         violation-short = λ out. same-answer (violation-file file out) (d .violation-short out);
+        start-stands = start-stands file;
+        continue-stands = λ r out s. continue-stands file out s r;
+        violation-stands = violation-stands file;
       }
