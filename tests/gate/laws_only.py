@@ -76,10 +76,10 @@ def listed(path, items):
             yield (words[2] if len(words) == 3 else words[0].split('.')[-1]), f'{path}.{words[0]}'
 
 
-def modules(root):
+def modules(root, ending='antt'):
     """Each file of specs or proofs by its crate and its path in it: (crate, 'specs.File')."""
     found = {}
-    for file in sorted(root.glob('crates/*/*/**/*.antt')):
+    for file in sorted(root.glob(f'crates/*/*/**/*.{ending}')):
         crate, *path = file.relative_to(root / 'crates').with_suffix('').parts
         found[crate, '.'.join(path)] = Module(file.read_text(encoding='utf-8'))
     return found
@@ -177,15 +177,15 @@ def opened(module, crate, allowed, known, crates):
     return found
 
 
-def findings(root, listed_crates):
+def findings(root, listed_crates, ending='antt'):
     """All that the listed crates open: (file, line, name)."""
-    known = modules(root)
+    known = modules(root, ending)
     crates = {crate for crate, _ in known}
     found = []
     for crate, allowed in listed_crates.items():
         for (owner, path), module in known.items():
             if owner == crate:
-                file = 'crates/' + '/'.join([owner, *path.split('.')]) + '.antt'
+                file = 'crates/' + '/'.join([owner, *path.split('.')]) + f'.{ending}'
                 found += [(file, line, name) for line, name in opened(module, crate, allowed, known, crates)]
     return found
 
@@ -199,11 +199,11 @@ def read_list(text):
 def wrong_sample():
     """What is found in the sample and not said there, or said and not found. A line `.. -- finds a b` opens a and b; no other does."""
     said = set()
-    for file in SAMPLE.glob('crates/*/*/**/*.antt'):
+    for file in SAMPLE.glob('crates/*/*/**/*.sample'):
         for number, line in enumerate(file.read_text(encoding='utf-8').splitlines(), 1):
             for name in line.partition('-- finds ')[2].split():
                 said.add((str(file.relative_to(SAMPLE)), number, name))
-    found = set(findings(SAMPLE, {'above': ['allowed']}))
+    found = set(findings(SAMPLE, {'above': ['allowed']}, 'sample'))
     if not said:
         return ['laws_only.py has no sample']
     return [f'laws_only.py reads its sample wrongly: {place}' for place in sorted(said ^ found)]
