@@ -12,15 +12,13 @@ use Rattle.decoder.specs.Compiled.{programOf, answerOf}
 use Rattle.decoder.specs.declared.file.Compiled.{Compiled}
 use Rattle.decoder.specs.declared.file.Answer.{Answer}
 use Rattle.decoder.specs.declared.file.Verdict.the-variants as File
-use Rattle.schedules.specs.Lists.{upTo, keep}
+use Rattle.schedules.specs.Lists.{keep}
 use Rattle.schedules.specs.Order.{Schedule}
 use Rattle.schedules.specs.Found.{after}
-use Rattle.schedules.specs.Permutations.{permutationOf}
 use Rattle.sc.specs.Text.{textOf}
 use Rattle.sc.proofs.Lawful.{fits-64-bits}
-use Rattle.list.specs.ListOf.{permits, listOf}
+use Rattle.list.specs.ListOf.{listOf}
 use Rattle.list.specs.Answers.{failing, Counts, countOf}
-use Rattle.pruning.specs.ClassGroups.{groupsOf}
 use Rattle.walker.specs.Bounds.{boundAt}
 use Rattle.listing.specs.Printed.{scheduleFrame, countFrame, printedFrames, printed}
 use Rattle.list.proofs.TheList.{list-length}
@@ -63,18 +61,11 @@ module _ (file : List ℕ) (a : Answer) (s : Listing) (e : answerOf a ≡ decode
     well-formed : WellFormed p
     well-formed = decoded-well-formed a file e v
 
-    pub begun-accepted : s .stage ≡ Walking → s .steps ≡ 0 → length (s .permitted .numbers) ≡ 720
-        → (s .permitted .count ≤ 720) × (take (s .permitted .count) (s .permitted .numbers) ≡ keep (λ k. permits (groupsOf (a .program .class) (a .program .groups)) (permutationOf k)) (upTo 0 720))
-        → Begun file s
+    pub begun-accepted : s .stage ≡ Walking → s .steps ≡ 0 → Begun file s
     unfolding rest framesLeft printed printedFrames
-    begun-accepted g steps size numbers = record {
+    begun-accepted g steps = record {
       sound = λ _. record {
         wellFormed = subst (λ (c : Compiled). WellFormed (programOf c)) (sym program) well-formed;
-        numbered = record {
-          size = size;
-          within = numbers .0;
-          permitted = numbers .1 ∙ ap (λ (c : Compiled). keep (λ k. permits (groupsOf (c .class) (c .groups)) (permutationOf k)) (upTo 0 720)) (sym program);
-        };
         steps = omega (arith, steps);
         fits = omega (arith, listed, ap length left-all, list-length p well-formed, fits-64-bits);
         few = omega (arith, failed, listed);

@@ -26,8 +26,6 @@ use Rattle.list.specs.ListOf.{listOf}
 use Rattle.list.specs.Answers.{failing, Counts}
 use Rattle.list.specs.Search.{sought}
 use Rattle.walker.specs.Bounds.{boundAt}
-use Rattle.walker.specs.Walked.{Numbered}
-use Rattle.pruning.specs.declared.permitting.Permitted.{Permitted}
 use Rattle.walker.specs.Rows.{rowBytes, rowOf, Shown}
 use Rattle.listing.specs.Printed.{scheduleFrame, countFrame, printedFrames}
 use Rattle.list.proofs.Walk.{sought-on}
@@ -170,7 +168,7 @@ module _ (s : Listing) (r : Ready s) (held rows : List ℕ) (n : ℕ) (w : Shown
     unfolding left sought
     left-behind = sought-on p false (boundAt (s .along) (take (s .steps) (drop 2 (s .last))) 0) (take 255 next256) newest behind (sym split-newest)
 
-    module _ (s' : Listing) (failed : ℕ) (ef : failed ≡ length (keep (failing p) next256)) (program : s' .program ≡ s .program) (permitted : s' .permitted ≡ s .permitted)
+    module _ (s' : Listing) (failed : ℕ) (ef : failed ≡ length (keep (failing p) next256)) (program : s' .program ≡ s .program)
         (along : s' .along ≡ true) (last : s' .last ≡ take 26 (drop (255 * 26) rows)) (short : s' .steps ≤ 24)
         (steps : (x : Schedule) (f : Bool) → s' .last ≡ rowBytes x f → length x ≤ 24 → s' .steps ≡ length x)
         (listed : s' .listed ≡ s .listed + n) (fails : s' .failed ≡ s .failed + failed) where
@@ -207,8 +205,6 @@ module _ (s : Listing) (r : Ready s) (held rows : List ℕ) (n : ℕ) (w : Shown
       ready : Ready s'
       ready = record {
         wellFormed = subst (λ (c : Compiled). WellFormed (programOf c)) (sym program) (r .wellFormed);
-        numbered = subst (λ (c : Compiled). Numbered (c .class) (c .groups) (s' .permitted .numbers) (s' .permitted .count)) (sym program)
-            (subst (λ (q : Permitted). Numbered (s .program .class) (s .program .groups) (q .numbers) (q .count)) (sym permitted) (r .numbered));
         steps = short;
         fits = omega (arith, listed-same, r .fits);
         few = omega (arith, failed-fits failed ef, listed, fails);

@@ -13,7 +13,6 @@ use Rattle.sc.specs.Text.{textOf}
 use Rattle.list.specs.ListOf.{listOf}
 use Rattle.list.specs.Answers.{failing, Counts}
 use Rattle.walker.specs.Bounds.{boundAt}
-use Rattle.walker.specs.Walked.{Numbered}
 use Rattle.listing.specs.Printed.{scheduleFrame, countFrame, printedFrames, printed}
 use Rattle.explorer.specs.declared.Input.{Input}
 use Rattle.explorer.specs.declared.Input.the-variants.{Bytes, Failed}
@@ -46,7 +45,6 @@ rest s = textOf (framesLeft (s .stage) s)
 -- what the walk along the list needs
 pub record Ready (s : Listing) : Type 0 where
   pub wellFormed : WellFormed (programOf (s .program))
-  pub numbered : Numbered (s .program .class) (s .program .groups) (s .permitted .numbers) (s .permitted .count)
   pub steps : s .steps ≤ 24
   pub fits : s .listed + length (left s) < 2 ^ 64
   pub few : s .failed ≤ s .listed

@@ -6,8 +6,6 @@ use crate::frames::schedule_lines;
 use crate::frames::steps_of;
 use decoder::Compiled;
 use decoder::Verdict;
-use pruning::Permitted;
-use pruning::permitted_numbers;
 use walker::listed_rows;
 ghost use mathlib.Core.Path.{_≡_};
 ghost use mathlib.Core.Bool.{false};
@@ -25,12 +23,11 @@ pub enum Stage {
     Ended,
 }
 
-// Where the printing stands: the program, with its permitted permutations; whether a schedule was printed, the row of the last one and its
-// steps; how many were printed, and how many of these fail.
+// Where the printing stands: the program; whether a schedule was printed, the row of the last one and its steps; how many were printed, and
+// how many of these fail.
 pub struct Listing {
     pub stage: Stage,
     pub program: Compiled,
-    pub permitted: Permitted,
     pub along: bool,
     pub last: [u8; 26],
     pub steps: usize,
@@ -45,13 +42,12 @@ pub struct Piece {
 }
 
 // Before anything is printed.
-fn unprinted(stage: Stage, program: Compiled, permitted: Permitted) -> Listing
-    ensures { λ r. ⌜ (r .stage ≡ stage) × (r .program ≡ program) × (r .permitted ≡ permitted) × (r .along ≡ false) × (r .steps ≡ 0) × (r .listed ≡ 0) × (r .failed ≡ 0) × (length (r .permitted .numbers) ≡ 720) ⌝ }
+fn unprinted(stage: Stage, program: Compiled) -> Listing
+    ensures { λ r. ⌜ (r .stage ≡ stage) × (r .program ≡ program) × (r .along ≡ false) × (r .steps ≡ 0) × (r .listed ≡ 0) × (r .failed ≡ 0) ⌝ }
 {
     Listing {
         stage: stage,
         program: program,
-        permitted: permitted,
         along: false,
         last: [0u8; 26],
         steps: 0,
@@ -66,12 +62,10 @@ pub(crate) fn begin(file: &[u8]) -> Listing
 {
     let a = decoder::decode(file);
     let program = a.program;
-    let class = program.class;
-    let numbers = permitted_numbers(class, program.groups);
     let v = a.verdict;
     match v {
-        Verdict::Refused(n, k) => unprinted(Stage::Refused(n, k), program, numbers),
-        Verdict::Accepted => unprinted(Stage::Walking, program, numbers),
+        Verdict::Refused(n, k) => unprinted(Stage::Refused(n, k), program),
+        Verdict::Accepted => unprinted(Stage::Walking, program),
     }
 }
 
@@ -80,10 +74,9 @@ fn last_piece(s: Listing, length: usize) -> Piece
     ensures { λ r. ⌜ (r .length ≡ length) × (r .listing .stage ≡ Ended) ⌝ }
 {
     let program = s.program;
-    let permitted = s.permitted;
     Piece {
         length: length,
-        listing: unprinted(Stage::Ended, program, permitted),
+        listing: unprinted(Stage::Ended, program),
     }
 }
 
@@ -93,11 +86,10 @@ fn walk_on(s: Listing, out: &mut [u8]) -> Piece
     ensures { λ r. ⌜ (r .length ≤ length (now (out .exit))) × Next s (take (r .length) (now (out .exit))) (r .listing) ⌝ }
 {
     let program = s.program;
-    let permitted = s.permitted;
     let last = s.last;
     let to = s.steps + 2;
     let mut rows = [0u8; 6656];
-    let n = listed_rows(program, permitted, false, &last[2..to], s.along, &mut rows);
+    let n = listed_rows(program, false, &last[2..to], s.along, &mut rows);
     let lines = schedule_lines(out, &rows, n);
     let at = lines.length;
     let listed = s.listed + n as u64;
@@ -111,7 +103,6 @@ fn walk_on(s: Listing, out: &mut [u8]) -> Piece
         listing: Listing {
             stage: Stage::Walking,
             program: program,
-            permitted: permitted,
             along: true,
             last: row,
             steps: steps_of(row),

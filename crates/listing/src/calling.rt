@@ -1,7 +1,6 @@
 // The calls that give a schedule: start, continue, violation.
+use accesses::wide;
 use decoder::Compiled;
-use pruning::permitted_numbers;
-use pruning::wide;
 use replay::Verdict;
 use replay::replayed;
 use walker::listed_rows;
@@ -56,10 +55,8 @@ fn next_listed(
     if out.len() < 24 {
         return ListAnswer::Refused(22, 0);
     }
-    let class = program.class;
-    let permitted = permitted_numbers(class, program.groups);
     let mut row = [0u8; 26];
-    let rows = listed_rows(program, permitted, only, bound, along, &mut row);
+    let rows = listed_rows(program, only, bound, along, &mut row);
     if rows == 0 {
         return ListAnswer::NoMore;
     }

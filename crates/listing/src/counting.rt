@@ -1,7 +1,6 @@
 // How many schedules are listed, and how many of these fail.
+use accesses::wide;
 use decoder::Compiled;
-use pruning::permitted_numbers;
-use pruning::wide;
 use walker::listed_rows;
 ghost use mathlib.Core.Path.{_≡_};
 ghost use mathlib.Core.List.{List};
@@ -50,12 +49,9 @@ fn counts(program: Compiled) -> Tally
     requires { ⌜ WellFormed (programOf program) ⌝ }
     ensures { λ r. ⌜ (r .listed ≡ countOf (programOf program) .listed) × (r .failing ≡ countOf (programOf program) .failed) ⌝ }
 {
-    let class = program.class;
-    let groups = program.groups;
-    let permitted = permitted_numbers(class, groups);
     let none = [0u8; 1];
     let mut rows = [0u8; 1664];
-    let mut n = listed_rows(program, permitted, false, &none, false, &mut rows);
+    let mut n = listed_rows(program, false, &none, false, &mut rows);
     let mut listed = 0;
     let mut failing = 0;
     while 0 < n {
@@ -66,7 +62,6 @@ fn counts(program: Compiled) -> Tally
         let length = wide(before[at]);
         n = listed_rows(
             program,
-            permitted,
             false,
             &before[at + 2..at + 2 + length],
             true,

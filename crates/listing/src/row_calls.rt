@@ -1,6 +1,5 @@
 // Listed schedules of a program file by rows: from the first one on, or behind a schedule.
 use decoder::Compiled;
-use pruning::permitted_numbers;
 use walker::listed_rows;
 ghost use mathlib.Core.Path.{_≡_};
 ghost use mathlib.Core.Option.{none, some};
@@ -23,9 +22,7 @@ fn rows_of(program: Compiled, bound: &[u8], along: bool, out: &mut [u8]) -> usiz
     requires { ⌜ WellFormed (programOf program) ⌝ }
     ensures { λ r. ⌜ Shown (programOf program) (fitting (programOf program) (boundAt along (now (bound .entry)) 0) (now (out .entry))) (now (out .entry)) (now (out .exit)) r ⌝ }
 {
-    let class = program.class;
-    let permitted = permitted_numbers(class, program.groups);
-    listed_rows(program, permitted, false, bound, along, out)
+    listed_rows(program, false, bound, along, out)
 }
 
 // The first ones.

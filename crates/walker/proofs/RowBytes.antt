@@ -5,27 +5,13 @@ use mathlib.Core.Logic.{_≢_}
 use mathlib.Core.Bool.{Bool, cond}
 use mathlib.Core.List.{List}
 use native.Mathlib.Omega.{arith}
-use lib.ListN.{length, getD, set, take, length-map, length-take, List·getD-eq-default}
-use lib.Seq.{take-suc, take-all}
+use lib.ListN.{length, getD, set, take, length-take, List·getD-eq-default}
+use lib.Seq.{take-suc, take-all, getD-take}
 use Rattle.lines.specs.Over.{over}
 use Rattle.lines.proofs.Over.{over-snoc}
 use Rattle.rows.proofs.Tabulate.{length-tabulate, getD-tabulate}
-use Rattle.schedules.specs.Lists.{upTo}
 use Rattle.schedules.specs.Order.{Schedule}
-use Rattle.schedules.proofs.Lists.{upTo-length}
-use Rattle.schedules.proofs.Loops.{mapped-at}
-use Rattle.pruning.specs.NotedSteps.{actionAt}
-use Rattle.walker.specs.LeftSteps.{threadsAt}
 use Rattle.walker.specs.Rows.{rowBytes}
-use Rattle.pruning.proofs.StepBytes.{thread-at}
-
-pub threads-length : (trail : List ℕ) (k n : ℕ) → length (threadsAt trail k n) ≡ n
-unfolding threadsAt
-threads-length trail k n = length-map (upTo k n) (λ i. actionAt trail i .thread) ∙ upTo-length k n
-
-pub threads-getD : (trail : List ℕ) (n i : ℕ) → i < n → getD (threadsAt trail 0 n) i 0 ≡ getD trail (i * 8) 0
-unfolding threadsAt
-threads-getD trail n i h = mapped-at (λ k. actionAt trail k .thread) 0 n i h ∙ ap (λ (k : ℕ). actionAt trail k .thread) (omega arith) ∙ thread-at trail i
 
 pub row-length : (s : Schedule) (f : Bool) → length (rowBytes s f) ≡ 26
 unfolding rowBytes
@@ -51,7 +37,7 @@ row-more s f held out k b h room e v =
     ∙ ap (λ (t : List ℕ). over t held) (sym (take-suc (rowBytes s f) k 0 (omega (arith, n))) ∙ ap (λ (i : ℕ). take i (rowBytes s f)) j)
 
 -- which byte of the row stands where
-pub row-head : (s : Schedule) (f : Bool) (n k : ℕ) → length s ≡ n → k ≡ 0 → n ≡ getD (rowBytes s f) k 0
+row-head : (s : Schedule) (f : Bool) (n k : ℕ) → length s ≡ n → k ≡ 0 → n ≡ getD (rowBytes s f) k 0
 unfolding rowBytes
 row-head s f n k e z = rw z (sym e)
 
@@ -59,15 +45,20 @@ pub row-flag : (s : Schedule) (f : Bool) (k : ℕ) → k ≡ 1 → cond f 1 0 �
 unfolding rowBytes
 row-flag s f k z = rw z refl
 
-pub row-thread : (trail : List ℕ) (n : ℕ) (f : Bool) (k : ℕ) → k ≢ 0 → k ≢ 1 → k < 26 → k - 2 < n
-    → getD trail ((k - 2) * 8) 0 ≡ getD (rowBytes (threadsAt trail 0 n) f) k 0
-row-thread trail n f k a b h l =
-    sym (row-step (threadsAt trail 0 n) f k (omega (arith, a, b)) h ∙ threads-getD trail n (k - 2) l)
+module _ (schedule : List ℕ) (n : ℕ) (f : Bool) (size : length schedule ≡ 24) (most : n ≤ 24) where
+  steps-length : length (take n schedule) ≡ n
+  steps-length = length-take n schedule ∙ omega (arith, size, most)
 
-pub row-end : (trail : List ℕ) (n : ℕ) (f : Bool) (k : ℕ) → k ≢ 0 → k ≢ 1 → k < 26 → n ≤ k - 2 → 0 ≡ getD (rowBytes (threadsAt trail 0 n) f) k 0
-row-end trail n f k a b h l =
-    let e = threads-length trail 0 n in
-    sym (row-step (threadsAt trail 0 n) f k (omega (arith, a, b)) h ∙ List·getD-eq-default (threadsAt trail 0 n) 0 (omega (arith, e)))
+  pub row-count : (k : ℕ) → k ≡ 0 → n ≡ getD (rowBytes (take n schedule) f) k 0
+  row-count k z = row-head (take n schedule) f n k steps-length z
+
+  pub row-thread : (k : ℕ) → k ≢ 0 → k ≢ 1 → k < 26 → k - 2 < n → getD schedule (k - 2) 0 ≡ getD (rowBytes (take n schedule) f) k 0
+  row-thread k a b h l = sym (row-step (take n schedule) f k (omega (arith, a, b)) h ∙ getD-take n schedule (k - 2) 0 l)
+
+  pub row-end : (k : ℕ) → k ≢ 0 → k ≢ 1 → k < 26 → n ≤ k - 2 → 0 ≡ getD (rowBytes (take n schedule) f) k 0
+  row-end k a b h l =
+      let e = steps-length in
+      sym (row-step (take n schedule) f k (omega (arith, a, b)) h ∙ List·getD-eq-default (take n schedule) 0 (omega (arith, e)))
 
 -- the whole row
 pub row-whole : (s : Schedule) (f : Bool) (held out : List ℕ) (k : ℕ) → 26 ≤ k → out ≡ over (take k (rowBytes s f)) held → out ≡ over (rowBytes s f) held

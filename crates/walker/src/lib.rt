@@ -1,9 +1,7 @@
 // The search: the listed schedules behind a bound, as rows.
 
-// The least order of an exchanged run's steps.
-mod least_order;
-// The test at a full schedule.
-mod testing;
+// What a search is asked for.
+mod aim;
 // A listed schedule as a row of bytes.
 mod putting;
 // The bound of a search.
@@ -15,4 +13,5 @@ mod walking;
 // The listed schedules behind a bound, as rows.
 mod listed;
 
+pub use aim::Aim;
 pub use listed::listed_rows;

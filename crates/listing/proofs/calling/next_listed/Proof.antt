@@ -27,27 +27,27 @@ returns c =
 returns-2 : tie.Need-returns-2
 unfolding said
 returns-2 c =
-    let args = c .before .before .before .before .before .before .before .before .before .args in
-    let if1 = c .before .before .before .before .before .before .if1 in
+    let args = c .before .before .before .before .before .before .before .args in
+    let if1 = c .before .before .before .before .if1 in
     let listed-rows = c .before .before .listed-rows in
     let out = args .out .now in
     let p = programOf (args .program) in
     let l = after (boundAt (args .along) (args .bound .now) 0) (sought (args .only) p) in
-    let e = turn-none out _ (if1 .left) (first-none p _ (listed-rows .last .1 .1 .1 .1 .1 .0) (listed-rows .result) refl l (c .if2 .taken) (listed-rows .ensures)) in
+    let e = turn-none out _ (if1 .left) (first-none p _ (listed-rows .last .1 .1 .1 .1 .0) (listed-rows .result) refl l (c .if2 .taken) (listed-rows .ensures)) in
     (ap said (sym e), sym (content-nomore out) ∙ ap (λ (a : Answer). content a out) (sym e))
 
 put-schedule-requires : tie.Need-put-schedule-requires
 put-schedule-requires c κs =
-    let entry = c .before .before .before .before .before .before .before .before .before .before .before .before in
+    let entry = c .before .before .before .before .before .before .before .before .before .before in
     let pre = entry .pre in
     let args = entry .args in
-    let if1 = c .before .before .before .before .before .before .before .before .before .if1 in
+    let if1 = c .before .before .before .before .before .before .before .if1 in
     let listed-rows = c .before .before .before .before .before .listed-rows in
     let if2 = c .before .before .before .if2 in
     let wide = c .before .before .wide in
     let p = programOf (args .program) in
     let o = boundAt (args .along) (args .bound .now) 0 in
-    let row = listed-rows .last .1 .1 .1 .1 .1 .0 in
+    let row = listed-rows .last .1 .1 .1 .1 .0 in
     let h = first-24 p _ row (listed-rows .result) refl (args .only) o (pre) (if2 .left) (listed-rows .ensures) in
     let n = first-length p _ row (listed-rows .result) refl (args .only) o (pre) (if2 .left) (listed-rows .ensures) (wide .result) (wide .ensures) in
     (omega (arith, h, n), if1 .left, search needs)
@@ -55,10 +55,10 @@ put-schedule-requires c κs =
 returns-3 : tie.Need-returns-3
 unfolding said
 returns-3 c =
-    let entry = c .before .before .before .before .before .before .before .before .before .before .before .before .before .before .before in
+    let entry = c .before .before .before .before .before .before .before .before .before .before .before .before .before in
     let pre = entry .pre in
     let args = entry .args in
-    let if1 = c .before .before .before .before .before .before .before .before .before .before .before .before .if1 in
+    let if1 = c .before .before .before .before .before .before .before .before .before .before .if1 in
     let listed-rows = c .before .before .before .before .before .before .before .before .listed-rows in
     let if2 = c .before .before .before .before .before .before .if2 in
     let wide = c .before .before .before .before .before .wide in
@@ -66,11 +66,11 @@ returns-3 c =
     let out = args .out .now in
     let p = programOf (args .program) in
     let o = boundAt (args .along) (args .bound .now) 0 in
-    let row = listed-rows .last .1 .1 .1 .1 .1 .0 in
+    let row = listed-rows .last .1 .1 .1 .1 .0 in
     let n = first-length p _ row (listed-rows .result) refl (args .only) o (pre) (if2 .left) (listed-rows .ensures) (wide .result) (wide .ensures) in
     let s = first-steps p _ row (listed-rows .result) refl (args .only) o (pre) (if2 .left) (listed-rows .ensures) (wide .result) (wide .ensures) in
     let e = turn-some out _ _ (if1 .left) (first-head p _ row (listed-rows .result) refl (args .only) o (pre) (if2 .left) (listed-rows .ensures)) in
     (ap {B = ListAnswer} (λ k. Found k) n ∙ ap said (sym e), put-schedule .ensures ∙ ap (λ t. over t out) s ∙ sym (content-found _ out) ∙ ap (λ (a : Answer). content a out) (sym e))
 
 pub next-listed-spec : {M : Type 1} → statement M
-next-listed-spec = tie.close (tie.spec returns (λ c κs. search needs) (λ c. search needs) (λ c κs. search needs) returns-2 (λ c. search needs) (λ c κs. search needs) put-schedule-requires (λ c. search needs) returns-3)
+next-listed-spec = tie.close (tie.spec returns (λ c. search needs) (λ c κs. search needs) returns-2 (λ c. search needs) (λ c κs. search needs) put-schedule-requires (λ c. search needs) returns-3)

@@ -15,21 +15,16 @@ use Rattle.listing.proofs.counting.counts.Statement.{statement}
 use Rattle.listing.proofs.counting.counts.Tie as tie
 
 abbrev Inv-loop : tie.InvT-loop
-Inv-loop program groups permitted rows₀ n₀ listed₀ failing₀ rows n listed failed = Counting (programOf program) rows n listed failed
+Inv-loop program rows₀ n₀ listed₀ failing₀ rows n listed failed = Counting (programOf program) rows n listed failed
 
 abbrev μ-loop : tie.MeasureT-loop
-μ-loop program groups permitted rows₀ n₀ listed₀ failing₀ rows n listed failed = length (listOf (programOf program)) - listed
+μ-loop program rows₀ n₀ listed₀ failing₀ rows n listed failed = length (listOf (programOf program)) - listed
 
-well : (c : tie.At-loop Inv-loop μ-loop) → WellFormed (programOf (c .before .before .before .before .before .before .before .args .program))
-well c = c .before .before .before .before .before .before .before .pre
-
-listed-rows-requires : tie.Need-listed-rows-requires Inv-loop μ-loop
-listed-rows-requires c κs =
-    let e = c .before .before .permitted-numbers .ensures in
-    (c .before .before .before .before .pre, record { size = search needs; within = e .0; permitted = e .1 })
+well : (c : tie.At-loop Inv-loop μ-loop) → WellFormed (programOf (c .before .before .before .before .before .args .program))
+well c = c .before .before .before .before .before .pre
 
 loop-holds : tie.Need-loop-holds Inv-loop μ-loop
-loop-holds c = counting-start (programOf (c .before .before .before .before .before .before .args .program)) _ _ _ _ (search needs) (c .before .listed-rows .ensures)
+loop-holds c = counting-start (programOf (c .before .before .before .before .args .program)) _ _ _ _ (search needs) (c .before .listed-rows .ensures)
 
 add-listed : tie.Need-add-listed Inv-loop μ-loop
 add-listed c = omega (arith, counting-within _ _ _ _ _ (c .before .loop .inv), list-length _ (well (c .before)), fits-64-bits)
@@ -74,10 +69,7 @@ slice-aggregate-listed-rows-3 : tie.Need-slice-aggregate-listed-rows-3 Inv-loop 
 slice-aggregate-listed-rows-3 c = let s = counting-size _ _ _ _ _ (c .before .before .before .before .before .before .before .loop .inv) in search needs
 
 listed-rows-requires-2 : tie.Need-listed-rows-requires-2 Inv-loop μ-loop
-listed-rows-requires-2 c κs =
-    let c7 = c .before .before .before .before .before .before .before in
-    let e = c7 .before .before .before .before .before .permitted-numbers .ensures in
-    (well c7, record { size = search needs; within = e .0; permitted = e .1 })
+listed-rows-requires-2 c κs = well (c .before .before .before .before .before .before .before)
 
 loop-less : tie.Need-loop-less Inv-loop μ-loop
 loop-less c = let c8 = c .before .before .before .before .before .before .before .before in omega (arith, counting-within _ _ _ _ _ (c8 .before .loop .inv), c8 .loop-test .taken)
@@ -99,10 +91,9 @@ counts-spec =
     (tie.spec
     Inv-loop
     μ-loop
+    (λ c. search needs)
+    (λ c. search needs)
     (λ c κs. search needs)
-    (λ c. search needs)
-    (λ c. search needs)
-    listed-rows-requires
     loop-holds
     add-listed
     failing-in-requires

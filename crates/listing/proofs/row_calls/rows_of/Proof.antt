@@ -1,4 +1,4 @@
--- `rows_of` finds the permitted permutations first.
+-- `rows_of` asks for as many rows as fit.
 use borrow.Author.Needs.{needs}
 use Rattle.list.specs.Search.{sought}
 use Rattle.listing.specs.RowsCall.{fitting}
@@ -10,4 +10,4 @@ unfolding fitting sought
 returns c = c .before .before .listed-rows .ensures
 
 pub rows-of-spec : {M : Type 1} → statement M
-rows-of-spec = tie.close (tie.spec (λ c κs. search needs) (λ c κs. search needs) (λ c. search needs) returns)
+rows-of-spec = tie.close (tie.spec (λ c κs. search needs) (λ c. search needs) returns)

@@ -3,42 +3,41 @@ use borrow.Author.Needs.{needs}
 use mathlib.Core.List.{[]}
 use native.Mathlib.Omega.{arith}
 use Rattle.decoder.specs.Compiled.{programOf}
-use Rattle.walker.specs.Bounds.{boundAt}
 use Rattle.machine.proofs.HeldStart.{loaded-compiled}
-use Rattle.walker.proofs.ListedRows.{walk-begins, walk-whole, rooms}
+use Rattle.walker.proofs.ListedRows.{lines-known, walk-whole, rooms}
 use Rattle.walker.proofs.listed.listed_rows.Statement.{statement}
 use Rattle.walker.proofs.listed.listed_rows.Tie as tie
 
-started-requires : tie.Need-started-requires
-started-requires c κs =
-    let entry = c .before .before .before .before .before .before .before .before in
-    let pre = entry .pre in
-    let args = entry .args in
-    (programOf (args .program), loaded-compiled (args .program) (pre .0))
+begun-requires : tie.Need-begun-requires
+begun-requires c κs =
+    let entry = c .before .before .before .before .before .before .before .before .before .before .before in
+    let w = entry .pre in
+    let a = entry .args in
+    let program = a .program in
+    (programOf program, loaded-compiled program w)
 
 walk-requires : tie.Need-walk-requires
 walk-requires c κs =
-    let entry = c .before .before .before .before .before .before .before .before .before .before .before .before .before .before .before in
-    let pre = entry .pre in
+    let entry = c .before .before .before .before .before .before .before .before .before .before .before .before .before .before .before .before .before in
+    let w = entry .pre in
     let a = entry .args in
-    let started = c .before .before .before .before .before .before .started in
-    let w = pre .0 in (
-      (a .program .threads, programOf (a .program), [], walk-begins (a .program) (started .result) _ w (started .ensures (programOf (a .program)) (loaded-compiled (a .program) w)) (search needs)),
-      pre .1 .within,
-      omega arith,
-      rooms _,
-    )
+    let program = a .program in
+    let loaded = loaded-compiled program w in
+    let lines = lines-known program (c .before .before .before .before .before .before .before .before .before .before .before .known-lines .result) (c .before .before .before .before .before .before .before .before .before .before .before .known-lines .ensures .0) (c .before .before .before .before .before .before .before .before .before .before .before .known-lines .ensures .1) in
+    let reached = c .before .before .before .before .before .begun .ensures (c .before .before .before .before .before .before .before .before .before .before .before .known-lines .result) (program .groups) (programOf program) loaded lines in
+    ((program .threads, program .groups, programOf program, [], reached), c .before .before .before .before .before .before .before .before .left-sets .ensures, omega arith, rooms _)
 
 returns : tie.Need-returns
 returns c =
-    let entry = c .before .before .before .before .before .before .before .before .before .before .before .before .before .before .before .before .before .before in
-    let pre = entry .pre in
+    let entry = c .before .before .before .before .before .before .before .before .before .before .before .before .before .before .before .before .before .before .before .before in
+    let w = entry .pre in
     let a = entry .args in
-    let started = c .before .before .before .before .before .before .before .before .before .started in
-    let walk = c .before .before .walk in
-    let w = pre .0 in
-    walk-whole (programOf (a .program)) (a .only) (boundAt (a .along) (a .bound .now) 0) (a .out .now) _ _ w
-    (walk .ensures .1 .1 (a .program .threads) (programOf (a .program)) [] (walk-begins (a .program) (started .result) _ w (started .ensures (programOf (a .program)) (loaded-compiled (a .program) w)) (search needs)) (pre .1))
+    let program = a .program in
+    let loaded = loaded-compiled program w in
+    let lines = lines-known program (c .before .before .before .before .before .before .before .before .before .before .before .before .before .before .known-lines .result) (c .before .before .before .before .before .before .before .before .before .before .before .before .before .before .known-lines .ensures .0) (c .before .before .before .before .before .before .before .before .before .before .before .before .before .before .known-lines .ensures .1) in
+    let reached = c .before .before .before .before .before .before .before .before .begun .ensures (c .before .before .before .before .before .before .before .before .before .before .before .before .before .before .known-lines .result) (program .groups) (programOf program) loaded lines in
+    walk-whole (programOf program) (a .only) (a .along) (a .bound .now) (a .out .now) _ _ w _ (reached .counted)
+    (c .before .before .walk .ensures .1 (program .threads) (program .groups) (programOf program) [] reached)
 
 pub listed-rows-spec : {M : Type 1} → statement M
-listed-rows-spec = tie.close (tie.spec started-requires walk-requires (λ c. search needs) returns)
+listed-rows-spec = tie.close (tie.spec (λ c κs. search needs) (λ c κs. search needs) begun-requires walk-requires (λ c. search needs) returns)

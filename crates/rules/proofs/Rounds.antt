@@ -1,0 +1,71 @@
+-- R3 behind a prefix: the counters of its machine, and the rounds of the search for sleepers.
+use Prim.Native.Nat.{ℕ, zero, suc, _<_, _≤_}
+use mathlib.Core.Path.{_≡_, refl, sym, ap, subst, _∙_}
+use mathlib.Core.Logic.{_≢_}
+use mathlib.Core.Bool.{Bool, true, false, not}
+use mathlib.Core.List.{List, [], _∷_}
+use native.Mathlib.Omega.{arith}
+use lib.Dec.{eqb}
+use lib.ListN.{getD, drop}
+use borrow.Author.Tests.{eq-eqb, ne-eqb}
+use Rattle.program.specs.Program.{Program}
+use Rattle.rows.specs.Rows.{threadCode}
+use Rattle.schedules.specs.Order.{Schedule}
+use Rattle.sc.specs.State.{State}
+use Rattle.sc.specs.Graph.{endOf}
+use Rattle.machine.specs.Held.{threadAt}
+use Rattle.machine.specs.declared.state.Machine.{Machine}
+use Rattle.survivors.specs.LateSet.{lateSet}
+use Rattle.survivors.specs.Sleepers.{unwoken, sleepers}
+use Rattle.survivors.proofs.LateSet.{late-below}
+use Rattle.survivors.proofs.Sleepers.{unwoken-below, unwoken-falls, sleepers-none, sleepers-still, sleepers-on}
+use Rattle.prefix.specs.Reached.{Reached}
+use Rattle.rules.specs.Left.{ShortAt, Rests}
+use Rattle.prefix.specs.declared.place.Place.{Place}
+use Rattle.prefix.proofs.ReachedStep.{reached-short}
+
+-- the six counters
+abbrev pub countersOf : Machine → List ℕ
+countersOf m = threadAt m 0 .at ∷ threadAt m 1 .at ∷ threadAt m 2 .at ∷ threadAt m 3 .at ∷ threadAt m 4 .at ∷ threadAt m 5 .at ∷ []
+
+six-counters : (m : Machine) (k : ℕ) → k < 6 → getD (countersOf m) k 0 ≡ threadAt m k .at
+six-counters m zero h = refl
+six-counters m (suc zero) h = refl
+six-counters m (suc (suc zero)) h = refl
+six-counters m (suc (suc (suc zero))) h = refl
+six-counters m (suc (suc (suc (suc zero)))) h = refl
+six-counters m (suc (suc (suc (suc (suc zero))))) h = refl
+six-counters m (suc (suc (suc (suc (suc (suc k)))))) h = absurd (omega arith)
+
+module _ (code lengths class : List ℕ) (threads groups : ℕ) (x : Place) (p : Program) (v : Schedule) (r : Reached code lengths class threads groups x p v) where
+  abbrev σ : State
+  σ = endOf p v
+
+  pub counters-short : ShortAt lengths (countersOf (x .machine))
+  counters-short k h l = let e = six-counters (x .machine) k h in reached-short code lengths class threads groups x p v r k h (omega (arith, e, l))
+
+  pub counters-rest : Rests code lengths (countersOf (x .machine)) (endOf p v)
+  counters-rest t h = r .holds .threads t h .rest ∙ ap (λ (i : ℕ). drop i (threadCode code t (getD lengths t 0))) (sym (six-counters (x .machine) t h))
+
+  pub late-small : x .late < 64
+  late-small = omega (arith, r .late, late-below p v)
+
+  pub asleep-first : sleepers (endOf p v) (lateSet p v) ≡ sleepers (endOf p v) (x .late)
+  asleep-first = ap (sleepers σ) (sym (r .late))
+
+-- ---- a round, from the set s to n
+module _ (σ : State) (s n : ℕ) (small : s < 64) (e : n ≡ unwoken σ s) where
+  pub round-below : n < 64
+  round-below = omega (arith, e, unwoken-below σ s)
+
+  pub round-falls : n ≢ s → n < s
+  round-falls ne = omega (arith, ne, e, unwoken-falls σ s small)
+
+  pub round-on : n ≢ s → (whole : ℕ) → whole ≡ sleepers σ s → whole ≡ sleepers σ n
+  round-on ne whole w = w ∙ sleepers-on σ s small (λ q. ne (e ∙ q)) ∙ ap (sleepers σ) (sym e)
+
+  pub round-still : n ≡ s → s ≢ 0 → (whole : ℕ) → whole ≡ sleepers σ s → true ≡ not (eqb whole 0)
+  round-still q nz whole w = sym (ap (λ (k : ℕ). not (eqb k 0)) (w ∙ sleepers-still σ s (sym e ∙ q)) ∙ ap not (ne-eqb s 0 nz))
+
+pub round-none : (σ : State) (s : ℕ) → s ≡ 0 → (whole : ℕ) → whole ≡ sleepers σ s → false ≡ not (eqb whole 0)
+round-none σ s z whole w = sym (ap (λ (k : ℕ). not (eqb k 0)) (w ∙ ap (sleepers σ) z ∙ sleepers-none σ))

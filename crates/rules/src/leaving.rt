@@ -1,0 +1,93 @@
+// The locations that the code of each row's thread from this row on may still read, and write.
+use prefix::is_in;
+use program::Instruction;
+use rows::instruction_at;
+ghost use mathlib.Core.Path.{_≡_};
+ghost use mathlib.Core.List.{List, _∷_};
+ghost use Prim.Native.Nat.{_+_, _<_, _≤_};
+ghost use lib.ListN.{getD};
+ghost use Rattle.program.specs.declared.instruction.Instruction.{Instruction};
+ghost use Rattle.survivors.specs.Sets.{joined};
+ghost use Rattle.survivors.specs.Sleepers.{readsLeft, writesLeft};
+ghost use Rattle.rules.specs.Left.{Left};
+
+const POWERS: [u8; 8] = [1, 2, 4, 8, 16, 32, 64, 128];
+
+// The set with location l in it, if there is such a location.
+fn with_location(l: u8, set: u8) -> u8
+    ensures { λ r. ⌜ r ≡ joined l set ⌝ }
+{
+    if 8 <= l {
+        return set;
+    }
+    if is_in(set, l) {
+        return set;
+    }
+    set + POWERS[l as usize]
+}
+
+// What code may read that begins with i, where the code behind it may read this.
+fn reads_from(i: Instruction, set: u8) -> u8
+    ensures { λ r. ⌜ ((is : List Instruction) → set ≡ readsLeft is → r ≡ readsLeft (i ∷ is)) ⌝ }
+{
+    match i {
+        Instruction::Store(_, _) => set,
+        Instruction::Load(_, l) => with_location(l, set),
+        Instruction::FetchAdd(_, l, _) => with_location(l, set),
+        Instruction::CompareSwap(_, l, _, _) => with_location(l, set),
+        Instruction::Assign(_, _) => set,
+        Instruction::AddAssign(_, _) => set,
+        Instruction::SkipUnless(_, _, _) => set,
+        Instruction::Assert(_, _) => set,
+    }
+}
+
+// What code may write that begins with i, where the code behind it may write this.
+fn writes_from(i: Instruction, set: u8) -> u8
+    ensures { λ r. ⌜ ((is : List Instruction) → set ≡ writesLeft is → r ≡ writesLeft (i ∷ is)) ⌝ }
+{
+    match i {
+        Instruction::Store(l, _) => with_location(l, set),
+        Instruction::Load(_, _) => set,
+        Instruction::FetchAdd(_, l, _) => with_location(l, set),
+        Instruction::CompareSwap(_, l, _, _) => with_location(l, set),
+        Instruction::Assign(_, _) => set,
+        Instruction::AddAssign(_, _) => set,
+        Instruction::SkipUnless(_, _, _) => set,
+        Instruction::Assert(_, _) => set,
+    }
+}
+
+// What stands in a row's place of an array, where the thread, of n instructions, has one in the row before; else the empty set.
+fn behind(left: &[u8; 192], k: usize, i: usize, n: usize) -> u8
+    requires { ⌜ (i < 16) × (i + 1 < n → k < 192) ⌝ }
+    ensures { λ r. ⌜ (i + 1 < n → r ≡ getD (now (left .entry)) k 0) × (n ≤ i + 1 → r ≡ 0) ⌝ }
+{
+    if i + 1 < n {
+        return left[k];
+    }
+    0
+}
+
+// The sets of all rows: of reads, then of writes.
+pub fn left_sets(code: &[u8; 1536], lengths: &[usize; 6]) -> [u8; 192]
+    ensures { λ r. ⌜ Left (now (code .entry)) (now (lengths .entry)) r ⌝ }
+{
+    let mut left = [0u8; 192];
+    let mut row = 96;
+    while 0 < row {
+        row -= 1;
+        let i = row % 16;
+        let n = lengths[row / 16];
+        if i < n {
+            if n <= 16 {
+                let x = instruction_at(code, row);
+                let reads = behind(&left, row + 1, i, n);
+                let writes = behind(&left, row + 97, i, n);
+                left[row] = reads_from(x, reads);
+                left[row + 96] = writes_from(x, writes);
+            }
+        }
+    }
+    left
+}

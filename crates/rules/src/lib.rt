@@ -1,0 +1,12 @@
+// Rules of the search as functions: smaller threads that stand where a thread stands, and late threads that are asleep for good.
+
+// Smaller threads that stand where a thread stands.
+mod standing;
+// What the code of a row's thread may still do.
+mod leaving;
+// Late threads that are asleep for good.
+mod sleeping;
+
+pub use leaving::left_sets;
+pub use sleeping::some_asleep;
+pub use standing::has_smaller_twin;

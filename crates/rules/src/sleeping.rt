@@ -1,0 +1,166 @@
+// R3: late threads that nothing left to the others can wake.
+use accesses::wide;
+use prefix::Place;
+use prefix::addend;
+use prefix::is_in;
+use prefix::is_writer;
+use prefix::location_at;
+ghost use mathlib.Core.Path.{_≡_};
+ghost use mathlib.Core.Bool.{not, _||_};
+ghost use mathlib.Core.List.{List};
+ghost use Prim.Native.Nat.{ℕ, _<_};
+ghost use lib.Dec.{eqb};
+ghost use Rattle.program.specs.Program.{Program};
+ghost use Rattle.schedules.specs.Order.{Schedule};
+ghost use Rattle.sc.specs.State.{State, threadOf, place};
+ghost use Rattle.sc.specs.Graph.{endOf};
+ghost use Rattle.sc.specs.Ahead.{mayPut};
+ghost use Rattle.survivors.specs.LateSet.{lateSet};
+ghost use Rattle.survivors.specs.Sets.{has};
+ghost use Rattle.survivors.specs.Sleepers.{sleepsIn, unwoken, sleepers};
+ghost use Rattle.prefix.specs.Reached.{Reached};
+ghost use Rattle.rules.specs.Left.{Left, ShortAt, Rests, meetsAt};
+
+// The access that a thread stands at: its location, and whether it could write.
+pub struct Awaited {
+    pub location: u8,
+    pub writer: bool,
+}
+
+// That of thread t; of one that has ended, location 0 and no write.
+fn access_of(code: &[u8; 1536], lengths: &[usize; 6], at: &[usize; 6], t: usize) -> Awaited
+    requires { ⌜ (t < 6) × ShortAt (now lengths) (now at) ⌝ }
+    ensures { λ r. ⌜ ((σ : State) → Rests (now (code .entry)) (now (lengths .entry)) (now (at .entry)) σ
+        → (r .location ≡ place σ t) × (r .writer ≡ mayPut (threadOf σ t .local))) ⌝ }
+{
+    let i = at[t];
+    if lengths[t] <= i {
+        return Awaited {
+            location: 0,
+            writer: false,
+        };
+    }
+    let row = t * 16 + i;
+    Awaited {
+        location: location_at(code, row),
+        writer: is_writer(code, row),
+    }
+}
+
+// Whether something left to thread u could conflict with an access at l, which could write (w) or only reads.
+fn meets(left: &[u8; 192], lengths: &[usize; 6], at: &[usize; 6], u: usize, l: u8, w: bool) -> bool
+    requires { ⌜ (u < 6) × ShortAt (now lengths) (now at) ⌝ }
+    ensures { λ r. ⌜ ((code : List ℕ) → Left code (now (lengths .entry)) (now (left .entry))
+        → r ≡ meetsAt code (now (lengths .entry)) (now (at .entry)) u l w) ⌝ }
+{
+    let i = at[u];
+    if lengths[u] <= i {
+        return false;
+    }
+    let row = u * 16 + i;
+    if is_in(left[row + 96], l) {
+        return true;
+    }
+    if !is_in(left[row], l) {
+        return false;
+    }
+    w
+}
+
+// Whether thread u is in the set, or nothing left to it could wake one that awaits this access.
+fn is_quiet(
+    left: &[u8; 192],
+    lengths: &[usize; 6],
+    at: &[usize; 6],
+    set: u8,
+    u: u8,
+    a: Awaited,
+) -> bool
+    requires { ⌜ (u < 6) × ShortAt (now lengths) (now at) ⌝ }
+    ensures { λ r. ⌜ ((code : List ℕ) → Left code (now (lengths .entry)) (now (left .entry))
+        → r ≡ (has set u || not (meetsAt code (now (lengths .entry)) (now (at .entry)) u (a .location) (a .writer)))) ⌝ }
+{
+    if is_in(set, u) {
+        return true;
+    }
+    !meets(left, lengths, at, wide(u), a.location, a.writer)
+}
+
+// Whether thread t is in the set, and no thread outside could wake it.
+fn sleeps_in(
+    code: &[u8; 1536],
+    lengths: &[usize; 6],
+    left: &[u8; 192],
+    at: &[usize; 6],
+    set: u8,
+    t: u8,
+) -> bool
+    requires { ⌜ (t < 6) × ShortAt (now lengths) (now at) ⌝ }
+    ensures { λ r. ⌜ ((σ : State) → Rests (now (code .entry)) (now (lengths .entry)) (now (at .entry)) σ
+        → Left (now (code .entry)) (now (lengths .entry)) (now (left .entry)) → r ≡ sleepsIn σ set t) ⌝ }
+{
+    if !is_in(set, t) {
+        return false;
+    }
+    let a = access_of(code, lengths, at, wide(t));
+    let mut u = 0u8;
+    while u < 6 {
+        if !is_quiet(left, lengths, at, set, u, a) {
+            return false;
+        }
+        u += 1;
+    }
+    true
+}
+
+// What is left of the set when those that some thread outside could wake have gone.
+fn unwoken(
+    code: &[u8; 1536],
+    lengths: &[usize; 6],
+    left: &[u8; 192],
+    at: &[usize; 6],
+    set: u8,
+) -> u8
+    requires { ⌜ ShortAt (now lengths) (now at) ⌝ }
+    ensures { λ r. ⌜ ((σ : State) → Rests (now (code .entry)) (now (lengths .entry)) (now (at .entry)) σ
+        → Left (now (code .entry)) (now (lengths .entry)) (now (left .entry)) → r ≡ unwoken σ set) ⌝ }
+{
+    let b0 = sleeps_in(code, lengths, left, at, set, 0);
+    let b1 = sleeps_in(code, lengths, left, at, set, 1);
+    let b2 = sleeps_in(code, lengths, left, at, set, 2);
+    let b3 = sleeps_in(code, lengths, left, at, set, 3);
+    let b4 = sleeps_in(code, lengths, left, at, set, 4);
+    let b5 = sleeps_in(code, lengths, left, at, set, 5);
+    let three = addend(b0, 1) + addend(b1, 2) + addend(b2, 4);
+    three + addend(b3, 8) + addend(b4, 16) + addend(b5, 32)
+}
+
+// Whether some late threads are asleep for good.
+pub fn some_asleep(code: &[u8; 1536], lengths: &[usize; 6], left: &[u8; 192], x: Place) -> bool
+    requires { ⌜ ((class : List ℕ) × (threads : ℕ) × (groups : ℕ) × (p : Program) × (v : Schedule)
+        × Reached (now code) (now lengths) class threads groups x p v × Left (now code) (now lengths) (now left)) ⌝ }
+    ensures { λ r. ⌜ ((class : List ℕ) (threads groups : ℕ) (p : Program) (v : Schedule)
+        → Reached (now (code .entry)) (now (lengths .entry)) class threads groups x p v
+        → r ≡ not (eqb (sleepers (endOf p v) (lateSet p v)) 0)) ⌝ }
+{
+    if x.late == 0 {
+        return false;
+    }
+    let m = x.machine;
+    let a = m.threads[0];
+    let b = m.threads[1];
+    let c = m.threads[2];
+    let d = m.threads[3];
+    let e = m.threads[4];
+    let f = m.threads[5];
+    let at = [a.at, b.at, c.at, d.at, e.at, f.at];
+    let mut set = x.late;
+    while set != 0 {
+        let next = unwoken(code, lengths, left, &at, set);
+        if next == set {
+            return true;
+        }
+        set = next;
+    }
+    false
+}

@@ -1,0 +1,50 @@
+// R2: a smaller thread of t's class with the same word.
+use accesses::wide;
+use prefix::Place;
+ghost use mathlib.Core.Path.{_≡_};
+ghost use mathlib.Core.Bool.{_&&_};
+ghost use mathlib.Core.List.{List};
+ghost use Prim.Native.Nat.{ℕ, _<_};
+ghost use lib.Dec.{eqb};
+ghost use lib.ListN.{getD};
+ghost use Rattle.program.specs.Program.{Program};
+ghost use Rattle.schedules.specs.Lists.{upTo, any};
+ghost use Rattle.schedules.specs.Order.{Schedule};
+ghost use Rattle.sc.specs.Graph.{endOf};
+ghost use Rattle.list.specs.Rules.{twin};
+ghost use Rattle.prefix.specs.Reached.{Reached};
+
+// Whether thread u, which has this word, is of class g and the word is that one.
+fn is_twin(class: &[usize; 6], u: usize, g: usize, word: u64, own: u64) -> bool
+    requires { ⌜ u < 6 ⌝ }
+    ensures { λ r. ⌜ r ≡ (eqb (getD (now (class .entry)) u 0) g && eqb word own) ⌝ }
+{
+    if class[u] != g {
+        return false;
+    }
+    word == own
+}
+
+// Whether a smaller thread is t's twin.
+pub fn has_smaller_twin(class: &[usize; 6], x: Place, t: u8) -> bool
+    requires { ⌜ t < 6 ⌝ }
+    ensures { λ r. ⌜ ((code lengths : List ℕ) (threads groups : ℕ) (p : Program) (v : Schedule)
+        → Reached code lengths (now (class .entry)) threads groups x p v
+        → r ≡ any (twin p (endOf p v) t) (upTo 0 t)) ⌝ }
+{
+    let own = wide(t);
+    let g = class[own];
+    if g == 0 {
+        return false;
+    }
+    let words = x.words;
+    let word = words[own];
+    let mut u = 0;
+    while u < own {
+        if is_twin(class, u, g, words[u], word) {
+            return true;
+        }
+        u += 1;
+    }
+    false
+}
