@@ -39,9 +39,9 @@ loop-again : tie.Need-loop-again Inv-loop μ-loop
 loop-again c = (
   search needs,
   let a = c .before .before .before .before .before .before .before .before .args in
-  let own = c .before .before .before .before .before .before .before .wide .result in
-  let loop = c .before .before .before .loop in
-  one-more (λ (k : ℕ). (eqb (getD (a .class .now) k 0) (getD (a .class .now) own 0) && eqb (getD (a .x .words) k 0) (getD (a .x .words) own 0)) ≡ false)
+      let own = c .before .before .before .before .before .before .before .wide .result in
+      let loop = c .before .before .before .loop in
+      one-more (λ (k : ℕ). (eqb (getD (a .class .now) k 0) (getD (a .class .now) own 0) && eqb (getD (a .x .words) k 0) (getD (a .x .words) own 0)) ≡ false)
       (loop .u) (loop .inv .1) (sym (c .before .is-twin .ensures) ∙ c .if2 .left),
 )
 

@@ -20,8 +20,7 @@ returns-2 : tie.Need-returns-2
 unfolding failing
 returns-2 c =
     let entry = c .before .before .before .before .before .before in
-    let a = entry .args in
-    (
+    let a = entry .args in (
       entry .pre .1,
       λ code lengths class threads groups p v at e.
           adds-none p (a .a .room) _ (a .out .now) (a .a .rows)
@@ -30,18 +29,17 @@ returns-2 c =
 
 returns-3 : tie.Need-returns-3
 unfolding failing rowOf
-returns-3 c =
-    (
-      search needs,
-      λ code lengths class threads groups p v at e.
-          let entry = c .before .before .before .before .before .before .before .before .before .before .before in
-          let a = entry .args in
-          let f : failing p v ≡ c .before .before .before .before .before .before .before .fails .result = sym (c .before .before .before .before .before .before .before .fails .ensures code lengths (endOf p v) (at .holds)) in
-          let w = at .schedule in
-          adds-one p (a .a .room) _ v (a .out .now) (c .before .before .put-row .last .0) (a .a .rows)
-          (behind-end (a .a .only) p (a .x .steps) v (c .before .before .before .before .before .before .before .fails .result) e f (sym (c .before .before .before .before .before .before .is-meant .ensures) ∙ not-false _ (c .before .before .before .before .before .if2 .left)))
-          (c .before .before .before .before .before .before .before .before .if1 .left) (c .before .before .put-row .ensures ∙ rw (w, f)),
-    )
+returns-3 c = (
+  search needs,
+  λ code lengths class threads groups p v at e.
+      let entry = c .before .before .before .before .before .before .before .before .before .before .before in
+      let a = entry .args in
+      let f : failing p v ≡ c .before .before .before .before .before .before .before .fails .result = sym (c .before .before .before .before .before .before .before .fails .ensures code lengths (endOf p v) (at .holds)) in
+      let w = at .schedule in
+      adds-one p (a .a .room) _ v (a .out .now) (c .before .before .put-row .last .0) (a .a .rows)
+      (behind-end (a .a .only) p (a .x .steps) v (c .before .before .before .before .before .before .before .fails .result) e f (sym (c .before .before .before .before .before .before .is-meant .ensures) ∙ not-false _ (c .before .before .before .before .before .if2 .left)))
+      (c .before .before .before .before .before .before .before .before .if1 .left) (c .before .before .put-row .ensures ∙ rw (w, f)),
+)
 
 pub at-end-spec : {M : Type 1} → statement M
 at-end-spec = tie.close (tie.spec returns (λ c κs. search needs) (λ c κs. search needs) returns-2 (λ c. search needs) (λ c. search needs) (λ c. search needs) (λ c. search needs) (λ c κs. search needs) (λ c. search needs) (λ c. search needs) returns-3)

@@ -78,34 +78,28 @@ visit-returns : (t : ℕ) → visit-lts.Need-returns (visit-callees t) (visit-at
 visit-returns t c =
     let entry = c .before .before .before .before in
     let pre = entry .pre in
-    let a = entry .args in
-    (
+    let a = entry .args in (
       pre .1 .2,
       λ threads groups p v at. adds-none p (a .a .room) _ (a .out .now) (a .a .rows) (visit-ended (a .code .now) (a .lengths .now) (a .class .now) threads groups (a .x) p v at (a .a .only) (boundAt (a .a .along) (a .bound .now) (a .x .steps)) (a .t) (sym (c .before .may .ensures (a .code .now) (endOf p v) (at .holds)) ∙ not-true _ (c .if1 .taken))),
     )
-
 
 visit-returns-2 : (t : ℕ) → visit-lts.Need-returns-2 (visit-callees t) (visit-at t) visit.Post
 visit-returns-2 t c =
     let entry = c .before .before .before .before .before .before in
     let pre = entry .pre in
-    let a = entry .args in
-    (
+    let a = entry .args in (
       pre .1 .2,
       λ threads groups p v at. adds-none p (a .a .room) _ (a .out .now) (a .a .rows) (visit-late (a .code .now) (a .lengths .now) (a .class .now) threads groups (a .x) p v at (a .a .only) (boundAt (a .a .along) (a .bound .now) (a .x .steps)) (a .t) (sym (c .before .before .before .may .ensures (a .code .now) (endOf p v) (at .holds)) ∙ not-false _ (c .before .before .if1 .left)) (sym (c .before .is-late .ensures) ∙ c .if2 .taken)),
     )
-
 
 visit-returns-3 : (t : ℕ) → visit-lts.Need-returns-3 (visit-callees t) (visit-at t) visit.Post
 visit-returns-3 t c =
     let entry = c .before .before .before .before .before .before .before .before in
     let pre = entry .pre in
-    let a = entry .args in
-    (
+    let a = entry .args in (
       pre .1 .2,
       λ threads groups p v at. adds-none p (a .a .room) _ (a .out .now) (a .a .rows) (visit-twin (a .code .now) (a .lengths .now) (a .class .now) threads groups (a .x) p v at (a .a .only) (boundAt (a .a .along) (a .bound .now) (a .x .steps)) (a .t) (sym (c .before .before .before .before .before .may .ensures (a .code .now) (endOf p v) (at .holds)) ∙ not-false _ (c .before .before .before .before .if1 .left)) (sym (c .before .has-smaller-twin .ensures (a .code .now) (a .lengths .now) threads groups p v at) ∙ c .if3 .taken)),
     )
-
 
 visit-advanced-requires : (t : ℕ) → visit-lts.Need-advanced-requires (visit-callees t) (visit-at t) visit.Post
 visit-advanced-requires t c κs =
@@ -115,7 +109,6 @@ visit-advanced-requires t c κs =
     let e = pre .1 .0 in
     (a .class .now, e .0, e .1, e .2, e .3, e .4, (sym (c .before .before .before .before .before .may .ensures (a .code .now) (endOf (e .2) (e .3)) (e .4 .holds)) ∙ not-false _ (c .before .before .before .before .if1 .left)))
 
-
 visit-some-asleep-requires : (t : ℕ) → visit-lts.Need-some-asleep-requires (visit-callees t) (visit-at t) visit.Post
 visit-some-asleep-requires t c κs =
     let entry = c .before .before .before .before .before .before .before .before .before in
@@ -124,17 +117,14 @@ visit-some-asleep-requires t c κs =
     let e = pre .1 .0 in
     (a .class .now, e .0, e .1, e .2, e .3 ++ (a .t ∷ []), c .advanced .ensures (a .class .now) (e .0) (e .1) (e .2) (e .3) (e .4), pre .1 .1)
 
-
 visit-returns-4 : (t : ℕ) → visit-lts.Need-returns-4 (visit-callees t) (visit-at t) visit.Post
 visit-returns-4 t c =
     let entry = c .before .before .before .before .before .before .before .before .before .before .before in
     let pre = entry .pre in
-    let a = entry .args in
-    (
+    let a = entry .args in (
       pre .1 .2,
       λ threads groups p v at. adds-none p (a .a .room) _ (a .out .now) (a .a .rows) (visit-asleep (a .code .now) (a .lengths .now) (a .class .now) threads groups (a .x) p v at (a .a .only) (boundAt (a .a .along) (a .bound .now) (a .x .steps)) (a .t) (sym (c .before .before .before .before .before .before .before .before .may .ensures (a .code .now) (endOf p v) (at .holds)) ∙ not-false _ (c .before .before .before .before .before .before .before .if1 .left)) (sym (c .before .some-asleep .ensures (a .class .now) threads groups p (v ++ (a .t ∷ [])) (c .before .before .advanced .ensures (a .class .now) threads groups p v at)) ∙ c .if4 .taken)),
     )
-
 
 visit-walk-requires : (t : ℕ) → visit-lts.Need-walk-requires (visit-callees t) (visit-at t) visit.Post
 visit-walk-requires t c κs =
@@ -142,20 +132,17 @@ visit-walk-requires t c κs =
     let pre = entry .pre in
     let a = entry .args in
     let e = pre .1 .0 in
-    let next = c .before .before .before .before .advanced .ensures (a .class .now) (e .0) (e .1) (e .2) (e .3) (e .4) in
-    (
+    let next = c .before .before .before .before .advanced .ensures (a .class .now) (e .0) (e .1) (e .2) (e .3) (e .4) in (
       omega (arith, pre .0, visit-less (a .code .now) (a .lengths .now) (a .class .now) (e .0) (e .1) (a .x) (e .2) (e .3) (e .4) (a .a .only) (boundAt (a .a .along) (a .bound .now) (a .x .steps)) (a .t) (sym (c .before .before .before .before .before .before .before .before .before .before .may .ensures (a .code .now) (endOf (e .2) (e .3)) (e .4 .holds)) ∙ not-false _ (c .before .before .before .before .before .before .before .before .before .if1 .left)) (c .before .before .before .before .advanced .result) next),
       ((e .0, e .1, e .2, e .3 ++ (a .t ∷ []), next), pre .1 .1, pre .1 .2, pre .1 .3),
     )
-
 
 visit-returns-5 : (t : ℕ) → visit-lts.Need-returns-5 (visit-callees t) (visit-at t) visit.Post
 visit-returns-5 t c =
     let entry = c .before .before .before .before .before .before .before .before .before .before .before .before .before .before .before .before in
     let pre = entry .pre in
     let a = entry .args in
-    let walked = c .before .before .walk in
-    (
+    let walked = c .before .before .walk in (
       walked .ensures .0,
       λ threads groups p v at.
           let next = c .before .before .before .before .before .before .before .advanced .ensures (a .class .now) threads groups p v at in
@@ -167,7 +154,6 @@ visit-returns-5 t c =
           (c .before .before .before .before .stays-along .result) (a .bound .now) (c .before .before .before .before .stays-along .ensures))
           (walked .ensures .1 threads groups p (v ++ (a .t ∷ [])) next),
     )
-
 
 -- ---- walk
 abbrev walk-Inv-loop : walk-lts.InvT-loop
@@ -181,12 +167,10 @@ walk-returns : (t : ℕ) → walk-lts.Need-returns (walk-callees t) (walk-at t) 
 walk-returns t c =
     let entry = c .before .before .before .before .before in
     let pre = entry .pre in
-    let a = entry .args in
-    (
+    let a = entry .args in (
       pre .1 .2,
       λ threads groups p v at. rw (c .if2 .taken) (adds-none p (a .a .room) _ (a .out .now) (a .a .rows) (bound-met (a .a .only) p (a .x .steps) v (a .bound .now) (sym (c .before .before .ended-all .ensures (a .code .now) (endOf p v) (at .holds)) ∙ c .before .if1 .taken))),
     )
-
 
 walk-at-end-requires : (t : ℕ) → walk-lts.Need-at-end-requires (walk-callees t) (walk-at t) walk.Post walk-Inv-loop walk-μ-loop
 walk-at-end-requires t c κs =
@@ -196,42 +180,35 @@ walk-at-end-requires t c κs =
     let e = pre .1 .0 in
     (reached-most (a .code .now) (a .lengths .now) (a .class .now) (e .0) (e .1) (a .x) (e .2) (e .3) (e .4), pre .1 .2, pre .1 .3)
 
-
 walk-returns-2 : (t : ℕ) → walk-lts.Need-returns-2 (walk-callees t) (walk-at t) walk.Post walk-Inv-loop walk-μ-loop
 walk-returns-2 t c =
     let entry = c .before .before .before .before .before .before .before .before .before in
     let pre = entry .pre in
-    let a = entry .args in
-    (
+    let a = entry .args in (
       c .before .before .at-end .ensures .0,
       λ threads groups p v at.
           rw (c .before .before .before .before .if2 .left) (adds-same p (a .a .room) _ _ (a .out .now) _ (a .a .rows) _ (bound-apart (a .a .only) p (a .x .steps) v (a .bound .now))
           (c .before .before .at-end .ensures .1 (a .code .now) (a .lengths .now) (a .class .now) threads groups p v at (sym (c .before .before .before .before .before .before .ended-all .ensures (a .code .now) (endOf p v) (at .holds)) ∙ c .before .before .before .before .before .if1 .taken))),
     )
 
-
 walk-returns-3 : (t : ℕ) → walk-lts.Need-returns-3 (walk-callees t) (walk-at t) walk.Post walk-Inv-loop walk-μ-loop
 walk-returns-3 t c =
     let entry = c .before .before .before .before .before .before in
     let pre = entry .pre in
-    let a = entry .args in
-    (
+    let a = entry .args in (
       pre .1 .2,
       λ threads groups p v at. adds-none p (a .a .room) _ (a .out .now) (a .a .rows) (behind-stuck (a .a .only) p (a .x .steps) v (boundAt (a .a .along) (a .bound .now) (a .x .steps)) (sym (c .before .before .before .ended-all .ensures (a .code .now) (endOf p v) (at .holds)) ∙ c .before .before .if1 .left) (c .if3 .taken)),
     )
-
 
 walk-loop-holds : (t : ℕ) → walk-lts.Need-loop-holds (walk-callees t) (walk-at t) walk.Post walk-Inv-loop walk-μ-loop
 walk-loop-holds t c =
     let entry = c .before .before .before .before .before .before .before in
     let pre = entry .pre in
-    let a = entry .args in
-    (
+    let a = entry .args in (
       pre .1 .2,
       refl,
       rest-start (a .code .now) (a .lengths .now) (a .class .now) (a .a .only) (a .x) (boundAt (a .a .along) (a .bound .now) (a .x .steps)) (a .out .now) (a .a .room) (a .a .rows) (c .first-thread .result) (λ threads groups p v at. sym (c .before .before .before .before .ended-all .ensures (a .code .now) (endOf p v) (at .holds)) ∙ c .before .before .before .if1 .left) (c .before .if3 .left) (c .first-thread .ensures),
     )
-
 
 walk-returns-4 : (t : ℕ) → walk-lts.Need-returns-4 (walk-callees t) (walk-at t) walk.Post walk-Inv-loop walk-μ-loop
 walk-returns-4 t c =
@@ -241,7 +218,6 @@ walk-returns-4 t c =
     let loop = c .before .before .before .loop in
     (loop .inv .0, rest-full (a .code .now) (a .lengths .now) (a .class .now) (a .a .only) (a .x) (boundAt (a .a .along) (a .bound .now) (a .x .steps)) (a .out .now) (a .a .room) (a .a .rows) (loop .out) (loop .n) (loop .t) (c .if4 .taken) (loop .inv .2))
 
-
 walk-visit-requires : (t : ℕ) → walk-lts.Need-visit-requires (walk-callees t) (walk-at t) walk.Post walk-Inv-loop walk-μ-loop
 walk-visit-requires t c κs =
     let entry = c .before .before .before .before .before .before .before .before .before .before .before .before in
@@ -250,20 +226,17 @@ walk-visit-requires t c κs =
     let loop = c .before .before .before .before .loop in
     (omega (arith, pre .0), (pre .1 .0, pre .1 .1, loop .inv .0, omega (arith, pre .1 .3, loop .inv .1), c .before .before .before .loop-test .taken))
 
-
 walk-loop-again : (t : ℕ) → walk-lts.Need-loop-again (walk-callees t) (walk-at t) walk.Post walk-Inv-loop walk-μ-loop
 walk-loop-again t c =
     let entry = c .before .before .before .before .before .before .before .before .before .before .before .before .before .before .before in
     let pre = entry .pre in
     let a = entry .args in
     let loop = c .before .before .before .before .before .before .before .loop in
-    let visited = c .before .before .visit in
-    (
+    let visited = c .before .before .visit in (
       visited .ensures .0,
       c .before .out2 .given ∙ loop .inv .1,
       rest-next (a .code .now) (a .lengths .now) (a .class .now) (a .a .only) (a .x) (boundAt (a .a .along) (a .bound .now) (a .x .steps)) (a .out .now) (a .a .room) (a .a .rows) (loop .out) _ (loop .n) _ (loop .t) (c .before .before .before .before .before .before .loop-test .taken) (loop .inv .2) (visited .ensures .1),
     )
-
 
 walk-returns-5 : (t : ℕ) → walk-lts.Need-returns-5 (walk-callees t) (walk-at t) walk.Post walk-Inv-loop walk-μ-loop
 walk-returns-5 t c =
@@ -272,7 +245,6 @@ walk-returns-5 t c =
     let a = entry .args in
     let loop = c .before .loop in
     (loop .inv .0, rest-over (a .code .now) (a .lengths .now) (a .class .now) (a .a .only) (a .x) (boundAt (a .a .along) (a .bound .now) (a .x .steps)) (a .out .now) (a .a .room) (a .a .rows) (loop .out) (loop .n) (loop .t) (c .loop-test .left) (loop .inv .2))
-
 
 pub +visit+walk-spec : {M : Type 1} → statement M
 +visit+walk-spec = close μ-visit μ-walk
