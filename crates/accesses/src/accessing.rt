@@ -1,7 +1,7 @@
 // What an access does: it finds a value at its location, changes a register, and writes.
 use crate::local::value;
-use crate::local::wide;
 use crate::local::with_register;
+use lines::wide;
 use program::Instruction;
 use std::num::wrapping_add_u32;
 ghost use mathlib.Core.Path.{_≡_};

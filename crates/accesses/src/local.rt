@@ -38,13 +38,6 @@ pub(crate) fn with_register(registers: [u32; 4], k: usize, v: u32) -> [u32; 4]
     [a, b, c, d]
 }
 
-// A byte as a larger number.
-pub fn wide(x: u8) -> usize
-    ensures { λ r. ⌜ r ≡ x ⌝ }
-{
-    x as usize
-}
-
 // The value of an operand.
 pub(crate) fn value(p: Operand, registers: [u32; 4]) -> u32
     ensures { λ r. ⌜ r ≡ eval registers p ⌝ }

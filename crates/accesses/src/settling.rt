@@ -1,8 +1,8 @@
 // A thread carried to its next access, or to its end.
 use crate::by_row::is_access;
 use crate::by_row::turned;
-use crate::local::wide;
 use crate::thread::ThreadState;
+use lines::wide;
 ghost use mathlib.Core.Path.{_≡_};
 ghost use Prim.Native.Nat.{_+_, _*_, _<_, _≤_};
 ghost use lib.ListN.{drop};

@@ -8,10 +8,10 @@ use lib.Dec.{eqb}
 use Rattle.lines.specs.Digit.{digit, value, digitOf}
 use Rattle.lines.specs.Frame.{hexadecimal, pairs, frame, lineOf}
 use Rattle.lines.specs.Text.{digits, text}
-use Rattle.lines.specs.TextLines.{prepend, before, split}
+use Rattle.lines.specs.TextLines.{prepend, before, split, frameOf}
 use Rattle.program.specs.Kinds.{kinds, find, kindOf}
 use Rattle.program.specs.Frames.{word, kind, known, registerFits, locationFits, skipFits, operandFits, inRange, opens, declares, isAccess, skipOf, operand, build, instruction}
-use Rattle.program.specs.Decode.{fresh, threadAt, lastThread, inPlace, accessesIn, allAccessesIn, withinLimits, same, sameCode, among, grouped, memberFits, followersFit, membersFit, alikeFits, frameRefusal, frameOf, after, farSkip, firstFarSkip, programIn, finish, readLines, decode}
+use Rattle.program.specs.Decode.{fresh, threadAt, lastThread, inPlace, accessesIn, allAccessesIn, withinLimits, same, sameCode, among, grouped, memberFits, followersFit, membersFit, alikeFits, frameRefusal, after, farSkip, firstFarSkip, programIn, finish, readLines, decode}
 use Rattle.program.specs.WellFormed.{accesses}
 use Rattle.schedules.specs.Lists.{all}
 use Rattle.schedules.specs.Computing.{computing}

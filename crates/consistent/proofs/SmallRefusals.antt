@@ -8,11 +8,11 @@ use mathlib.Core.List.{List, [], _∷_}
 use native.Mathlib.Omega.{arith}
 use borrow.Author.Tests.{ltb-true, eqb-true}
 use lib.Dec.{eqb}
-use Rattle.lines.specs.TextLines.{TextLine, split}
+use Rattle.lines.specs.TextLines.{TextLine, split, frameOf}
 use Rattle.program.proofs.Tests.{both}
 use Rattle.schedules.specs.Order.{less}
 use Rattle.schedules.proofs.Order.{less-front, more-heads}
-use Rattle.consistent.specs.Reading.{Frame, byteAt, isRead, writesIn, known, inRange, key, Reading, allNew, inOrder, refusal, after, fresh, Parsed, parsed, refusedAt, frameOf, readLines, readGraph}
+use Rattle.consistent.specs.Reading.{Frame, byteAt, isRead, writesIn, known, inRange, key, Reading, allNew, inOrder, refusal, after, fresh, Parsed, parsed, refusedAt, readLines, readGraph}
 use Rattle.consistent.proofs.LineRanges.{read-range, write-range}
 use Rattle.consistent.proofs.Parsed.{passed, less-last}
 

@@ -1,7 +1,7 @@
 // Whether the members of a `02` line exist, ascend, stand in no earlier one and have the same code: refusal 8.
 use crate::counts::Counts;
 use crate::counts::is_free;
-use rows::field;
+use lines::field;
 use rows::same_bytes;
 ghost use mathlib.Core.Path.{_≡_};
 ghost use Prim.Native.Nat.{_+_, _*_, _<_, _≤_};

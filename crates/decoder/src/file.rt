@@ -4,11 +4,11 @@ use crate::counts::none_yet;
 use crate::refusal::refusal;
 use crate::skip::far_skip;
 use crate::taken::taken;
-use lines::Line;
+use lines::frame_length;
 ghost use mathlib.Core.Path.{_≡_};
 ghost use Prim.Native.Nat.{_+_, _<_};
 ghost use Rattle.program.specs.Decode.{Reading, Decoded, finish, decode};
-ghost use Rattle.decoder.specs.Compiled.{answerOf, frameLength};
+ghost use Rattle.decoder.specs.Compiled.{answerOf};
 ghost use Rattle.decoder.specs.Held.{Holds, Lined, Bounded, Grouped};
 
 // An accepted program: its instructions, a row of sixteen bytes each, how many each thread has, and the group of each thread (0: none).
@@ -45,16 +45,6 @@ fn refused(number: u8, place: usize) -> Answer
             groups: 0,
             class: [0usize; 6],
         },
-    }
-}
-
-// How many bytes the line's frame has; 0 where it is no frame.
-fn frame_length(line: &[u8]) -> usize
-    ensures { λ n. ⌜ n ≡ frameLength (now (line .entry)) ⌝ }
-{
-    match lines::read(line) {
-        Line::Frame(n) => n,
-        Line::Broken => 0,
     }
 }
 

@@ -1,7 +1,7 @@
 // The number by which a line's frame is refused: 3, 4, 5, 6 or 8, and 0 where it passes.
 use crate::alike::members_fit;
 use crate::counts::Counts;
-use rows::field;
+use lines::field;
 use rows::in_range;
 use rows::kind_of;
 ghost use mathlib.Core.Path.{_≡_};

@@ -1,7 +1,7 @@
 // What has been read once a line has passed: a thread more, a group more, or an instruction more in the thread last opened.
 use crate::counts::Counts;
 use crate::refusal::is_access;
-use rows::field;
+use lines::field;
 use rows::put_row;
 ghost use mathlib.Core.Path.{_≡_};
 ghost use Prim.Native.Nat.{_+_, _*_, _-_, _<_, _≤_};

@@ -1,4 +1,5 @@
 // Lines of the output, each into the part of the buffer behind the last.
+use lines::wide;
 use lines::write;
 ghost use mathlib.Core.Path.{_≡_};
 ghost use mathlib.Core.Bool.{Bool, cond};
@@ -19,14 +20,6 @@ ghost use Rattle.explorer.specs.Pieces.{Short};
 pub struct Lines {
     pub length: usize,
     pub failed: usize,
-}
-
-// A byte as a larger number.
-fn wide(x: u8) -> usize
-    ensures same { λ r. ⌜ r ≡ x ⌝ }
-    ensures small { λ r. ⌜ r < 256 ⌝ }
-{
-    x as usize
 }
 
 // Row k of these rows of 26 bytes.

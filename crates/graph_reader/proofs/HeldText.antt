@@ -5,12 +5,11 @@ use mathlib.Core.List.{List}
 use mathlib.Core.Option.{some}
 use native.Mathlib.Omega.{arith}
 use lib.ListN.{length, take, drop}
-use Rattle.lines.specs.Frame.{frame, pairs}
+use Rattle.lines.specs.Frame.{frame, pairs, frameLength}
 use Rattle.lines.specs.Split.{lineLength}
 use Rattle.lines.specs.TextLines.{split}
 use Rattle.lines.proofs.Split.{line-within}
-use Rattle.decoder.specs.Compiled.{frameLength}
-use Rattle.decoder.proofs.Lengths.{length-none, length-some}
+use Rattle.lines.proofs.Lengths.{length-none, length-some}
 use Rattle.graph_reader.specs.declared.table.Table.{Table}
 use Rattle.graph_reader.specs.declared.text.Verdict.the-variants.{Passed, Refused}
 use Rattle.consistent.specs.Reading.{Reading, refusal, after, fresh, readLines, readGraph}

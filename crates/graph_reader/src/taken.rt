@@ -1,7 +1,7 @@
 // What has been read once a line has passed: a source more, or the writes of a location.
-use crate::field::field;
 use crate::refusal::rank;
 use crate::table::Table;
+use lines::field;
 ghost use mathlib.Core.Path.{_≡_};
 ghost use Prim.Native.Nat.{_%_, _<_, _≤_};
 ghost use mathlib.Core.Bool.{true};

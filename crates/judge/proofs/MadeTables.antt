@@ -21,7 +21,8 @@ use Rattle.sc.proofs.Change.{Change, kept, wrote, change, wrote-own}
 use Rattle.sc.proofs.Rows.{row-at, order-at}
 use Rattle.consistent.specs.Consistent.{rowOf}
 use Rattle.graph_reader.specs.Held.{noLine, lineIn, Entry, put, Tabled}
-use Rattle.judge.specs.HeldWalk.{NoteOf, sourceAdded, eventAdded, countAdded}
+use Rattle.enabled.specs.HeldWalk.{NoteOf}
+use Rattle.judge.specs.MadeTable.{sourceAdded, eventAdded, countAdded}
 use Rattle.graph_reader.proofs.Entries.{length-put, entry-put, entry-kept}
 
 -- one write more stands behind the others

@@ -32,10 +32,11 @@ use Rattle.consistent.specs.Consistent.{locationOf}
 use Rattle.consistent.proofs.RoundValues.{values}
 use Rattle.consistent.proofs.Walk.{fits, walk}
 use Rattle.graph_reader.specs.Held.{noLine, lineIn, Entry, Tabled}
-use Rattle.judge.specs.HeldWalk.{Ranged, Walking, threadOr, nextOf, sourceAdded, eventAdded, countAdded}
+use Rattle.enabled.specs.HeldWalk.{Ranged, Walking, threadOr, nextOf}
+use Rattle.judge.specs.MadeTable.{sourceAdded, eventAdded, countAdded}
 use Rattle.judge.specs.HeldYes.{Given, Walked}
 use Rattle.judge.proofs.MadeTables.{made-step}
-use Rattle.judge.proofs.WalkChoice.{walk-regular, walk-near, walk-ranged, walk-ready}
+use Rattle.enabled.proofs.WalkChoice.{walk-regular, walk-near, walk-ranged, walk-ready}
 
 -- a thread that fits may step
 fits-steps : (g : Graph) (pl : Event → ℕ) (σ : State) (t : ℕ) → fits g pl σ t ≡ true → may σ t ≡ true

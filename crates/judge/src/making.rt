@@ -1,9 +1,10 @@
 // The table of the graph that the walk has made so far.
-use rounds::wide;
+use lines::wide;
 ghost use mathlib.Core.Path.{_≡_};
 ghost use Prim.Native.Nat.{ℕ, _<_};
 ghost use lib.ListN.{getD};
-ghost use Rattle.judge.specs.HeldWalk.{Ranged, sourceAdded, eventAdded, countAdded};
+ghost use Rattle.enabled.specs.HeldWalk.{Ranged};
+ghost use Rattle.judge.specs.MadeTable.{sourceAdded, eventAdded, countAdded};
 
 // As in the table of a text: sources and writes, and how many writes each location has.
 pub struct Made {

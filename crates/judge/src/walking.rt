@@ -1,7 +1,7 @@
 // The walk: always the least thread whose next access the graph allows, at most 24 steps.
-use crate::choosing::chosen;
 use crate::making::with_event;
 use crate::making::with_source;
+use enabled::chosen;
 use machine::Machine;
 use machine::started;
 use machine::step;

@@ -1,6 +1,6 @@
 // The calls that give a schedule: start, continue, violation.
-use accesses::wide;
 use decoder::Compiled;
+use lines::wide;
 use replay::Verdict;
 use replay::replayed;
 use walker::listed_rows;

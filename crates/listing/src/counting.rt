@@ -1,6 +1,6 @@
 // How many schedules are listed, and how many of these fail.
-use accesses::wide;
 use decoder::Compiled;
+use lines::wide;
 use walker::listed_rows;
 ghost use mathlib.Core.Path.{_≡_};
 ghost use mathlib.Core.List.{List};

@@ -4,7 +4,7 @@ use crate::state::Machine;
 use accesses::ThreadState;
 use accesses::accessed_at;
 use accesses::settled;
-use accesses::wide;
+use lines::wide;
 ghost use mathlib.Core.Path.{_≡_};
 ghost use mathlib.Core.Bool.{true, cond};
 ghost use Prim.Native.Nat.{_<_};

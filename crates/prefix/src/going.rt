@@ -5,7 +5,7 @@ use crate::place::Place;
 use crate::reading::stamp_behind;
 use crate::reading::word_behind;
 use accesses::ThreadState;
-use accesses::wide;
+use lines::wide;
 use machine::LastWrite;
 use machine::Machine;
 use machine::acted;

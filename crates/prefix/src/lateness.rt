@@ -3,7 +3,7 @@ use crate::sets::addend;
 use crate::sets::is_in;
 use crate::waiting::conflicts_at;
 use accesses::ThreadState;
-use accesses::wide;
+use lines::wide;
 use machine::Machine;
 ghost use mathlib.Core.Path.{_≡_};
 ghost use mathlib.Core.Bool.{_||_};

@@ -1,6 +1,6 @@
 // A schedule of any length carried out as far as it goes: whole, or refused by 20 at its first byte that may not step, or by 21 if it is not full.
-use accesses::wide;
 use graph_writer::put_note;
+use lines::wide;
 use machine::Machine;
 use machine::after_step;
 use machine::ended_all;

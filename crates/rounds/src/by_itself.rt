@@ -1,4 +1,5 @@
 // A thread by itself: its next access on finding a given value, whatever memory holds.
+use lines::wide;
 use machine::LastWrite;
 use machine::Machine;
 use machine::may;
@@ -30,13 +31,6 @@ fn facing(m: Machine, x: u32) -> Machine
             number: 255,
         }; 8],
     }
-}
-
-// A byte as a larger number.
-pub fn wide(x: u8) -> usize
-    ensures { λ r. ⌜ r ≡ x ⌝ }
-{
-    x as usize
 }
 
 // Thread t's next access, which finds x.

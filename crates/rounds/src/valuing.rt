@@ -1,6 +1,6 @@
 // The rounds: every thread by itself on the values known so far, then each read gets what its source left.
 use crate::by_itself::met;
-use crate::by_itself::wide;
+use lines::wide;
 use machine::Machine;
 use machine::started;
 ghost use mathlib.Core.Path.{_≡_};

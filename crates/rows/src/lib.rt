@@ -7,7 +7,6 @@ mod fields;
 // The instructions that a program keeps, a row of sixteen bytes each.
 mod row;
 
-pub use fields::field;
 pub use fields::in_range;
 pub use kinds::kind_of;
 pub use row::instruction_at;

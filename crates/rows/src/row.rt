@@ -1,5 +1,6 @@
 // The instructions that a program keeps: each frame padded with zeros to sixteen bytes, thread t's instruction i in row 16 t + i.
 use crate::fields::join;
+use lines::wide;
 use program::Instruction;
 use program::Operand;
 ghost use mathlib.Core.Path.{_≡_};
@@ -68,7 +69,7 @@ pub fn skip_at(code: &[u8; 1536], row: usize) -> usize
 {
     let at = row * 16;
     if code[at] == 0x22 {
-        return crate::fields::wide(code[at + 7]);
+        return wide(code[at + 7]);
     }
     0
 }

@@ -1,5 +1,5 @@
 // R3: late threads that nothing left to the others can wake.
-use accesses::wide;
+use lines::wide;
 use prefix::Place;
 use prefix::addend;
 use prefix::is_in;

@@ -1,5 +1,5 @@
 // R2: a smaller thread of t's class with the same word.
-use accesses::wide;
+use lines::wide;
 use prefix::Place;
 ghost use mathlib.Core.Path.{_≡_};
 ghost use mathlib.Core.Bool.{_&&_};

@@ -21,27 +21,28 @@ use Rattle.schedules.proofs.Runs.{full-allowed}
 use Rattle.sc.specs.State.{Event, Cell, State, threadOf, opened, step, start, SC}
 use Rattle.sc.specs.Graph.{graphOf, graph, Full, endOf}
 use Rattle.sc.specs.Exchange.{movedSchedule, Moves, Turns}
-use Rattle.sc.specs.Trail.{Action, action, trail}
+use Rattle.sc.specs.Trail.{Action, action, trail, who, conflict}
 use Rattle.sc.proofs.Start.{start-threads, start-thread, start-history}
 use Rattle.sc.proofs.Steps.{run-threads}
 use Rattle.sc.proofs.Regular.{regular-start, regular-run}
 use Rattle.sc.proofs.FixedState.{fixed-state}
-use Rattle.sc.proofs.FreeSteps.{trail-threads}
-use Rattle.sc.proofs.Actions.{trail-below}
 use Rattle.sc.proofs.Permitted.{exchanged, exchanged-graph}
-use Rattle.sc.proofs.ProgramGraphs.{graph-rows, graph-moved-end, graph-least}
+use Rattle.sc.proofs.ProgramGraphs.{graph-rows, graph-moved-end}
 use Rattle.sc.proofs.Turning.{turns-back}
 use Rattle.list.specs.Alike.{Exchange, Alike, Smaller, Listed}
 use Rattle.list.specs.ListOf.{permits, permitted}
-use Rattle.list.specs.Rules.{late, Timely, taken, twin}
+use Rattle.list.specs.Rules.{late, taken, twin}
 use Rattle.model.specs.Exchange.{Together}
+use Rattle.model.specs.Late.{Timely}
 use Rattle.model.proofs.Exchanges.{exchange-back}
+use Rattle.model.proofs.Traces.{stands}
+use Rattle.model.proofs.OnTime.{on-time-least}
 use Rattle.list.proofs.Equivalence.{alike-sym, exchanged-once}
-use Rattle.sc_model.proofs.Laws.{within}
+use Rattle.sc_model.specs.Sequential.{sc}
+use Rattle.sc_model.proofs.Laws.{within, sc-laws}
 use Rattle.list.proofs.Tests.{tabled, permitted-exchange, exchange-permitted}
 use Rattle.list.proofs.Late.{late-smaller}
 use Rattle.list.proofs.Twins.{members, twin-smaller}
-use Rattle.list.proofs.NormalForm.{timely-least}
 use Rattle.list.proofs.TheList.{list-exact}
 use Rattle.list.proofs.AsModel.{one-each}
 use Rattle.survivors.specs.Survivor.{Survives}
@@ -51,27 +52,13 @@ use Rattle.survivors.proofs.Inversions.{ties}
 use Rattle.survivors.proofs.Preferring.{quiet-cell, never-survivor, never-listed, never-moved, Line, line-sym, line-trans}
 
 -- R1: a survivor's steps are on time, so it is the least of its graph
-split-trail : (w : Schedule) (σ : State) (u : List Action) (b : Action) (z : List Action) → trail σ w ≡ u ++ (b ∷ z) →
-    (f : Schedule) × (t : ℕ) × (g : Schedule) × (w ≡ f ++ (t ∷ g)) × (trail σ f ≡ u) × (action (run SC σ f) t ≡ b)
-unfolding trace run
-split-trail [] σ [] b z e = absurd (omega (arith, ap length e))
-split-trail [] σ (x ∷ u) b z e = absurd (omega (arith, ap length e))
-split-trail (t ∷ w) σ [] b z e = ([], t, w, refl, refl, cc)
-split-trail (t ∷ w) σ (x ∷ u) b z e =
-    let h : action σ t ≡ x = cc in
-    let k : trail (step σ t) w ≡ u ++ (b ∷ z) = cc in
-    let r = split-trail w (step σ t) u b z k in
-    (t ∷ r .0, r .1, r .2, ap (λ (y : Schedule). t ∷ y) (r .3), ap₂ (λ (i : Action) (y : List Action). i ∷ y) h (r .4), r .5)
-
-survivor-timely : (p : Program) (w : Schedule) → Survives p w → Timely (trail (start p) w)
-unfolding taken
+survivor-timely : (p : Program) (w : Schedule) → Survives p w → Timely who conflict (trail (start p) w)
 survivor-timely p w s u b z e =
-    let r = split-trail w (start p) u b z e in
-    sym (ap₂ (λ (k : List Action) (x : Action). late (reverse k) x) (r .4) (r .5)) ∙ s (r .0) (r .1) (r .2) (r .3) .0
+    let r = stands SC action w (start p) u b z e in
+    ap₂ (λ (k : List Action) (x : Action). late (reverse k) x) (r .fronts) (r .does) ∙ s (r .before) (r .byte) (r .after) (r .split) .0
 
 pub survivor-least : (p : Program) → WellFormed p → (w : Schedule) → Full p w → Survives p w → (r : Schedule) → Full p r → graph p r ≡ graph p w → AtMost w r
-survivor-least p wf w f s r fr e =
-    subst (λ (k : Schedule). AtMost k r) (timely-least (trail (start p) w) (survivor-timely p w s) (trail-below w (start p) (full-allowed SC (start p) w f .0)) ∙ trail-threads (start p) w) (graph-least p wf w f .2 r fr e)
+survivor-least p wf w f s = on-time-least sc sc-laws p (wf, refl) w f .0 (survivor-timely p w s)
 
 module _ (p : Program) (wf : WellFormed p) where
   turn-back : (π : ℕ → ℕ) (x : Exchange p π) (a b : Schedule) → Turns π (graph p a) (graph p b) → Turns (x .0 .inverse) (graph p b) (graph p a)

@@ -15,10 +15,11 @@ use Rattle.schedules.specs.System.{run}
 use Rattle.schedules.specs.Orders.{trace}
 use Rattle.sc.specs.State.{State, step, may, start, SC}
 use Rattle.sc.specs.Graph.{endOf}
-use Rattle.sc.specs.Trail.{Action, action, trail, conflict}
+use Rattle.sc.specs.Trail.{Action, action, trail, conflict, who}
 use Rattle.sc.proofs.Steps.{may-small, may-other}
 use Rattle.sc.proofs.Swap.{action-after}
 use Rattle.sc.proofs.Orders.{apart}
+use Rattle.model.specs.Late as Late
 use Rattle.list.specs.Rules.{late, taken}
 use Rattle.survivors.specs.Sets.{has}
 use Rattle.survivors.specs.LateSet.{lateNow, lateBehind, lateAlong, lateSet}
@@ -51,16 +52,16 @@ module _ (σ : State) (b s : ℕ) (past : List Action) (t : ℕ) (so-far : has s
 
   now : (x c l : Bool) → eqb (action σ b .thread) t ≡ x → conflict (action σ b) (action τ t) ≡ c → ltb t (action σ b .thread) ≡ l →
       lateNow τ s (action σ b) t ≡ (may τ t && late (action σ b ∷ past) (action τ t))
-  unfolding lateNow late action
-  now true c l q m o = rw (q, late)
-  now false true l q m o = rw (q, m, late)
-  now false false true q m o = rw (q, m, o, late)
+  unfolding lateNow Late.late who action
+  now true c l q m o = rw (q, Late.late)
+  now false true l q m o = rw (q, m, Late.late)
+  now false false true q m o = rw (q, m, o, Late.late)
   now false false false q m o =
       let ne : t ≢ b = λ e. eqb-false b t q (sym e) in
       let i = apart σ b t ne m in
       let same = action-after σ b t ne i in
       let live = may-other σ b t ne in
-      rw (q, m, o, late) (ap (λ (k : Bool). may τ t && k) so-far ∙ rw (same, live) (twice (may σ t) (late past (action σ t))))
+      rw (q, m, o, Late.late) (ap (λ (k : Bool). may τ t && k) so-far ∙ rw (same, live) (twice (may σ t) (late past (action σ t))))
     where
       twice : (x y : Bool) → (x && (x && y)) ≡ (x && y)
       twice true y = refl
@@ -81,7 +82,7 @@ late-along (b ∷ v) σ s past h t =
 
 -- EXACTLY THE LATE
 pub late-set : (p : Program) (v : Schedule) (t : ℕ) → has (lateSet p v) t ≡ (may (endOf p v) t && late (taken p v) (action (endOf p v) t))
-unfolding lateSet taken late
+unfolding lateSet Late.late
 late-set p v t =
     late-along v (start p) 0 [] (λ u. has-none u ∙ sym (and-false (may (start p) u))) t
     ∙ ap (λ (k : List Action). may (endOf p v) t && late k (action (endOf p v) t)) (append-nil (reverse (trail (start p) v)))

@@ -1,7 +1,7 @@
 -- The definitions computed: the rules on a small program, and what the search finds.
 use Prim.Native.Nat.{ℕ}
 use mathlib.Core.Path.{_≡_, refl}
-use mathlib.Core.Bool.{Bool, false}
+use mathlib.Core.Bool.{false}
 use mathlib.Core.Option.{none}
 use mathlib.Core.List.{List, [], _∷_}
 use Rattle.program.specs.Program.{Program, initial}
@@ -17,24 +17,23 @@ use Rattle.sc.specs.Local.{eval, settle, beginsWithAccess, firstPlace, firstTak
 use Rattle.sc.specs.State.{initialWrite, noThread, freshCell, threadOf, cellOf, place, latest, noted, advanced, written, met, step, may, opened, start}
 use Rattle.sc.specs.Graph.{endOf}
 use Rattle.sc.specs.Trail.{given, writes, action, conflict}
-use Rattle.sc.specs.Ahead.{firstMayPut, mayPut, couldConflict, couldMeet}
+use Rattle.sc.specs.Ahead.{firstMayPut, mayPut}
 use Rattle.consistent.specs.Same.{sameEvent, sameRead, sameList}
 use Rattle.list.specs.ListOf.{together}
-use Rattle.list.specs.Rules.{late, taken, sameFlag, sameLocal, sameHistory, silent, twin, asleep}
+use Rattle.list.specs.Rules.{sameFlag, sameLocal, sameHistory, silent, twin}
 use Rattle.survivors.specs.Sets.{has, addend, setOf, joined}
 use Rattle.survivors.specs.LateSet.{lateNow, lateBehind, lateAlong, lateSet}
 use Rattle.survivors.specs.Sleepers.{readsLeft, writesLeft, meets, wakes, sleepsIn, unwoken, settled, sleepers}
 use Rattle.survivors.specs.Search.{givenUp, lookedFor, found}
 
--- the late set behind a prefix, what of it is asleep for good, and whether one thread by itself is
+-- the late set behind a prefix, and what of it is asleep for good
 pub record Seen : Type 0 where
   pub late : ℕ
   pub asleep : ℕ
-  pub alone : Bool
 
 unfoldable pub seen : Program → Schedule → Seen
-unfolding upTo any all run trace eval settle beginsWithAccess firstPlace firstTakes firstPuts firstNext pending placeOf takes puts next begin initialWrite noThread freshCell threadOf cellOf place latest noted advanced written met step may opened start initial given writes action conflict firstMayPut mayPut couldConflict couldMeet late taken asleep has addend setOf joined lateNow lateBehind lateAlong lateSet readsLeft writesLeft meets wakes sleepsIn unwoken settled sleepers
-seen p v = record { late = lateSet p v; asleep = sleepers (endOf p v) (lateSet p v); alone = any (asleep p v (endOf p v)) (upTo 0 6) }
+unfolding upTo any all run trace eval settle beginsWithAccess firstPlace firstTakes firstPuts firstNext pending placeOf takes puts next begin initialWrite noThread freshCell threadOf cellOf place latest noted advanced written met step may opened start initial given writes action conflict firstMayPut mayPut has addend setOf joined lateNow lateBehind lateAlong lateSet readsLeft writesLeft meets wakes sleepsIn unwoken settled sleepers
+seen p v = record { late = lateSet p v; asleep = sleepers (endOf p v) (lateSet p v) }
 
 -- what the search finds, and those that fail
 unfoldable pub finds : Program → List Schedule
@@ -45,7 +44,7 @@ finds p = found false p none
 circle : Program
 circle = record { threads = (Store 0 (Constant 1) ∷ []) ∷ (Store 0 (Constant 2) ∷ []) ∷ (Store 1 (Constant 1) ∷ []) ∷ []; groups = [] }
 
-in-a-circle : seen circle (2 ∷ []) ≡ record { late = 3; asleep = 3; alone = false }
+in-a-circle : seen circle (2 ∷ []) ≡ record { late = 3; asleep = 3 }
 unfolding seen circle
 in-a-circle = refl
 
@@ -57,7 +56,7 @@ circle-found = refl
 woken : Program
 woken = record { threads = (Store 0 (Constant 1) ∷ Load 0 1 ∷ []) ∷ (Store 1 (Constant 1) ∷ []) ∷ (Store 0 (Constant 2) ∷ []) ∷ []; groups = [] }
 
-not-asleep : seen woken (2 ∷ 0 ∷ []) ≡ record { late = 2; asleep = 0; alone = false }
+not-asleep : seen woken (2 ∷ 0 ∷ []) ≡ record { late = 2; asleep = 0 }
 unfolding seen woken
 not-asleep = refl
 

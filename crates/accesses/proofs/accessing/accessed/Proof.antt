@@ -17,7 +17,7 @@ returns c =
       c .done4 .ensures,
       c .before .value4 .ensures,
       c4 .with-register3 .ensures,
-      c5 .wide3 .ensures,
+      c5 .wide3 .ensures .0,
       c6 .found3 .ensures,
       eq-eqb
           _ _ (simp (c3 .value3 .ensures, c6 .found3 .ensures) at (c .before .before .if1 .taken)),
@@ -30,7 +30,7 @@ returns-3 : tie.Need-returns-3
 returns-3 c =
     let c3 = c .before .before .before in
     let c5 = c3 .before .before in
-    rw (c5 .i2 .given .1, c .done2 .ensures, c .before .with-register .ensures, c .before .before .wide .ensures, c3 .found .ensures)
+    rw (c5 .i2 .given .1, c .done2 .ensures, c .before .with-register .ensures, c .before .before .wide .ensures .0, c3 .found .ensures)
 
 returns-4 : tie.Need-returns-4
 unfolding sum32
@@ -43,7 +43,7 @@ returns-4 c =
       c7 .i3 .given .1,
       c .done3 .ensures,
       c .before .with-register2 .ensures,
-      c .before .before .wide2 .ensures,
+      c .before .before .wide2 .ensures .0,
       c3 .wrapping-add-u32 .ensures,
       c4
           .value2 .ensures,
@@ -60,7 +60,7 @@ returns-5 c =
       c7 .i4 .given .1,
       c .done5 .ensures,
       c3 .with-register3 .ensures,
-      c4 .wide3 .ensures,
+      c4 .wide3 .ensures .0,
       c5 .found3 .ensures,
       ne-eqb _ _ (simp (
         c .before .before

@@ -12,11 +12,11 @@ returns : tie.Need-returns
 returns c = rw (row-store (c .before .before .before .before .before .before .args .code .now) (c .before .before .before .before .before .before .args .row) (c .before .before .before .before .before .before .pre) (c .before .before .before .if1 .taken), c .done .ensures, c .before .value .ensures, c .before .before .operand-at .ensures)
 
 returns-2 : tie.Need-returns-2
-returns-2 c = rw (row-load (c .before .before .before .before .before .before .before .before .before .args .code .now) (c .before .before .before .before .before .before .before .before .before .args .row) (c .before .before .before .before .before .before .before .before .before .pre) (c .before .if2 .taken), c .done2 .ensures, c .before .before .with-register .ensures, c .before .before .before .wide .ensures, c .before .before .before .before .found .ensures)
+returns-2 c = rw (row-load (c .before .before .before .before .before .before .before .before .before .args .code .now) (c .before .before .before .before .before .before .before .before .before .args .row) (c .before .before .before .before .before .before .before .before .before .pre) (c .before .if2 .taken), c .done2 .ensures, c .before .before .with-register .ensures, c .before .before .before .wide .ensures .0, c .before .before .before .before .found .ensures)
 
 returns-3 : tie.Need-returns-3
 unfolding sum32
-returns-3 c = rw (row-fetch-add (c .before .before .before .before .before .before .before .before .before .before .before .before .before .args .code .now) (c .before .before .before .before .before .before .before .before .before .before .before .before .before .args .row) (c .before .before .before .before .before .before .before .before .before .before .before .before .before .pre) (c .before .before .before .before .if3 .taken), c .done3 .ensures, c .before .wrapping-add-u32 .ensures, c .before .before .value2 .ensures, c .before .before .before .operand-at2 .ensures, c .before .before .before .before .before .before .with-register .ensures, c .before .before .before .before .before .before .before .wide .ensures, c .before .before .before .before .before .before .before .before .found .ensures)
+returns-3 c = rw (row-fetch-add (c .before .before .before .before .before .before .before .before .before .before .before .before .before .args .code .now) (c .before .before .before .before .before .before .before .before .before .before .before .before .before .args .row) (c .before .before .before .before .before .before .before .before .before .before .before .before .before .pre) (c .before .before .before .before .if3 .taken), c .done3 .ensures, c .before .wrapping-add-u32 .ensures, c .before .before .value2 .ensures, c .before .before .before .operand-at2 .ensures, c .before .before .before .before .before .before .with-register .ensures, c .before .before .before .before .before .before .before .wide .ensures .0, c .before .before .before .before .before .before .before .before .found .ensures)
 
 returns-4 : tie.Need-returns-4
 returns-4 c =
@@ -32,7 +32,7 @@ returns-4 c =
     let if5 = c .before .before .before .if5 in
     let operand-at4 = c .before .before .operand-at4 in
     let value4 = c .before .value4 in
-    rw (row-compare-swap (args .code .now) (args .row) (pre) (if4 .taken), c .done4 .ensures, value4 .ensures, operand-at4 .ensures, with-register .ensures, wide .ensures, found .ensures, eq-eqb _ _ (simp (value3 .ensures, operand-at3 .ensures, found .ensures) at (if5 .taken)))
+    rw (row-compare-swap (args .code .now) (args .row) (pre) (if4 .taken), c .done4 .ensures, value4 .ensures, operand-at4 .ensures, with-register .ensures, wide .ensures .0, found .ensures, eq-eqb _ _ (simp (value3 .ensures, operand-at3 .ensures, found .ensures) at (if5 .taken)))
 
 returns-5 : tie.Need-returns-5
 returns-5 c =
@@ -46,7 +46,7 @@ returns-5 c =
     let operand-at3 = c .before .before .before .operand-at3 in
     let value3 = c .before .before .value3 in
     let if5 = c .before .if5 in
-    rw (row-compare-swap (args .code .now) (args .row) (pre) (if4 .taken), c .done5 .ensures, with-register .ensures, wide .ensures, found .ensures, ne-eqb _ _ (simp (value3 .ensures, operand-at3 .ensures, found .ensures) at (if5 .left)))
+    rw (row-compare-swap (args .code .now) (args .row) (pre) (if4 .taken), c .done5 .ensures, with-register .ensures, wide .ensures .0, found .ensures, ne-eqb _ _ (simp (value3 .ensures, operand-at3 .ensures, found .ensures) at (if5 .left)))
 
 returns-6 : tie.Need-returns-6
 returns-6 c =

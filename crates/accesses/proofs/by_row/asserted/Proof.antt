@@ -5,10 +5,10 @@ use Rattle.accesses.proofs.by_row.asserted.Statement.{statement}
 use Rattle.accesses.proofs.by_row.asserted.Tie as tie
 
 returns : tie.Need-returns
-returns c = rw (eq-eqb _ _ (simp (c .before .before .value .ensures, c .before .before .before .register-at .ensures, c .before .before .before .before .wide .ensures) at (c .before .if1 .taken))) (c .passed .ensures)
+returns c = rw (eq-eqb _ _ (simp (c .before .before .value .ensures, c .before .before .before .register-at .ensures, c .before .before .before .before .wide .ensures .0) at (c .before .if1 .taken))) (c .passed .ensures)
 
 returns-2 : tie.Need-returns-2
-returns-2 c = rw (ne-eqb _ _ (simp (c .before .before .value .ensures, c .before .before .before .register-at .ensures, c .before .before .before .before .wide .ensures) at (c .before .if1 .left))) (c .failed .ensures)
+returns-2 c = rw (ne-eqb _ _ (simp (c .before .before .value .ensures, c .before .before .before .register-at .ensures, c .before .before .before .before .wide .ensures .0) at (c .before .if1 .left))) (c .failed .ensures)
 
 pub asserted-spec : {M : Type 1} → statement M
 asserted-spec = tie.close (tie.spec (λ c κs. search needs) (λ c κs. search needs) (λ c κs. search needs) (λ c κs. search needs) returns (λ c κs. search needs) returns-2)

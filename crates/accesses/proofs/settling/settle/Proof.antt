@@ -43,7 +43,7 @@ loop-again c =
     let turned = c .before .before .before .before .turned in
     let if1 = c .before .before .before .if1 in
     let if2 = c .before .before .if2 in
-    (loop-goes (args .code .now) (args .t) (args .n) _ (loop .i) (loop .rs) (args .done) (loop .inv .0) (loop-test .taken) (instructionAt (args .code .now) (args .t * 16 + loop .i)) (turned .result) refl (turned .ensures) (c .wide .result) (if1 .left) (if2 .left) (c .wide .ensures), search needs)
+    (loop-goes (args .code .now) (args .t) (args .n) _ (loop .i) (loop .rs) (args .done) (loop .inv .0) (loop-test .taken) (instructionAt (args .code .now) (args .t * 16 + loop .i)) (turned .result) refl (turned .ensures) (c .wide .result) (if1 .left) (if2 .left) (c .wide .ensures .0), search needs)
 
 returns-3 : tie.Need-returns-3 Inv-loop μ-loop
 returns-3 c =

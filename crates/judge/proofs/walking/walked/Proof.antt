@@ -10,7 +10,7 @@ use Rattle.sc.specs.State.{SC, start}
 use Rattle.sc.specs.Graph.{Graph}
 use Rattle.judge.specs.HeldYes.{Given}
 use Rattle.rounds.proofs.HeldValues.{zeros}
-use Rattle.judge.proofs.WalkChoice.{walk-near, walk-ready}
+use Rattle.enabled.proofs.WalkChoice.{walk-near, walk-ready}
 use Rattle.judge.proofs.WalkTurns.{Progress, walk-start, walk-on, walk-whole, walk-stops, walk-may, walk-note, walk-more, few-more}
 use Rattle.judge.proofs.walking.walked.Statement.{statement}
 use Rattle.judge.proofs.walking.walked.Tie as tie

@@ -49,7 +49,7 @@ put-schedule-requires c κs =
     let o = boundAt (args .along) (args .bound .now) 0 in
     let row = listed-rows .last .1 .1 .1 .1 .0 in
     let h = first-24 p _ row (listed-rows .result) refl (args .only) o (pre) (if2 .left) (listed-rows .ensures) in
-    let n = first-length p _ row (listed-rows .result) refl (args .only) o (pre) (if2 .left) (listed-rows .ensures) (wide .result) (wide .ensures) in
+    let n = first-length p _ row (listed-rows .result) refl (args .only) o (pre) (if2 .left) (listed-rows .ensures) (wide .result) (wide .ensures .0) in
     (omega (arith, h, n), if1 .left, search needs)
 
 returns-3 : tie.Need-returns-3
@@ -67,8 +67,8 @@ returns-3 c =
     let p = programOf (args .program) in
     let o = boundAt (args .along) (args .bound .now) 0 in
     let row = listed-rows .last .1 .1 .1 .1 .0 in
-    let n = first-length p _ row (listed-rows .result) refl (args .only) o (pre) (if2 .left) (listed-rows .ensures) (wide .result) (wide .ensures) in
-    let s = first-steps p _ row (listed-rows .result) refl (args .only) o (pre) (if2 .left) (listed-rows .ensures) (wide .result) (wide .ensures) in
+    let n = first-length p _ row (listed-rows .result) refl (args .only) o (pre) (if2 .left) (listed-rows .ensures) (wide .result) (wide .ensures .0) in
+    let s = first-steps p _ row (listed-rows .result) refl (args .only) o (pre) (if2 .left) (listed-rows .ensures) (wide .result) (wide .ensures .0) in
     let e = turn-some out _ _ (if1 .left) (first-head p _ row (listed-rows .result) refl (args .only) o (pre) (if2 .left) (listed-rows .ensures)) in
     (ap {B = ListAnswer} (λ k. Found k) n ∙ ap said (sym e), put-schedule .ensures ∙ ap (λ t. over t out) s ∙ sym (content-found _ out) ∙ ap (λ (a : Answer). content a out) (sym e))
 

@@ -53,7 +53,7 @@ add-listed-rows-3 : tie.Need-add-listed-rows-3 Inv-loop μ-loop
 add-listed-rows-3 c =
     let c4 = c .before .before .before .before in
     let h = counting-64 _ _ _ _ _ (c4 .loop .inv) in
-    let k = counting-part _ _ _ _ _ (c4 .loop .inv) (omega (arith, c .before .before .before .loop-test .taken)) (well c4) _ (c .wide .ensures) in
+    let k = counting-part _ _ _ _ _ (c4 .loop .inv) (omega (arith, c .before .before .before .loop-test .taken)) (well c4) _ (c .wide .ensures .0) in
     search needs
 
 part-listed-rows-end : tie.Need-part-listed-rows-end Inv-loop μ-loop
@@ -61,7 +61,7 @@ part-listed-rows-end c =
     let c4 = c .before .before .before .before in
     let c5 = c4 .before in
     let h = counting-64 _ _ _ _ _ (c5 .loop .inv) in
-    let k = counting-part _ _ _ _ _ (c5 .loop .inv) (omega (arith, c4 .loop-test .taken)) (well c5) _ (c .before .wide .ensures) in
+    let k = counting-part _ _ _ _ _ (c5 .loop .inv) (omega (arith, c4 .loop-test .taken)) (well c5) _ (c .before .wide .ensures .0) in
     let s = counting-size _ _ _ _ _ (c5 .loop .inv) in
     search needs
 
@@ -79,7 +79,7 @@ loop-again c =
     let c5 = c .before .before .before .before .before in
     let c8 = c5 .before .before .before in
     let c9 = c8 .before in
-    counting-next _ _ _ _ _ (c9 .loop .inv) (omega (arith, c8 .loop-test .taken)) (well c9) _ _ _ _ _ (c5 .before .failing-in .ensures) (c5 .wide .ensures) refl
+    counting-next _ _ _ _ _ (c9 .loop .inv) (omega (arith, c8 .loop-test .taken)) (well c9) _ _ _ _ _ (c5 .before .failing-in .ensures) (c5 .wide .ensures .0) refl
     (c .before .listed-rows2 .ensures)
 
 returns : tie.Need-returns Inv-loop μ-loop

@@ -12,25 +12,25 @@ add-accessed-at : tie.Need-add-accessed-at
 add-accessed-at c =
     let pre = c .before .before .pre in
     let wide = c .before .wide in
-    omega (arith, wide .ensures, pre .six, pre .left, pre .sixteen, pre .bounded)
+    omega (arith, wide .ensures .0, pre .six, pre .left, pre .sixteen, pre .bounded)
 
 accessed-at-requires : tie.Need-accessed-at-requires
 accessed-at-requires c κs =
     let pre = c .before .before .pre in
     let wide = c .before .wide in
-    omega (arith, wide .ensures, pre .six, pre .left, pre .sixteen, pre .bounded)
+    omega (arith, wide .ensures .0, pre .six, pre .left, pre .sixteen, pre .bounded)
 
 add-settled : tie.Need-add-settled
 add-settled c =
     let pre = c .before .before .before .before .before .pre in
     let wide = c .before .before .before .before .wide in
-    omega (arith, wide .ensures, pre .six, pre .left, pre .sixteen, pre .bounded)
+    omega (arith, wide .ensures .0, pre .six, pre .left, pre .sixteen, pre .bounded)
 
 add-settled-2 : tie.Need-add-settled-2
 add-settled-2 c =
     let pre = c .before .before .before .before .before .pre in
     let wide = c .before .before .before .before .wide in
-    omega (arith, wide .ensures, pre .six, pre .left, pre .sixteen, pre .bounded)
+    omega (arith, wide .ensures .0, pre .six, pre .left, pre .sixteen, pre .bounded)
 
 settled-requires : tie.Need-settled-requires
 settled-requires c κs =
@@ -38,9 +38,9 @@ settled-requires c κs =
     let pre = entry .pre in
     let args = entry .args in
     let wide = c .before .before .before .before .wide in
-    let short = subst (λ (v : ℕ). getD (args .lengths .now) v 0 ≤ 16) (sym (wide .ensures)) (pre .sixteen) in
-    let left = subst (λ (v : ℕ). args .thread .at < getD (args .lengths .now) v 0) (sym (wide .ensures)) (pre .left) in
-    (omega (arith, wide .ensures, pre .six), short, omega (arith, left))
+    let short = subst (λ (v : ℕ). getD (args .lengths .now) v 0 ≤ 16) (sym (wide .ensures .0)) (pre .sixteen) in
+    let left = subst (λ (v : ℕ). args .thread .at < getD (args .lengths .now) v 0) (sym (wide .ensures .0)) (pre .left) in
+    (omega (arith, wide .ensures .0, pre .six), short, omega (arith, left))
 
 returns : tie.Need-returns
 returns c =
@@ -55,8 +55,8 @@ returns c =
       search needs,
       λ m σ et em es held ok near.
           rw (c .value-behind .ensures, last-behind .ensures) (effect-holds (args .code .now) (args .lengths .now) m σ (args .t) (wide .result) (args .thread) (args .t4) (args .t5) (accessed-at .result) (settled .result) (wide2 .result)
-          (wide .ensures) (wide2 .ensures)
-          (record { left = subst (λ (v : ℕ). args .thread .at < getD (args .lengths .now) v 0) (sym (wide .ensures)) (pre .left); access = accessed-at .ensures; local = settled .ensures .0; later = settled .ensures .1 .0; counted = settled .ensures .1 .2 }) et em es held ok near),
+          (wide .ensures .0) (wide2 .ensures .0)
+          (record { left = subst (λ (v : ℕ). args .thread .at < getD (args .lengths .now) v 0) (sym (wide .ensures .0)) (pre .left); access = accessed-at .ensures; local = settled .ensures .0; later = settled .ensures .1 .0; counted = settled .ensures .1 .2 }) et em es held ok near),
     )
 
 pub acted-spec : {M : Type 1} → statement M

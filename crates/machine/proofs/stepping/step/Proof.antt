@@ -12,14 +12,14 @@ after-step-requires c κs =
     let entry = c .before .before .before .before .before in
     let args = entry .args in
     let wide = c .before .before .before .before .wide in
-    subst (λ (v : ℕ). ReadyThread (args .lengths .now) (threadAt (args .m) v) (args .t)) (sym (wide .ensures)) (entry .pre)
+    subst (λ (v : ℕ). ReadyThread (args .lengths .now) (threadAt (args .m) v) (args .t)) (sym (wide .ensures .0)) (entry .pre)
 
 returns : tie.Need-returns
 returns c =
     let args = c .before .before .before .before .before .before .before .before .before .before .args in
     let wide = c .before .before .before .before .before .before .before .before .before .wide in
     let after-step = c .before .before .before .before .after-step in
-    stored-whole (args .code .now) (args .lengths .now) (args .m) (args .t) (wide .result) (after-step .result) (wide .ensures) (after-step .ensures)
+    stored-whole (args .code .now) (args .lengths .now) (args .m) (args .t) (wide .result) (after-step .result) (wide .ensures .0) (after-step .ensures)
 
 pub step-spec : {M : Type 1} → statement M
 step-spec = tie.close (tie.spec (λ c κs. search needs) (λ c. search needs) (λ c. search needs) after-step-requires (λ c. search needs) (λ c. search needs) returns)

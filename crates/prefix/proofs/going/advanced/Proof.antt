@@ -13,16 +13,16 @@ use Rattle.prefix.proofs.going.advanced.Statement.{statement}
 use Rattle.prefix.proofs.going.advanced.Tie as tie
 
 element-copy-out-thread : tie.Need-element-copy-out-thread
-element-copy-out-thread c = let q = (c .before .before .pre) in let h = may-small (endOf (q .3) (q .4)) ((c .before .before .args) .t) (q .6) in let w = (c .wide) .ensures in search needs
+element-copy-out-thread c = let q = (c .before .before .pre) in let h = may-small (endOf (q .3) (q .4)) ((c .before .before .args) .t) (q .6) in let w = (c .wide) .ensures .0 in search needs
 
 element-set-from-m : tie.Need-element-set-from-m
-element-set-from-m c = let q = (c .before .before .before .before .before .before .before .pre) in let h = may-small (endOf (q .3) (q .4)) ((c .before .before .before .before .before .before .before .args) .t) (q .6) in let w = (c .before .before .before .before .before .wide) .ensures in search needs
+element-set-from-m c = let q = (c .before .before .before .before .before .before .before .pre) in let h = may-small (endOf (q .3) (q .4)) ((c .before .before .before .before .before .before .before .args) .t) (q .6) in let w = (c .before .before .before .before .before .wide) .ensures .0 in search needs
 
 acted-requires : tie.Need-acted-requires
 acted-requires c κs =
     let a = (c .before .before .before .before .before .args) in
     let q = (c .before .before .before .before .before .pre) in
-    subst (λ (i : ℕ). ReadyThread (a .lengths .now) (threadAt (a .x .machine) i) (a .t)) (sym ((c .before .before .before .wide) .ensures))
+    subst (λ (i : ℕ). ReadyThread (a .lengths .now) (threadAt (a .x .machine) i) (a .t)) (sym ((c .before .before .before .wide) .ensures .0))
     (reached-ready (a .code .now) (a .lengths .now) (q .0) (q .1) (q .2) (a .x) (q .3) (q .4) (q .5) (a .t) (q .6))
 
 carried-requires : tie.Need-carried-requires
@@ -30,7 +30,7 @@ carried-requires c κs =
     let a = (c .before .before .before .before .before .before .before .before .args) in
     let q = (c .before .before .before .before .before .before .before .before .pre) in
     let σ = endOf (q .3) (q .4) in
-    let s = stored-step (a .code .now) (a .lengths .now) (a .x .machine) (a .t) ((c .before .before .before .before .before .before .wide) .result) ((c .before .before .acted) .result) ((c .before .before .before .before .before .before .wide) .ensures) ((c .before .before .acted) .ensures .1) σ (q .5 .holds) (q .6)
+    let s = stored-step (a .code .now) (a .lengths .now) (a .x .machine) (a .t) ((c .before .before .before .before .before .before .wide) .result) ((c .before .before .acted) .result) ((c .before .before .before .before .before .before .wide) .ensures .0) ((c .before .before .acted) .ensures .1) σ (q .5 .holds) (q .6)
     (reached-place (a .code .now) (a .lengths .now) (q .0) (q .1) (q .2) (a .x) (q .3) (q .4) (q .5) (a .t)) in (
       may-small σ (a .t) (q .6),
       reached-room (a .code .now) (a .lengths .now) (q .0) (q .1) (q .2) (a .x) (q .3) (q .4) (q .5) (a .t) (q .6),
@@ -46,7 +46,7 @@ returns c =
     let size : length (a .x .schedule) ≡ 24 = (c .carried) .ensures .size in
     λ class threads groups p v at.
     let ok = may-again (a .code .now) (a .lengths .now) class threads groups (a .x) p v at (a .t) six left in
-    let s = stored-step (a .code .now) (a .lengths .now) (a .x .machine) (a .t) ((c .before .before .before .before .before .before .before .wide) .result) ((c .before .before .before .acted) .result) ((c .before .before .before .before .before .before .before .wide) .ensures) ((c .before .before .before .acted) .ensures .1) (endOf p v) (at .holds) ok
+    let s = stored-step (a .code .now) (a .lengths .now) (a .x .machine) (a .t) ((c .before .before .before .before .before .before .before .wide) .result) ((c .before .before .before .acted) .result) ((c .before .before .before .before .before .before .before .wide) .ensures .0) ((c .before .before .before .acted) .ensures .1) (endOf p v) (at .holds) ok
     (reached-place (a .code .now) (a .lengths .now) class threads groups (a .x) p v at (a .t)) in
     reached-next (a .code .now) (a .lengths .now) class threads groups (a .x) p v at (a .t) ok _ ((c .before .before .before .acted) .result .note) (s .holds) (s .noted) ((c .carried) .result) size ((c .carried) .ensures)
 

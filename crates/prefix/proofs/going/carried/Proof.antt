@@ -23,8 +23,8 @@ returns c =
       schedule = refl;
       steps = refl;
       late = λ σ held. (c .late-behind) .ensures σ held;
-      stamps = rw ((c .before .before .before .stamp-behind) .ensures, (c .before .before .before .before .before .before .before .wide) .ensures);
-      words = rw ((c .before .word-behind) .ensures, (c .before .before .before .before .before .before .before .wide) .ensures, (c .before .before .before .before .before .before .wide2) .ensures);
+      stamps = rw ((c .before .before .before .stamp-behind) .ensures, (c .before .before .before .before .before .before .before .wide) .ensures .0);
+      words = rw ((c .before .word-behind) .ensures, (c .before .before .before .before .before .before .before .wide) .ensures .0, (c .before .before .before .before .before .before .wide2) .ensures .0);
     }
 
 pub carried-spec : {M : Type 1} → statement M

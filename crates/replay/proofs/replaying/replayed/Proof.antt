@@ -40,7 +40,7 @@ returns-2 c =
     let if1 = c .before .before .before .before .before .before .if1 in
     let wide = c .before .before .before .before .before .wide in
     let if2 = c .before .if2 in
-    λ p loaded. subst (HoldsRun (i .code .now) (i .lengths .now) p (i .schedule .now)) (sym (c .ended-here2 .ensures)) (replay-stops (i .code .now) (i .lengths .now) (i .threads) p loaded (i .schedule .now) (j .m) (j .trail) (j .made) (j .k) (j .inv p loaded) (loop-test .taken) (replay-over (i .code .now) (i .lengths .now) (i .threads) p loaded (i .schedule .now) (j .m) (j .trail) (j .made) (j .k) (j .inv p loaded) (loop-test .taken) (wide .result) (wide .ensures) (omega (arith, if1 .left)) (if2 .taken)))
+    λ p loaded. subst (HoldsRun (i .code .now) (i .lengths .now) p (i .schedule .now)) (sym (c .ended-here2 .ensures)) (replay-stops (i .code .now) (i .lengths .now) (i .threads) p loaded (i .schedule .now) (j .m) (j .trail) (j .made) (j .k) (j .inv p loaded) (loop-test .taken) (replay-over (i .code .now) (i .lengths .now) (i .threads) p loaded (i .schedule .now) (j .m) (j .trail) (j .made) (j .k) (j .inv p loaded) (loop-test .taken) (wide .result) (wide .ensures .0) (omega (arith, if1 .left)) (if2 .taken)))
 
 after-step-requires : tie.Need-after-step-requires Inv-loop μ-loop
 after-step-requires c κs =
@@ -52,7 +52,7 @@ after-step-requires c κs =
     let if1 = c .before .before .before .before .before .before .before .if1 in
     let wide = c .before .before .before .before .before .before .wide in
     let if2 = c .before .before .if2 in
-    replay-thread (i .code .now) (i .lengths .now) (i .threads) (pre .0) (pre .1) (i .schedule .now) (j .m) (j .trail) (j .made) (j .k) (j .inv (pre .0) (pre .1)) (loop-test .taken) (wide .result) (wide .ensures) (omega (arith, if1 .left)) (if2 .left)
+    replay-thread (i .code .now) (i .lengths .now) (i .threads) (pre .0) (pre .1) (i .schedule .now) (j .m) (j .trail) (j .made) (j .k) (j .inv (pre .0) (pre .1)) (loop-test .taken) (wide .result) (wide .ensures .0) (omega (arith, if1 .left)) (if2 .left)
 
 put-note-requires : tie.Need-put-note-requires Inv-loop μ-loop
 put-note-requires c κs =
@@ -64,7 +64,7 @@ put-note-requires c κs =
     let if1 = c .before .before .before .before .before .before .before .before .before .before .before .before .before .before .if1 in
     let wide = c .before .before .before .before .before .before .before .before .before .before .before .before .before .wide in
     let if2 = c .before .before .before .before .before .before .before .before .before .if2 in
-    (replay-fits (i .code .now) (i .lengths .now) (i .threads) (pre .0) (pre .1) (i .schedule .now) (j .m) (j .trail) (j .made) (j .k) (j .inv (pre .0) (pre .1)) (loop-test .taken) (wide .result) (wide .ensures) (omega (arith, if1 .left)) (if2 .left), j .inv (pre .0) (pre .1) .noted .size)
+    (replay-fits (i .code .now) (i .lengths .now) (i .threads) (pre .0) (pre .1) (i .schedule .now) (j .m) (j .trail) (j .made) (j .k) (j .inv (pre .0) (pre .1)) (loop-test .taken) (wide .result) (wide .ensures .0) (omega (arith, if1 .left)) (if2 .left), j .inv (pre .0) (pre .1) .noted .size)
 
 add-k : tie.Need-add-k Inv-loop μ-loop
 add-k c =
@@ -76,7 +76,7 @@ add-k c =
     let if1 = c .before .before .before .before .before .before .before .before .before .before .before .before .before .before .before .if1 in
     let wide = c .before .before .before .before .before .before .before .before .before .before .before .before .before .before .wide in
     let if2 = c .before .before .before .before .before .before .before .before .before .before .if2 in
-    omega (arith, replay-fits (i .code .now) (i .lengths .now) (i .threads) (pre .0) (pre .1) (i .schedule .now) (j .m) (j .trail) (j .made) (j .k) (j .inv (pre .0) (pre .1)) (loop-test .taken) (wide .result) (wide .ensures) (omega (arith, if1 .left)) (if2 .left))
+    omega (arith, replay-fits (i .code .now) (i .lengths .now) (i .threads) (pre .0) (pre .1) (i .schedule .now) (j .m) (j .trail) (j .made) (j .k) (j .inv (pre .0) (pre .1)) (loop-test .taken) (wide .result) (wide .ensures .0) (omega (arith, if1 .left)) (if2 .left))
 
 loop-again : tie.Need-loop-again Inv-loop μ-loop
 loop-again c =
@@ -88,7 +88,7 @@ loop-again c =
     let if2 = c .before .before .before .before .before .before .before .before .before .before .if2 in
     let after-step = c .before .before .before .before .before .before .before .after-step in
     let with-step = c .before .before .before .with-step in
-    λ p loaded. replay-stored (i .code .now) (i .lengths .now) (i .threads) p loaded (i .schedule .now) (j .m) (j .trail) (j .made) (j .k) (j .inv p loaded) (loop-test .taken) (wide .result) (wide .ensures) (omega (arith, if1 .left)) (if2 .left) (after-step .result) _ (with-step .result) (with-step .ensures) (after-step .ensures) (c .put-note .ensures)
+    λ p loaded. replay-stored (i .code .now) (i .lengths .now) (i .threads) p loaded (i .schedule .now) (j .m) (j .trail) (j .made) (j .k) (j .inv p loaded) (loop-test .taken) (wide .result) (wide .ensures .0) (omega (arith, if1 .left)) (if2 .left) (after-step .result) _ (with-step .result) (with-step .ensures) (after-step .ensures) (c .put-note .ensures)
 
 returns-3 : tie.Need-returns-3 Inv-loop μ-loop
 returns-3 c =

@@ -45,7 +45,7 @@ returns-3 c =
     let step = c .before .before .before .before .before .step in
     let if2 = c .before .before .if2 in
     let wide = c .before .wide in
-    λ σ H near. met-writes (args .code .now) (args .lengths .now) (args .m) σ (args .x) H (args .t) near (sym (may .ensures (args .code .now) (faced σ (args .x)) (faced-held (args .code .now) (args .lengths .now) (args .m) σ (args .x) H (facing .result) (facing .ensures))) ∙ not-false _ (if1 .left)) (step .result) (step .ensures (faced σ (args .x)) (faced-held (args .code .now) (args .lengths .now) (args .m) σ (args .x) H (facing .result) (facing .ensures)) (sym (may .ensures (args .code .now) (faced σ (args .x)) (faced-held (args .code .now) (args .lengths .now) (args .m) σ (args .x) H (facing .result) (facing .ensures))) ∙ not-false _ (if1 .left)) (faced-near (args .code .now) (args .lengths .now) (args .m) σ (args .x) H (args .t) near (sym (may .ensures (args .code .now) (faced σ (args .x)) (faced-held (args .code .now) (args .lengths .now) (args .m) σ (args .x) H (facing .result) (facing .ensures))) ∙ not-false _ (if1 .left)))) _ (ap (λ (k : ℕ). k % 8) (wide .ensures)) (if2 .left)
+    λ σ H near. met-writes (args .code .now) (args .lengths .now) (args .m) σ (args .x) H (args .t) near (sym (may .ensures (args .code .now) (faced σ (args .x)) (faced-held (args .code .now) (args .lengths .now) (args .m) σ (args .x) H (facing .result) (facing .ensures))) ∙ not-false _ (if1 .left)) (step .result) (step .ensures (faced σ (args .x)) (faced-held (args .code .now) (args .lengths .now) (args .m) σ (args .x) H (facing .result) (facing .ensures)) (sym (may .ensures (args .code .now) (faced σ (args .x)) (faced-held (args .code .now) (args .lengths .now) (args .m) σ (args .x) H (facing .result) (facing .ensures))) ∙ not-false _ (if1 .left)) (faced-near (args .code .now) (args .lengths .now) (args .m) σ (args .x) H (args .t) near (sym (may .ensures (args .code .now) (faced σ (args .x)) (faced-held (args .code .now) (args .lengths .now) (args .m) σ (args .x) H (facing .result) (facing .ensures))) ∙ not-false _ (if1 .left)))) _ (ap (λ (k : ℕ). k % 8) (wide .ensures .0)) (if2 .left)
 
 pub met-spec : {M : Type 1} → statement M
 met-spec = tie.close (tie.spec (λ c κs. search needs) (λ c κs. search needs) returns step-requires (λ c. search needs) (λ c. search needs) returns-2 (λ c κs. search needs) (λ c. search needs) (λ c. search needs) returns-3)

@@ -21,7 +21,7 @@ returns c =
     let entry = c .before .before .before in
     let a = entry .args in
     λ code lengths threads groups p v r. sym (alone-held code lengths (a .class .now) threads groups (a .x) p v r (a .t) (entry .pre)
-    (ap (λ (i : ℕ). getD (a .class .now) i 0) (sym (c .before .before .wide .ensures)) ∙ c .if1 .taken))
+    (ap (λ (i : ℕ). getD (a .class .now) i 0) (sym (c .before .before .wide .ensures .0)) ∙ c .if1 .taken))
 
 loop-holds : tie.Need-loop-holds Inv-loop μ-loop
 loop-holds c = (search needs, λ k h. absurd (omega arith))
@@ -31,7 +31,7 @@ returns-2 c =
     let entry = c .before .before .before .before .before .before .before .before in
     let a = entry .args in
     let wide = c .before .before .before .before .before .before .before .wide in
-    λ code lengths threads groups p v r. twins-some code lengths (a .class .now) threads groups (a .x) p v r (a .t) (entry .pre) (wide .result) (wide .ensures)
+    λ code lengths threads groups p v r. twins-some code lengths (a .class .now) threads groups (a .x) p v r (a .t) (entry .pre) (wide .result) (wide .ensures .0)
     (c .before .before .before .before .before .if1 .left) (c .before .before .before .loop .u) (c .before .before .loop-test .taken)
     (sym (c .before .is-twin .ensures) ∙ c .if2 .taken)
 
@@ -50,7 +50,7 @@ returns-3 c =
     let entry = c .before .before .before .before .before .before in
     let a = entry .args in
     let wide = c .before .before .before .before .before .wide in
-    λ code lengths threads groups p v r. twins-none code lengths (a .class .now) threads groups (a .x) p v r (a .t) (entry .pre) (wide .result) (wide .ensures)
+    λ code lengths threads groups p v r. twins-none code lengths (a .class .now) threads groups (a .x) p v r (a .t) (entry .pre) (wide .result) (wide .ensures .0)
     (c .before .before .before .if1 .left)
     (λ k h. c .before .loop .inv .1 k (omega (arith, h, c .loop-test .left)))
 
