@@ -12,7 +12,6 @@ mod settling;
 mod thread;
 
 pub use accessing::Access;
-pub use accessing::accessed;
 pub use by_row::accessed_at;
 pub use settling::settle;
 pub use settling::settled;

@@ -1,6 +1,6 @@
 // A thread carried to its next access, or to its end.
+use crate::by_row::carried_out;
 use crate::by_row::is_access;
-use crate::by_row::turned;
 use crate::thread::ThreadState;
 use lines::wide;
 ghost use mathlib.Core.Path.{_≡_};
@@ -8,7 +8,7 @@ ghost use Prim.Native.Nat.{_+_, _*_, _<_, _≤_};
 ghost use lib.ListN.{drop};
 ghost use Rattle.rows.specs.Rows.{threadCode};
 ghost use Rattle.sc.specs.Local.{settle};
-ghost use Rattle.accesses.specs.Turns.{localOf};
+ghost use Rattle.accesses.specs.CarriedOut.{localOf};
 
 // Thread t, of n instructions, from instruction `from` on with these registers, having done so many accesses.
 pub fn settle(
@@ -26,8 +26,8 @@ pub fn settle(
     let mut rs = registers;
     let mut i = from;
     while i < n {
-        let turn = turned(code, t * 16 + i, rs);
-        if turn.access {
+        let row = t * 16 + i;
+        if is_access(code, row) {
             return ThreadState {
                 registers: rs,
                 at: i,
@@ -35,7 +35,8 @@ pub fn settle(
                 failed: false,
             };
         }
-        if turn.failed {
+        let c = carried_out(code, row, rs);
+        if c.failed {
             return ThreadState {
                 registers: rs,
                 at: n,
@@ -43,8 +44,8 @@ pub fn settle(
                 failed: true,
             };
         }
-        rs = turn.registers;
-        i = i + wide(turn.skip) + 1;
+        rs = c.registers;
+        i = i + wide(c.skip) + 1;
     }
     ThreadState {
         registers: rs,

@@ -10,7 +10,7 @@ use Rattle.lines.specs.Frame.{hexadecimal, pairs, frame, lineOf}
 use Rattle.lines.specs.Text.{digits, text}
 use Rattle.lines.specs.TextLines.{prepend, before, split, frameOf}
 use Rattle.program.specs.Kinds.{kinds, find, kindOf}
-use Rattle.program.specs.Frames.{word, kind, known, registerFits, locationFits, skipFits, operandFits, inRange, opens, declares, isAccess, skipOf, operand, build, instruction}
+use Rattle.program.specs.Frames.{word, kind, known, registerFits, locationFits, skipFits, operandFits, inRange, opens, declares, isAccess, skipOf, operand, buildOwn, build, instruction}
 use Rattle.program.specs.Decode.{fresh, threadAt, lastThread, inPlace, accessesIn, allAccessesIn, withinLimits, same, sameCode, among, grouped, memberFits, followersFit, membersFit, alikeFits, frameRefusal, after, farSkip, firstFarSkip, programIn, finish, readLines, decode}
 use Rattle.program.specs.WellFormed.{accesses}
 use Rattle.schedules.specs.Lists.{all}
@@ -31,7 +31,7 @@ use Rattle.cases.specs.Graphs.{Graph, neither, one}
 
 -- what a proof names to compute what is printed
 unfoldable pub computed : List ℕ → List ℕ
-unfolding computing seen digit value digitOf hexadecimal pairs frame lineOf digits text prepend before split kinds find kindOf word kind known registerFits locationFits skipFits operandFits inRange opens declares isAccess skipOf operand build instruction fresh threadAt lastThread inPlace accessesIn allAccessesIn withinLimits same sameCode among grouped memberFits followersFit membersFit alikeFits frameRefusal frameOf after farSkip firstFarSkip programIn finish readLines decode accesses size accessesLeft movedEvent movedRead movedReads movedWrites together permits permitted sameEvent sameRead sameList turns alikeBy alike listOf failing countOf bytesOf flag scheduleFrame countFrame printedFrames textOf printed
+unfolding computing seen digit value digitOf hexadecimal pairs frame lineOf digits text prepend before split kinds find kindOf word kind known registerFits locationFits skipFits operandFits inRange opens declares isAccess skipOf operand buildOwn build instruction fresh threadAt lastThread inPlace accessesIn allAccessesIn withinLimits same sameCode among grouped memberFits followersFit membersFit alikeFits frameRefusal frameOf after farSkip firstFarSkip programIn finish readLines decode accesses size accessesLeft movedEvent movedRead movedReads movedWrites together permits permitted sameEvent sameRead sameList turns alikeBy alike listOf failing countOf bytesOf flag scheduleFrame countFrame printedFrames textOf printed
 computed file = printed file
 
 -- a row: a program with its list, or a graph text with the judge's answer

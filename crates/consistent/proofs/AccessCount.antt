@@ -8,7 +8,7 @@ use lib.ListN.{length}
 use Rattle.program.specs.Program.{Program, codeOf}
 use Rattle.program.specs.WellFormed.{WellFormed, accesses}
 use Rattle.program.specs.declared.instruction.Instruction.{Instruction}
-use Rattle.program.specs.declared.instruction.Instruction.the-variants.{Store, Load, FetchAdd, CompareSwap, Assign, AddAssign, SkipUnless, Assert}
+use Rattle.program.specs.declared.instruction.Instruction.the-variants.{Memory, Alone}
 use Rattle.program.proofs.Everywhere.{everywhere-getD}
 use Rattle.schedules.specs.Order.{Schedule}
 use Rattle.schedules.specs.System.{run, Allowed}
@@ -23,14 +23,8 @@ use Rattle.sc.proofs.Histories.{rest-code}
 accesses-length : (is : List Instruction) → accesses is ≤ length is
 unfolding accesses
 accesses-length [] = omega arith
-accesses-length (Store l p ∷ is) = omega (arith, accesses-length is)
-accesses-length (Load r l ∷ is) = omega (arith, accesses-length is)
-accesses-length (FetchAdd r l p ∷ is) = omega (arith, accesses-length is)
-accesses-length (CompareSwap r l e v ∷ is) = omega (arith, accesses-length is)
-accesses-length (Assign r p ∷ is) = omega (arith, accesses-length is)
-accesses-length (AddAssign r p ∷ is) = omega (arith, accesses-length is)
-accesses-length (SkipUnless r p n ∷ is) = omega (arith, accesses-length is)
-accesses-length (Assert r p ∷ is) = omega (arith, accesses-length is)
+accesses-length (Memory a ∷ is) = omega (arith, accesses-length is)
+accesses-length (Alone o ∷ is) = omega (arith, accesses-length is)
 
 -- what thread u has done and what is left of it
 abbrev total : State → ℕ → ℕ

@@ -18,7 +18,7 @@ buffering-formed = record {
   sixteen = (omega arith, (omega arith, tt));
   access-24 = omega arith;
   ranges = (((omega arith, omega arith), ((omega arith, omega arith), tt)), (((omega arith, omega arith), ((omega arith, omega arith), tt)), tt));
-  skips = (tt, (tt, tt));
+  skips = ((omega arith, (omega arith, tt)), ((omega arith, (omega arith, tt)), tt));
   groups = tt;
   apart = tt;
 }

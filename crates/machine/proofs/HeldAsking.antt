@@ -17,7 +17,7 @@ use Rattle.sc.proofs.Access.{nothing-pending}
 use Rattle.sc.proofs.Steps.{may-of, may-small, may-pending, missing}
 use Rattle.sc.proofs.Lawful.{lawful}
 use Rattle.sc.proofs.Failing.{fails-at, fails-of}
-use Rattle.accesses.proofs.HeldTurns.{length-code, code-end}
+use Rattle.accesses.proofs.HeldSettling.{length-code, code-end}
 
 -- what holds below t and at t holds below t + 1
 pub one-more : (P : ℕ → Type 0) (t : ℕ) → ((u : ℕ) → u < t → P u) → P t → (u : ℕ) → u < t + 1 → P u

@@ -24,7 +24,7 @@ use Rattle.sc.specs.Local.{Local, settle, firstTakes, firstPuts, firstNext, pen
 use Rattle.sc.specs.State.{Thread, Cell, State, threadOf, cellOf, place, latest, advanced, step, may}
 use Rattle.sc.specs.Trail.{writes}
 use Rattle.graph_writer.specs.Notes.{note, noteBytes}
-use Rattle.accesses.specs.Turns.{accessOf, localOf}
+use Rattle.accesses.specs.CarriedOut.{accessOf, localOf}
 use Rattle.machine.specs.Held.{idle, unwritten, threadAt, lastAt, eventOf, HoldsThread, Holds, HoldsStep, threadBehind, lastBehind, behind, whole}
 use Rattle.sc.proofs.Access.{Settled, settle-law}
 use Rattle.sc.proofs.Steps.{may-small, may-range, cell-other, step-threads, step-cells}

@@ -8,12 +8,7 @@ mod stepping;
 mod starting;
 // What may be asked of a state.
 mod asking;
-// What the code left to a thread could still do.
-mod ahead_of;
 
-pub use ahead_of::NextAccess;
-pub use ahead_of::could_meet;
-pub use ahead_of::next_access;
 pub use asking::ended_all;
 pub use asking::fails;
 pub use asking::may;

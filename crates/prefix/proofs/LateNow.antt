@@ -9,7 +9,7 @@ use lib.Dec.{eqb, ltb}
 use lib.ListN.{getD}
 use borrow.Author.Tests.{eq-eqb, ne-eqb}
 use Rattle.rows.specs.Rows.{instructionAt}
-use Rattle.accesses.specs.Turns.{accessOf}
+use Rattle.accesses.specs.CarriedOut.{accessOf}
 use Rattle.accesses.specs.declared.thread.ThreadState.{ThreadState}
 use Rattle.sc.specs.State.{State, place, may}
 use Rattle.sc.specs.Trail.{Action, action, writes, conflict}

@@ -6,7 +6,7 @@ use mathlib.Core.List.{List}
 use lib.Dec.{eqb}
 use lib.ListN.{length, getD, set}
 use Rattle.rows.specs.Rows.{instructionAt}
-use Rattle.accesses.specs.Turns.{accessOf}
+use Rattle.accesses.specs.CarriedOut.{accessOf}
 use Rattle.sc.specs.State.{State}
 use Rattle.sc.specs.Trail.{Action}
 use Rattle.machine.specs.Held.{threadAt, Holds}

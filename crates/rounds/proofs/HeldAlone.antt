@@ -18,7 +18,7 @@ use Rattle.graph_writer.specs.Notes.{note, noteBytes}
 use Rattle.machine.specs.Held.{unwritten, threadAt, eventOf, Holds, HoldsStep}
 use Rattle.sc.proofs.Steps.{may-same, may-range, thread-own, cell-own}
 use Rattle.sc.proofs.Change.{written-some}
-use Rattle.accesses.proofs.HeldTurns.{code-end}
+use Rattle.accesses.proofs.HeldSettling.{code-end}
 use Rattle.machine.proofs.HeldAsking.{may-held}
 use Rattle.consistent.proofs.RoundValues.{orZero}
 use Rattle.rounds.specs.HeldRounds.{faced, facedMachine, MetAlone}

@@ -9,7 +9,6 @@ mod row;
 
 pub use fields::in_range;
 pub use kinds::kind_of;
-pub use row::instruction_at;
 pub use row::operand_at;
 pub use row::put_row;
 pub use row::same_bytes;

@@ -1,14 +1,13 @@
 // The instructions that a program keeps: each frame padded with zeros to sixteen bytes, thread t's instruction i in row 16 t + i.
 use crate::fields::join;
 use lines::wide;
-use program::Instruction;
 use program::Operand;
 ghost use mathlib.Core.Path.{_≡_};
 ghost use Prim.Native.Nat.{_+_, _*_, _<_, _≤_};
 ghost use lib.ListN.{length};
 ghost use Rattle.lines.specs.Frame.{pairs};
 ghost use Rattle.program.specs.Frames.{operand, skipOf};
-ghost use Rattle.rows.specs.Rows.{rowAt, instructionAt};
+ghost use Rattle.rows.specs.Rows.{rowAt};
 ghost use Rattle.rows.specs.Bytes.{agree, Written};
 
 // The operand in row `row` at position `j`.
@@ -22,44 +21,6 @@ pub fn operand_at(code: &[u8; 1536], row: usize, j: usize) -> Operand
         return Operand::Register(v);
     }
     Operand::Constant(v)
-}
-
-// The instruction in row `row`.
-pub fn instruction_at(code: &[u8; 1536], row: usize) -> Instruction
-    ensures { λ r. ⌜ r ≡ instructionAt (now (code .entry)) row ⌝ }
-{
-    if 96 <= row {
-        return Instruction::Assert(0, Operand::Constant(0));
-    }
-    let at = row * 16;
-    let b = code[at];
-    let r = code[at + 1];
-    if b == 0x10 {
-        return Instruction::Store(r, operand_at(code, row, 2));
-    }
-    let l = code[at + 2];
-    if b == 0x11 {
-        return Instruction::Load(r, l);
-    }
-    if b == 0x12 {
-        return Instruction::FetchAdd(r, l, operand_at(code, row, 3));
-    }
-    if b == 0x13 {
-        return Instruction::CompareSwap(r, l, operand_at(code, row, 3), operand_at(code, row, 8));
-    }
-    if b == 0x20 {
-        return Instruction::Assign(r, operand_at(code, row, 2));
-    }
-    if b == 0x21 {
-        return Instruction::AddAssign(r, operand_at(code, row, 2));
-    }
-    if b == 0x22 {
-        return Instruction::SkipUnless(r, operand_at(code, row, 2), code[at + 7]);
-    }
-    if b == 0x23 {
-        return Instruction::Assert(r, operand_at(code, row, 2));
-    }
-    Instruction::Assert(b, operand_at(code, row, 0))
 }
 
 // How many instructions the one in row `row` may skip.

@@ -6,18 +6,19 @@ use mathlib.Core.Option.{none}
 use mathlib.Core.List.{List, [], _∷_}
 use Rattle.program.specs.Program.{Program, initial}
 use Rattle.program.specs.declared.instruction.Operand.the-variants.{Constant}
-use Rattle.program.specs.declared.instruction.Instruction.the-variants.{Store, Load}
+use Rattle.program.specs.declared.instruction.Access.the-variants.{Store, Load}
+use Rattle.program.specs.declared.instruction.Instruction.the-variants.{Memory}
 use Rattle.schedules.specs.Lists.{upTo, any, all}
 use Rattle.schedules.specs.Order.{Schedule}
 use Rattle.schedules.specs.System.{run, none-may, ended}
 use Rattle.schedules.specs.Search.{low, past}
 use Rattle.schedules.specs.Found.{inTurn, foundAt, foundBy, foundFrom}
 use Rattle.schedules.specs.Orders.{trace}
-use Rattle.sc.specs.Local.{eval, settle, beginsWithAccess, firstPlace, firstTakes, firstPuts, firstNext, pending, placeOf, takes, puts, next, begin}
+use Rattle.sc.specs.Local.{eval, accessPlace, accessTakes, accessPuts, accessSets, settle, beginsWithAccess, firstPlace, firstTakes, firstPuts, firstNext, pending, placeOf, takes, puts, next, begin}
 use Rattle.sc.specs.State.{initialWrite, noThread, freshCell, threadOf, cellOf, place, latest, noted, advanced, written, met, step, may, opened, start}
 use Rattle.sc.specs.Graph.{endOf}
 use Rattle.sc.specs.Trail.{given, writes, action, conflict}
-use Rattle.sc.specs.Ahead.{firstMayPut, mayPut}
+use Rattle.sc.specs.Ahead.{accessMayPut, firstMayPut, mayPut}
 use Rattle.consistent.specs.Same.{sameEvent, sameRead, sameList}
 use Rattle.list.specs.ListOf.{together}
 use Rattle.list.specs.Rules.{sameFlag, sameLocal, sameHistory, silent, twin}
@@ -32,17 +33,24 @@ pub record Seen : Type 0 where
   pub asleep : ℕ
 
 unfoldable pub seen : Program → Schedule → Seen
-unfolding upTo any all run trace eval settle beginsWithAccess firstPlace firstTakes firstPuts firstNext pending placeOf takes puts next begin initialWrite noThread freshCell threadOf cellOf place latest noted advanced written met step may opened start initial given writes action conflict firstMayPut mayPut has addend setOf joined lateNow lateBehind lateAlong lateSet readsLeft writesLeft meets wakes sleepsIn unwoken settled sleepers
+unfolding upTo any all run trace eval accessPlace accessTakes accessPuts accessSets settle beginsWithAccess firstPlace firstTakes firstPuts firstNext pending placeOf takes puts next begin initialWrite noThread freshCell threadOf cellOf place latest noted advanced written met step may opened start initial given writes action conflict accessMayPut firstMayPut mayPut has addend setOf joined lateNow lateBehind lateAlong lateSet readsLeft writesLeft meets wakes sleepsIn unwoken settled sleepers
 seen p v = record { late = lateSet p v; asleep = sleepers (endOf p v) (lateSet p v) }
 
 -- what the search finds, and those that fail
 unfoldable pub finds : Program → List Schedule
-unfolding upTo any all run trace none-may ended low past inTurn foundAt foundBy foundFrom eval settle beginsWithAccess firstPlace firstTakes firstPuts firstNext pending placeOf takes puts next begin initialWrite noThread freshCell threadOf cellOf place latest noted advanced written met step may opened start initial given writes action conflict firstMayPut mayPut sameEvent sameRead sameList together sameFlag sameLocal sameHistory silent twin has addend setOf joined lateNow lateBehind lateAlong lateSet readsLeft writesLeft meets wakes sleepsIn unwoken settled sleepers givenUp lookedFor found
+unfolding upTo any all run trace none-may ended low past inTurn foundAt foundBy foundFrom eval accessPlace accessTakes accessPuts accessSets settle beginsWithAccess firstPlace firstTakes firstPuts firstNext pending placeOf takes puts next begin initialWrite noThread freshCell threadOf cellOf place latest noted advanced written met step may opened start initial given writes action conflict accessMayPut firstMayPut mayPut sameEvent sameRead sameList together sameFlag sameLocal sameHistory silent twin has addend setOf joined lateNow lateBehind lateAlong lateSet readsLeft writesLeft meets wakes sleepsIn unwoken settled sleepers givenUp lookedFor found
 finds p = found false p none
 
 -- two stores at one location beside one elsewhere: behind thread 2's step the other two are late, and only each other's store could wake them
 circle : Program
-circle = record { threads = (Store 0 (Constant 1) ∷ []) ∷ (Store 0 (Constant 2) ∷ []) ∷ (Store 1 (Constant 1) ∷ []) ∷ []; groups = [] }
+circle = record {
+  threads =
+      (Memory (Store 0 (Constant 1)) ∷ []) ∷
+      (Memory (Store 0 (Constant 2)) ∷ []) ∷
+      (Memory (Store 1 (Constant 1)) ∷ []) ∷
+      [];
+  groups = [];
+}
 
 in-a-circle : seen circle (2 ∷ []) ≡ record { late = 3; asleep = 3 }
 unfolding seen circle
@@ -54,7 +62,14 @@ circle-found = refl
 
 -- thread 1 is late behind thread 2's step, but the load left to thread 0 can wake it
 woken : Program
-woken = record { threads = (Store 0 (Constant 1) ∷ Load 0 1 ∷ []) ∷ (Store 1 (Constant 1) ∷ []) ∷ (Store 0 (Constant 2) ∷ []) ∷ []; groups = [] }
+woken = record {
+  threads =
+      (Memory (Store 0 (Constant 1)) ∷ Memory (Load 0 1) ∷ []) ∷
+      (Memory (Store 1 (Constant 1)) ∷ []) ∷
+      (Memory (Store 0 (Constant 2)) ∷ []) ∷
+      [];
+  groups = [];
+}
 
 not-asleep : seen woken (2 ∷ 0 ∷ []) ≡ record { late = 2; asleep = 0 }
 unfolding seen woken
@@ -66,7 +81,13 @@ woken-found = refl
 
 -- of two alike threads that have read the same, the smaller goes first
 pair : Program
-pair = record { threads = (Load 0 0 ∷ Store 0 (Constant 1) ∷ []) ∷ (Load 0 0 ∷ Store 0 (Constant 1) ∷ []) ∷ []; groups = (0 ∷ 1 ∷ []) ∷ [] }
+pair = record {
+  threads =
+      (Memory (Load 0 0) ∷ Memory (Store 0 (Constant 1)) ∷ []) ∷
+      (Memory (Load 0 0) ∷ Memory (Store 0 (Constant 1)) ∷ []) ∷
+      [];
+  groups = (0 ∷ 1 ∷ []) ∷ [];
+}
 
 pair-found : finds pair ≡ (0 ∷ 0 ∷ 1 ∷ 1 ∷ []) ∷ (0 ∷ 1 ∷ 0 ∷ 1 ∷ []) ∷ []
 unfolding finds pair
