@@ -11,7 +11,7 @@ use borrow.Author.Tests.{le-ltb}
 use lib.ListN.{length, take, drop}
 use lib.Seq.{drop-at}
 use Rattle.lines.specs.Over.{over}
-use Rattle.lines.proofs.Over.{take-over}
+use Rattle.lines.proofs.Over.{take-over, drop-over}
 use Rattle.program.specs.Program.{Program}
 use Rattle.program.specs.WellFormed.{WellFormed}
 use Rattle.program.specs.Decode.{Decoded, accepted, refused, decode}
@@ -77,10 +77,6 @@ module _ (file : List ℕ) (p : Program) (ok : decode file ≡ accepted p) where
           let i : graphText (graphOf σ) ≡ t = cc in
           (r .0, sym i ∙ ap (λ (τ : State). graphText (graphOf τ)) (r .1))
       go (Replay.refused n k) q e = absurd (let z : _≡_ {A = ℕ} 0 1 = cc in omega arith)
-
-  drop-over : (t l : List ℕ) → drop (length t) (over t l) ≡ drop (length t) l
-  unfolding over
-  drop-over t l = drop-at t (drop (length t) l) (length t) refl
 
   text-in-front : (s : Schedule) → Full p s → (out : List ℕ) → 512 ≤ length out →
       (take (length (textFor p s)) (graphOutput (graphFile file s (length out)) out) ≡ textFor p s)

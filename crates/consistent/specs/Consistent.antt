@@ -13,6 +13,7 @@ use Rattle.program.specs.Program.{Program, initial}
 use Rattle.sc.specs.Local.{Local, placeOf, takes, puts, next}
 use Rattle.sc.specs.State.{Event, initialWrite, threadOf, start}
 use Rattle.sc.specs.Graph.{Graph}
+pub use Rattle.schedules.specs.Lists.{Distinct}
 
 -- the `40` lines of thread t: access number and source, the last first
 abbrev pub rowOf : Graph → ℕ → List (ℕ × Event)
@@ -101,11 +102,6 @@ Acyclic {A} R = (x : A) → Way R x x → ⊥
 abbrev pub Descends : List (ℕ × Event) → Type 0
 Descends [] = Unit {0}
 Descends (r ∷ rs) = ((x : ℕ × Event) → List·Memᴰ x rs → x .0 < r .0) × Descends rs
-
--- no event twice
-abbrev pub Distinct : List Event → Type 0
-Distinct [] = Unit {0}
-Distinct (e ∷ es) = (List·Memᴰ e es → ⊥) × Distinct es
 
 -- what every graph text that is not refused gives: a row for each thread and a list for each of the eight locations, in order, nothing twice
 pub record Canonical (p : Program) (g : Graph) : Type 0 where

@@ -58,29 +58,29 @@ module _ (code lengths : List ℕ) (n : ℕ) (pairs table : List ℕ) (p : Progr
   σ = run SC (start p) s
 
   readable : Readable n g
-  readable = read-readable n (W .text) g (W .read)
+  readable = read-readable n (W .given .text) g (W .given .read)
 
   pub walk-regular : Regular (run SC (start p) s)
-  walk-regular = regular-run s (start p) (regular-start p (W .loaded .wellFormed)) (W .allowed)
+  walk-regular = regular-run s (start p) (regular-start p (W .given .loaded .wellFormed)) (W .allowed)
 
   pub walk-six : n ≤ 6
-  walk-six = six-held code lengths n p (W .loaded)
+  walk-six = six-held code lengths n p (W .given .loaded)
 
   threads-many : length (σ .threads) ≡ n
-  threads-many = run-threads s (start p) ∙ start-threads p ∙ threads-held code lengths n p (W .loaded)
+  threads-many = run-threads s (start p) ∙ start-threads p ∙ threads-held code lengths n p (W .given .loaded)
 
   pub walk-drawn : Drawn pairs table n m g (locationOf p (values p g 24)) σ
   walk-drawn = record {
     rows = readable .rows;
     ordered = readable .ordered;
     small = λ t r k. let a = readable .reads t r k .0 in omega arith;
-    sources = λ t i a b. W .tabled .sources t i (omega (arith, walk-six)) b;
-    places = W .places;
+    sources = λ t i a b. W .given .tabled .sources t i (omega (arith, walk-six)) b;
+    places = W .given .places;
     done = λ t a. W .holds .threads t (omega (arith, walk-six)) .done;
   }
 
   pub walk-ordering : Ordering pairs counts g σ
-  walk-ordering = record { orders = W .tabled .orders; made = W .made }
+  walk-ordering = record { orders = W .given .tabled .orders; made = W .made }
 
   idle-done : threadOf σ 254 .history .done ≡ 0
   unfolding noThread
@@ -92,10 +92,10 @@ module _ (code lengths : List ℕ) (n : ℕ) (pairs table : List ℕ) (p : Progr
     walk-below = omega (arith, may-range σ t ok, threads-many)
 
     pub walk-ready : Ready lengths m t
-    walk-ready = ready-held code lengths m σ (W .holds) t (short-held code lengths n p (W .loaded) t walk-below) ok
+    walk-ready = ready-held code lengths m σ (W .holds) t (short-held code lengths n p (W .given .loaded) t walk-below) ok
 
     pub walk-near : place σ t < 8
-    walk-near = near-held code lengths n p (W .loaded) m σ (W .holds) t walk-below
+    walk-near = near-held code lengths n p (W .given .loaded) m σ (W .holds) t walk-below
 
     pub walk-ranged : (b : List ℕ) → NoteOf b σ t → Ranged b
     unfolding noteBytes note

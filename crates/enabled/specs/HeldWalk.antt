@@ -64,14 +64,18 @@ pub record Ordering (pairs counts : List ℕ) (g : Graph) (σ : State) : Type 0 
   pub orders : (l k : ℕ) → l < 8 → k < 24 → Entry pairs (96 + (l * 24 + k)) (getD (reverse (orderOf g l)) k noLine)
   pub made : (l : ℕ) → l < 8 → getD counts l 0 ≡ length (cellOf σ l .writes)
 
--- the walk so far: the program and the graph that was read stand in their tables, and the machine stands behind the schedule s
-pub record Walking (code lengths : List ℕ) (n : ℕ) (pairs table : List ℕ) (p : Program) (g : Graph) (m : Machine) (counts : List ℕ) (s : Schedule) : Type 0 where
+-- the program, and the graph that was read, stand in their tables
+pub record Given (code lengths : List ℕ) (n : ℕ) (pairs table : List ℕ) (p : Program) (g : Graph) : Type 0 where
   pub loaded : Loaded code lengths n p
   pub text : List ℕ
   pub read : readGraph n text ≡ parsed g
   pub sizes : List ℕ
   pub tabled : Tabled pairs sizes g
   pub places : (t i : ℕ) → t < n → i < 16 → getD table (t * 16 + i) 0 ≡ locationOf p (values p g 24) (t, i)
+
+-- the walk so far: the machine stands behind the schedule s
+pub record Walking (code lengths : List ℕ) (n : ℕ) (pairs table : List ℕ) (p : Program) (g : Graph) (m : Machine) (counts : List ℕ) (s : Schedule) : Type 0 where
+  pub given : Given code lengths n pairs table p g
   pub allowed : Allowed SC (start p) s
   pub holds : Holds code lengths m (run SC (start p) s)
   pub made : (l : ℕ) → l < 8 → getD counts l 0 ≡ length (cellOf (run SC (start p) s) l .writes)

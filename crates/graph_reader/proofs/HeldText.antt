@@ -8,7 +8,7 @@ use lib.ListN.{length, take, drop}
 use Rattle.lines.specs.Frame.{frame, pairs, frameLength}
 use Rattle.lines.specs.Split.{lineLength}
 use Rattle.lines.specs.TextLines.{split}
-use Rattle.lines.proofs.Split.{line-within}
+use Rattle.lines.proofs.Split.{before-end}
 use Rattle.lines.proofs.Lengths.{length-none, length-some}
 use Rattle.graph_reader.specs.declared.table.Table.{Table}
 use Rattle.graph_reader.specs.declared.text.Verdict.the-variants.{Passed, Refused}
@@ -35,10 +35,6 @@ progress-start n text s e = record {
   holds = subst (λ (x : Table). Holds n x (fresh n)) (sym e) (held-fresh n);
   rest = refl;
 }
-
--- a line ends within the text, so before its end where it does not end there
-pub before-end : (text : List ℕ) (at end : ℕ) → at < length text → end ≡ at + lineLength (drop at text) → (end ≡ length text → ⊥) → end < length text
-before-end text at end h e ne = let w = line-within text at (omega arith) in omega (arith, ne)
 
 module _ (n : ℕ) (text : List ℕ) (s : Table) (at number : ℕ) (p : Progress n text s at number) where
   -- no line is left

@@ -3,7 +3,9 @@ use Prim.Native.Nat.{ℕ, _+_, _*_, _<_, _≤_}
 use mathlib.Core.Path.{_≡_}
 use mathlib.Core.Bool.{Bool, false, cond}
 use mathlib.Core.List.{List, [], _∷_}
+use lib.Dec.{ltb}
 use lib.ListN.{length, getD}
+use lib.Seq.{sets}
 use Rattle.schedules.specs.Order.{Schedule}
 use Rattle.sc.specs.Local.{takes}
 use Rattle.sc.specs.State.{Event, State, threadOf, cellOf, place, latest, step}
@@ -55,3 +57,7 @@ pub record Noted (trail : List ℕ) (ns : List Note) : Type 0 where
   pub size : length trail ≡ 192
   pub most : length ns ≤ 24
   pub bytes : (k j : ℕ) → k < length ns → j < 8 → getD trail (k * 8 + j) 0 ≡ getD (noteBytes (getD ns k noNote)) j 0
+
+-- the array with these bytes, one after the other, from byte 8 k on: place k, if it is one of its 24
+unfoldable pub putNote : List ℕ → ℕ → List ℕ → List ℕ
+putNote trail k bytes = cond (ltb k 24) (sets trail (k * 8) bytes) trail

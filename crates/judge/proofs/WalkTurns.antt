@@ -32,9 +32,10 @@ use Rattle.consistent.specs.Consistent.{locationOf}
 use Rattle.consistent.proofs.RoundValues.{values}
 use Rattle.consistent.proofs.Walk.{fits, walk}
 use Rattle.graph_reader.specs.Held.{noLine, lineIn, Entry, Tabled}
-use Rattle.enabled.specs.HeldWalk.{Ranged, Walking, threadOr, nextOf}
+use Rattle.enabled.specs.HeldWalk.{Ranged, Given, Walking, threadOr, nextOf}
 use Rattle.judge.specs.MadeTable.{sourceAdded, eventAdded, countAdded}
-use Rattle.judge.specs.HeldYes.{Given, Walked}
+use Rattle.judge.specs.HeldYes.{Walked}
+use Rattle.graph_reader.proofs.Entries.{unset}
 use Rattle.judge.proofs.MadeTables.{made-step}
 use Rattle.enabled.proofs.WalkChoice.{walk-regular, walk-near, walk-ranged, walk-ready}
 
@@ -91,9 +92,6 @@ walk-start code lengths p g m schedule H = record {
   };
   rest = refl;
 }
-  where
-    unset : (j : ℕ) → j < 288 → Entry (replicate 576 254) j (254, 254)
-    unset j h = (getD-replicate 576 (j * 2) 254 0 (omega arith), getD-replicate 576 (j * 2 + 1) 254 0 (omega arith))
 
 module _ (code lengths : List ℕ) (n : ℕ) (pairs table : List ℕ) (p : Program) (g : Graph) (X : Given code lengths n pairs table p g)
     (m : Machine) (made counts schedule : List ℕ) (k : ℕ) (G : Progress code lengths p g m made counts schedule k) where
@@ -102,12 +100,7 @@ module _ (code lengths : List ℕ) (n : ℕ) (pairs table : List ℕ) (p : Progr
 
   pub walk-on : Walking code lengths n pairs table p g m counts (G .so-far)
   walk-on = record {
-    loaded = X .loaded;
-    text = X .text;
-    read = X .read;
-    sizes = X .sizes;
-    tabled = X .tabled;
-    places = X .places;
+    given = X;
     allowed = G .allowed;
     holds = G .holds;
     made = λ l a. G .tabled .counts l a ∙ ap length (order-at (run SC (start p) s) l);

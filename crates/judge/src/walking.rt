@@ -7,7 +7,8 @@ use machine::started;
 use machine::step;
 ghost use Rattle.program.specs.Program.{Program};
 ghost use Rattle.sc.specs.Graph.{Graph};
-ghost use Rattle.judge.specs.HeldYes.{Given, Walked};
+ghost use Rattle.enabled.specs.HeldWalk.{Given};
+ghost use Rattle.judge.specs.HeldYes.{Walked};
 
 // The steps, how many they are, the machine behind them, and the table of the graph that they made.
 pub struct Walk {

@@ -1,5 +1,5 @@
--- What the search's rules look at. `v` is the prefix taken so far, `σ` the state behind it and t the thread to step next. Each rule gives up
--- only what has a smaller alike schedule.
+-- What the search's rules look at. `v` is the prefix taken so far, `σ` the state behind it and t the thread to step next. Each rule gives
+-- up only what has a smaller alike schedule.
 use Prim.Native.Nat.{ℕ}
 use mathlib.Core.Bool.{Bool, true, false, not, _&&_}
 use mathlib.Core.List.{List}

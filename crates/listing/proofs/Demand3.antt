@@ -15,6 +15,7 @@ use Rattle.schedules.specs.Calls.{Result, last}
 use Rattle.model.specs.Alike as Alike
 use Rattle.model.specs.OnFile as OnFile
 use Rattle.model.specs.Demand3 as Model
+use Rattle.model.proofs.Demand3.{same-answer}
 use Rattle.sc.specs.Graph.{graph}
 use Rattle.list.specs.ListOf.{alikeBy, listOf}
 use Rattle.list.specs.Answers.{failing, countOf}
@@ -40,10 +41,6 @@ violation-is : (d : Decoded) (out : List ℕ) → violationOn d out ≡ OnFile.v
 unfolding violationOn OnFile.violationOn
 violation-is (accepted p) out = sym (violation-same p out)
 violation-is (File.refused n k) out = refl
-
--- what holds of an equal answer
-same-answer : {A : Type 0} {a b x : A} {Q : Type 0} → a ≡ b → (b ≡ x) ↔ Q → (a ≡ x) ↔ Q
-same-answer e h = ((λ i. h .0 (sym e ∙ i)), λ q. e ∙ h .1 q)
 
 module _ (file : List ℕ) where
   start-file : (out : List ℕ) → startOn (decode file) out ≡ OnFile.startFile sc file out

@@ -3,16 +3,19 @@ use Prim.Native.Nat.{ℕ, _+_, _<_, _≤_}
 use native.Mathlib.Omega.{arith}
 use native.Mathlib.Decide.{decLt, ℕ-discrete}
 use mathlib.Core.Path.{_≡_, refl, sym, ap, subst, _∙_}
-use mathlib.Core.Bool.{Bool, true, false, true≢false}
+use mathlib.Core.Bool.{Bool, true, false, not, _&&_, true≢false}
 use mathlib.Core.List.{List}
 use lib.Dec.{ltb}
 use lib.ListN.{getD}
-use borrow.Author.Tests.{lt-ltb, le-ltb}
+use borrow.Author.Tests.{lt-ltb, le-ltb, not-true}
+use Rattle.schedules.specs.Lists.{upTo}
 use Rattle.schedules.specs.System.{ended}
-use Rattle.schedules.proofs.Runs.{ended-of, not-ended}
+use Rattle.schedules.proofs.Lists.{any-of, any-yes, all-of, all-at, in-upTo, of-upTo}
+use Rattle.schedules.proofs.Runs.{ended-of, ended-none}
 use Rattle.machine.specs.declared.state.Machine.{Machine}
 use Rattle.sc.specs.State.{State, noThread, threadOf, may, SC, failedOf, fails}
 use Rattle.machine.specs.Held.{threadAt, Holds, Ready}
+use Rattle.machine.specs.Asked.{mayBy, endedBy, failsBy}
 use Rattle.sc.proofs.Access.{nothing-pending}
 use Rattle.sc.proofs.Steps.{may-of, may-small, may-pending, missing}
 use Rattle.sc.proofs.Lawful.{lawful}
@@ -52,10 +55,6 @@ module _ (code lengths : List ℕ) (m : Machine) (σ : State) (held : Holds code
       go (yes l) = lt-ltb (threadAt m t .at) (getD lengths t 0) l ∙ sym (held-may t h l)
       go (no l) = le-ltb (threadAt m t .at) (getD lengths t 0) (omega (arith, l)) ∙ sym (held-ended t h (omega (arith, l)))
 
-  -- by a number that is the thread's
-  pub may-named : (i t : ℕ) → t ≡ i → i < 6 → ltb (threadAt m i .at) (getD lengths i 0) ≡ may σ t
-  may-named i t e h = may-held i h ∙ ap (may σ) (sym e)
-
   -- a thread that may step is ready to
   pub ready-held : (t : ℕ) → getD lengths t 0 ≤ 16 → may σ t ≡ true → Ready lengths m t
   ready-held t n e =
@@ -66,29 +65,73 @@ module _ (code lengths : List ℕ) (m : Machine) (σ : State) (held : Holds code
       go (yes l) = l
       go (no l) = absurd (true≢false (sym e ∙ held-ended t (may-small σ t e) (omega (arith, l))))
 
-  pub not-ended-held : (t : ℕ) → t < 6 → threadAt m t .at < getD lengths t 0 → ended SC σ ≡ false
-  not-ended-held t h l = not-ended SC lawful σ t (held-may t h l)
+-- ---- what the code is asked, by its arrays alone
+module _ (lengths : List ℕ) (m : Machine) where
+  -- by a number that is the thread's
+  pub may-named : (i t : ℕ) → t ≡ i → i < 6 → ltb (threadAt m i .at) (getD lengths i 0) ≡ mayBy lengths m t
+  may-named i t e h = sym (ap (mayBy lengths m) e ∙ ap (λ (b : Bool). b && ltb (threadAt m i .at) (getD lengths i 0)) (lt-ltb i 6 h))
 
-  pub ended-held : ((t : ℕ) → t < 6 → getD lengths t 0 ≤ threadAt m t .at) → ended SC σ ≡ true
-  ended-held h = ended-of SC σ (λ t. go t (decLt t 6))
+  pub may-nobody : (t : ℕ) → 6 ≤ t → mayBy lengths m t ≡ false
+  may-nobody t h = ap (λ (b : Bool). b && ltb (threadAt m t .at) (getD lengths t 0)) (le-ltb t 6 h)
+
+  pub ended-not : (t : ℕ) → t < 6 → threadAt m t .at < getD lengths t 0 → endedBy lengths m ≡ false
+  ended-not t h l = go (endedBy lengths m) refl
     where
-      go : (t : ℕ) → Dec (t < 6) → may σ t ≡ false
-      go t (yes l) = held-ended t l (h t l)
-      go t (no l) = may-none σ t (omega (arith, l))
-
-  -- a failed assertion is that of a thread
-  pub fails-held : (t : ℕ) → t < 6 → threadAt m t .failed ≡ true → fails σ ≡ true
-  unfolding failedOf
-  fails-held t h e = fails-of σ t (held .threads t h .failed ∙ e)
-
-  pub fails-not-held : ((t : ℕ) → t < 6 → threadAt m t .failed ≡ false) → fails σ ≡ false
-  unfolding failedOf noThread
-  fails-not-held h = go (fails σ) refl
-    where
-      none : (t : ℕ) → Dec (t < 6) → failedOf (threadOf σ t) ≡ false
-      none t (yes b) = held .threads t b .failed ∙ h t b
-      none t (no b) = ap failedOf (missing σ t (omega (arith, b, held .six)))
-
-      go : (b : Bool) → fails σ ≡ b → fails σ ≡ false
-      go true e = let r = fails-at σ e in absurd (true≢false (sym (r .1) ∙ none (r .0) (decLt (r .0) 6)))
+      go : (b : Bool) → endedBy lengths m ≡ b → endedBy lengths m ≡ false
+      go true e = absurd (true≢false (sym (all-at (λ u. not (mayBy lengths m u)) (upTo 0 6) t e (in-upTo 0 6 t (omega arith) h)) ∙ ap not (sym (may-named t t refl h) ∙ lt-ltb (threadAt m t .at) (getD lengths t 0) l)))
       go false e = e
+
+  pub ended-yes : ((t : ℕ) → t < 6 → getD lengths t 0 ≤ threadAt m t .at) → endedBy lengths m ≡ true
+  ended-yes h = all-of (λ u. not (mayBy lengths m u)) (upTo 0 6) (λ t k.
+      let b = of-upTo 0 6 t k .1 in
+      ap not (sym (may-named t t refl b) ∙ le-ltb (threadAt m t .at) (getD lengths t 0) (h t b)))
+
+pub fails-yes : (m : Machine) (t : ℕ) → t < 6 → threadAt m t .failed ≡ true → failsBy m ≡ true
+fails-yes m t h e = any-of (λ u. threadAt m u .failed) (upTo 0 6) t (in-upTo 0 6 t (omega arith) h) e
+
+pub fails-not : (m : Machine) → ((t : ℕ) → t < 6 → threadAt m t .failed ≡ false) → failsBy m ≡ false
+fails-not m h = go (failsBy m) refl
+  where
+    go : (b : Bool) → failsBy m ≡ b → failsBy m ≡ false
+    go true e =
+        let r = any-yes (λ u. threadAt m u .failed) (upTo 0 6) e in
+        absurd (true≢false (sym (r .2) ∙ h (r .0) (of-upTo 0 6 (r .0) (r .1) .1)))
+    go false e = e
+
+-- ---- of a machine that holds a state, that is what may be asked of the state
+module _ {code lengths : List ℕ} {m : Machine} {σ : State} (held : Holds code lengths m σ) where
+  pub may-by : (t : ℕ) → mayBy lengths m t ≡ may σ t
+  may-by t = go (decLt t 6)
+    where
+      go : Dec (t < 6) → mayBy lengths m t ≡ may σ t
+      go (yes h) = sym (may-named lengths m t t refl h) ∙ may-held code lengths m σ held t h
+      go (no h) = may-nobody lengths m t (omega (arith, h)) ∙ sym (may-none σ t (omega (arith, h)))
+
+  pub ended-by : endedBy lengths m ≡ ended SC σ
+  ended-by = go (ended SC σ) (endedBy lengths m) refl refl
+    where
+      go : (a b : Bool) → ended SC σ ≡ a → endedBy lengths m ≡ b → endedBy lengths m ≡ ended SC σ
+      go true true q e = e ∙ sym q
+      go false false q e = e ∙ sym q
+      go true false q e = absurd (true≢false (sym (all-of (λ t. not (mayBy lengths m t)) (upTo 0 6) (λ t k. ap not (may-by t ∙ ended-none SC lawful σ t q))) ∙ e))
+      go false true q e = absurd (true≢false (sym (ended-of SC σ (λ t. none t (decLt t 6))) ∙ q))
+        where
+          none : (t : ℕ) → Dec (t < 6) → may σ t ≡ false
+          none t (yes h) = sym (may-by t) ∙ not-true _ (all-at (λ t. not (mayBy lengths m t)) (upTo 0 6) t e (in-upTo 0 6 t (omega arith) h))
+          none t (no h) = may-none σ t (omega (arith, h))
+
+  pub fails-by : failsBy m ≡ fails σ
+  unfolding failedOf noThread
+  fails-by = go (fails σ) refl
+    where
+      own : (t : ℕ) → Dec (t < 6) → failedOf (threadOf σ t) ≡ true → failsBy m ≡ true
+      own t (yes h) e = fails-yes m t h (sym (held .threads t h .failed) ∙ e)
+      own t (no h) e = absurd (true≢false (sym e ∙ ap failedOf (missing σ t (omega (arith, h, held .six)))))
+
+      go : (b : Bool) → fails σ ≡ b → failsBy m ≡ fails σ
+      go true e = let r = fails-at σ e in own (r .0) (decLt (r .0) 6) (r .1) ∙ sym e
+      go false e = fails-not m (λ t h. none t h (threadAt m t .failed) refl) ∙ sym e
+        where
+          none : (t : ℕ) → t < 6 → (b : Bool) → threadAt m t .failed ≡ b → threadAt m t .failed ≡ false
+          none t h true q = absurd (true≢false (sym (fails-of σ t (held .threads t h .failed ∙ q)) ∙ e))
+          none t h false q = q

@@ -273,19 +273,34 @@ pub stored-step : (code lengths : List ℕ) (m : Machine) (t u : ℕ) (e : Effec
 stored-step code lengths m t u e eu acts τ held ok near =
     subst (λ (v : ℕ). HoldsStep code lengths τ t (behind m v e)) (sym eu) (acts m τ (ap (threadAt m) (sym eu)) refl refl held ok near)
 
--- given back whole: memory and the last writes with the step's place changed
-abbrev pub afterOf : Effect → List ℕ → List LastWrite → After
-afterOf e memory last = record { thread = threadBehind e; memory = set memory (e .place) (e .value); last = set last (e .place) (lastBehind e); note = e .note }
+-- given back whole: memory with the step's place changed
+abbrev pub afterOf : Access → ThreadState → List ℕ → ℕ → After
+afterOf a k memory l = record {
+  registers = k .registers;
+  at = k .at;
+  place = l % 8;
+  memory = set memory (l % 8) (cond (eqb (a .writes) 1) (a .value) (getD memory (l % 8) 0));
+  done = k .done;
+  failed = k .failed;
+  location = a .location;
+  reads = a .reads;
+  writes = a .writes;
+}
 
-pub whole-step : (code lengths : List ℕ) (m : Machine) (σ : State) (t : ℕ) (e : Effect) (memory : List ℕ) (last : List LastWrite)
-    → m .memory ≡ memory → m .last ≡ last → HoldsStep code lengths σ t (behind m t e) → HoldsStep code lengths σ t (whole m t (afterOf e memory last))
-whole-step code lengths m σ t e memory last em es held =
-    subst (λ (v : List ℕ). HoldsStep code lengths σ t (whole m t (afterOf e v last))) em
-    (subst (λ (w : List LastWrite). HoldsStep code lengths σ t (whole m t (afterOf e (m .memory) w))) es held)
+pub after-holds : (code lengths : List ℕ) (m : Machine) (σ : State) (t u : ℕ) (thread : ThreadState) (memory : List ℕ) (a : Access) (k : ThreadState) (l : ℕ)
+    → u ≡ t → l ≡ a .location → Acted code lengths thread memory u a k
+    → threadAt m t ≡ thread → m .memory ≡ memory → Holds code lengths m σ → may σ t ≡ true → place σ t < 8 → HoldsStep code lengths σ t (whole m t t (afterOf a k memory l))
+after-holds code lengths m σ t u thread memory a k l eu el acts et em held ok near =
+    subst (λ (v : ℕ). P v thread memory) (sym eu)
+    (subst (λ (h : ThreadState). P t h memory) et
+    (subst (P t (threadAt m t)) em (holds-effect code lengths m σ t held ok near a k l el))) acts
+  where
+    P : ℕ → ThreadState → List ℕ → Type 0
+    P v h n = Acted code lengths h n v a k → HoldsStep code lengths σ t (whole m t t (afterOf a k n l))
 
 -- put back into the machine that it was taken from
 pub stored-whole : (code lengths : List ℕ) (m : Machine) (t u : ℕ) (a : After) → u ≡ t
-    → ((n : Machine) (τ : State) → threadAt n t ≡ threadAt m u → n .memory ≡ m .memory → n .last ≡ m .last → Holds code lengths n τ → may τ t ≡ true → place τ t < 8 → HoldsStep code lengths τ t (whole n t a))
-    → (τ : State) → Holds code lengths m τ → may τ t ≡ true → place τ t < 8 → HoldsStep code lengths τ t (whole m u a)
+    → ((n : Machine) (τ : State) → threadAt n t ≡ threadAt m u → n .memory ≡ m .memory → Holds code lengths n τ → may τ t ≡ true → place τ t < 8 → HoldsStep code lengths τ t (whole n t t a))
+    → (τ : State) → Holds code lengths m τ → may τ t ≡ true → place τ t < 8 → HoldsStep code lengths τ t (whole m u t a)
 stored-whole code lengths m t u a eu acts τ held ok near =
-    subst (λ (v : ℕ). HoldsStep code lengths τ t (whole m v a)) (sym eu) (acts m τ (ap (threadAt m) (sym eu)) refl refl held ok near)
+    subst (λ (v : ℕ). HoldsStep code lengths τ t (whole m v t a)) (sym eu) (acts m τ (ap (threadAt m) (sym eu)) refl held ok near)

@@ -1,8 +1,9 @@
 -- How the machine's arrays hold a state of the specification. What each thread read is not in them: it stands in the notes.
 use Prim.Native.Nat.{ℕ, _<_, _≤_}
 use mathlib.Core.Path.{_≡_}
-use mathlib.Core.Bool.{true, false}
-use mathlib.Core.List.{List, []}
+use mathlib.Core.Bool.{true, false, cond}
+use mathlib.Core.List.{List, [], _∷_}
+use lib.Dec.{eqb}
 use lib.ListN.{length, getD, set, drop}
 use Rattle.program.specs.declared.instruction.Instruction.{Instruction}
 use Rattle.program.specs.Program.{Program}
@@ -94,6 +95,23 @@ behind m t e = record {
   note = e .note;
 }
 
--- the same machine, of which the step gave back its thread, memory and the last writes whole
-abbrev pub whole : Machine → ℕ → After → Stepped
-whole m t a = record { machine = record { threads = set (m .threads) t (a .thread); memory = a .memory; last = a .last }; note = a .note }
+-- the thread that a step leaves where it gives registers and memory back whole; the last write of its place, where e was; and its note
+abbrev pub threadAfter : After → ThreadState
+threadAfter a = record { registers = a .registers; at = a .at; done = a .done; failed = a .failed }
+
+abbrev pub lastAfter : ℕ → ℕ → LastWrite → After → LastWrite
+lastAfter t number e a = cond (eqb (a .writes) 1) (record { thread = t; number = number }) e
+
+abbrev pub noteAfter : ℕ → ℕ → LastWrite → After → List ℕ
+noteAfter t number e a = t ∷ number ∷ a .location ∷ a .reads ∷ e .thread ∷ e .number ∷ a .writes ∷ 0 ∷ []
+
+-- the machine with these behind a step of thread t, which is the u-th of the array
+abbrev pub whole : Machine → ℕ → ℕ → After → Stepped
+whole m u t a = record {
+  machine = record {
+    threads = set (m .threads) u (threadAfter a);
+    memory = a .memory;
+    last = set (m .last) (a .place) (lastAfter t (threadAt m u .done) (lastAt m (a .place)) a);
+  };
+  note = noteAfter t (threadAt m u .done) (lastAt m (a .place)) a;
+}

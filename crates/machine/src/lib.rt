@@ -20,4 +20,5 @@ pub use stepping::Effect;
 pub use stepping::Stepped;
 pub use stepping::acted;
 pub use stepping::after_step;
+pub use stepping::last_behind;
 pub use stepping::step;

@@ -9,6 +9,7 @@ ghost use mathlib.Core.Path.{_≡_};
 ghost use mathlib.Core.Bool.{true, cond};
 ghost use Prim.Native.Nat.{_<_};
 ghost use lib.Dec.{eqb};
+ghost use lib.ListN.{set};
 ghost use Rattle.sc.specs.State.{State, place, may};
 ghost use Rattle.machine.specs.Held.{threadAt, Holds, ReadyThread, Ready, HoldsStep, behind, whole};
 
@@ -26,12 +27,18 @@ pub struct Effect {
     pub number: u8,
 }
 
-// What a step gives back whole: its thread with the registers, memory, the last writes; and the step's note.
+// What a step gives back: its thread's registers and memory whole, and the rest of its thread; its place, and whether it reads and writes (1 or
+// 0). The last writes are its caller's: one of them is read and stored where they lie.
 pub struct After {
-    pub thread: ThreadState,
+    pub registers: [u32; 4],
+    pub at: usize,
+    pub place: usize,
     pub memory: [u32; 8],
-    pub last: [LastWrite; 8],
-    pub note: [u8; 8],
+    pub done: u8,
+    pub failed: bool,
+    pub location: u8,
+    pub reads: u8,
+    pub writes: u8,
 }
 
 // The machine behind a step, and the step's note.
@@ -51,7 +58,7 @@ fn value_behind(writes: u8, v: u32, x: u32) -> u32
 }
 
 // The last write of a place behind thread t's access `number`, which wrote (1) or did not (0), where e was.
-fn last_behind(writes: u8, t: u8, number: u8, e: LastWrite) -> LastWrite
+pub fn last_behind(writes: u8, t: u8, number: u8, e: LastWrite) -> LastWrite
     ensures { λ r. ⌜ r ≡ cond (eqb writes 1) (record { thread = t; number = number }) e ⌝ }
 {
     if writes == 1 {
@@ -110,39 +117,66 @@ pub fn acted(
     }
 }
 
-// A step of thread t where the thread stands so: its registers, memory and the last writes are taken by value and given back whole.
+// v where j is i, else x.
+fn value_or(j: u32, i: u32, v: u32, x: u32) -> u32
+    ensures { λ r. ⌜ r ≡ cond (eqb j i) v x ⌝ }
+{
+    if j == i {
+        return v;
+    }
+    x
+}
+
+// Memory with v at k; unchanged where there is no such location. Each value is chosen by a comparison, so that memory moves in wide registers
+// and no store of one value waits in front of a load of many.
+fn with_value(memory: [u32; 8], k: usize, v: u32) -> [u32; 8]
+    ensures { λ r. ⌜ r ≡ set memory k v ⌝ }
+{
+    if 8 <= k {
+        return memory;
+    }
+    let j = k as u32;
+    let mut values = memory;
+    let mut i = 0u32;
+    while i < 8 {
+        let n = i as usize;
+        values[n] = value_or(j, i, v, memory[n]);
+        i += 1;
+    }
+    values
+}
+
+// A step of thread t where the thread stands so: its registers and memory are taken by value and given back whole.
 pub fn after_step(
     code: &[u8; 1536],
     lengths: &[usize; 6],
     thread: ThreadState,
     memory: [u32; 8],
-    last: [LastWrite; 8],
     t: u8,
 ) -> After
     requires { ⌜ ReadyThread (now lengths) thread t ⌝ }
-    ensures { λ a. ⌜ ((m : Machine) (σ : State) → threadAt m t ≡ thread → m .memory ≡ memory → m .last ≡ last → Holds (now (code .entry)) (now (lengths .entry)) m σ → may σ t ≡ true → place σ t < 8 → HoldsStep (now (code .entry)) (now (lengths .entry)) σ t (whole m t a)) ⌝ }
+    ensures within { λ a. ⌜ a .place < 8 ⌝ }
+    ensures step { λ a. ⌜ ((m : Machine) (σ : State) → threadAt m t ≡ thread → m .memory ≡ memory → Holds (now (code .entry)) (now (lengths .entry)) m σ → may σ t ≡ true → place σ t < 8 → HoldsStep (now (code .entry)) (now (lengths .entry)) σ t (whole m t t a)) ⌝ }
 {
-    let e = acted(code, lengths, thread, memory, last, t);
-    let rs = e.registers;
-    let l = e.place;
-    let mut values = memory;
-    values[l] = e.value;
-    let mut writes = last;
-    writes[l] = LastWrite {
-        thread: e.thread,
-        number: e.number,
-    };
-    let note = e.note;
+    let u = wide(t);
+    let at = thread.at;
+    let registers = thread.registers;
+    let a = accessed_at(code, u * 16 + at, registers, memory);
+    let rs = a.registers;
+    let k = settled(code, u, lengths[u], at + 1, rs, thread.done + 1);
+    let ks = k.registers;
+    let l = wide(a.location) % 8;
+    let values = with_value(memory, l, value_behind(a.writes, a.value, memory[l]));
     After {
-        thread: ThreadState {
-            registers: rs,
-            at: e.at,
-            done: e.done,
-            failed: e.failed,
-        },
+        registers: ks,
+        at: k.at,
+        place: l,
         memory: values,
-        last: writes,
-        note: note,
+        done: k.done,
+        failed: k.failed,
+        location: a.location,
+        reads: a.reads,
+        writes: a.writes,
     }
 }
 
@@ -151,23 +185,36 @@ pub fn step(code: &[u8; 1536], lengths: &[usize; 6], m: Machine, t: u8) -> Stepp
     requires { ⌜ Ready (now lengths) m t ⌝ }
     ensures { λ r. ⌜ ((σ : State) → Holds (now (code .entry)) (now (lengths .entry)) m σ → may σ t ≡ true → place σ t < 8 → HoldsStep (now (code .entry)) (now (lengths .entry)) σ t r) ⌝ }
 {
+    let mut n = m;
     let u = wide(t);
-    let mut threads = m.threads;
-    let thread = threads[u];
-    let memory = m.memory;
-    let last = m.last;
-    let a = after_step(code, lengths, thread, memory, last, t);
-    let k = a.thread;
-    threads[u] = k;
+    let thread = n.threads[u];
+    let memory = n.memory;
+    let number = thread.done;
+    let a = after_step(code, lengths, thread, memory, t);
+    let rs = a.registers;
+    n.threads[u] = ThreadState {
+        registers: rs,
+        at: a.at,
+        done: a.done,
+        failed: a.failed,
+    };
     let values = a.memory;
-    let writes = a.last;
-    let note = a.note;
+    n.memory = values;
+    let l = a.place;
+    let e = n.last[l];
+    let w = last_behind(a.writes, t, number, e);
+    n.last[l] = w;
     Stepped {
-        machine: Machine {
-            threads: threads,
-            memory: values,
-            last: writes,
-        },
-        note: note,
+        machine: n,
+        note: [
+            t,
+            number,
+            a.location,
+            a.reads,
+            e.thread,
+            e.number,
+            a.writes,
+            0,
+        ],
     }
 }

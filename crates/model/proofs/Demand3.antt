@@ -37,7 +37,7 @@ admitted M (accepted q) p e = go (M .away q) refl
     go (some r) i = absurd (let k : File.refused (r .0) (r .1) ≡ accepted p = sym (ap (unless q) i) ∙ e in let z : _≡_ {A = ℕ} 0 1 = cc in omega arith)
 
 -- what holds of an equal answer
-same-answer : {A : Type 0} {a b x : A} {Q : Type 0} → a ≡ b → (b ≡ x) ↔ Q → (a ≡ x) ↔ Q
+pub same-answer : {A : Type 0} {a b x : A} {Q : Type 0} → a ≡ b → (b ≡ x) ↔ Q → (a ≡ x) ↔ Q
 same-answer e h = ((λ i. h .0 (sym e ∙ i)), λ q. e ∙ h .1 q)
 
 module _ (M : Model) (L : Laws M) (file : List ℕ) (p : Program) (e : admit M (decode file) ≡ accepted p) where

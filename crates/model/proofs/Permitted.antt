@@ -21,10 +21,10 @@ use Rattle.model.specs.Exchange.{Permutation, Together, Exchange, togeth
 use Rattle.model.proofs.Exchanges.{injective, only-identity}
 
 -- one of two tests
-or-left : (a b : Bool) → a ≡ true → (a || b) ≡ true
+pub or-left : (a b : Bool) → a ≡ true → (a || b) ≡ true
 or-left a b e = rw e
 
-or-right : (a b : Bool) → b ≡ true → (a || b) ≡ true
+pub or-right : (a b : Bool) → b ≡ true → (a || b) ≡ true
 or-right true b e = refl
 or-right false b e = e
 

@@ -10,14 +10,15 @@ use Rattle.program.specs.Program.{Program}
 use Rattle.schedules.specs.Order.{Schedule}
 use Rattle.schedules.specs.System.{run, ended, Allowed}
 use Rattle.schedules.proofs.Runs.{run-snoc, allowed-join, allowed-length}
+use Rattle.machine.specs.declared.state.LastWrite.{LastWrite}
 use Rattle.machine.specs.declared.state.Machine.{Machine}
 use Rattle.machine.specs.declared.stepping.After.{After}
 use Rattle.machine.specs.declared.stepping.Stepped.{Stepped}
 use Rattle.replay.specs.declared.replaying.Verdict.the-variants.{Whole, Refused}
 use Rattle.sc.specs.State.{State, place, step, may, SC, start}
-use Rattle.graph_writer.specs.Notes.{Note, note, notes, noteBytes, Noted}
+use Rattle.graph_writer.specs.Notes.{note, notes, Noted, putNote}
 use Rattle.sc.specs.Replay.{replayFrom, replay}
-use Rattle.machine.specs.Held.{threadAt, Holds, ReadyThread, Ready, HoldsStep, whole, Loaded}
+use Rattle.machine.specs.Held.{threadAt, lastAt, Holds, ReadyThread, Ready, HoldsStep, threadAfter, lastAfter, noteAfter, whole, Loaded}
 use Rattle.replay.specs.Carried.{verdictOf, HoldsRun}
 use Rattle.sc.proofs.Steps.{may-range, run-threads}
 use Rattle.sc.proofs.Start.{start-threads}
@@ -28,7 +29,7 @@ use Rattle.sc.proofs.Replay.{nil-full, nil-short, cons-goes, cons-stops}
 use Rattle.machine.proofs.HeldStart.{threads-held, short-held}
 use Rattle.machine.proofs.HeldAsking.{held-may, held-ended, ready-held}
 use Rattle.machine.proofs.HeldStep.{stored-whole}
-use Rattle.graph_writer.proofs.HeldNotes.{noted-none}
+use Rattle.graph_writer.proofs.HeldNotes.{noted-none, note-put}
 
 -- behind the first k bytes of s
 pub record Progress (code lengths : List ℕ) (p : Program) (s : Schedule) (m : Machine) (trail made : List ℕ) (k : ℕ) : Type 0 where
@@ -95,10 +96,9 @@ module _ (code lengths : List ℕ) (threads : ℕ) (p : Program) (loaded : Loade
           ap (λ (j : ℕ). take j (set made k t)) (let z : k + 1 ≡ suc k = omega arith in z)
           ∙ take-suc-set made k t (omega (arith, done .room, replay-room)) ∙ ap (λ (l : Schedule). l ++ (t ∷ [])) (done .schedule) ∙ sym next
 
-      replay-more : (r : Stepped) (trail' : List ℕ) → HoldsStep code lengths σ t r
-          → ((ns : List Note) (n : Note) → Noted trail ns → k ≡ length ns → r .note ≡ noteBytes n → Noted trail' (ns ++ (n ∷ [])))
+      replay-more : (r : Stepped) (trail' : List ℕ) → HoldsStep code lengths σ t r → trail' ≡ putNote trail k (r .note)
           → Progress code lengths p s (r .machine) trail' (set made k t) (k + 1)
-      replay-more r trail' held note-put =
+      replay-more r trail' held put =
           let state : run SC (start p) (take (k + 1) s) ≡ step σ t = ap (run SC (start p)) next ∙ run-snoc SC (start p) (take k s) t in
           record {
             within = omega arith;
@@ -107,7 +107,7 @@ module _ (code lengths : List ℕ) (threads : ℕ) (p : Program) (loaded : Loade
             allowed = more-allowed;
             holds = subst (Holds code lengths (r .machine)) (sym state) (held .holds);
             noted = subst (Noted trail') (sym (ap (notes (start p)) next ∙ notes-snoc (start p) (take k s) t))
-                (note-put (notes (start p) (take k s)) (note σ t) (done .noted) same-length (held .noted));
+                (note-put put replay-room (notes (start p) (take k s)) (note σ t) (done .noted) same-length (held .noted));
             left = done .left ∙ ap (replayFrom k σ) (drop-cons s k 0 h) ∙ cons-goes k σ t (drop (suc k) s) ok
                 ∙ ap (λ (τ : State). replayFrom (suc k) τ (drop (suc k) s)) (sym state)
                 ∙ ap (λ (j : ℕ). replayFrom j (run SC (start p) (take (k + 1) s)) (drop j s)) (let z : suc k ≡ k + 1 = omega arith in z);
@@ -129,12 +129,17 @@ module _ (code lengths : List ℕ) (threads : ℕ) (p : Program) (loaded : Loade
         replay-fits = replay-room may-here
 
         pub replay-stored : (a : After) (trail' made' : List ℕ) → made' ≡ set made k t
-            → ((n : Machine) (τ : State) → threadAt n t ≡ threadAt m u → n .memory ≡ m .memory → n .last ≡ m .last → Holds code lengths n τ → may τ t ≡ true → place τ t < 8 → HoldsStep code lengths τ t (whole n t a))
-            → ((ns : List Note) (n : Note) → Noted trail ns → k ≡ length ns → a .note ≡ noteBytes n → Noted trail' (ns ++ (n ∷ [])))
-            → Progress code lengths p s (whole m u a .machine) trail' made' (k + 1)
-        replay-stored a trail' made' em acts note-put =
-            subst (λ (l : List ℕ). Progress code lengths p s (whole m u a .machine) trail' l (k + 1)) (sym em) (replay-more may-here (whole m u a) trail'
-            (stored-whole code lengths m t u a eu acts σ (done .holds) may-here (replay-near may-here)) note-put)
+            → ((n : Machine) (τ : State) → threadAt n t ≡ threadAt m u → n .memory ≡ m .memory → Holds code lengths n τ → may τ t ≡ true → place τ t < 8 → HoldsStep code lengths τ t (whole n t t a))
+            → (w : LastWrite) → w ≡ lastAfter t (threadAt m u .done) (lastAt m (a .place)) a
+            → trail' ≡ putNote trail k (noteAfter t (threadAt m u .done) (lastAt m (a .place)) a)
+            → Progress code lengths p s (record { threads = set (m .threads) u (threadAfter a); memory = a .memory; last = set (m .last) (a .place) w }) trail' made' (k + 1)
+        replay-stored a trail' made' em acts w ew put =
+            subst (λ (l : List ℕ). Progress code lengths p s (behind w) trail' l (k + 1)) (sym em)
+            (subst (λ (e : LastWrite). Progress code lengths p s (behind e) trail' (set made k t) (k + 1)) (sym ew)
+            (replay-more may-here (whole m u t a) trail' (stored-whole code lengths m t u a eu acts σ (done .holds) may-here (replay-near may-here)) put))
+          where
+            behind : LastWrite → Machine
+            behind e = record { threads = set (m .threads) u (threadAfter a); memory = a .memory; last = set (m .last) (a .place) e }
 
   -- ---- none is left
   module _ (h : length s ≤ k) where

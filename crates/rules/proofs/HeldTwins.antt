@@ -28,14 +28,6 @@ none-below f n none = go (any f (upTo 0 n)) refl
     go true e = let r = any-yes f (upTo 0 n) e in let i = of-upTo 0 n (r .0) (r .1) .1 in absurd (true≢false (sym (r .2) ∙ none (r .0) (omega arith)))
     go false e = e
 
--- what holds below t and at t holds below t + 1
-pub one-more : (P : ℕ → Type 0) (t : ℕ) → ((u : ℕ) → u < t → P u) → P t → (u : ℕ) → u < t + 1 → P u
-one-more P t before own u b = go (ℕ-discrete u t)
-  where
-    go : Dec (u ≡ t) → P u
-    go (yes q) = subst P (sym q) own
-    go (no q) = before u (omega (arith, q))
-
 module _ (code lengths class : List ℕ) (threads groups : ℕ) (x : Place) (p : Program) (v : Schedule) (r : Reached code lengths class threads groups x p v) (t : ℕ) (h : t < 6) where
   -- R2, AS THE CODE TESTS IT
   pub twin-held : (getD class t 0 ≡ 0 → ⊥) → (u : ℕ) → u < t →

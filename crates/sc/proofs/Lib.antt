@@ -16,8 +16,6 @@ pub mod Start
 pub mod Words
 -- sequential consistency is a lawful step system; T0: at most 24 steps, at most 6^24 full schedules
 pub mod Lawful
--- the actions of a run: of six threads, and as they are where no thread moves
-pub mod Actions
 -- T1: independent steps commute; the orders of a run's steps
 pub mod Swap
 pub mod Orders

@@ -37,9 +37,10 @@ apart σ a t ne m = go (eqb (place σ a) (place (step σ a) t)) refl (writes σ 
         let k : writes (step σ a) t ≡ false = rw (e, q, conflict) at m in
         inr (q, sym (writes-still σ a t ne q) ∙ k)
 
-by : (σ : State) (t : ℕ) → who (action σ t) ≡ t
+-- a step's action is its thread's
+pub action-who : (σ : State) (t : ℕ) → who (action σ t) ≡ t
 unfolding who action
-by σ t = refl
+action-who σ t = refl
 
 -- independent steps can be turned round
 pub commute : (σ : State) (a t : ℕ) → a ≢ t → Independent σ a t → may σ a ≡ true → may (step σ a) t ≡ true → Commute SC σ a t
@@ -62,11 +63,11 @@ Reorders ds s = OrderOf who conflict (SC .names) ds s
 -- the first step of t, if nothing before it conflicts with it, can be taken first
 pub pulled : (w : Schedule) (σ : State) (t : ℕ) (d : Action) → FullFrom SC σ w → nextOf who conflict (trail σ w) t ≡ some d → clear who conflict (trail σ w) t d ≡ true →
     (r : Schedule) × FullFrom SC σ (t ∷ r) × (run SC σ (t ∷ r) ≡ run SC σ w) × (trail (step σ t) r ≡ takeOut who conflict (trail σ w) t) × (action σ t ≡ d)
-pulled = Orders.pulled SC lawful names-ascend who conflict action by turned-round
+pulled = Orders.pulled SC lawful names-ascend who conflict action action-who turned-round
 
 pub reorders-full : (v w : Schedule) (σ : State) → FullFrom SC σ w → Reorders (trail σ w) v → FullFrom SC σ v × (run SC σ v ≡ run SC σ w)
-reorders-full = Orders.order-full SC lawful names-ascend who conflict action by turned-round
+reorders-full = Orders.order-full SC lawful names-ascend who conflict action action-who turned-round
 
 pub least-order : (σ : State) (w : Schedule) → FullFrom SC σ w →
     FullFrom SC σ (leastOf (trail σ w)) × (run SC σ (leastOf (trail σ w)) ≡ run SC σ w) × ((r : Schedule) → Reorders (trail σ w) r → AtMost (leastOf (trail σ w)) r)
-least-order = Orders.order-least SC lawful names-ascend who conflict action by turned-round
+least-order = Orders.order-least SC lawful names-ascend who conflict action action-who turned-round

@@ -18,6 +18,7 @@ use Rattle.sc.proofs.Steps.{may-pending}
 use Rattle.sc.proofs.Change.{wrote-own}
 use Rattle.sc.proofs.Regular.{Regular, place-in}
 use Rattle.sc.proofs.Reading.{same-place}
+use Rattle.sc.proofs.Orders.{action-who}
 
 -- a step that writes: what it leaves
 given-some : (o : Option ℕ) → given o ≡ true → (n : ℕ) × (o ≡ some n)
@@ -67,20 +68,16 @@ by : (σ : State) (a t : ℕ) → a ≢ t → who (action σ a) ≢ t
 unfolding who action
 by σ a t ne = ne
 
-own : (σ : State) (t : ℕ) → who (action σ t) ≡ t
-unfolding who action
-own σ t = refl
-
 pub first-at : (z w : Schedule) (σ : State) (t : ℕ) → (List·Memᴰ t z → ⊥) → nextOf who conflict (trail σ (z ++ (t ∷ w))) t ≡ some (action (run SC σ z) t)
 unfolding trace run
-first-at [] w σ t n = Ordered.next-same who conflict (action σ t) (trail (step σ t) w) t (own σ t)
+first-at [] w σ t n = Ordered.next-same who conflict (action σ t) (trail (step σ t) w) t (action-who σ t)
 first-at (a ∷ z) w σ t n =
     Ordered.next-other who conflict (action σ a) (trail (step σ a) (z ++ (t ∷ w))) t (by σ a t (λ q. n (List·Memᴰ·head (sym q))))
     ∙ first-at z w (step σ a) t (λ m. n (List·Memᴰ·tail m))
 
 pub clear-at : (z w : Schedule) (σ : State) (t : ℕ) (d : Action) → (List·Memᴰ t z → ⊥) → ((x : Schedule) (a : ℕ) (y : Schedule) → z ≡ x ++ (a ∷ y) → conflict (action (run SC σ x) a) d ≡ false) → clear who conflict (trail σ (z ++ (t ∷ w))) t d ≡ true
 unfolding trace run
-clear-at [] w σ t d n h = Ordered.clear-same who conflict (action σ t) (trail (step σ t) w) t d (own σ t)
+clear-at [] w σ t d n h = Ordered.clear-same who conflict (action σ t) (trail (step σ t) w) t d (action-who σ t)
 clear-at (a ∷ z) w σ t d n h =
     Ordered.clear-more who conflict (action σ a) (trail (step σ a) (z ++ (t ∷ w))) t d (by σ a t (λ q. n (List·Memᴰ·head (sym q)))) (h [] a z refl)
     (clear-at z w (step σ a) t d (λ m. n (List·Memᴰ·tail m)) (λ x b y e. h (a ∷ x) b y (ap {B = List ℕ} (λ k. a ∷ k) e)))

@@ -21,7 +21,7 @@ use Rattle.sc.proofs.Lawful.{lawful, names-ascend, start-24}
 use Rattle.sc.proofs.Steps.{may-small}
 use Rattle.sc.proofs.Start.{start-threads}
 use Rattle.sc.proofs.Regular.{regular-start}
-use Rattle.sc.proofs.Orders.{turned-round}
+use Rattle.sc.proofs.Orders.{turned-round, action-who}
 use Rattle.sc.proofs.SameGraph.{same-graph-reorders}
 use Rattle.sc.proofs.Exchange.{moves-may, moves-step, moves-ended, moves-graph, moves-memory}
 use Rattle.sc.proofs.ExchangedTrail.{moves-action}
@@ -33,17 +33,13 @@ use Rattle.sc.proofs.Halted.{stays-failed}
 use Rattle.sc_model.specs.Sequential.{sc}
 use Rattle.sc_model.proofs.Turned.{turns-true, true-turns}
 
-by : (σ : State) (b : ℕ) → who (action σ b) ≡ b
-unfolding who action
-by σ b = refl
-
 step-laws : StepLaws sc
 step-laws = record {
   lawful = lawful;
   ascend = names-ascend;
   named = let e = upTo-length 0 6 in omega arith;
   below = may-small;
-  by = by;
+  by = action-who;
   swap = λ σ a b ne m n c. turned-round σ a b ne m n c .0;
   waits = λ σ a b ne m n c. let r = turned-round σ a b ne m n c in (r .1, r .2);
   turns-exact = λ π g h. (turns-true π g h, true-turns π g h);

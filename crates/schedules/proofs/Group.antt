@@ -10,8 +10,8 @@ use lib.Dec.{eqb, ltb}
 use lib.ListN.{length, getD, List·getD-map, List·getD-eq-default, length-map}
 use lib.Seq.{ext-getD}
 use borrow.Author.Tests.{eqb-true, eq-eqb, ltb-true}
-use Rattle.schedules.specs.Lists.{upTo, both, any, all}
-use Rattle.schedules.specs.Permutations.{NoDuplicates, Permutation, permutations, factorial, dropAt, arranged, permutationOf, moved, inverse, compose}
+use Rattle.schedules.specs.Lists.{upTo, both, any, all, Distinct}
+use Rattle.schedules.specs.Permutations.{Permutation, permutations, factorial, dropAt, arranged, permutationOf, moved, inverse, compose}
 use Rattle.schedules.proofs.Lists.{both-left, both-right, in-upTo, of-upTo, any-no, all-at}
 use Rattle.schedules.proofs.Permutations.{permutations-complete}
 use Rattle.schedules.proofs.Numbered.{numbered, sameNumbers, distinctb, permutationb, invertible, all-invertible}
@@ -28,12 +28,12 @@ same-numbers (x ∷ xs) (y ∷ ys) e = go (eqb x y) refl (λ k. same-numbers xs 
     go true q ih = ap₂ {C = List ℕ} (λ z zs. z ∷ zs) (eqb-true x y q) (ih (rw (q, sameNumbers) at e))
     go false q ih = absurd (false≢true (rw (q, sameNumbers) at e))
 
-distinct-is : (xs : List ℕ) → distinctb xs ≡ true → NoDuplicates xs
+distinct-is : (xs : List ℕ) → distinctb xs ≡ true → Distinct xs
 unfolding distinctb
 distinct-is [] e = tt
 distinct-is (x ∷ xs) e = go (any (eqb x) xs) refl (λ k. distinct-is xs k)
   where
-    go : (b : Bool) → any (eqb x) xs ≡ b → (distinctb xs ≡ true → NoDuplicates xs) → NoDuplicates (x ∷ xs)
+    go : (b : Bool) → any (eqb x) xs ≡ b → (distinctb xs ≡ true → Distinct xs) → Distinct (x ∷ xs)
     go true q ih = absurd (false≢true (rw (q, distinctb) at e))
     go false q ih = ((λ m. true≢false (sym (eq-eqb x x refl) ∙ any-no (eqb x) xs x q m)), ih (rw (q, distinctb) at e))
 
@@ -128,7 +128,7 @@ module _ (π : List ℕ) (m : List·Memᴰ π permutations) where
   moved-above x h = List·getD-eq-default π x {n = x} (omega (arith, member-permutation .six))
 
 -- what has no duplicates keeps none under an injective function
-pub distinct-map : (f : ℕ → ℕ) → ((x y : ℕ) → f x ≡ f y → x ≡ y) → (l : List ℕ) → NoDuplicates l → NoDuplicates (map f l)
+pub distinct-map : (f : ℕ → ℕ) → ((x y : ℕ) → f x ≡ f y → x ≡ y) → (l : List ℕ) → Distinct l → Distinct (map f l)
 distinct-map f inj [] d = tt
 distinct-map f inj (x ∷ l) d = (
   (λ m. let r = Memᴰ·of-map f l m in d .0 (subst (λ (z : ℕ). List·Memᴰ z l) (inj (r .0) x (r .2)) (r .1))),

@@ -1,7 +1,7 @@
 -- Members of lists, what tests over lists say of them, and ascending lists.
 use mathlib.Core.Path.{_≡_, refl, sym, ap, ap₂, _∙_}
 use mathlib.Core.Logic.{_⊎_, inl, inr, ⊎-elim}
-use mathlib.Core.Bool.{Bool, true, false, true≢false, false≢true}
+use mathlib.Core.Bool.{Bool, true, false, true≢false, false≢true, _&&_, _||_}
 use mathlib.Core.Option.{some}
 use mathlib.Core.List.{List, [], _∷_, _++_, List·Memᴰ, List·Memᴰ·head, List·Memᴰ·tail, List·Memᴰ·cases-cons, List·Memᴰ·not-nil, List·Memᴰ·append-cases}
 use Prim.Native.Nat.{ℕ, zero, suc, _+_, _<_, _≤_}
@@ -197,3 +197,19 @@ pub upTo-length : (a n : ℕ) → length (upTo a n) ≡ n
 unfolding upTo
 upTo-length a zero = refl
 upTo-length a (suc n) = ap suc (upTo-length (suc a) n)
+
+pub all-cons : {A : Type 0} (f : A → Bool) (x : A) (xs : List A) → all f (x ∷ xs) ≡ (f x && all f xs)
+unfolding all
+all-cons f x xs = go (f x) refl
+  where
+    go : (b : Bool) → f x ≡ b → all f (x ∷ xs) ≡ (f x && all f xs)
+    go true q = rw (q, all)
+    go false q = rw (q, all)
+
+pub any-cons : {A : Type 0} (f : A → Bool) (x : A) (xs : List A) → any f (x ∷ xs) ≡ (f x || any f xs)
+unfolding any
+any-cons f x xs = go (f x) refl
+  where
+    go : (b : Bool) → f x ≡ b → any f (x ∷ xs) ≡ (f x || any f xs)
+    go true q = rw (q, any)
+    go false q = rw (q, any)

@@ -8,10 +8,10 @@ use native.Mathlib.Omega.{arith}
 use lib.Dec.{eqb, ltb}
 use lib.ListN.{length}
 use borrow.Author.Tests.{eqb-true, ltb-true}
-use Rattle.schedules.specs.Lists.{upTo, Ascends}
+use Rattle.schedules.specs.Lists.{upTo, Ascends, Distinct}
 use Rattle.schedules.specs.Order.{less}
 use Rattle.schedules.specs.Fulls.{fronts}
-use Rattle.schedules.specs.Permutations.{NoDuplicates, Permutation, without, each, permsOf, permutations}
+use Rattle.schedules.specs.Permutations.{Permutation, without, each, permsOf, permutations}
 use Rattle.schedules.proofs.Order.{less-heads}
 use Rattle.schedules.proofs.Lists.{in-upTo, upTo-ascends, ascends-append}
 use Rattle.schedules.proofs.Fulls.{in-fronts, of-fronts, fronts-ascends}
@@ -67,7 +67,7 @@ each-ascends f xs h (y ∷ ys) a = ascends-append less (fronts y (f (without y x
     (λ l r m n. let p = of-fronts y l (f (without y xs)) m in let q = of-each f xs ys r n in rw (p .1, q .2) (less-heads y (q .0) (p .0) (q .1) (ltb-true y (q .0) (a .0 (q .0) (q .3)))))
 
 -- n distinct members in any order are among the ways
-pub permsOf-complete : (n : ℕ) (xs ys : List ℕ) → length ys ≡ n → ((y : ℕ) → List·Memᴰ y ys → List·Memᴰ y xs) → NoDuplicates ys → List·Memᴰ ys (permsOf n xs)
+pub permsOf-complete : (n : ℕ) (xs ys : List ℕ) → length ys ≡ n → ((y : ℕ) → List·Memᴰ y ys → List·Memᴰ y xs) → Distinct ys → List·Memᴰ ys (permsOf n xs)
 unfolding permsOf
 permsOf-complete zero xs [] e w d = List·Memᴰ·head refl
 permsOf-complete zero xs (y ∷ ys) e w d = absurd (omega arith)

@@ -40,6 +40,11 @@ unfoldable pub headOf : {A : Type 0} → List A → Option A
 headOf [] = none
 headOf (x ∷ xs) = some x
 
+-- no member stands twice
+abbrev pub Distinct : {A : Type 0} → List A → Type 0
+Distinct [] = Unit {0}
+Distinct (x ∷ xs) = (List·Memᴰ x xs → ⊥) × Distinct xs
+
 -- each member is smaller than all later ones
 abbrev pub Ascends : {A : Type 0} → (A → A → Bool) → List A → Type 0
 Ascends less [] = Unit {0}

@@ -6,19 +6,14 @@ use mathlib.Core.Bool.{true, false}
 use mathlib.Core.List.{List, [], _∷_, _++_, map, List·Memᴰ}
 use lib.Dec.{eqb}
 use lib.ListN.{length, getD}
-use Rattle.schedules.specs.Lists.{upTo}
+use Rattle.schedules.specs.Lists.{upTo, Distinct}
 use Rattle.schedules.specs.Fulls.{fronts}
-
--- no number stands twice
-abbrev pub NoDuplicates : List ℕ → Type 0
-NoDuplicates [] = Unit {0}
-NoDuplicates (x ∷ xs) = (List·Memᴰ x xs → ⊥) × NoDuplicates xs
 
 -- six distinct numbers below six
 pub record Permutation (π : List ℕ) : Type 0 where
   pub six : length π ≡ 6
   pub below : (x : ℕ) → List·Memᴰ x π → x < 6
-  pub distinct : NoDuplicates π
+  pub distinct : Distinct π
 
 -- a list without the first x
 unfoldable pub without : ℕ → List ℕ → List ℕ

@@ -117,7 +117,7 @@ before-shorter (x ∷ new) b [] [] e h = absurd (omega arith)
 before-shorter (x ∷ new) b [] (z ∷ a) e h = let k : z ≡ x = cc in List·Memᴰ·head k
 before-shorter (x ∷ new) b (z ∷ n) a e h = let k : new ++ b ≡ n ++ a = cc in List·Memᴰ·tail (before-shorter new b n a k h)
 
-latest-front : (e : Event) (ws : List Event) → latest (e ∷ ws) ≡ e
+pub latest-front : (e : Event) (ws : List Event) → latest (e ∷ ws) ≡ e
 unfolding latest
 latest-front e ws = refl
 

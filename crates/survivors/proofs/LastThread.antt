@@ -22,6 +22,7 @@ use Rattle.schedules.specs.Search.{low, past}
 use Rattle.schedules.specs.Found.{inTurn}
 use Rattle.schedules.proofs.Lists.{of-upTo, any-yes}
 use Rattle.schedules.proofs.Runs.{not-ended}
+use Rattle.model.proofs.LateSet.{and-false}
 use Rattle.sc.specs.Local.{Local, pending, beginsWithAccess}
 use Rattle.sc.specs.State.{State, SC, threadOf, place, may, step, start}
 use Rattle.sc.specs.Graph.{endOf}
@@ -37,7 +38,7 @@ use Rattle.survivors.specs.LateSet.{lateNow, lateBehind, lateSet}
 use Rattle.survivors.specs.Sleepers.{readsLeft, writesLeft, meets, wakes, sleepers}
 use Rattle.survivors.specs.Search.{givenUp, foundBehind, foundWith}
 use Rattle.survivors.proofs.Sets.{has-none, set-none}
-use Rattle.survivors.proofs.LateSet.{and-false, late-below, late-more}
+use Rattle.survivors.proofs.LateSet.{late-below, late-more}
 use Rattle.survivors.proofs.Sleepers.{sleepers-greatest, sleepers-none}
 use Rattle.survivors.proofs.Search.{up-not, with-ended, with-live, behind-turns}
 

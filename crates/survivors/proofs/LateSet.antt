@@ -20,14 +20,11 @@ use Rattle.sc.proofs.Steps.{may-small, may-other}
 use Rattle.sc.proofs.Swap.{action-after}
 use Rattle.sc.proofs.Orders.{apart}
 use Rattle.model.specs.Late as Late
+pub use Rattle.model.proofs.LateSet.{and-false}
 use Rattle.list.specs.Rules.{late, taken}
 use Rattle.survivors.specs.Sets.{has}
 use Rattle.survivors.specs.LateSet.{lateNow, lateBehind, lateAlong, lateSet}
 use Rattle.survivors.proofs.Sets.{has-none, set-below, set-has, set-above}
-
-pub and-false : (b : Bool) → (b && false) ≡ false
-and-false true = refl
-and-false false = refl
 
 not-small : (σ : State) (t : ℕ) → (t < 6 → ⊥) → may σ t ≡ false
 not-small σ t n = go (may σ t) refl

@@ -27,6 +27,7 @@ use Rattle.sc.proofs.Histories.{upcoming, Done, upcoming-undone, done-cases}
 use Rattle.sc.proofs.Swap.{still-cells}
 use Rattle.sc.proofs.Trails.{writes-own, still-takes}
 use Rattle.survivors.specs.ReadWords.{Words, lone, wordBehind, stampsBehind, wordsBehind, wordsAlong, noWords}
+use Rattle.survivors.proofs.Counting.{latest-front}
 use Rattle.survivors.proofs.GoesFirst.{Quiet}
 use Rattle.survivors.proofs.Digits.{numbered, numbered-at, numbered-else, digits, Plain, Sources, digits-same, digits-below, led, led-same}
 
@@ -84,10 +85,6 @@ code-apart ρ σ n m C d e (inr a) (inl b) q = absurd (omega (arith, q, ap (C .c
 code-apart ρ σ n m C d e (inr a) (inr b) q = C .code-once d e a b q
 
 -- ---- one step
-latest-front : (e : Event) (ws : List Event) → latest (e ∷ ws) ≡ e
-unfolding latest
-latest-front e ws = refl
-
 stamps-length : (s : List ℕ) (l n : ℕ) (b : Bool) → length (stampsBehind s l n b) ≡ length s
 unfolding stampsBehind
 stamps-length s l n true = length-set s l n

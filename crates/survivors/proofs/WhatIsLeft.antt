@@ -5,6 +5,7 @@ use mathlib.Core.Bool.{Bool, true, false, cond, false≢true, _&&_, _||_}
 use mathlib.Core.List.{List, [], _∷_}
 use native.Mathlib.Omega.{arith}
 use lib.Dec.{eqb}
+use Rattle.schedules.proofs.Lists.{any-cons}
 use Rattle.program.specs.declared.instruction.Instruction.{Instruction}
 use Rattle.program.specs.declared.instruction.Instruction.the-variants.{Memory, Alone}
 use Rattle.schedules.specs.Lists.{any}
@@ -15,14 +16,6 @@ use Rattle.sc.proofs.Ahead.{takes-or-puts}
 use Rattle.survivors.specs.Sets.{has, joined}
 use Rattle.survivors.specs.Sleepers.{readsLeft, writesLeft, meets, wakes}
 use Rattle.survivors.proofs.Sets.{has-none, joined-has, joined-below}
-
-any-front : (f : Instruction → Bool) (i : Instruction) (is : List Instruction) → any f (i ∷ is) ≡ (f i || any f is)
-unfolding any
-any-front f i is = go (f i) refl
-  where
-    go : (b : Bool) → f i ≡ b → any f (i ∷ is) ≡ (f i || any f is)
-    go true e = rw (e, any)
-    go false e = rw (e, any)
 
 -- what holds of tests: e the same location, r and m whether the access reads and could write, w whether the other could; R and W of what is behind
 left-test : (e r m w R W : Bool) → (r || m) ≡ true → ((e && (m || w)) || (W || (R && w))) ≡ (cond m (e || W) W || (cond r (e || R) R && w))
@@ -49,7 +42,7 @@ module _ (l : ℕ) (h : l < 8) (w : Bool) where
   unfolding any couldConflict readsLeft writesLeft
   left-law [] = rw (has-none l)
   left-law (Memory a ∷ is) =
-      any-front (couldConflict l w) (Memory a) is
+      any-cons (couldConflict l w) (Memory a) is
       ∙ ap (λ (b : Bool). (eqb (accessPlace a) l && (accessMayPut a || w)) || b) (left-law is)
       ∙ left-test (eqb (accessPlace a) l) (accessTakes a) (accessMayPut a) w (has (readsLeft is) l) (has (writesLeft is) l) (takes-or-puts a)
       ∙ ap₂ (λ (a b : Bool). a || (b && w))

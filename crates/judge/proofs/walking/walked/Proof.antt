@@ -8,7 +8,7 @@ use Rattle.program.specs.Program.{Program}
 use Rattle.schedules.specs.System.{run}
 use Rattle.sc.specs.State.{SC, start}
 use Rattle.sc.specs.Graph.{Graph}
-use Rattle.judge.specs.HeldYes.{Given}
+use Rattle.enabled.specs.HeldWalk.{Given}
 use Rattle.rounds.proofs.HeldValues.{zeros}
 use Rattle.enabled.proofs.WalkChoice.{walk-near, walk-ready}
 use Rattle.judge.proofs.WalkTurns.{Progress, walk-start, walk-on, walk-whole, walk-stops, walk-may, walk-note, walk-more, few-more}

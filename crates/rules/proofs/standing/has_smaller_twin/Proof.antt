@@ -6,7 +6,8 @@ use mathlib.Core.Bool.{false, _&&_}
 use native.Mathlib.Omega.{arith}
 use lib.Dec.{eqb}
 use lib.ListN.{getD}
-use Rattle.rules.proofs.HeldTwins.{one-more, alone-held, twins-none, twins-some}
+use Rattle.machine.proofs.HeldAsking.{one-more}
+use Rattle.rules.proofs.HeldTwins.{alone-held, twins-none, twins-some}
 use Rattle.rules.proofs.standing.has_smaller_twin.Statement.{statement}
 use Rattle.rules.proofs.standing.has_smaller_twin.Tie as tie
 

@@ -5,6 +5,7 @@ use mathlib.Core.Path.{_≡_, sym, _∙_}
 use Rattle.sc.specs.Graph.{endOf}
 use Rattle.list.specs.Answers.{failing}
 use Rattle.survivors.proofs.Search.{behind-end, behind-passed}
+use Rattle.machine.proofs.HeldAsking.{fails-by}
 use Rattle.walker.specs.Rows.{rowOf}
 use Rattle.walker.proofs.AddedRows.{adds-none, adds-full, adds-one}
 use Rattle.walker.proofs.ending.at_end.Statement.{statement}
@@ -24,7 +25,7 @@ returns-2 c =
       entry .pre .1,
       λ code lengths class threads groups p v at e.
           adds-none p (a .a .room) _ (a .out .now) (a .a .rows)
-          (behind-passed (a .a .only) p (a .x .steps) v (c .before .before .fails .result) e (sym (c .before .before .fails .ensures code lengths (endOf p v) (at .holds))) (sym (c .before .is-meant .ensures) ∙ not-true _ (c .if2 .taken))),
+          (behind-passed (a .a .only) p (a .x .steps) v (c .before .before .fails .result) e (sym (c .before .before .fails .ensures ∙ fails-by (at .holds))) (sym (c .before .is-meant .ensures) ∙ not-true _ (c .if2 .taken))),
     )
 
 returns-3 : tie.Need-returns-3
@@ -34,7 +35,7 @@ returns-3 c = (
   λ code lengths class threads groups p v at e.
       let entry = c .before .before .before .before .before .before .before .before .before .before .before in
       let a = entry .args in
-      let f : failing p v ≡ c .before .before .before .before .before .before .before .fails .result = sym (c .before .before .before .before .before .before .before .fails .ensures code lengths (endOf p v) (at .holds)) in
+      let f : failing p v ≡ c .before .before .before .before .before .before .before .fails .result = sym (c .before .before .before .before .before .before .before .fails .ensures ∙ fails-by (at .holds)) in
       let w = at .schedule in
       adds-one p (a .a .room) _ v (a .out .now) (c .before .before .put-row .last .0) (a .a .rows)
       (behind-end (a .a .only) p (a .x .steps) v (c .before .before .before .before .before .before .before .fails .result) e f (sym (c .before .before .before .before .before .before .is-meant .ensures) ∙ not-false _ (c .before .before .before .before .before .if2 .left)))

@@ -12,6 +12,7 @@ use borrow.Fn.PlainCycle.{Measures, is, falls, and}
 use Rattle.sc.specs.Graph.{endOf}
 use Rattle.survivors.proofs.Search.{behind-stuck}
 use Rattle.prefix.proofs.ReachedStep.{reached-most}
+use Rattle.machine.proofs.HeldAsking.{ended-by, may-by}
 use Rattle.walker.specs.Bounds.{boundAt}
 use Rattle.walker.proofs.AddedRows.{adds-none, adds-same}
 use Rattle.walker.proofs.WalkTurns.{visit-ended, visit-late, visit-twin, visit-asleep, visit-less, visit-on, bound-met, bound-apart, Rest, rest-start, rest-next, rest-over, rest-full}
@@ -80,7 +81,7 @@ visit-returns t c =
     let pre = entry .pre in
     let a = entry .args in (
       pre .1 .2,
-      λ threads groups p v at. adds-none p (a .a .room) _ (a .out .now) (a .a .rows) (visit-ended (a .code .now) (a .lengths .now) (a .class .now) threads groups (a .x) p v at (a .a .only) (boundAt (a .a .along) (a .bound .now) (a .x .steps)) (a .t) (sym (c .before .may .ensures (a .code .now) (endOf p v) (at .holds)) ∙ not-true _ (c .if1 .taken))),
+      λ threads groups p v at. adds-none p (a .a .room) _ (a .out .now) (a .a .rows) (visit-ended (a .code .now) (a .lengths .now) (a .class .now) threads groups (a .x) p v at (a .a .only) (boundAt (a .a .along) (a .bound .now) (a .x .steps)) (a .t) (sym (c .before .may .ensures ∙ may-by (at .holds) (a .t)) ∙ not-true _ (c .if1 .taken))),
     )
 
 visit-returns-2 : (t : ℕ) → visit-lts.Need-returns-2 (visit-callees t) (visit-at t) visit.Post
@@ -89,7 +90,7 @@ visit-returns-2 t c =
     let pre = entry .pre in
     let a = entry .args in (
       pre .1 .2,
-      λ threads groups p v at. adds-none p (a .a .room) _ (a .out .now) (a .a .rows) (visit-late (a .code .now) (a .lengths .now) (a .class .now) threads groups (a .x) p v at (a .a .only) (boundAt (a .a .along) (a .bound .now) (a .x .steps)) (a .t) (sym (c .before .before .before .may .ensures (a .code .now) (endOf p v) (at .holds)) ∙ not-false _ (c .before .before .if1 .left)) (sym (c .before .is-late .ensures) ∙ c .if2 .taken)),
+      λ threads groups p v at. adds-none p (a .a .room) _ (a .out .now) (a .a .rows) (visit-late (a .code .now) (a .lengths .now) (a .class .now) threads groups (a .x) p v at (a .a .only) (boundAt (a .a .along) (a .bound .now) (a .x .steps)) (a .t) (sym (c .before .before .before .may .ensures ∙ may-by (at .holds) (a .t)) ∙ not-false _ (c .before .before .if1 .left)) (sym (c .before .is-late .ensures) ∙ c .if2 .taken)),
     )
 
 visit-returns-3 : (t : ℕ) → visit-lts.Need-returns-3 (visit-callees t) (visit-at t) visit.Post
@@ -98,7 +99,7 @@ visit-returns-3 t c =
     let pre = entry .pre in
     let a = entry .args in (
       pre .1 .2,
-      λ threads groups p v at. adds-none p (a .a .room) _ (a .out .now) (a .a .rows) (visit-twin (a .code .now) (a .lengths .now) (a .class .now) threads groups (a .x) p v at (a .a .only) (boundAt (a .a .along) (a .bound .now) (a .x .steps)) (a .t) (sym (c .before .before .before .before .before .may .ensures (a .code .now) (endOf p v) (at .holds)) ∙ not-false _ (c .before .before .before .before .if1 .left)) (sym (c .before .has-smaller-twin .ensures (a .code .now) (a .lengths .now) threads groups p v at) ∙ c .if3 .taken)),
+      λ threads groups p v at. adds-none p (a .a .room) _ (a .out .now) (a .a .rows) (visit-twin (a .code .now) (a .lengths .now) (a .class .now) threads groups (a .x) p v at (a .a .only) (boundAt (a .a .along) (a .bound .now) (a .x .steps)) (a .t) (sym (c .before .before .before .before .before .may .ensures ∙ may-by (at .holds) (a .t)) ∙ not-false _ (c .before .before .before .before .if1 .left)) (sym (c .before .has-smaller-twin .ensures (a .code .now) (a .lengths .now) threads groups p v at) ∙ c .if3 .taken)),
     )
 
 visit-advanced-requires : (t : ℕ) → visit-lts.Need-advanced-requires (visit-callees t) (visit-at t) visit.Post
@@ -107,7 +108,7 @@ visit-advanced-requires t c κs =
     let pre = entry .pre in
     let a = entry .args in
     let e = pre .1 .0 in
-    (a .class .now, e .0, e .1, e .2, e .3, e .4, (sym (c .before .before .before .before .before .may .ensures (a .code .now) (endOf (e .2) (e .3)) (e .4 .holds)) ∙ not-false _ (c .before .before .before .before .if1 .left)))
+    (a .class .now, e .0, e .1, e .2, e .3, e .4, (sym (c .before .before .before .before .before .may .ensures ∙ may-by (e .4 .holds) (a .t)) ∙ not-false _ (c .before .before .before .before .if1 .left)))
 
 visit-some-asleep-requires : (t : ℕ) → visit-lts.Need-some-asleep-requires (visit-callees t) (visit-at t) visit.Post
 visit-some-asleep-requires t c κs =
@@ -123,7 +124,7 @@ visit-returns-4 t c =
     let pre = entry .pre in
     let a = entry .args in (
       pre .1 .2,
-      λ threads groups p v at. adds-none p (a .a .room) _ (a .out .now) (a .a .rows) (visit-asleep (a .code .now) (a .lengths .now) (a .class .now) threads groups (a .x) p v at (a .a .only) (boundAt (a .a .along) (a .bound .now) (a .x .steps)) (a .t) (sym (c .before .before .before .before .before .before .before .before .may .ensures (a .code .now) (endOf p v) (at .holds)) ∙ not-false _ (c .before .before .before .before .before .before .before .if1 .left)) (sym (c .before .some-asleep .ensures (a .class .now) threads groups p (v ++ (a .t ∷ [])) (c .before .before .advanced .ensures (a .class .now) threads groups p v at)) ∙ c .if4 .taken)),
+      λ threads groups p v at. adds-none p (a .a .room) _ (a .out .now) (a .a .rows) (visit-asleep (a .code .now) (a .lengths .now) (a .class .now) threads groups (a .x) p v at (a .a .only) (boundAt (a .a .along) (a .bound .now) (a .x .steps)) (a .t) (sym (c .before .before .before .before .before .before .before .before .may .ensures ∙ may-by (at .holds) (a .t)) ∙ not-false _ (c .before .before .before .before .before .before .before .if1 .left)) (sym (c .before .some-asleep .ensures (a .class .now) threads groups p (v ++ (a .t ∷ [])) (c .before .before .advanced .ensures (a .class .now) threads groups p v at)) ∙ c .if4 .taken)),
     )
 
 visit-walk-requires : (t : ℕ) → visit-lts.Need-walk-requires (visit-callees t) (visit-at t) visit.Post
@@ -133,7 +134,7 @@ visit-walk-requires t c κs =
     let a = entry .args in
     let e = pre .1 .0 in
     let next = c .before .before .before .before .advanced .ensures (a .class .now) (e .0) (e .1) (e .2) (e .3) (e .4) in (
-      omega (arith, pre .0, visit-less (a .code .now) (a .lengths .now) (a .class .now) (e .0) (e .1) (a .x) (e .2) (e .3) (e .4) (a .a .only) (boundAt (a .a .along) (a .bound .now) (a .x .steps)) (a .t) (sym (c .before .before .before .before .before .before .before .before .before .before .may .ensures (a .code .now) (endOf (e .2) (e .3)) (e .4 .holds)) ∙ not-false _ (c .before .before .before .before .before .before .before .before .before .if1 .left)) (c .before .before .before .before .advanced .result) next),
+      omega (arith, pre .0, visit-less (a .code .now) (a .lengths .now) (a .class .now) (e .0) (e .1) (a .x) (e .2) (e .3) (e .4) (a .a .only) (boundAt (a .a .along) (a .bound .now) (a .x .steps)) (a .t) (sym (c .before .before .before .before .before .before .before .before .before .before .may .ensures ∙ may-by (e .4 .holds) (a .t)) ∙ not-false _ (c .before .before .before .before .before .before .before .before .before .if1 .left)) (c .before .before .before .before .advanced .result) next),
       ((e .0, e .1, e .2, e .3 ++ (a .t ∷ []), next), pre .1 .1, pre .1 .2, pre .1 .3),
     )
 
@@ -147,7 +148,7 @@ visit-returns-5 t c =
       λ threads groups p v at.
           let next = c .before .before .before .before .before .before .before .advanced .ensures (a .class .now) threads groups p v at in
           adds-same p (a .a .room) _ _ (a .out .now) _ (a .a .rows) _
-          (visit-on (a .code .now) (a .lengths .now) (a .class .now) threads groups (a .x) p v at (a .a .only) (boundAt (a .a .along) (a .bound .now) (a .x .steps)) (a .t) (sym (c .before .before .before .before .before .before .before .before .before .before .before .before .before .may .ensures (a .code .now) (endOf p v) (at .holds)) ∙ not-false _ (c .before .before .before .before .before .before .before .before .before .before .before .before .if1 .left)) (c .before .before .before .before .before .before .before .advanced .result) next
+          (visit-on (a .code .now) (a .lengths .now) (a .class .now) threads groups (a .x) p v at (a .a .only) (boundAt (a .a .along) (a .bound .now) (a .x .steps)) (a .t) (sym (c .before .before .before .before .before .before .before .before .before .before .before .before .before .may .ensures ∙ may-by (at .holds) (a .t)) ∙ not-false _ (c .before .before .before .before .before .before .before .before .before .before .before .before .if1 .left)) (c .before .before .before .before .before .before .before .advanced .result) next
           (sym (c .before .before .before .before .before .before .before .before .before .before .before .is-late .ensures) ∙ c .before .before .before .before .before .before .before .before .before .before .if2 .left)
           (sym (c .before .before .before .before .before .before .before .before .before .has-smaller-twin .ensures (a .code .now) (a .lengths .now) threads groups p v at) ∙ c .before .before .before .before .before .before .before .before .if3 .left)
           (sym (c .before .before .before .before .before .before .some-asleep .ensures (a .class .now) threads groups p (v ++ (a .t ∷ [])) next) ∙ c .before .before .before .before .before .if4 .left)
@@ -169,7 +170,7 @@ walk-returns t c =
     let pre = entry .pre in
     let a = entry .args in (
       pre .1 .2,
-      λ threads groups p v at. rw (c .if2 .taken) (adds-none p (a .a .room) _ (a .out .now) (a .a .rows) (bound-met (a .a .only) p (a .x .steps) v (a .bound .now) (sym (c .before .before .ended-all .ensures (a .code .now) (endOf p v) (at .holds)) ∙ c .before .if1 .taken))),
+      λ threads groups p v at. rw (c .if2 .taken) (adds-none p (a .a .room) _ (a .out .now) (a .a .rows) (bound-met (a .a .only) p (a .x .steps) v (a .bound .now) (sym (c .before .before .ended-all .ensures ∙ ended-by (at .holds)) ∙ c .before .if1 .taken))),
     )
 
 walk-at-end-requires : (t : ℕ) → walk-lts.Need-at-end-requires (walk-callees t) (walk-at t) walk.Post walk-Inv-loop walk-μ-loop
@@ -188,7 +189,7 @@ walk-returns-2 t c =
       c .before .before .at-end .ensures .0,
       λ threads groups p v at.
           rw (c .before .before .before .before .if2 .left) (adds-same p (a .a .room) _ _ (a .out .now) _ (a .a .rows) _ (bound-apart (a .a .only) p (a .x .steps) v (a .bound .now))
-          (c .before .before .at-end .ensures .1 (a .code .now) (a .lengths .now) (a .class .now) threads groups p v at (sym (c .before .before .before .before .before .before .ended-all .ensures (a .code .now) (endOf p v) (at .holds)) ∙ c .before .before .before .before .before .if1 .taken))),
+          (c .before .before .at-end .ensures .1 (a .code .now) (a .lengths .now) (a .class .now) threads groups p v at (sym (c .before .before .before .before .before .before .ended-all .ensures ∙ ended-by (at .holds)) ∙ c .before .before .before .before .before .if1 .taken))),
     )
 
 walk-returns-3 : (t : ℕ) → walk-lts.Need-returns-3 (walk-callees t) (walk-at t) walk.Post walk-Inv-loop walk-μ-loop
@@ -197,7 +198,7 @@ walk-returns-3 t c =
     let pre = entry .pre in
     let a = entry .args in (
       pre .1 .2,
-      λ threads groups p v at. adds-none p (a .a .room) _ (a .out .now) (a .a .rows) (behind-stuck (a .a .only) p (a .x .steps) v (boundAt (a .a .along) (a .bound .now) (a .x .steps)) (sym (c .before .before .before .ended-all .ensures (a .code .now) (endOf p v) (at .holds)) ∙ c .before .before .if1 .left) (c .if3 .taken)),
+      λ threads groups p v at. adds-none p (a .a .room) _ (a .out .now) (a .a .rows) (behind-stuck (a .a .only) p (a .x .steps) v (boundAt (a .a .along) (a .bound .now) (a .x .steps)) (sym (c .before .before .before .ended-all .ensures ∙ ended-by (at .holds)) ∙ c .before .before .if1 .left) (c .if3 .taken)),
     )
 
 walk-loop-holds : (t : ℕ) → walk-lts.Need-loop-holds (walk-callees t) (walk-at t) walk.Post walk-Inv-loop walk-μ-loop
@@ -207,7 +208,7 @@ walk-loop-holds t c =
     let a = entry .args in (
       pre .1 .2,
       refl,
-      rest-start (a .code .now) (a .lengths .now) (a .class .now) (a .a .only) (a .x) (boundAt (a .a .along) (a .bound .now) (a .x .steps)) (a .out .now) (a .a .room) (a .a .rows) (c .first-thread .result) (λ threads groups p v at. sym (c .before .before .before .before .ended-all .ensures (a .code .now) (endOf p v) (at .holds)) ∙ c .before .before .before .if1 .left) (c .before .if3 .left) (c .first-thread .ensures),
+      rest-start (a .code .now) (a .lengths .now) (a .class .now) (a .a .only) (a .x) (boundAt (a .a .along) (a .bound .now) (a .x .steps)) (a .out .now) (a .a .room) (a .a .rows) (c .first-thread .result) (λ threads groups p v at. sym (c .before .before .before .before .ended-all .ensures ∙ ended-by (at .holds)) ∙ c .before .before .before .if1 .left) (c .before .if3 .left) (c .first-thread .ensures),
     )
 
 walk-returns-4 : (t : ℕ) → walk-lts.Need-returns-4 (walk-callees t) (walk-at t) walk.Post walk-Inv-loop walk-μ-loop
