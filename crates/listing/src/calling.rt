@@ -3,7 +3,10 @@ use decoder::Compiled;
 use lines::wide;
 use replay::Verdict;
 use replay::replayed;
-use walker::listed_rows;
+use walker::Cursor;
+use walker::beginning;
+use walker::behind;
+use walker::next_page;
 ghost use mathlib.Core.Path.{_≡_};
 ghost use Prim.Native.Nat.{_+_, _≤_};
 ghost use lib.ListN.{length, take, drop};
@@ -12,9 +15,7 @@ ghost use Rattle.program.specs.WellFormed.{WellFormed};
 ghost use Rattle.decoder.specs.Compiled.{programOf};
 ghost use Rattle.schedules.specs.Lists.{headOf};
 ghost use Rattle.schedules.specs.Calls.{turn, short, content};
-ghost use Rattle.schedules.specs.Found.{after};
-ghost use Rattle.list.specs.Search.{sought};
-ghost use Rattle.walker.specs.Bounds.{boundAt};
+ghost use Rattle.walker.specs.Cursor.{remaining};
 ghost use Rattle.list.specs.Answers.{continueOf};
 ghost use Rattle.listing.specs.OnFile.{startFile, continueFile, violationFile};
 ghost use Rattle.listing.specs.Said.{said, violationSaid};
@@ -40,24 +41,18 @@ fn put_schedule(out: &mut [u8], row: &[u8; 26], n: usize)
     }
 }
 
-// The first listed schedule of the program behind the bound, or of all, or of those that fail.
-fn next_listed(
-    program: Compiled,
-    only: bool,
-    bound: &[u8],
-    along: bool,
-    out: &mut [u8],
-) -> ListAnswer
+// The first one that is yet to come, of all that are listed or of those that fail.
+fn next_listed(program: Compiled, cursor: Cursor, only: bool, out: &mut [u8]) -> ListAnswer
     requires { ⌜ WellFormed (programOf program) ⌝ }
-    ensures answer { λ r. ⌜ r ≡ said (turn (short 24 (now (out .entry))) (headOf (after (boundAt along (now (bound .entry)) 0) (sought only (programOf program))))) ⌝ }
-    ensures output { λ r. ⌜ now (out .exit) ≡ content (turn (short 24 (now (out .entry))) (headOf (after (boundAt along (now (bound .entry)) 0) (sought only (programOf program))))) (now (out .entry)) ⌝ }
+    ensures answer { λ r. ⌜ r ≡ said (turn (short 24 (now (out .entry))) (headOf (remaining (programOf program) only cursor))) ⌝ }
+    ensures output { λ r. ⌜ now (out .exit) ≡ content (turn (short 24 (now (out .entry))) (headOf (remaining (programOf program) only cursor))) (now (out .entry)) ⌝ }
 {
     if out.len() < 24 {
         return ListAnswer::Refused(22, 0);
     }
     let mut row = [0u8; 26];
-    let rows = listed_rows(program, only, bound, along, &mut row);
-    if rows == 0 {
+    let page = next_page(program, cursor, only, &mut row);
+    if page.rows == 0 {
         return ListAnswer::NoMore;
     }
     let n = wide(row[0]);
@@ -80,7 +75,7 @@ fn continued(program: Compiled, schedule: &[u8], out: &mut [u8]) -> ListAnswer
     let v = r.verdict;
     match v {
         Verdict::Refused(n, k) => ListAnswer::Refused(n, k),
-        Verdict::Whole => next_listed(program, false, schedule, true, out),
+        Verdict::Whole => next_listed(program, behind(schedule), false, out),
     }
 }
 
@@ -95,7 +90,7 @@ pub fn start(file: &[u8], out: &mut [u8]) -> ListAnswer
         decoder::Verdict::Refused(n, k) => ListAnswer::Refused(n, k),
         decoder::Verdict::Accepted => {
             let p = a.program;
-            next_listed(p, false, file, false, out)
+            next_listed(p, beginning(), false, out)
         }
     }
 }
@@ -127,7 +122,7 @@ pub fn violation(file: &[u8], out: &mut [u8]) -> ListAnswer
         decoder::Verdict::Refused(n, k) => ListAnswer::Refused(n, k),
         decoder::Verdict::Accepted => {
             let p = a.program;
-            next_listed(p, true, file, false, out)
+            next_listed(p, beginning(), true, out)
         }
     }
 }

@@ -1,7 +1,8 @@
 // How many schedules are listed, and how many of these fail.
 use decoder::Compiled;
-use lines::wide;
-use walker::listed_rows;
+use walker::beginning;
+use walker::is_end;
+use walker::next_page;
 ghost use mathlib.Core.Path.{_≡_};
 ghost use mathlib.Core.List.{List};
 ghost use Prim.Native.Nat.{ℕ, _≤_};
@@ -44,29 +45,21 @@ fn failing_in(rows: &[u8; 1664], n: usize) -> usize
     failing
 }
 
-// Of an accepted program: 64 rows at a time, each time behind the last row of the time before.
+// Of an accepted program: 64 rows at a time.
 fn counts(program: Compiled) -> Tally
     requires { ⌜ WellFormed (programOf program) ⌝ }
     ensures { λ r. ⌜ (r .listed ≡ countOf (programOf program) .listed) × (r .failing ≡ countOf (programOf program) .failed) ⌝ }
 {
-    let none = [0u8; 1];
     let mut rows = [0u8; 1664];
-    let mut n = listed_rows(program, false, &none, false, &mut rows);
+    let mut cursor = beginning();
     let mut listed = 0;
     let mut failing = 0;
-    while 0 < n {
+    while !is_end(cursor) {
+        let page = next_page(program, cursor, false, &mut rows);
+        let n = page.rows;
         listed += n;
         failing += failing_in(&rows, n);
-        let before = rows;
-        let at = (n - 1) * 26;
-        let length = wide(before[at]);
-        n = listed_rows(
-            program,
-            false,
-            &before[at + 2..at + 2 + length],
-            true,
-            &mut rows,
-        );
+        cursor = page.cursor;
     }
     Tally {
         listed: listed,

@@ -3,13 +3,15 @@ use mathlib.Core.Path.{_≡_, refl, sym, ap, subst, _∙_}
 use mathlib.Core.Bool.{Bool, true, false}
 use mathlib.Core.Option.{Option, none, some}
 use mathlib.Core.List.{List, [], _∷_, _++_, List·Memᴰ, List·Memᴰ·head, Memᴰ·append-right}
+use Prim.Native.Nat.{ℕ, _≤_}
+use lib.ListN.{length, take}
 use Rattle.schedules.specs.Lists.{both, headOf, Ascends}
 use Rattle.schedules.specs.Order.{Schedule, less}
 use Rattle.schedules.specs.Calls.{offer}
 use Rattle.schedules.specs.Found.{after}
-use Rattle.schedules.proofs.Order.{less-irreflexive, less-asymmetric, less-transitive}
+use Rattle.schedules.proofs.Order.{less-cut, less-irreflexive, less-asymmetric, less-transitive}
 use Rattle.schedules.proofs.Lists.{keep-no, of-keep, ascends-keep}
-use Rattle.schedules.proofs.Kept.{keep-same, keep-keep, keep-whole}
+use Rattle.schedules.proofs.Kept.{keep-agree, keep-same, keep-keep, keep-whole}
 use Rattle.schedules.proofs.First.{head-keep, next-first}
 
 -- without a bound it is the whole list
@@ -39,6 +41,11 @@ pub after-ascends : (o : Option Schedule) (l : List Schedule) → Ascends less l
 unfolding after
 after-ascends none l a = a
 after-ascends (some b) l a = ascends-keep less (less b) l a
+
+-- of a bound no more bytes tell than the longest member has
+pub after-cut : (n : ℕ) (b : Schedule) (l : List Schedule) → ((x : Schedule) → List·Memᴰ x l → length x ≤ n) → after (some (take n b)) l ≡ after (some b) l
+unfolding after
+after-cut n b l h = keep-agree (less (take n b)) (less b) l (λ x m. less-cut n b x (h x m))
 
 -- behind a member
 pub after-behind : (xs : List Schedule) (s : Schedule) (ys : List Schedule) → Ascends less (xs ++ (s ∷ ys)) → after (some s) (xs ++ (s ∷ ys)) ≡ ys

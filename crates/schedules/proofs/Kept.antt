@@ -47,14 +47,17 @@ module _ {A : Type 0} where
   keep-whole f (x ∷ l) h = keep-yes f x l (h x (List·Memᴰ·head refl)) ∙ ap {B = List A} (λ k. x ∷ k) (keep-whole f l (λ y m. h y (List·Memᴰ·tail m)))
 
   -- two tests that agree, and one behind the other
-  pub keep-same : (f g : A → Bool) (l : List A) → ((x : A) → f x ≡ g x) → keep f l ≡ keep g l
+  pub keep-agree : (f g : A → Bool) (l : List A) → ((x : A) → List·Memᴰ x l → f x ≡ g x) → keep f l ≡ keep g l
   unfolding keep
-  keep-same f g [] h = refl
-  keep-same f g (x ∷ l) h = go (g x) refl (keep-same f g l h)
+  keep-agree f g [] h = refl
+  keep-agree f g (x ∷ l) h = go (g x) refl (h x (List·Memᴰ·head refl)) (keep-agree f g l (λ y m. h y (List·Memᴰ·tail m)))
     where
-      go : (c : Bool) → g x ≡ c → keep f l ≡ keep g l → keep f (x ∷ l) ≡ keep g (x ∷ l)
-      go true e ih = keep-yes f x l (h x ∙ e) ∙ ap {B = List A} (λ k. x ∷ k) ih ∙ sym (keep-yes g x l e)
-      go false e ih = keep-no f x l (h x ∙ e) ∙ ih ∙ sym (keep-no g x l e)
+      go : (c : Bool) → g x ≡ c → f x ≡ g x → keep f l ≡ keep g l → keep f (x ∷ l) ≡ keep g (x ∷ l)
+      go true e q ih = keep-yes f x l (q ∙ e) ∙ ap {B = List A} (λ k. x ∷ k) ih ∙ sym (keep-yes g x l e)
+      go false e q ih = keep-no f x l (q ∙ e) ∙ ih ∙ sym (keep-no g x l e)
+
+  pub keep-same : (f g : A → Bool) (l : List A) → ((x : A) → f x ≡ g x) → keep f l ≡ keep g l
+  keep-same f g l h = keep-agree f g l (λ x m. h x)
 
   pub keep-keep : (f g : A → Bool) (l : List A) → keep g (keep f l) ≡ keep (λ x. both (g x) (f x)) l
   unfolding keep both

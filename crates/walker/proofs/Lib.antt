@@ -9,3 +9,9 @@ pub mod AddedRows
 pub mod WalkTurns
 -- the walk from the start finds what is listed
 pub mod ListedRows
+-- rows in a buffer read back
+pub mod RowsRead
+-- what a cursor has yet to come
+pub mod CursorLaws
+-- a page, and the cursor behind it
+pub mod PageLaws

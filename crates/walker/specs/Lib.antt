@@ -1,6 +1,8 @@
 -- What a reader of this crate must believe, in reading order.
 -- listed schedules as rows of bytes in a buffer; for the code
 pub mod Rows
+-- a cursor in the list, and pages of it
+pub mod Cursor
 -- a search's bound, step by step; for the code
 pub mod Bounds
 -- what the search adds to the rows in its output; for the code

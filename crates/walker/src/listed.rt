@@ -16,7 +16,7 @@ ghost use Rattle.walker.specs.Rows.{Shown};
 
 // Writes the rows of the listed schedules (of those that fail, if only these are wanted) behind the bound, or from the first one on, as many as
 // the output has room for; answers how many.
-pub fn listed_rows(
+pub(crate) fn listed_rows(
     program: Compiled,
     only: bool,
     bound: &[u8],

@@ -1,5 +1,6 @@
 -- `continued` carries the schedule out first.
 use borrow.Author.Needs.{needs}
+use mathlib.Core.Bool.{false}
 use mathlib.Core.Path.{sym, ap, _∙_}
 use Rattle.decoder.specs.Compiled.{programOf}
 use Rattle.schedules.specs.Calls.{Result}
@@ -38,18 +39,19 @@ returns-2 c =
 
 returns-3 : tie.Need-returns-3
 returns-3 c =
-    let entry = c .before .before .before .before .before .before .before .before .before .before .before .before .before .before in
+    let entry = c .before .before .before .before .before .before .before .before .before .before .before .before .before .before .before in
     let pre = entry .pre in
     let args = entry .args in
-    let if1 = c .before .before .before .before .before .before .before .before .before .before .before .if1 in
-    let replayed = c .before .before .before .before .before .before .replayed in
-    let enum-told = c .before .before .before .before .enum-told in
+    let if1 = c .before .before .before .before .before .before .before .before .before .before .before .before .if1 in
+    let replayed = c .before .before .before .before .before .before .before .replayed in
+    let enum-told = c .before .before .before .before .before .enum-told in
     let next-listed = c .before .before .next-listed in
     let p = args .program in
+    let after = c .before .before .before .before .behind .ensures (programOf p) false (pre) in
     let h = replayed .ensures (programOf p) (loaded-compiled p (pre)) in (
-      next-listed .ensures .0 ∙ ap said (continue-whole (programOf p) (args .schedule .now) (args .out .now) (p .code) (p .lengths) (replayed .result) h (if1 .left) (enum-told .given .1)),
-      next-listed .ensures .1 ∙ continue-output (programOf p) (args .schedule .now) (args .out .now) (p .code) (p .lengths) (replayed .result) h (if1 .left) (enum-told .given .1),
+      next-listed .ensures .0 ∙ ap said (continue-whole (programOf p) (args .schedule .now) (args .out .now) (p .code) (p .lengths) (replayed .result) h (if1 .left) _ after (enum-told .given .1)),
+      next-listed .ensures .1 ∙ continue-output (programOf p) (args .schedule .now) (args .out .now) (p .code) (p .lengths) (replayed .result) h (if1 .left) _ after (enum-told .given .1),
     )
 
 pub continued-spec : {M : Type 1} → statement M
-continued-spec = tie.close (tie.spec returns replayed-requires (λ c. search needs) (λ c. search needs) (λ c κs. search needs) returns-2 (λ c. search needs) returns-3)
+continued-spec = tie.close (tie.spec returns replayed-requires (λ c. search needs) (λ c. search needs) (λ c κs. search needs) (λ c κs. search needs) returns-2 (λ c. search needs) returns-3)
