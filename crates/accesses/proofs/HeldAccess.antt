@@ -10,7 +10,7 @@ use Rattle.program.specs.declared.instruction.Instruction.{Instruction}
 use Rattle.program.specs.declared.instruction.Instruction.the-variants.{Memory, Alone}
 use Rattle.accesses.specs.declared.accessing.Access.{Access}
 use Rattle.sc.specs.Local.{Local, accessPlace, accessPuts, settle, beginsWithAccess, firstPlace, firstTakes, firstPuts, firstNext}
-use Rattle.sc.specs.Trail.{given}
+use Rattle.sc.specs.Actions.{given}
 use Rattle.accesses.specs.CarriedOut.{valueIn, accessOf}
 
 -- a is what the access x, before the instructions is, does in the thread h on this memory

@@ -11,7 +11,7 @@ use Rattle.accesses.specs.declared.local.Carried.{Carried}
 use Rattle.accesses.specs.declared.accessing.Access.{Access}
 use Rattle.accesses.specs.declared.thread.ThreadState.{ThreadState}
 use Rattle.sc.specs.Local.{Local, accessPlace, accessTakes, accessPuts, accessSets, Outcome, continues, stops}
-use Rattle.sc.specs.Trail.{given}
+use Rattle.sc.specs.Actions.{given}
 
 -- an instruction carried out, with these registers behind it, and so many skipped
 abbrev pub going : List ℕ → ℕ → Carried

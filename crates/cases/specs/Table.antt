@@ -9,7 +9,7 @@ use Rattle.lines.specs.Digit.{digit, value, digitOf}
 use Rattle.lines.specs.Frame.{hexadecimal, pairs, frame, lineOf}
 use Rattle.lines.specs.Text.{digits, text}
 use Rattle.lines.specs.TextLines.{prepend, before, split, frameOf}
-use Rattle.program.specs.Kinds.{kinds, find, kindOf}
+use Rattle.program.specs.Kinds.{kinds, lookup, kindOf}
 use Rattle.program.specs.Frames.{word, kind, known, registerFits, locationFits, skipFits, operandFits, inRange, opens, declares, isAccess, skipOf, operand, buildOwn, build, instruction}
 use Rattle.program.specs.Decode.{fresh, threadAt, lastThread, inPlace, accessesIn, allAccessesIn, withinLimits, same, sameCode, among, grouped, memberFits, followersFit, membersFit, alikeFits, frameRefusal, after, farSkip, firstFarSkip, programIn, finish, readLines, decode}
 use Rattle.program.specs.WellFormed.{accesses}
@@ -23,7 +23,7 @@ use Rattle.consistent.specs.Same.{sameEvent, sameRead, sameList}
 use Rattle.consistent.specs.Answer.{Answer, consistent, inconsistent, refusing}
 use Rattle.consistent.proofs.ByWalk.{answerOn, answerFile}
 use Rattle.consistent.proofs.TextExamples.{answering}
-use Rattle.list.specs.ListOf.{together, permits, permitted, turns, alikeBy, alike, listOf}
+use Rattle.list.specs.ListOf.{together, permits, permitted, renames, alikeBy, alike, listOf}
 use Rattle.list.specs.Answers.{failing, countOf}
 use Rattle.listing.specs.Printed.{bytesOf, flag, scheduleFrame, countFrame, printedFrames, printed}
 use Rattle.cases.specs.Rows.{Row, empty, whole, wholeApart, increments, incrementsAlike, swaps, swapsAlike, adds, addsAlike, buffering, asserting}
@@ -31,7 +31,7 @@ use Rattle.cases.specs.Graphs.{Graph, neither, one}
 
 -- what a proof names to compute what is printed
 unfoldable pub computed : List ℕ → List ℕ
-unfolding computing seen digit value digitOf hexadecimal pairs frame lineOf digits text prepend before split kinds find kindOf word kind known registerFits locationFits skipFits operandFits inRange opens declares isAccess skipOf operand buildOwn build instruction fresh threadAt lastThread inPlace accessesIn allAccessesIn withinLimits same sameCode among grouped memberFits followersFit membersFit alikeFits frameRefusal frameOf after farSkip firstFarSkip programIn finish readLines decode accesses size accessesLeft movedEvent movedRead movedReads movedWrites together permits permitted sameEvent sameRead sameList turns alikeBy alike listOf failing countOf bytesOf flag scheduleFrame countFrame printedFrames textOf printed
+unfolding computing seen digit value digitOf hexadecimal pairs frame lineOf digits text prepend before split kinds lookup kindOf word kind known registerFits locationFits skipFits operandFits inRange opens declares isAccess skipOf operand buildOwn build instruction fresh threadAt lastThread inPlace accessesIn allAccessesIn withinLimits same sameCode among grouped memberFits followersFit membersFit alikeFits frameRefusal frameOf after farSkip firstFarSkip programIn finish readLines decode accesses size accessesLeft movedEvent movedRead movedReads movedWrites together permits permitted sameEvent sameRead sameList renames alikeBy alike listOf failing countOf bytesOf flag scheduleFrame countFrame printedFrames textOf printed
 computed file = printed file
 
 -- a row: a program with its list, or a graph text with the judge's answer

@@ -13,9 +13,9 @@ use Rattle.program.proofs.Everywhere.{everywhere-getD}
 use Rattle.schedules.specs.Order.{Schedule}
 use Rattle.schedules.specs.System.{run, Allowed}
 use Rattle.sc.specs.Local.{takes}
-use Rattle.sc.specs.State.{State, threadOf, cellOf, place, latest, advanced, step, may, SC, start}
+use Rattle.sc.specs.State.{State, threadOf, cellOf, place, latest, advanced, step, enabled, SC, start}
 use Rattle.sc.proofs.Access.{suffix-accesses, next-fewer}
-use Rattle.sc.proofs.Steps.{may-pending, may-range}
+use Rattle.sc.proofs.Steps.{enabled-pending, enabled-range}
 use Rattle.sc.proofs.Change.{thread-cases, noted-done}
 use Rattle.sc.proofs.Start.{start-history}
 use Rattle.sc.proofs.Histories.{rest-code}
@@ -30,14 +30,14 @@ accesses-length (Alone o ∷ is) = omega (arith, accesses-length is)
 abbrev total : State → ℕ → ℕ
 total σ u = threadOf σ u .history .done + accesses (threadOf σ u .local .rest)
 
-total-step : (σ : State) (t : ℕ) → may σ t ≡ true → (u : ℕ) → total (step σ t) u ≤ total σ u
+total-step : (σ : State) (t : ℕ) → enabled σ t ≡ true → (u : ℕ) → total (step σ t) u ≤ total σ u
 unfolding advanced
-total-step σ t m u = thread-cases (λ k h. h .history .done + accesses (h .local .rest) ≤ total σ k) σ t (may-range σ t m)
+total-step σ t m u = thread-cases (λ k h. h .history .done + accesses (h .local .rest) ≤ total σ k) σ t (enabled-range σ t m)
     (omega (
       arith,
       noted-done (takes (threadOf σ t .local)) (latest (cellOf σ (place σ t) .writes)) (threadOf σ t .history),
       next-fewer
-          (threadOf σ t .local) (cellOf σ (place σ t) .value) (may-pending σ t m),
+          (threadOf σ t .local) (cellOf σ (place σ t) .value) (enabled-pending σ t m),
     )) u (λ ne. omega arith)
 
 total-run : (z : Schedule) (σ : State) → Allowed SC σ z → (u : ℕ) → total (run SC σ z) u ≤ total σ u

@@ -36,5 +36,5 @@ yes-found : judge buffering firstSeen ≡ some (0 ∷ 0 ∷ 1 ∷ 1 ∷ [])
 unfolding judging
 yes-found = refl
 
-pub first-yes : LeastFor buffering firstSeen (0 ∷ 0 ∷ 1 ∷ 1 ∷ []) × Consistent buffering firstSeen
-first-yes = let r = judge-yes buffering buffering-formed firstSeen (0 ∷ 0 ∷ 1 ∷ 1 ∷ []) yes-found in (r .0, r .1)
+pub find-yes : LeastFor buffering firstSeen (0 ∷ 0 ∷ 1 ∷ 1 ∷ []) × Consistent buffering firstSeen
+find-yes = let r = judge-yes buffering buffering-formed firstSeen (0 ∷ 0 ∷ 1 ∷ 1 ∷ []) yes-found in (r .0, r .1)

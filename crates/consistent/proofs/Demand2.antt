@@ -22,7 +22,7 @@ use Rattle.sc.specs.State.{State}
 use Rattle.sc.specs.Text.{graphText}
 use Rattle.sc.specs.Replay.{Replayed, whole, replay}
 use Rattle.sc.specs.Replay as Replay
-use Rattle.sc.specs.GraphCall.{GraphSaid, texted, texting, graphAnswer, graphOn, graphFile, graphOutput}
+use Rattle.sc.specs.GraphCall.{GraphResult, texted, texting, graphAnswer, graphOn, graphFile, graphOutput}
 use Rattle.sc.proofs.Lawful.{at-most-24}
 use Rattle.sc.proofs.Replay.{replay-whole}
 use Rattle.consistent.specs.Consistent.{Consistent}
@@ -84,7 +84,7 @@ module _ (file : List ℕ) (p : Program) (ok : decode file ≡ accepted p) where
   unfolding graphOutput
   text-in-front s f out h =
       let t = textFor p s in
-      let e = ap (λ (x : GraphSaid). graphOutput x out) (has-text s (length out) h t .1 (f, refl)) in
+      let e = ap (λ (x : GraphResult). graphOutput x out) (has-text s (length out) h t .1 (f, refl)) in
       (ap (take (length t)) e ∙ take-over t out, ap (drop (length t)) e ∙ drop-over t out)
 
   -- ---- the judge

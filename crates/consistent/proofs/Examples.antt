@@ -14,7 +14,7 @@ use Rattle.program.specs.declared.instruction.Access.the-variants.{Store, Load,
 use Rattle.program.specs.declared.instruction.Comparison.the-variants.{Equal}
 use Rattle.program.specs.declared.instruction.Own.the-variants.{AddAssign, SkipUnless, Assert}
 use Rattle.program.specs.declared.instruction.Instruction.the-variants.{Memory, Alone}
-use Rattle.schedules.specs.Lists.{upTo, any, all, first}
+use Rattle.schedules.specs.Lists.{range, any, all, find}
 use Rattle.schedules.specs.Order.{Schedule}
 use Rattle.schedules.specs.Fulls.{fronts, branch, fullsFrom, fulls}
 use Rattle.schedules.specs.Greedy.{greedy}
@@ -24,11 +24,11 @@ use Rattle.sc.proofs.Examples.{seen}
 use Rattle.consistent.specs.Consistent.{alone}
 use Rattle.consistent.specs.Same.{sameEvent, sameRead, sameList}
 use Rattle.consistent.proofs.RoundValues.{sourceIn, orZero, leftBy, nextRound, values}
-use Rattle.consistent.proofs.Walk.{waits, noneWaits, turnOf, readFits, writeFits, fits, walk, sameGraph, judge}
+use Rattle.consistent.proofs.Walk.{waits, noneWaits, nextWrite, readFits, writeFits, fits, walk, sameGraph, judge}
 
 -- what a proof names on its `unfolding` line to compute with the judge
 unfoldable pub judging : Program → Graph → Option Schedule
-unfolding seen upTo any all first greedy alone sameEvent sameRead sourceIn orZero leftBy nextRound values waits noneWaits turnOf readFits writeFits fits walk sameList sameGraph judge
+unfolding seen range any all find greedy alone sameEvent sameRead sourceIn orZero leftBy nextRound values waits noneWaits nextWrite readFits writeFits fits walk sameList sameGraph judge
 judging p g = judge p g
 
 -- threads of which none are declared alike

@@ -72,7 +72,7 @@ module _ (n : ℕ) (text : List ℕ) (s : Table) (at number : ℕ) (p : Progress
           module _ (q : k ≡ 0) where
             -- it passes
             pub read-passes : n ≤ 6 → Passes n line size
-            read-passes few = let t = passed n (p .read) (pairs line) (sym r ∙ q) in record { few = few; size = framed .1; known = t .0; range = t .1 }
+            read-passes few = let t = passed n (p .read) (pairs line) (sym r ∙ q) in record { few = few; size = framed .1; known = t .0; in-range = t .1 }
 
             pub read-more : (s' : Table) → Taken n line s s' → Progress n text s' (end + 1) (number + 1)
             read-more s' t = record {

@@ -92,7 +92,7 @@ pub record Passes (n : ℕ) (line : List ℕ) (m : ℕ) : Type 0 where
   pub few : n ≤ 6
   pub size : m ≡ length (pairs line)
   pub known : known (pairs line) ≡ true
-  pub range : inRange n (pairs line) ≡ true
+  pub in-range : inRange n (pairs line) ≡ true
 
 -- what a line that is not refused leaves
 abbrev pub Taken : ℕ → List ℕ → Table → Table → Type 0

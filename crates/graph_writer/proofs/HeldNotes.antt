@@ -46,13 +46,13 @@ sets-written l vs i n e h = record {
 }
 
 -- a note is put into the trail where there is room
-pub put-room : (trail : List ℕ) (k : ℕ) (b : List ℕ) → k < 24 → putNote trail k b ≡ sets trail (k * 8) b
+pub put-room : (log : List ℕ) (k : ℕ) (b : List ℕ) → k < 24 → putNote log k b ≡ sets log (k * 8) b
 unfolding putNote
-put-room trail k b h = ap (λ (c : Bool). cond c (sets trail (k * 8) b) trail) (lt-ltb k 24 h)
+put-room log k b h = ap (λ (c : Bool). cond c (sets log (k * 8) b) log) (lt-ltb k 24 h)
 
-pub put-over : (trail : List ℕ) (k : ℕ) (b : List ℕ) → 24 ≤ k → putNote trail k b ≡ trail
+pub put-over : (log : List ℕ) (k : ℕ) (b : List ℕ) → 24 ≤ k → putNote log k b ≡ log
 unfolding putNote
-put-over trail k b h = ap (λ (c : Bool). cond c (sets trail (k * 8) b) trail) (le-ltb k 24 h)
+put-over log k b h = ap (λ (c : Bool). cond c (sets log (k * 8) b) log) (le-ltb k 24 h)
 
 -- eight bytes written behind the notes that are there
 noted-more : (old new : List ℕ) (k : ℕ) (b : List ℕ) → k < 24 → Written old (k * 8) b 8 new → (ns : List Note) (n : Note) → Noted old ns → k ≡ length ns → b ≡ noteBytes n → Noted new (ns ++ (n ∷ []))
@@ -79,13 +79,13 @@ note-put {old} {new} {b} {k} e h ns n noted q s =
     (subst (Written old (k * 8) b 8) (sym (e ∙ put-room old k b h)) (sets-written old b (k * 8) 8 (ap length s) (omega (arith, noted .size)))) ns n noted q s
 
 -- the first of these notes
-pub noted-fewer : (trail : List ℕ) (ns ms : List Note) → Noted trail (ns ++ ms) → Noted trail ns
-noted-fewer trail ns ms noted = record {
+pub noted-fewer : (log : List ℕ) (ns ms : List Note) → Noted log (ns ++ ms) → Noted log ns
+noted-fewer log ns ms noted = record {
   size = noted .size;
   most = omega (arith, length-append ns ms, noted .most);
   bytes = λ i j hi hj. noted .bytes i j (omega (arith, length-append ns ms)) hj ∙ ap (λ (x : Note). getD (noteBytes x) j 0) (List·getD-append ns ms noNote i hi);
 }
 
 -- none yet
-pub noted-none : (trail : List ℕ) → length trail ≡ 192 → Noted trail []
-noted-none trail e = record { size = e; most = omega arith; bytes = λ i j hi hj. absurd (omega arith) }
+pub noted-none : (log : List ℕ) → length log ≡ 192 → Noted log []
+noted-none log e = record { size = e; most = omega arith; bytes = λ i j hi hj. absurd (omega arith) }

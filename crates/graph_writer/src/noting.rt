@@ -3,8 +3,8 @@ ghost use mathlib.Core.Path.{_≡_};
 ghost use Rattle.graph_writer.specs.Notes.{putNote};
 
 // Puts the note of step k into the trail, which has room for 24; else nothing changes.
-pub fn put_note(trail: &mut [u8; 192], k: usize, note: [u8; 8])
-    ensures { λ r. ⌜ now (trail .exit) ≡ putNote (now (trail .entry)) k note ⌝ }
+pub fn put_note(log: &mut [u8; 192], k: usize, note: [u8; 8])
+    ensures { λ r. ⌜ now (log .exit) ≡ putNote (now (log .entry)) k note ⌝ }
 {
     if 24 <= k {
         return;
@@ -12,7 +12,7 @@ pub fn put_note(trail: &mut [u8; 192], k: usize, note: [u8; 8])
     let at = k * 8;
     let mut j = 0;
     while j < 8 {
-        trail[at + j] = note[j];
+        log[at + j] = note[j];
         j += 1;
     }
 }

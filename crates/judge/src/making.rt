@@ -3,7 +3,7 @@ use lines::wide;
 ghost use mathlib.Core.Path.{_≡_};
 ghost use Prim.Native.Nat.{ℕ, _<_};
 ghost use lib.ListN.{getD};
-ghost use Rattle.enabled.specs.HeldWalk.{Ranged};
+ghost use Rattle.allowed.specs.HeldWalk.{Ranged};
 ghost use Rattle.judge.specs.MadeTable.{sourceAdded, eventAdded, countAdded};
 
 // As in the table of a text: sources and writes, and how many writes each location has.

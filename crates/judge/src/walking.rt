@@ -1,13 +1,13 @@
 // The walk: always the least thread whose next access the graph allows, at most 24 steps.
 use crate::making::with_event;
 use crate::making::with_source;
-use enabled::chosen;
+use allowed::chosen;
 use machine::Machine;
 use machine::started;
 use machine::step;
 ghost use Rattle.program.specs.Program.{Program};
 ghost use Rattle.sc.specs.Graph.{Graph};
-ghost use Rattle.enabled.specs.HeldWalk.{Given};
+ghost use Rattle.allowed.specs.HeldWalk.{Given};
 ghost use Rattle.judge.specs.HeldYes.{Walked};
 
 // The steps, how many they are, the machine behind them, and the table of the graph that they made.

@@ -16,10 +16,10 @@ use Rattle.model.proofs.Passing.{Passed}
 use Rattle.model.proofs.Late as Model
 use Rattle.sc.specs.State.{State, place, step, SC}
 use Rattle.sc.specs.Graph.{endOf, Full}
-use Rattle.sc.specs.Trail.{Action, action, trail, who, conflict}
+use Rattle.sc.specs.Actions.{Action, action, actions, who, conflict}
 use Rattle.sc.proofs.Swap.{Independent, action-after}
 use Rattle.sc.proofs.Trails.{who-is, conflict-elsewhere, conflict-read}
-use Rattle.sc.proofs.FreeSteps.{action-thread, action-location, action-wrote, free-action, trail-nil, trail-cons}
+use Rattle.sc.proofs.FreeSteps.{action-thread, action-location, action-wrote, free-action, actions-nil, actions-cons}
 use Rattle.list.specs.Alike.{Smaller}
 use Rattle.list.specs.Rules.{late, taken}
 use Rattle.sc_model.specs.Sequential.{sc}
@@ -35,13 +35,13 @@ unmet σ a t (inr w) = go (ℕ-discrete (action σ a .location) (action σ t .lo
     go (no e) = conflict-elsewhere (action σ a) (action σ t) e
 
 -- a step passes the steps that it is free of
-free-passes : (z : Schedule) (σ : State) (t : ℕ) → Free SC Independent σ z t → Passed who conflict (trail σ z) (action σ t)
-free-passes [] σ t f = subst (λ k. Passed who conflict k (action σ t)) (sym (trail-nil σ)) tt
+free-passes : (z : Schedule) (σ : State) (t : ℕ) → Free SC Independent σ z t → Passed who conflict (actions σ z) (action σ t)
+free-passes [] σ t f = subst (λ k. Passed who conflict k (action σ t)) (sym (actions-nil σ)) tt
 free-passes (a ∷ z) σ t f =
-    subst (λ k. Passed who conflict k (action σ t)) (sym (trail-cons σ a z)) (
+    subst (λ k. Passed who conflict k (action σ t)) (sym (actions-cons σ a z)) (
       (λ e. f .0 (sym (action-thread σ a) ∙ sym (who-is (action σ a)) ∙ e ∙ who-is (action σ t) ∙ action-thread σ t)),
       unmet σ a t (f .1),
-      subst (Passed who conflict (trail (step σ a) z)) (action-after σ a t (Ne·symm (f .0)) (f .1)) (free-passes z (step σ a) t (f .2)),
+      subst (Passed who conflict (actions (step σ a) z)) (action-after σ a t (Ne·symm (f .0)) (f .1)) (free-passes z (step σ a) t (f .2)),
     )
 
 module _ (p : Program) (w : WellFormed p) where
@@ -56,4 +56,4 @@ module _ (p : Program) (w : WellFormed p) where
       let whole = append-assoc v f (t ∷ z) in
       subst (Smaller p) whole
       (Model.passing-smaller sc sc-laws p (w, refl) v f t z (subst (λ (d : Action). late (taken p v) d ≡ true) same e)
-      (subst (Passed who conflict (trail (endOf p v) f)) same (free-passes f (endOf p v) t free)) (subst (Full p) (sym whole) full))
+      (subst (Passed who conflict (actions (endOf p v) f)) same (free-passes f (endOf p v) t free)) (subst (Full p) (sym whole) full))

@@ -7,9 +7,9 @@ use mathlib.Core.List.{List·Memᴰ}
 use lib.ListN.{length}
 use Rattle.program.specs.Program.{Program}
 use Rattle.program.specs.WellFormed.{WellFormed}
-use Rattle.schedules.specs.Lists.{upTo, Ascends}
+use Rattle.schedules.specs.Lists.{range, Ascends}
 use Rattle.schedules.specs.Order.{Schedule, less}
-use Rattle.schedules.proofs.Lists.{ascends-keep}
+use Rattle.schedules.proofs.Lists.{ascends-filter}
 use Rattle.schedules.proofs.Group.{member-permutation, identity-member}
 use Rattle.model.specs.Alike as Alike
 use Rattle.model.proofs.TheList as Model
@@ -33,10 +33,10 @@ list-exact p s = Model.list-exact sc sc-laws p s
 -- IT IS FINITE
 pub list-length : (p : Program) → WellFormed p → length (listOf p) ≤ 6 ^ 24
 unfolding Alike.listOf Alike.alikeBy listOf alikeBy
-list-length p w = subst (λ (n : ℕ). length (listOf p) ≤ n ^ 24) (member-permutation (upTo 0 6) identity-member .six) (Model.list-length sc sc-laws p (w, refl))
+list-length p w = subst (λ (n : ℕ). length (listOf p) ≤ n ^ 24) (member-permutation (range 0 6) identity-member .six) (Model.list-length sc sc-laws p (w, refl))
 
 -- what is walked ascends
-pub sought-ascends : (only : Bool) (p : Program) → Ascends less (sought only p)
+pub sought-ascends : (failures : Bool) (p : Program) → Ascends less (sought failures p)
 unfolding sought
 sought-ascends false p = list-ascends p
-sought-ascends true p = ascends-keep less (failing p) (listOf p) (list-ascends p)
+sought-ascends true p = ascends-filter less (failing p) (listOf p) (list-ascends p)

@@ -10,11 +10,11 @@ use Rattle.schedules.proofs.After.{after-none, after-on}
 use Rattle.list.specs.Search.{sought}
 use Rattle.list.proofs.TheList.{sought-ascends}
 
-module _ (p : Program) (only : Bool) where
+module _ (p : Program) (failures : Bool) where
   -- behind a member
-  pub sought-behind : (xs : List Schedule) (s : Schedule) (ys : List Schedule) → sought only p ≡ xs ++ (s ∷ ys) → after (some s) (sought only p) ≡ ys
-  sought-behind xs s ys e = after-on none (sought only p) xs s ys (sought-ascends only p) (after-none (sought only p) ∙ e)
+  pub sought-behind : (xs : List Schedule) (s : Schedule) (ys : List Schedule) → sought failures p ≡ xs ++ (s ∷ ys) → after (some s) (sought failures p) ≡ ys
+  sought-behind xs s ys e = after-on none (sought failures p) xs s ys (sought-ascends failures p) (after-none (sought failures p) ∙ e)
 
   -- behind a member of what is above a bound
-  pub sought-on : (o : Option Schedule) (xs : List Schedule) (s : Schedule) (ys : List Schedule) → after o (sought only p) ≡ xs ++ (s ∷ ys) → after (some s) (sought only p) ≡ ys
-  sought-on o xs s ys e = after-on o (sought only p) xs s ys (sought-ascends only p) e
+  pub sought-on : (o : Option Schedule) (xs : List Schedule) (s : Schedule) (ys : List Schedule) → after o (sought failures p) ≡ xs ++ (s ∷ ys) → after (some s) (sought failures p) ≡ ys
+  sought-on o xs s ys e = after-on o (sought failures p) xs s ys (sought-ascends failures p) e

@@ -6,11 +6,11 @@ use mathlib.Core.Bool.{true}
 use Rattle.program.specs.Program.{Program}
 use Rattle.schedules.specs.Order.{Schedule, less}
 use Rattle.sc.specs.Graph.{Full, graph}
-use Rattle.sc.specs.Exchange.{Turns}
+use Rattle.sc.specs.Exchange.{Renames}
 pub use Rattle.model.specs.Exchange.{Exchange}
 
 abbrev pub Alike : Program → Schedule → Schedule → Type 0
-Alike p a b = (π : ℕ → ℕ) × Exchange p π × Turns π (graph p a) (graph p b)
+Alike p a b = (π : ℕ → ℕ) × Exchange p π × Renames π (graph p a) (graph p b)
 
 -- a smaller full schedule that is alike
 abbrev pub Smaller : Program → Schedule → Type 0

@@ -11,11 +11,11 @@ use Rattle.schedules.specs.Permutations.{moved}
 use Rattle.sc.specs.State.{SC, start}
 use Rattle.sc.specs.Graph.{Graph, graph}
 unfoldable pub use Rattle.model.specs.Exchange.{together, permits, permitted}
-unfoldable pub use Rattle.sc_model.specs.Turned.{turns}
+unfoldable pub use Rattle.sc_model.specs.Turned.{renames}
 
 -- whether some of these permutations does
 unfoldable pub alikeBy : List (List ℕ) → Graph → Graph → Bool
-alikeBy πs g h = any (λ π. turns (moved π) g h) πs
+alikeBy πs g h = any (λ π. renames (moved π) g h) πs
 
 -- whether two schedules are alike
 unfoldable pub alike : Program → Schedule → Schedule → Bool

@@ -12,7 +12,7 @@ use Rattle.model.specs.Late as Late
 use Rattle.model.specs.LateSet as LateSet
 use Rattle.sc.specs.Local.{Local}
 use Rattle.sc.specs.State.{Event, History, Cell, State, threadOf}
-use Rattle.sc.specs.Trail.{Action, who, conflict}
+use Rattle.sc.specs.Actions.{Action, who, conflict}
 use Rattle.consistent.specs.Same.{sameRead, sameList}
 use Rattle.sc_model.specs.Sequential.{sc}
 use Rattle.list.specs.ListOf.{together}

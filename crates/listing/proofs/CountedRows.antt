@@ -8,10 +8,10 @@ use native.Mathlib.Omega.{arith}
 use lib.ListN.{length, getD, take, length-append, length-take}
 use lib.Seq.{take-suc, take-all}
 use Rattle.program.specs.Program.{Program}
-use Rattle.schedules.specs.Lists.{keep}
+use Rattle.schedules.specs.Lists.{filter}
 use Rattle.schedules.specs.Order.{Schedule}
-use Rattle.schedules.proofs.Lists.{keep-yes, keep-no}
-use Rattle.schedules.proofs.Kept.{keep-length, keep-append}
+use Rattle.schedules.proofs.Lists.{filter-yes, filter-no}
+use Rattle.schedules.proofs.Kept.{filter-length, filter-append}
 use Rattle.list.specs.ListOf.{listOf}
 use Rattle.list.specs.Answers.{failing, countOf}
 use Rattle.list.specs.Search.{sought}
@@ -43,37 +43,37 @@ module _ (p : Program) (ss : List Schedule) (held rows : List ℕ) (n : ℕ) (sh
       go false q = q
 
   one-more : (k : ℕ) → k < n
-      → length (keep (failing p) (take (k + 1) ss)) ≡ length (keep (failing p) (take k ss)) + length (keep (failing p) (getD ss k [] ∷ []))
+      → length (filter (failing p) (take (k + 1) ss)) ≡ length (filter (failing p) (take k ss)) + length (filter (failing p) (getD ss k [] ∷ []))
   one-more k h =
       let e : k + 1 ≡ suc k = omega arith in
-      ap (λ (i : ℕ). length (keep (failing p) (take i ss))) e ∙ ap (λ (l : List Schedule). length (keep (failing p) l)) (take-suc ss k [] (omega (arith, h, shown .counted)))
-      ∙ ap length (keep-append (failing p) (take k ss) (getD ss k [] ∷ []))
-      ∙ length-append (keep (failing p) (take k ss)) (keep (failing p) (getD ss k [] ∷ []))
+      ap (λ (i : ℕ). length (filter (failing p) (take i ss))) e ∙ ap (λ (l : List Schedule). length (filter (failing p) l)) (take-suc ss k [] (omega (arith, h, shown .counted)))
+      ∙ ap length (filter-append (failing p) (take k ss) (getD ss k [] ∷ []))
+      ∙ length-append (filter (failing p) (take k ss)) (filter (failing p) (getD ss k [] ∷ []))
 
   -- one row more that fails
-  pub fails-more : (k f : ℕ) → k < n → getD rows (k * 26 + 1) 0 ≡ 1 → f ≡ length (keep (failing p) (take k ss))
-      → f + 1 ≡ length (keep (failing p) (take (k + 1) ss))
+  pub fails-more : (k f : ℕ) → k < n → getD rows (k * 26 + 1) 0 ≡ 1 → f ≡ length (filter (failing p) (take k ss))
+      → f + 1 ≡ length (filter (failing p) (take (k + 1) ss))
   fails-more k f h e q =
-      let y = ap length (keep-yes (failing p) (getD ss k []) [] (shown-fails k h e)) in
-      omega (arith, q, one-more k h, y, keep-length (failing p) [])
+      let y = ap length (filter-yes (failing p) (getD ss k []) [] (shown-fails k h e)) in
+      omega (arith, q, one-more k h, y, filter-length (failing p) [])
 
   -- one that does not
-  pub fails-same : (k f : ℕ) → k < n → getD rows (k * 26 + 1) 0 ≢ 1 → f ≡ length (keep (failing p) (take k ss))
-      → f ≡ length (keep (failing p) (take (k + 1) ss))
+  pub fails-same : (k f : ℕ) → k < n → getD rows (k * 26 + 1) 0 ≢ 1 → f ≡ length (filter (failing p) (take k ss))
+      → f ≡ length (filter (failing p) (take (k + 1) ss))
   fails-same k f h e q =
-      let y = ap length (keep-no (failing p) (getD ss k []) [] (shown-holds k h e)) in
-      omega (arith, q, one-more k h, y, keep-length (failing p) [])
+      let y = ap length (filter-no (failing p) (getD ss k []) [] (shown-holds k h e)) in
+      omega (arith, q, one-more k h, y, filter-length (failing p) [])
 
   -- all rows
-  pub fails-all : (k f : ℕ) → n ≤ k → f ≡ length (keep (failing p) (take k ss)) → f ≡ length (keep (failing p) ss)
-  fails-all k f h q = q ∙ ap (λ (l : List Schedule). length (keep (failing p) l)) (take-all k ss (omega (arith, h, shown .counted)))
+  pub fails-all : (k f : ℕ) → n ≤ k → f ≡ length (filter (failing p) (take k ss)) → f ≡ length (filter (failing p) ss)
+  fails-all k f h q = q ∙ ap (λ (l : List Schedule). length (filter (failing p) l)) (take-all k ss (omega (arith, h, shown .counted)))
 
 -- ---- counting
 -- counted so far, with what is yet to come the whole list
 pub record Counting (p : Program) (c : Cursor) (rows : List ℕ) (listed failed : ℕ) : Type 0 where
   pub size : length rows ≡ 1664
   pub all : listed + length (remaining p false c) ≡ length (listOf p)
-  pub fail : failed + length (keep (failing p) (remaining p false c)) ≡ length (keep (failing p) (listOf p))
+  pub fail : failed + length (filter (failing p) (remaining p false c)) ≡ length (filter (failing p) (listOf p))
 
 -- the pages to come are at most so many
 abbrev pub pages : Program → Cursor → ℕ
@@ -84,7 +84,7 @@ unfolding sought
 counting-start p c rows n e = record {
   size = n;
   all = omega (arith, ap length e);
-  fail = omega (arith, ap (λ (l : List Schedule). length (keep (failing p) l)) e);
+  fail = omega (arith, ap (λ (l : List Schedule). length (filter (failing p) l)) e);
 }
 
 -- nothing is to come any more
@@ -93,7 +93,7 @@ pub counting-over : (p : Program) (c : Cursor) (rows : List ℕ) (listed failed 
 unfolding countOf
 counting-over p c rows listed failed k e =
     let z = ap length (remaining-end p false c e) in
-    let f = keep-length (failing p) (remaining p false c) in
+    let f = filter-length (failing p) (remaining p false c) in
     (omega (arith, k .all, z), omega (arith, k .fail, f, z))
 
 -- a page more
@@ -115,26 +115,26 @@ module _ (p : Program) (c : Cursor) (rows : List ℕ) (listed failed : ℕ) (k :
   split-length =
       ap length (page-split p false c rows rows' r page) ∙ length-append shown-now (remaining p false (r .cursor)) ∙ omega (arith, page .shown .counted)
 
-  split-fails : length (keep (failing p) to-come) ≡ length (keep (failing p) shown-now) + length (keep (failing p) (remaining p false (r .cursor)))
+  split-fails : length (filter (failing p) to-come) ≡ length (filter (failing p) shown-now) + length (filter (failing p) (remaining p false (r .cursor)))
   split-fails =
-      ap (λ (l : List Schedule). length (keep (failing p) l)) (page-split p false c rows rows' r page)
-      ∙ ap length (keep-append (failing p) shown-now (remaining p false (r .cursor)))
-      ∙ length-append (keep (failing p) shown-now) (keep (failing p) (remaining p false (r .cursor)))
+      ap (λ (l : List Schedule). length (filter (failing p) l)) (page-split p false c rows rows' r page)
+      ∙ ap length (filter-append (failing p) shown-now (remaining p false (r .cursor)))
+      ∙ length-append (filter (failing p) shown-now) (filter (failing p) (remaining p false (r .cursor)))
 
   -- what is counted with these rows is no more than the list
   pub counting-within : listed + r .rows ≤ length (listOf p)
   counting-within = omega (arith, k .all, split-length)
 
   pub counting-fails : (f : ℕ)
-      → ((p : Program) (ss : List Schedule) (held : List ℕ) → Shown p ss held rows' (r .rows) → f ≡ length (keep (failing p) ss))
+      → ((p : Program) (ss : List Schedule) (held : List ℕ) → Shown p ss held rows' (r .rows) → f ≡ length (filter (failing p) ss))
       → failed + f ≤ length (listOf p)
   counting-fails f fs =
       let q = fs p shown-now rows (page .shown) in
-      let l = keep-length (failing p) (listOf p) in
+      let l = filter-length (failing p) (listOf p) in
       omega (arith, k .fail, split-fails, q, l)
 
   pub counting-next : (f : ℕ)
-      → ((p : Program) (ss : List Schedule) (held : List ℕ) → Shown p ss held rows' (r .rows) → f ≡ length (keep (failing p) ss))
+      → ((p : Program) (ss : List Schedule) (held : List ℕ) → Shown p ss held rows' (r .rows) → f ≡ length (filter (failing p) ss))
       → Counting p (r .cursor) rows' (listed + r .rows) (failed + f)
   counting-next f fs =
       let q = fs p shown-now rows (page .shown) in

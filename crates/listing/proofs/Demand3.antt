@@ -9,7 +9,7 @@ use Rattle.program.specs.Program.{Program}
 use Rattle.program.specs.Decode.{Decoded, accepted, decode}
 use Rattle.program.specs.Decode as File
 use Rattle.program.proofs.AcceptedWellFormed.{accepted-well-formed}
-use Rattle.schedules.specs.Lists.{keep}
+use Rattle.schedules.specs.Lists.{filter}
 use Rattle.schedules.specs.Order.{Schedule}
 use Rattle.schedules.specs.Calls.{Result, last}
 use Rattle.model.specs.Alike as Alike
@@ -64,7 +64,7 @@ module _ (file : List ℕ) where
   called-is (out ∷ outs) o (r ∷ rs) d = (d .0 ∙ call-is o out, called-is outs (last o (r .0)) rs (d .1))
 
 module _ (file : List ℕ) (p : Program) (e : decode file ≡ accepted p) where
-  same-count : countOn (decode file) ≡ counted (record { listed = length (listOf p); failed = length (keep (failing p) (listOf p)) })
+  same-count : countOn (decode file) ≡ counted (record { listed = length (listOf p); failed = length (filter (failing p) (listOf p)) })
   unfolding countOn countOf
   same-count = ap countOn e
 

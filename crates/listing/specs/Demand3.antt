@@ -10,10 +10,10 @@ use mathlib.Core.List.{List, [], _∷_, _++_, List·Memᴰ}
 use lib.ListN.{length, take, drop}
 use Rattle.lines.specs.Over.{over}
 use Rattle.program.specs.Program.{Program}
-use Rattle.schedules.specs.Lists.{keep, Ascends}
+use Rattle.schedules.specs.Lists.{filter, Ascends}
 use Rattle.schedules.specs.Order.{Schedule, less}
 use Rattle.schedules.specs.System.{Allowed}
-use Rattle.schedules.specs.Calls.{found, nomore, turn, short, Result, result, called, last, due, served, member}
+use Rattle.schedules.specs.Calls.{found, nomore, answerTo, short, Result, result, called, last, due, served, member}
 use Rattle.sc.specs.State.{SC, start, memoryOf}
 use Rattle.sc.specs.Graph.{endOf, Full}
 use Rattle.list.specs.Alike.{Alike, Listed}
@@ -61,7 +61,7 @@ pub record Demand3 (file : List ℕ) (p : Program) : Type 0 where
   -- call by call: 22 exactly where the output is shorter than 24; else the listed schedule whose number, from 0, is that of the calls before that
   -- were not refused, or no more if there are not so many
   pub answer-at : (before : List (List ℕ)) (out : List ℕ) (after : List (List ℕ)) (rs : List Result) → Called file none (before ++ (out ∷ after)) rs →
-      (rest : List Result) × (rs ≡ due 24 (listOf p) before ++ (result (turn (short 24 out) (member (listOf p) (served 24 before))) out ∷ rest))
+      (rest : List Result) × (rs ≡ due 24 (listOf p) before ++ (result (answerTo (short 24 out) (member (listOf p) (served 24 before))) out ∷ rest))
   -- A CONTINUE from any full schedule, listed or not, answers as it would in such a list
   pub continues : (s : Schedule) → Full p s → (out : List ℕ) → continueFile file s out ≡ called 24 (listOf p) (some s) out
   -- with an output that is not too short: the least listed one after it, written in front of the output's old rest
@@ -70,7 +70,7 @@ pub record Demand3 (file : List ℕ) (p : Program) : Type 0 where
   -- or no more, exactly when none is
   pub continue-none : (s : Schedule) → Full p s → (out : List ℕ) → 24 ≤ length out → (continueFile file s out ≡ (nomore, out)) ↔ ((r : Schedule) → InList p r → less s r ≡ false)
   -- COUNT: the list's length, and the number of its members that fail
-  pub counts : countFile file ≡ counted (record { listed = length (listOf p); failed = length (keep (failing p) (listOf p)) })
+  pub counts : countFile file ≡ counted (record { listed = length (listOf p); failed = length (filter (failing p) (listOf p)) })
   -- VIOLATION, with an output that is not too short: the first member that fails, written in front of the output's old rest
   pub violation-first : (out : List ℕ) → 24 ≤ length out → (s : Schedule) → (violationFile file out ≡ (fails-first s, over s out)) ↔
       (InList p s × (failing p s ≡ true) × ((r : Schedule) → InList p r → less r s ≡ true → failing p r ≡ false))

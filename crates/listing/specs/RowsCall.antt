@@ -19,9 +19,9 @@ unfoldable pub fitting : Program → Option Schedule → List ℕ → List Sched
 fitting p o out = take (length out / 26) (after o (listOf p))
 
 -- so many rows, or the refusal
-unfoldable pub rowsSaid : Decoded → Option Schedule → List ℕ → RowsAnswer
-rowsSaid (accepted p) o out = Written (length (fitting p o out))
-rowsSaid (refused n k) o out = Refused n k
+unfoldable pub rowsAnswerOf : Decoded → Option Schedule → List ℕ → RowsAnswer
+rowsAnswerOf (accepted p) o out = Written (length (fitting p o out))
+rowsAnswerOf (refused n k) o out = Refused n k
 
 -- the output behind that
 unfoldable pub rowsOutput : Decoded → Option Schedule → List ℕ → List ℕ

@@ -7,13 +7,13 @@ use Rattle.listing.specs.declared.calling.ListAnswer.the-variants.{Found
 use Rattle.list.specs.Answers.{Violation, fails-first, none-fails, refused-by}
 
 -- of start and continue
-unfoldable pub said : Answer → ListAnswer
-said (found s) = Found (length s)
-said nomore = NoMore
-said (refused n k) = Refused n k
+unfoldable pub listAnswerOf : Answer → ListAnswer
+listAnswerOf (found s) = Found (length s)
+listAnswerOf nomore = NoMore
+listAnswerOf (refused n k) = Refused n k
 
 -- of violation
-unfoldable pub violationSaid : Violation → ListAnswer
-violationSaid (fails-first s) = Found (length s)
-violationSaid none-fails = NoMore
-violationSaid (refused-by n k) = Refused n k
+unfoldable pub violationAnswerOf : Violation → ListAnswer
+violationAnswerOf (fails-first s) = Found (length s)
+violationAnswerOf none-fails = NoMore
+violationAnswerOf (refused-by n k) = Refused n k

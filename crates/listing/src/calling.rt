@@ -14,11 +14,11 @@ ghost use Rattle.lines.specs.Over.{over};
 ghost use Rattle.program.specs.WellFormed.{WellFormed};
 ghost use Rattle.decoder.specs.Compiled.{programOf};
 ghost use Rattle.schedules.specs.Lists.{headOf};
-ghost use Rattle.schedules.specs.Calls.{turn, short, content};
+ghost use Rattle.schedules.specs.Calls.{answerTo, short, content};
 ghost use Rattle.walker.specs.Cursor.{remaining};
 ghost use Rattle.list.specs.Answers.{continueOf};
 ghost use Rattle.listing.specs.OnFile.{startFile, continueFile, violationFile};
-ghost use Rattle.listing.specs.Said.{said, violationSaid};
+ghost use Rattle.listing.specs.Said.{listAnswerOf, violationAnswerOf};
 
 pub enum ListAnswer {
     // A schedule of so many steps stands in front of the output.
@@ -42,16 +42,16 @@ fn put_schedule(out: &mut [u8], row: &[u8; 26], n: usize)
 }
 
 // The first one that is yet to come, of all that are listed or of those that fail.
-fn next_listed(program: Compiled, cursor: Cursor, only: bool, out: &mut [u8]) -> ListAnswer
+fn next_listed(program: Compiled, cursor: Cursor, failures: bool, out: &mut [u8]) -> ListAnswer
     requires { ⌜ WellFormed (programOf program) ⌝ }
-    ensures answer { λ r. ⌜ r ≡ said (turn (short 24 (now (out .entry))) (headOf (remaining (programOf program) only cursor))) ⌝ }
-    ensures output { λ r. ⌜ now (out .exit) ≡ content (turn (short 24 (now (out .entry))) (headOf (remaining (programOf program) only cursor))) (now (out .entry)) ⌝ }
+    ensures answer { λ r. ⌜ r ≡ listAnswerOf (answerTo (short 24 (now (out .entry))) (headOf (remaining (programOf program) failures cursor))) ⌝ }
+    ensures output { λ r. ⌜ now (out .exit) ≡ content (answerTo (short 24 (now (out .entry))) (headOf (remaining (programOf program) failures cursor))) (now (out .entry)) ⌝ }
 {
     if out.len() < 24 {
         return ListAnswer::Refused(22, 0);
     }
     let mut row = [0u8; 26];
-    let page = next_page(program, cursor, only, &mut row);
+    let page = next_page(program, cursor, failures, &mut row);
     if page.rows == 0 {
         return ListAnswer::NoMore;
     }
@@ -63,7 +63,7 @@ fn next_listed(program: Compiled, cursor: Cursor, only: bool, out: &mut [u8]) ->
 // The least listed schedule of an accepted program after a given one.
 fn continued(program: Compiled, schedule: &[u8], out: &mut [u8]) -> ListAnswer
     requires { ⌜ WellFormed (programOf program) ⌝ }
-    ensures answer { λ r. ⌜ r ≡ said (continueOf (programOf program) (now (schedule .entry)) (now (out .entry)) .0) ⌝ }
+    ensures answer { λ r. ⌜ r ≡ listAnswerOf (continueOf (programOf program) (now (schedule .entry)) (now (out .entry)) .0) ⌝ }
     ensures output { λ r. ⌜ now (out .exit) ≡ continueOf (programOf program) (now (schedule .entry)) (now (out .entry)) .1 ⌝ }
 {
     if out.len() < 24 {
@@ -81,7 +81,7 @@ fn continued(program: Compiled, schedule: &[u8], out: &mut [u8]) -> ListAnswer
 
 // The least listed schedule of a program file.
 pub fn start(file: &[u8], out: &mut [u8]) -> ListAnswer
-    ensures answer { λ r. ⌜ r ≡ said (startFile (now (file .entry)) (now (out .entry)) .0) ⌝ }
+    ensures answer { λ r. ⌜ r ≡ listAnswerOf (startFile (now (file .entry)) (now (out .entry)) .0) ⌝ }
     ensures output { λ r. ⌜ now (out .exit) ≡ startFile (now (file .entry)) (now (out .entry)) .1 ⌝ }
 {
     let a = decoder::decode(file);
@@ -97,7 +97,7 @@ pub fn start(file: &[u8], out: &mut [u8]) -> ListAnswer
 
 // The least listed schedule after a full one, listed or not.
 pub fn continue_from(file: &[u8], schedule: &[u8], out: &mut [u8]) -> ListAnswer
-    ensures answer { λ r. ⌜ r ≡ said (continueFile (now (file .entry)) (now (schedule .entry)) (now (out .entry)) .0) ⌝ }
+    ensures answer { λ r. ⌜ r ≡ listAnswerOf (continueFile (now (file .entry)) (now (schedule .entry)) (now (out .entry)) .0) ⌝ }
     ensures output { λ r. ⌜ now (out .exit) ≡ continueFile (now (file .entry)) (now (schedule .entry)) (now (out .entry)) .1 ⌝ }
 {
     let a = decoder::decode(file);
@@ -113,7 +113,7 @@ pub fn continue_from(file: &[u8], schedule: &[u8], out: &mut [u8]) -> ListAnswer
 
 // The first listed schedule that fails.
 pub fn violation(file: &[u8], out: &mut [u8]) -> ListAnswer
-    ensures answer { λ r. ⌜ r ≡ violationSaid (violationFile (now (file .entry)) (now (out .entry)) .0) ⌝ }
+    ensures answer { λ r. ⌜ r ≡ violationAnswerOf (violationFile (now (file .entry)) (now (out .entry)) .0) ⌝ }
     ensures output { λ r. ⌜ now (out .exit) ≡ violationFile (now (file .entry)) (now (out .entry)) .1 ⌝ }
 {
     let a = decoder::decode(file);

@@ -10,12 +10,12 @@ ghost use lib.ListN.{length};
 ghost use Rattle.program.specs.Program.{Program};
 ghost use Rattle.program.specs.WellFormed.{WellFormed};
 ghost use Rattle.decoder.specs.Compiled.{programOf};
-ghost use Rattle.schedules.specs.Lists.{keep};
+ghost use Rattle.schedules.specs.Lists.{filter};
 ghost use Rattle.schedules.specs.Order.{Schedule};
 ghost use Rattle.list.specs.Answers.{failing, countOf};
 ghost use Rattle.walker.specs.Rows.{Shown};
 ghost use Rattle.listing.specs.OnFile.{countFile};
-ghost use Rattle.listing.specs.CountWord.{countSaid};
+ghost use Rattle.listing.specs.CountWord.{countAnswerOf};
 
 pub struct Tally {
     pub listed: usize,
@@ -32,7 +32,7 @@ pub enum CountAnswer {
 // How many of these rows are of schedules that fail.
 fn failing_in(rows: &[u8; 1664], n: usize) -> usize
     requires { ⌜ n ≤ 64 ⌝ }
-    ensures { λ r. ⌜ ((p : Program) (ss : List Schedule) (held : List ℕ) → Shown p ss held (now (rows .entry)) n → r ≡ length (keep (failing p) ss)) ⌝ }
+    ensures { λ r. ⌜ ((p : Program) (ss : List Schedule) (held : List ℕ) → Shown p ss held (now (rows .entry)) n → r ≡ length (filter (failing p) ss)) ⌝ }
 {
     let mut failing = 0;
     let mut k = 0;
@@ -69,7 +69,7 @@ fn counts(program: Compiled) -> Tally
 
 // Of a program file, which may be refused.
 pub fn count(file: &[u8]) -> CountAnswer
-    ensures { λ r. ⌜ r ≡ countSaid (countFile (now (file .entry))) ⌝ }
+    ensures { λ r. ⌜ r ≡ countAnswerOf (countFile (now (file .entry))) ⌝ }
 {
     let a = decoder::decode(file);
     let v = a.verdict;

@@ -5,7 +5,7 @@ use walker::next_page;
 ghost use mathlib.Core.Path.{_≡_};
 ghost use mathlib.Core.Option.{none, some};
 ghost use Rattle.program.specs.Decode.{decode};
-ghost use Rattle.listing.specs.RowsCall.{rowsSaid, rowsOutput};
+ghost use Rattle.listing.specs.RowsCall.{rowsAnswerOf, rowsOutput};
 
 pub enum RowsAnswer {
     // So many rows stand in front of the output.
@@ -16,7 +16,7 @@ pub enum RowsAnswer {
 
 // The first ones.
 pub fn first_rows(file: &[u8], out: &mut [u8]) -> RowsAnswer
-    ensures answer { λ r. ⌜ r ≡ rowsSaid (decode (now (file .entry))) none (now (out .entry)) ⌝ }
+    ensures answer { λ r. ⌜ r ≡ rowsAnswerOf (decode (now (file .entry))) none (now (out .entry)) ⌝ }
     ensures output { λ r. ⌜ now (out .exit) ≡ rowsOutput (decode (now (file .entry))) none (now (out .entry)) ⌝ }
 {
     let a = decoder::decode(file);
@@ -33,7 +33,7 @@ pub fn first_rows(file: &[u8], out: &mut [u8]) -> RowsAnswer
 
 // Those after a schedule, which need not be listed nor full.
 pub fn next_rows(file: &[u8], schedule: &[u8], out: &mut [u8]) -> RowsAnswer
-    ensures answer { λ r. ⌜ r ≡ rowsSaid (decode (now (file .entry))) (some (now (schedule .entry))) (now (out .entry)) ⌝ }
+    ensures answer { λ r. ⌜ r ≡ rowsAnswerOf (decode (now (file .entry))) (some (now (schedule .entry))) (now (out .entry)) ⌝ }
     ensures output { λ r. ⌜ now (out .exit) ≡ rowsOutput (decode (now (file .entry))) (some (now (schedule .entry))) (now (out .entry)) ⌝ }
 {
     let a = decoder::decode(file);

@@ -12,17 +12,17 @@ use Rattle.rows.specs.Rows.{instructionAt, threadCode}
 use Rattle.accesses.specs.declared.accessing.Access.{Access}
 use Rattle.machine.specs.declared.state.Machine.{Machine}
 use Rattle.sc.specs.Local.{Local, beginsWithAccess, firstPlace, firstPuts, pending, placeOf, puts}
-use Rattle.sc.specs.State.{Cell, State, freshCell, threadOf, cellOf, place, may}
-use Rattle.sc.specs.Trail.{given, writes}
+use Rattle.sc.specs.State.{Cell, State, freshCell, threadOf, cellOf, place, enabled}
+use Rattle.sc.specs.Actions.{given, writes}
 use Rattle.accesses.specs.CarriedOut.{accessOf}
 use Rattle.machine.specs.Held.{threadAt, Holds}
-use Rattle.sc.proofs.Steps.{may-small, may-pending, may-range}
+use Rattle.sc.proofs.Steps.{enabled-small, enabled-pending, enabled-range}
 use Rattle.accesses.proofs.HeldSettling.{code-at}
 use Rattle.accesses.proofs.HeldAccess.{Meets, access-meets}
-use Rattle.machine.proofs.HeldAsking.{may-held}
+use Rattle.machine.proofs.HeldAsking.{enabled-held}
 
 -- ---- thread t of the machine m, at its next access: x the instruction, a what it does
-module _ (code lengths : List ℕ) (m : Machine) (σ : State) (t : ℕ) (held : Holds code lengths m σ) (ok : may σ t ≡ true) where
+module _ (code lengths : List ℕ) (m : Machine) (σ : State) (t : ℕ) (held : Holds code lengths m σ) (ok : enabled σ t ≡ true) where
   -- memory holds the cells' values, behind its end too
   pub held-value : (l : ℕ) → cellOf σ l .value ≡ getD (m .memory) l 0
   unfolding cellOf freshCell
@@ -35,7 +35,7 @@ module _ (code lengths : List ℕ) (m : Machine) (σ : State) (t : ℕ) (held : 
           ∙ sym (List·getD-eq-default (m .memory) 0 {n = l} (omega (arith, h, held .sizes .1)))
 
   pub held-left : threadAt m t .at < getD lengths t 0
-  held-left = ltb-true (threadAt m t .at) (getD lengths t 0) (may-held code lengths m σ held t (may-small σ t ok) ∙ ok)
+  held-left = ltb-true (threadAt m t .at) (getD lengths t 0) (enabled-held code lengths m σ held t (enabled-small σ t ok) ∙ ok)
 
   module _ (x : Instruction) (a : Access) (ex : x ≡ instructionAt code (t * 16 + threadAt m t .at)) (ea : a ≡ accessOf x (threadAt m t .registers) (m .memory)) where
     abbrev h : Local
@@ -46,16 +46,16 @@ module _ (code lengths : List ℕ) (m : Machine) (σ : State) (t : ℕ) (held : 
 
     pub next-rest : h .rest ≡ x ∷ is
     next-rest =
-        held .threads t (may-small σ t ok) .rest ∙ code-at code t (getD lengths t 0) (threadAt m t .at) held-left
+        held .threads t (enabled-small σ t ok) .rest ∙ code-at code t (getD lengths t 0) (threadAt m t .at) held-left
         ∙ rw (← ex) (ap (λ (j : ℕ). x ∷ drop j (threadCode code t (getD lengths t 0))) (let z : suc (threadAt m t .at) ≡ threadAt m t .at + 1 = omega arith in z))
 
     begins : beginsWithAccess (x ∷ is) ≡ true
     unfolding pending
-    begins = subst (λ (j : List Instruction). beginsWithAccess j ≡ true) next-rest (may-pending σ t ok)
+    begins = subst (λ (j : List Instruction). beginsWithAccess j ≡ true) next-rest (enabled-pending σ t ok)
 
     pub next-meets : Meets h x is (m .memory) a
     next-meets =
-        subst (Meets h x is (m .memory)) (ap (λ (rs : List ℕ). accessOf x rs (m .memory)) (held .registers t (may-range σ t ok)) ∙ sym ea)
+        subst (Meets h x is (m .memory)) (ap (λ (rs : List ℕ). accessOf x rs (m .memory)) (held .registers t (enabled-range σ t ok)) ∙ sym ea)
         (access-meets h x is (m .memory) begins)
 
     pub next-place : place σ t ≡ a .location

@@ -21,13 +21,13 @@ use Rattle.machine.specs.declared.state.Machine.{Machine}
 use Rattle.machine.specs.declared.stepping.After.{After}
 use Rattle.machine.specs.declared.stepping.Effect.{Effect}
 use Rattle.sc.specs.Local.{Local, settle, firstTakes, firstPuts, firstNext, pending, takes, puts, next}
-use Rattle.sc.specs.State.{Thread, Cell, State, threadOf, cellOf, place, latest, advanced, step, may}
-use Rattle.sc.specs.Trail.{writes}
+use Rattle.sc.specs.State.{Thread, Cell, State, threadOf, cellOf, place, latest, advanced, step, enabled}
+use Rattle.sc.specs.Actions.{writes}
 use Rattle.graph_writer.specs.Notes.{note, noteBytes}
 use Rattle.accesses.specs.CarriedOut.{accessOf, localOf}
 use Rattle.machine.specs.Held.{idle, unwritten, threadAt, lastAt, eventOf, HoldsThread, Holds, HoldsStep, threadBehind, lastBehind, behind, whole}
 use Rattle.sc.proofs.Access.{Settled, settle-law}
-use Rattle.sc.proofs.Steps.{may-small, may-range, cell-other, step-threads, step-cells}
+use Rattle.sc.proofs.Steps.{enabled-small, enabled-range, cell-other, step-threads, step-cells}
 use Rattle.sc.proofs.Change.{thread-cases, noted-done, wrote-own, Change, kept, wrote, change}
 use Rattle.accesses.proofs.HeldAccess.{Meets}
 use Rattle.machine.proofs.HeldNext.{next-rest, next-meets, next-place, next-value, next-wrote}
@@ -38,7 +38,7 @@ settled-pending h c k (inl e) q l = absurd (omega (arith, ap length (sym q ∙ e
 settled-pending h c k (inr p) q l = p
 
 -- thread t of the machine m, at its next access: x the instruction, a what it does, k the thread behind it
-module _ (code lengths : List ℕ) (m : Machine) (σ : State) (t : ℕ) (held : Holds code lengths m σ) (ok : may σ t ≡ true) (near : place σ t < 8)
+module _ (code lengths : List ℕ) (m : Machine) (σ : State) (t : ℕ) (held : Holds code lengths m σ) (ok : enabled σ t ≡ true) (near : place σ t < 8)
     (x : Instruction) (a : Access) (k : ThreadState)
     (left : threadAt m t .at < getD lengths t 0)
     (ex : x ≡ instructionAt code (t * 16 + threadAt m t .at)) (ea : a ≡ accessOf x (threadAt m t .registers) (m .memory))
@@ -54,7 +54,7 @@ module _ (code lengths : List ℕ) (m : Machine) (σ : State) (t : ℕ) (held : 
   is = drop (threadAt m t .at + 1) c
 
   own : HoldsThread c (threadAt m t) h
-  own = held .threads t (may-small σ t ok)
+  own = held .threads t (enabled-small σ t ok)
 
   rest : h .local .rest ≡ x ∷ is
   rest = next-rest code lengths m σ t held ok x a ex ea
@@ -96,20 +96,20 @@ module _ (code lengths : List ℕ) (m : Machine) (σ : State) (t : ℕ) (held : 
   -- ---- the whole, in a machine that has this thread in its place
   module _ (m' : Machine) (et : m' .threads ≡ set (m .threads) t k) where
     thread-same : threadAt m' t ≡ k
-    thread-same = ap (λ (l : List ThreadState). getD l t idle) et ∙ getD-set-same (m .threads) t k idle (omega (arith, may-small σ t ok, held .sizes .0))
+    thread-same = ap (λ (l : List ThreadState). getD l t idle) et ∙ getD-set-same (m .threads) t k idle (omega (arith, enabled-small σ t ok, held .sizes .0))
 
     thread-else : (u : ℕ) → u ≢ t → threadAt m' u ≡ threadAt m u
     thread-else u ne = ap (λ (l : List ThreadState). getD l u idle) et ∙ getD-set-other (m .threads) t u k idle ne
 
     threads-behind : (u : ℕ) → u < 6 → HoldsThread (threadCode code u (getD lengths u 0)) (threadAt m' u) (threadOf (step σ t) u)
     threads-behind u b =
-        thread-cases (λ (u : ℕ) (g : Thread). HoldsThread (threadCode code u (getD lengths u 0)) (threadAt m' u) g) σ t (may-range σ t ok)
+        thread-cases (λ (u : ℕ) (g : Thread). HoldsThread (threadCode code u (getD lengths u 0)) (threadAt m' u) g) σ t (enabled-range σ t ok)
         (subst (λ (j : ThreadState). HoldsThread c j (advanced h (cellOf σ (place σ t)))) (sym thread-same) thread-behind) u
         (λ ne. subst (λ (j : ThreadState). HoldsThread (threadCode code u (getD lengths u 0)) j (threadOf σ u)) (sym (thread-else u ne)) (held .threads u b))
 
     registers-all : (u : ℕ) → u < length (step σ t .threads) → threadOf (step σ t) u .local .registers ≡ threadAt m' u .registers
     registers-all u b =
-        thread-cases (λ (u : ℕ) (g : Thread). g .local .registers ≡ threadAt m' u .registers) σ t (may-range σ t ok)
+        thread-cases (λ (u : ℕ) (g : Thread). g .local .registers ≡ threadAt m' u .registers) σ t (enabled-range σ t ok)
         (registers-behind ∙ ap (λ (j : ThreadState). j .registers) (sym thread-same)) u
         (λ ne. held .registers u (omega (arith, step-threads σ t)) ∙ ap (λ (j : ThreadState). j .registers) (sym (thread-else u ne)))
 
@@ -214,7 +214,7 @@ effectOf t thread memory last a k l = record {
   note = t ∷ thread .done ∷ a .location ∷ a .reads ∷ getD last (l % 8) unwritten .thread ∷ getD last (l % 8) unwritten .number ∷ a .writes ∷ 0 ∷ [];
 }
 
-module _ (code lengths : List ℕ) (m : Machine) (σ : State) (t : ℕ) (held : Holds code lengths m σ) (ok : may σ t ≡ true) (near : place σ t < 8)
+module _ (code lengths : List ℕ) (m : Machine) (σ : State) (t : ℕ) (held : Holds code lengths m σ) (ok : enabled σ t ≡ true) (near : place σ t < 8)
     (a : Access) (k : ThreadState) (l : ℕ) (el : l ≡ a .location) (acts : Acted code lengths (threadAt m t) (m .memory) t a k) where
   abbrev x : Instruction
   x = instructionAt code (t * 16 + threadAt m t .at)
@@ -256,7 +256,7 @@ module _ (code lengths : List ℕ) (m : Machine) (σ : State) (t : ℕ) (held : 
 -- the code has the thread, the memory and the last writes by themselves, and the thread's number as u
 pub effect-holds : (code lengths : List ℕ) (m : Machine) (σ : State) (t u : ℕ) (thread : ThreadState) (memory : List ℕ) (last : List LastWrite) (a : Access) (k : ThreadState) (l : ℕ)
     → u ≡ t → l ≡ a .location → Acted code lengths thread memory u a k
-    → threadAt m t ≡ thread → m .memory ≡ memory → m .last ≡ last → Holds code lengths m σ → may σ t ≡ true → place σ t < 8 → HoldsStep code lengths σ t (behind m t (effectOf t thread memory last a k l))
+    → threadAt m t ≡ thread → m .memory ≡ memory → m .last ≡ last → Holds code lengths m σ → enabled σ t ≡ true → place σ t < 8 → HoldsStep code lengths σ t (behind m t (effectOf t thread memory last a k l))
 effect-holds code lengths m σ t u thread memory last a k l eu el acts et em es held ok near =
     subst (λ (v : ℕ). P v thread memory last) (sym eu)
     (subst (λ (h : ThreadState). P t h memory last) et
@@ -268,8 +268,8 @@ effect-holds code lengths m σ t u thread memory last a k l eu el acts et em es 
 
 -- what a step changes, stored in the machine that it was found in
 pub stored-step : (code lengths : List ℕ) (m : Machine) (t u : ℕ) (e : Effect) → u ≡ t
-    → ((n : Machine) (τ : State) → threadAt n t ≡ threadAt m u → n .memory ≡ m .memory → n .last ≡ m .last → Holds code lengths n τ → may τ t ≡ true → place τ t < 8 → HoldsStep code lengths τ t (behind n t e))
-    → (τ : State) → Holds code lengths m τ → may τ t ≡ true → place τ t < 8 → HoldsStep code lengths τ t (behind m u e)
+    → ((n : Machine) (τ : State) → threadAt n t ≡ threadAt m u → n .memory ≡ m .memory → n .last ≡ m .last → Holds code lengths n τ → enabled τ t ≡ true → place τ t < 8 → HoldsStep code lengths τ t (behind n t e))
+    → (τ : State) → Holds code lengths m τ → enabled τ t ≡ true → place τ t < 8 → HoldsStep code lengths τ t (behind m u e)
 stored-step code lengths m t u e eu acts τ held ok near =
     subst (λ (v : ℕ). HoldsStep code lengths τ t (behind m v e)) (sym eu) (acts m τ (ap (threadAt m) (sym eu)) refl refl held ok near)
 
@@ -289,7 +289,7 @@ afterOf a k memory l = record {
 
 pub after-holds : (code lengths : List ℕ) (m : Machine) (σ : State) (t u : ℕ) (thread : ThreadState) (memory : List ℕ) (a : Access) (k : ThreadState) (l : ℕ)
     → u ≡ t → l ≡ a .location → Acted code lengths thread memory u a k
-    → threadAt m t ≡ thread → m .memory ≡ memory → Holds code lengths m σ → may σ t ≡ true → place σ t < 8 → HoldsStep code lengths σ t (whole m t t (afterOf a k memory l))
+    → threadAt m t ≡ thread → m .memory ≡ memory → Holds code lengths m σ → enabled σ t ≡ true → place σ t < 8 → HoldsStep code lengths σ t (whole m t t (afterOf a k memory l))
 after-holds code lengths m σ t u thread memory a k l eu el acts et em held ok near =
     subst (λ (v : ℕ). P v thread memory) (sym eu)
     (subst (λ (h : ThreadState). P t h memory) et
@@ -300,7 +300,7 @@ after-holds code lengths m σ t u thread memory a k l eu el acts et em held ok n
 
 -- put back into the machine that it was taken from
 pub stored-whole : (code lengths : List ℕ) (m : Machine) (t u : ℕ) (a : After) → u ≡ t
-    → ((n : Machine) (τ : State) → threadAt n t ≡ threadAt m u → n .memory ≡ m .memory → Holds code lengths n τ → may τ t ≡ true → place τ t < 8 → HoldsStep code lengths τ t (whole n t t a))
-    → (τ : State) → Holds code lengths m τ → may τ t ≡ true → place τ t < 8 → HoldsStep code lengths τ t (whole m u t a)
+    → ((n : Machine) (τ : State) → threadAt n t ≡ threadAt m u → n .memory ≡ m .memory → Holds code lengths n τ → enabled τ t ≡ true → place τ t < 8 → HoldsStep code lengths τ t (whole n t t a))
+    → (τ : State) → Holds code lengths m τ → enabled τ t ≡ true → place τ t < 8 → HoldsStep code lengths τ t (whole m u t a)
 stored-whole code lengths m t u a eu acts τ held ok near =
     subst (λ (v : ℕ). HoldsStep code lengths τ t (whole m v t a)) (sym eu) (acts m τ (ap (threadAt m) (sym eu)) refl held ok near)

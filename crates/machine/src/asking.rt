@@ -1,11 +1,11 @@
 // What may be asked of a machine: whether a thread may step, whether all have ended, whether an assertion failed.
 use crate::state::Machine;
 ghost use mathlib.Core.Path.{_≡_};
-ghost use Rattle.machine.specs.Asked.{mayBy, endedBy, failsBy};
+ghost use Rattle.machine.specs.Asked.{enabledBy, endedBy, failsBy};
 
 // Whether t names a thread that has not ended. Each thread is named by a constant, so that a caller's machine is read where it lies.
-pub fn may(lengths: &[usize; 6], m: Machine, t: u8) -> bool
-    ensures { λ r. ⌜ r ≡ mayBy (now (lengths .entry)) m t ⌝ }
+pub fn enabled(lengths: &[usize; 6], m: Machine, t: u8) -> bool
+    ensures { λ r. ⌜ r ≡ enabledBy (now (lengths .entry)) m t ⌝ }
 {
     if t < 1 {
         let k = m.threads[0];

@@ -11,7 +11,7 @@ mod asking;
 
 pub use asking::ended_all;
 pub use asking::fails;
-pub use asking::may;
+pub use asking::enabled;
 pub use starting::started;
 pub use state::LastWrite;
 pub use state::Machine;

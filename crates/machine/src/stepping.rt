@@ -10,7 +10,7 @@ ghost use mathlib.Core.Bool.{true, cond};
 ghost use Prim.Native.Nat.{_<_};
 ghost use lib.Dec.{eqb};
 ghost use lib.ListN.{set};
-ghost use Rattle.sc.specs.State.{State, place, may};
+ghost use Rattle.sc.specs.State.{State, place, enabled};
 ghost use Rattle.machine.specs.Held.{threadAt, Holds, ReadyThread, Ready, HoldsStep, behind, whole};
 
 // What a step changes: its thread, and at its place the value and the last write, as they are behind it; and the step's note. Single bytes that
@@ -82,7 +82,7 @@ pub fn acted(
 ) -> Effect
     requires { ⌜ ReadyThread (now lengths) thread t ⌝ }
     ensures within { λ e. ⌜ e .place < 8 ⌝ }
-    ensures step { λ e. ⌜ ((m : Machine) (σ : State) → threadAt m t ≡ thread → m .memory ≡ memory → m .last ≡ last → Holds (now (code .entry)) (now (lengths .entry)) m σ → may σ t ≡ true → place σ t < 8 → HoldsStep (now (code .entry)) (now (lengths .entry)) σ t (behind m t e)) ⌝ }
+    ensures step { λ e. ⌜ ((m : Machine) (σ : State) → threadAt m t ≡ thread → m .memory ≡ memory → m .last ≡ last → Holds (now (code .entry)) (now (lengths .entry)) m σ → enabled σ t ≡ true → place σ t < 8 → HoldsStep (now (code .entry)) (now (lengths .entry)) σ t (behind m t e)) ⌝ }
 {
     let u = wide(t);
     let at = thread.at;
@@ -156,7 +156,7 @@ pub fn after_step(
 ) -> After
     requires { ⌜ ReadyThread (now lengths) thread t ⌝ }
     ensures within { λ a. ⌜ a .place < 8 ⌝ }
-    ensures step { λ a. ⌜ ((m : Machine) (σ : State) → threadAt m t ≡ thread → m .memory ≡ memory → Holds (now (code .entry)) (now (lengths .entry)) m σ → may σ t ≡ true → place σ t < 8 → HoldsStep (now (code .entry)) (now (lengths .entry)) σ t (whole m t t a)) ⌝ }
+    ensures step { λ a. ⌜ ((m : Machine) (σ : State) → threadAt m t ≡ thread → m .memory ≡ memory → Holds (now (code .entry)) (now (lengths .entry)) m σ → enabled σ t ≡ true → place σ t < 8 → HoldsStep (now (code .entry)) (now (lengths .entry)) σ t (whole m t t a)) ⌝ }
 {
     let u = wide(t);
     let at = thread.at;
@@ -183,7 +183,7 @@ pub fn after_step(
 // A step of thread t, which has not ended.
 pub fn step(code: &[u8; 1536], lengths: &[usize; 6], m: Machine, t: u8) -> Stepped
     requires { ⌜ Ready (now lengths) m t ⌝ }
-    ensures { λ r. ⌜ ((σ : State) → Holds (now (code .entry)) (now (lengths .entry)) m σ → may σ t ≡ true → place σ t < 8 → HoldsStep (now (code .entry)) (now (lengths .entry)) σ t r) ⌝ }
+    ensures { λ r. ⌜ ((σ : State) → Holds (now (code .entry)) (now (lengths .entry)) m σ → enabled σ t ≡ true → place σ t < 8 → HoldsStep (now (code .entry)) (now (lengths .entry)) σ t r) ⌝ }
 {
     let mut n = m;
     let u = wide(t);

@@ -10,7 +10,7 @@ use Rattle.program.specs.Program.{Program}
 use Rattle.program.specs.Decode.{Decoded, accepted, decode}
 use Rattle.program.specs.Decode as File
 use Rattle.program.proofs.AcceptedWellFormed.{accepted-well-formed}
-use Rattle.schedules.specs.Lists.{keep}
+use Rattle.schedules.specs.Lists.{filter}
 use Rattle.schedules.proofs.Calls.{due-at}
 use Rattle.model.specs.Model.{Model, failing}
 use Rattle.model.specs.Laws.{Admitted, Laws}
@@ -44,7 +44,7 @@ module _ (M : Model) (L : Laws M) (file : List ℕ) (p : Program) (e : admit M (
   pub listed-program : Admitted M p
   listed-program = let r = admitted M (decode file) p e in (accepted-well-formed file p (r .0), r .1)
 
-  same-count : countFile M file ≡ counted (record { listed = length (listOf M p) % 2 ^ 64; failed = length (keep (failing M p) (listOf M p)) % 2 ^ 64 })
+  same-count : countFile M file ≡ counted (record { listed = length (listOf M p) % 2 ^ 64; failed = length (filter (failing M p) (listOf M p)) % 2 ^ 64 })
   unfolding countOn countOf
   same-count = ap (countOn M) e
 

@@ -51,7 +51,7 @@ gated x y false false h = ap (λ (z : Bool). z && true) (h refl refl)
 
 module _ (M : Model) (L : StepLaws M) where
   -- ONE STEP
-  pub late-set-step : (σ : M .system .State) (acts : List (M .Action)) (set : ℕ → Bool) (b : ℕ) → M .system .may σ b ≡ true → LateSet M σ acts set →
+  pub late-set-step : (σ : M .system .State) (acts : List (M .Action)) (set : ℕ → Bool) (b : ℕ) → M .system .enabled σ b ≡ true → LateSet M σ acts set →
       LateSet M (M .system .step σ b) (M .act σ b ∷ acts) (lateBehind M σ b set)
   unfolding lateBehind
   late-set-step σ acts set b m h c n =

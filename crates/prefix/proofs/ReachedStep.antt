@@ -13,21 +13,21 @@ use Rattle.program.specs.Program.{Program}
 use Rattle.schedules.specs.Order.{Schedule}
 use Rattle.schedules.specs.System.{run, Allowed}
 use Rattle.schedules.proofs.Runs.{run-nil, run-snoc, allowed-join, allowed-length}
-use Rattle.sc.specs.State.{State, place, step, may, SC, start}
+use Rattle.sc.specs.State.{State, place, step, enabled, SC, start}
 use Rattle.sc.specs.Graph.{endOf}
-use Rattle.sc.specs.Trail.{Action, action, writes}
+use Rattle.sc.specs.Actions.{Action, action, writes}
 use Rattle.graph_writer.specs.Notes.{note, noteBytes}
 use Rattle.graph_writer.proofs.NoteGraph.{noted-location, noted-wrote}
 use Rattle.graph_writer.proofs.NotesHeld.{byte-location, byte-wrote}
 use Rattle.machine.specs.Held.{threadAt, Holds, Loaded, Ready}
 use Rattle.machine.specs.declared.state.Machine.{Machine}
-use Rattle.sc.proofs.Steps.{may-small, may-range, run-threads}
+use Rattle.sc.proofs.Steps.{enabled-small, enabled-range, run-threads}
 use Rattle.sc.proofs.Start.{start-threads}
 use Rattle.sc.proofs.Lawful.{lawful, start-24}
 use Rattle.sc.proofs.Regular.{place-in, regular-run, regular-start}
 use Rattle.sc.proofs.FreeSteps.{action-thread, action-location, action-wrote}
 use Rattle.machine.proofs.HeldStart.{threads-held, short-held}
-use Rattle.machine.proofs.HeldAsking.{held-may, held-ended, ready-held}
+use Rattle.machine.proofs.HeldAsking.{held-enabled, held-ended, ready-held}
 use Rattle.machine.proofs.HeldNext.{held-left}
 use Rattle.survivors.specs.LateSet.{lateBehind, lateSet}
 use Rattle.survivors.specs.ReadWords.{Words, wordBehind, stampsBehind, wordsBehind, noWords, wordsOf}
@@ -65,9 +65,9 @@ reached-start code lengths class threads groups m schedule p loaded lines held =
 -- a thread that has not ended exists, so it has at most sixteen instructions
 pub held-short : (code lengths : List ℕ) (threads : ℕ) (p : Program) → Loaded code lengths threads p → (v : Schedule) (m : Machine) → Holds code lengths m (endOf p v) → Short lengths m
 held-short code lengths threads p loaded v m held u h l =
-    let ok = held-may code lengths m (endOf p v) held u h l in
+    let ok = held-enabled code lengths m (endOf p v) held u h l in
     short-held code lengths threads p loaded u
-    (omega (arith, may-range (endOf p v) u ok, run-threads v (start p), start-threads p, threads-held code lengths threads p loaded))
+    (omega (arith, enabled-range (endOf p v) u ok, run-threads v (start p), start-threads p, threads-held code lengths threads p loaded))
 
 module _ (code lengths class : List ℕ) (threads groups : ℕ) (x : Place) (p : Program) (v : Schedule) (at : Reached code lengths class threads groups x p v) where
   abbrev σ : State
@@ -86,11 +86,11 @@ module _ (code lengths class : List ℕ) (threads groups : ℕ) (x : Place) (p :
   pub reached-short : Short lengths (x .machine)
   reached-short = held-short code lengths threads p (at .loaded) v (x .machine) (at .holds)
 
-  module _ (t : ℕ) (ok : may (endOf p v) t ≡ true) where
+  module _ (t : ℕ) (ok : enabled (endOf p v) t ≡ true) where
     pub reached-ready : Ready lengths (x .machine) t
     reached-ready =
         ready-held code lengths (x .machine) σ (at .holds) t
-        (reached-short t (may-small σ t ok) (held-left code lengths (x .machine) σ t (at .holds) ok)) ok
+        (reached-short t (enabled-small σ t ok) (held-left code lengths (x .machine) σ t (at .holds) ok)) ok
 
     more-allowed : Allowed SC (start p) (v ++ (t ∷ []))
     more-allowed = allowed-join SC (start p) v (t ∷ []) (at .allowed) (ok, tt)
@@ -151,8 +151,8 @@ module _ (code lengths class : List ℕ) (threads groups : ℕ) (x : Place) (p :
       }
 
   -- a machine in which t has an instruction left, whatever prefix led to it
-  pub may-again : (t : ℕ) → t < 6 → threadAt (x .machine) t .at < getD lengths t 0 → may (endOf p v) t ≡ true
-  may-again t h l = held-may code lengths (x .machine) σ (at .holds) t h l
+  pub enabled-again : (t : ℕ) → t < 6 → threadAt (x .machine) t .at < getD lengths t 0 → enabled (endOf p v) t ≡ true
+  enabled-again t h l = held-enabled code lengths (x .machine) σ (at .holds) t h l
 
-  pub may-left : (t : ℕ) → may (endOf p v) t ≡ true → threadAt (x .machine) t .at < getD lengths t 0
-  may-left t ok = held-left code lengths (x .machine) σ t (at .holds) ok
+  pub enabled-left : (t : ℕ) → enabled (endOf p v) t ≡ true → threadAt (x .machine) t .at < getD lengths t 0
+  enabled-left t ok = held-left code lengths (x .machine) σ t (at .holds) ok

@@ -14,7 +14,7 @@ use Rattle.rows.proofs.Rows.{row-store, row-load, row-fetch-add, row-compare-sw
 use Rattle.accesses.specs.declared.accessing.Access.{Access}
 use Rattle.accesses.specs.CarriedOut.{accessOf}
 use Rattle.sc.specs.Local.{accessPlace, firstPlace}
-use Rattle.sc.specs.Trail.{Action, conflict}
+use Rattle.sc.specs.Actions.{Action, conflict}
 use Rattle.sc.specs.Ahead.{accessMayPut, firstMayPut}
 use Rattle.sc.proofs.Trails.{conflict-elsewhere, conflict-written, conflict-read}
 use Rattle.prefix.specs.Steps.{accessingAt}

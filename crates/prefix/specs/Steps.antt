@@ -8,7 +8,7 @@ use lib.ListN.{length, getD, set}
 use Rattle.rows.specs.Rows.{instructionAt}
 use Rattle.accesses.specs.CarriedOut.{accessOf}
 use Rattle.sc.specs.State.{State}
-use Rattle.sc.specs.Trail.{Action}
+use Rattle.sc.specs.Actions.{Action}
 use Rattle.machine.specs.Held.{threadAt, Holds}
 use Rattle.machine.specs.declared.state.Machine.{Machine}
 use Rattle.survivors.specs.LateSet.{lateBehind}

@@ -16,7 +16,7 @@ ghost use mathlib.Core.List.{List, [], _∷_, _++_};
 ghost use Prim.Native.Nat.{ℕ, _<_};
 ghost use Rattle.program.specs.Program.{Program};
 ghost use Rattle.schedules.specs.Order.{Schedule};
-ghost use Rattle.sc.specs.State.{may};
+ghost use Rattle.sc.specs.State.{enabled};
 ghost use Rattle.sc.specs.Graph.{endOf};
 ghost use Rattle.machine.specs.Held.{Loaded};
 ghost use Rattle.prefix.specs.ClassGroups.{Lined};
@@ -83,7 +83,7 @@ fn carried(
 // Behind a step of thread t, which has not ended.
 pub fn advanced(code: &[u8; 1536], lengths: &[usize; 6], x: Place, t: u8) -> Place
     requires { ⌜ ((class : List ℕ) × (threads : ℕ) × (groups : ℕ) × (p : Program) × (v : Schedule)
-        × Reached (now code) (now lengths) class threads groups x p v × (may (endOf p v) t ≡ true)) ⌝ }
+        × Reached (now code) (now lengths) class threads groups x p v × (enabled (endOf p v) t ≡ true)) ⌝ }
     ensures { λ r. ⌜ ((class : List ℕ) (threads groups : ℕ) (p : Program) (v : Schedule)
         → Reached (now (code .entry)) (now (lengths .entry)) class threads groups x p v
         → Reached (now (code .entry)) (now (lengths .entry)) class threads groups r p (v ++ (t ∷ []))) ⌝ }

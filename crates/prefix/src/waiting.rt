@@ -5,7 +5,7 @@ ghost use mathlib.Core.List.{[], _∷_};
 ghost use Prim.Native.Nat.{_<_};
 ghost use Rattle.rows.specs.Rows.{instructionAt};
 ghost use Rattle.sc.specs.Local.{firstPlace};
-ghost use Rattle.sc.specs.Trail.{conflict};
+ghost use Rattle.sc.specs.Actions.{conflict};
 ghost use Rattle.sc.specs.Ahead.{firstMayPut};
 ghost use Rattle.prefix.specs.Steps.{accessingAt};
 

@@ -12,7 +12,7 @@ use Rattle.decoder.specs.Compiled.{programOf, answerOf}
 use Rattle.decoder.specs.declared.file.Compiled.{Compiled}
 use Rattle.decoder.specs.declared.file.Answer.{Answer}
 use Rattle.decoder.specs.declared.file.Verdict.the-variants as File
-use Rattle.schedules.specs.Lists.{keep}
+use Rattle.schedules.specs.Lists.{filter}
 use Rattle.schedules.specs.Order.{Schedule}
 use Rattle.sc.specs.Text.{textOf}
 use Rattle.sc.proofs.Lawful.{fits-64-bits}
@@ -53,9 +53,9 @@ module _ (file : List ℕ) (a : Answer) (s : Listing) (e : answerOf a ≡ decode
     counts-all =
         let f : failing (programOf (s .program)) ≡ failing p = ap (λ (c : Compiled). failing (programOf c)) program in
         let a : s .listed + length (left s) ≡ length (listOf p) = omega (arith, listed, ap length left-all) in
-        let b : s .failed + length (keep (failing (programOf (s .program))) (left s)) ≡ length (keep (failing p) (listOf p)) =
-        omega (arith, failed, ap (λ (g : Schedule → Bool). length (keep g (left s))) f, ap (λ (l : List Schedule). length (keep (failing p) l)) left-all) in
-        ap (λ (i : ℕ). record { listed = i; failed = s .failed + length (keep (failing (programOf (s .program))) (left s)) }) a ∙ ap (λ (j : ℕ). record { listed = length (listOf p); failed = j }) b
+        let b : s .failed + length (filter (failing (programOf (s .program))) (left s)) ≡ length (filter (failing p) (listOf p)) =
+        omega (arith, failed, ap (λ (g : Schedule → Bool). length (filter g (left s))) f, ap (λ (l : List Schedule). length (filter (failing p) l)) left-all) in
+        ap (λ (i : ℕ). record { listed = i; failed = s .failed + length (filter (failing (programOf (s .program))) (left s)) }) a ∙ ap (λ (j : ℕ). record { listed = length (listOf p); failed = j }) b
 
     well-formed : WellFormed p
     well-formed = decoded-well-formed a file e v

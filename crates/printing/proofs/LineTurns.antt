@@ -14,9 +14,9 @@ use Rattle.lines.proofs.Text.{length-text}
 use Rattle.program.specs.Program.{Program}
 use Rattle.program.specs.Decode.{refused}
 use Rattle.program.proofs.Everywhere.{everywhere-getD}
-use Rattle.schedules.specs.Lists.{keep}
+use Rattle.schedules.specs.Lists.{filter}
 use Rattle.schedules.specs.Order.{Schedule}
-use Rattle.schedules.proofs.Kept.{keep-append}
+use Rattle.schedules.proofs.Kept.{filter-append}
 use Rattle.sc.specs.Text.{textOf}
 use Rattle.graph_writer.specs.NoteText.{Wrote}
 use Rattle.graph_writer.proofs.WrittenLines.{wrote-one, wrote-more}
@@ -39,23 +39,23 @@ module _ (p : Program) (ss : List Schedule) where
   next-frames : (k : ℕ) → k < length ss → map (scheduleFrame p) (take (k + 1) ss) ≡ map (scheduleFrame p) (take k ss) ++ (scheduleFrame p (getD ss k []) ∷ [])
   next-frames k h = ap (map (scheduleFrame p)) (next-schedule k h) ∙ map-append (scheduleFrame p) (take k ss) (getD ss k [] ∷ [])
 
-  kept-one : (g : Schedule → Bool) (s : Schedule) (b : Bool) → g s ≡ b → length (keep g (s ∷ [])) ≡ cond b 1 0
-  unfolding keep
-  kept-one g s true e = rw (e, keep)
-  kept-one g s false e = rw (e, keep)
+  kept-one : (g : Schedule → Bool) (s : Schedule) (b : Bool) → g s ≡ b → length (filter g (s ∷ [])) ≡ cond b 1 0
+  unfolding filter
+  kept-one g s true e = rw (e, filter)
+  kept-one g s false e = rw (e, filter)
 
-  next-failed : (k : ℕ) → k < length ss → length (keep (failing p) (take (k + 1) ss)) ≡ length (keep (failing p) (take k ss)) + cond (failing p (getD ss k [])) 1 0
+  next-failed : (k : ℕ) → k < length ss → length (filter (failing p) (take (k + 1) ss)) ≡ length (filter (failing p) (take k ss)) + cond (failing p (getD ss k [])) 1 0
   next-failed k h =
-      ap (λ (l : List Schedule). length (keep (failing p) l)) (next-schedule k h)
-      ∙ ap length (keep-append (failing p) (take k ss) (getD ss k [] ∷ []))
-      ∙ length-append (keep (failing p) (take k ss)) (keep (failing p) (getD ss k [] ∷ []))
-      ∙ ap (λ (j : ℕ). length (keep (failing p) (take k ss)) + j) (kept-one (failing p) (getD ss k []) (failing p (getD ss k [])) refl)
+      ap (λ (l : List Schedule). length (filter (failing p) l)) (next-schedule k h)
+      ∙ ap length (filter-append (failing p) (take k ss) (getD ss k [] ∷ []))
+      ∙ length-append (filter (failing p) (take k ss)) (filter (failing p) (getD ss k [] ∷ []))
+      ∙ ap (λ (j : ℕ). length (filter (failing p) (take k ss)) + j) (kept-one (failing p) (getD ss k []) (failing p (getD ss k [])) refl)
 
   pub lines-more : (held rows out xs ys row : List ℕ) (n k at m failed : ℕ) → Shown p ss held rows n → Short ss → k < n
-      → (Wrote (map (scheduleFrame p) (take k ss)) out xs at) × (failed ≡ length (keep (failing p) (take k ss)))
+      → (Wrote (map (scheduleFrame p) (take k ss)) out xs at) × (failed ≡ length (filter (failing p) (take k ss)))
       → row ≡ take 26 (drop (k * 26) rows)
       → ((s : Schedule) (f : Bool) → row ≡ rowBytes s f → length s ≤ 24 → Wrote ((0x50 ∷ cond f 1 0 ∷ s) ∷ []) (midOf at (length xs - at) xs) ys m)
-      → (Wrote (map (scheduleFrame p) (take (k + 1) ss)) out (putMid at (length xs - at) xs ys) (at + m)) × (failed + getD row 1 0 ≡ length (keep (failing p) (take (k + 1) ss)))
+      → (Wrote (map (scheduleFrame p) (take (k + 1) ss)) out (putMid at (length xs - at) xs ys) (at + m)) × (failed + getD row 1 0 ≡ length (filter (failing p) (take (k + 1) ss)))
   unfolding rowOf
   lines-more held rows out xs ys row n k at m failed w short h so e line =
       let s : Schedule = getD ss k [] in
@@ -64,7 +64,7 @@ module _ (p : Program) (ss : List Schedule) where
       let wrote = line s (failing p s) r (everywhere-getD (λ s. length s ≤ 24) ss k [] short (omega arith)) in (
         wrote-more (map (scheduleFrame p) (take k ss)) (scheduleFrame p s ∷ []) (map (scheduleFrame p) (take (k + 1) ss)) out xs ys at m (next-frames k b) (so .0)
             (subst (λ (f : List ℕ). Wrote (f ∷ []) (midOf at (length xs - at) xs) ys m) (frame-is p s) wrote),
-        ap (λ (j : ℕ). j + getD row 1 0) (so .1) ∙ ap (λ (j : ℕ). length (keep (failing p) (take k ss)) + j) (row-failed s (failing p s) row r) ∙ sym (next-failed k b),
+        ap (λ (j : ℕ). j + getD row 1 0) (so .1) ∙ ap (λ (j : ℕ). length (filter (failing p) (take k ss)) + j) (row-failed s (failing p s) row r) ∙ sym (next-failed k b),
       )
 
 -- ---- how long the lines are

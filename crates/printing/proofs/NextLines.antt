@@ -13,9 +13,9 @@ use Rattle.decoder.specs.Compiled.{programOf}
 use Rattle.program.specs.Decode.{refused}
 use Rattle.decoder.specs.declared.file.Compiled.{Compiled}
 use Rattle.program.proofs.Everywhere.{everywhere-all}
-use Rattle.schedules.specs.Lists.{keep}
+use Rattle.schedules.specs.Lists.{filter}
 use Rattle.schedules.specs.Order.{Schedule}
-use Rattle.schedules.proofs.Kept.{keep-length, keep-append}
+use Rattle.schedules.proofs.Kept.{filter-length, filter-append}
 use Rattle.sc.specs.Text.{textOf}
 use Rattle.graph_writer.specs.NoteText.{Wrote}
 use Rattle.graph_writer.proofs.WrittenLines.{wrote-whole, wrote-more}
@@ -113,8 +113,8 @@ module _ (s : Listing) (r : Ready s) (held rows : List ℕ) (page : Page) (size 
   pub listed-fits : s .listed + n < 2 ^ 64
   listed-fits = omega (arith, shown-left .counted, length-take 256 (left s), r .fits)
 
-  pub failed-fits : (m : ℕ) → m ≡ length (keep (failing p) next256) → s .failed + m ≤ s .listed + n
-  failed-fits m e = omega (arith, shown-left .counted, r .few, keep-length (failing p) next256)
+  pub failed-fits : (m : ℕ) → m ≡ length (filter (failing p) next256) → s .failed + m ≤ s .listed + n
+  failed-fits m e = omega (arith, shown-left .counted, r .few, filter-length (failing p) next256)
 
   -- the frames left, while schedules are listed
   rest-walking : s .stage ≡ Walking → rest s ≡ textOf (map (scheduleFrame p) (left s) ++ (countFrame (counts s) ∷ []))
@@ -126,7 +126,7 @@ module _ (s : Listing) (r : Ready s) (held rows : List ℕ) (page : Page) (size 
   all-left e = sym (split-left ∙ ap (λ (l : List Schedule). next256 ++ l) (remaining-end p false (page .cursor) e) ∙ append-nil next256)
 
   pub next-counts : (s' : Listing) (out xs ys : List ℕ) (at m failed : ℕ) → s .stage ≡ Walking → s' .stage ≡ Ended → 13603 ≤ length out → isEnd (page .cursor .position) ≡ true
-      → Wrote (map (scheduleFrame p) next256) out xs at → failed ≡ length (keep (failing p) next256)
+      → Wrote (map (scheduleFrame p) next256) out xs at → failed ≡ length (filter (failing p) next256)
       → Wrote (countFrame (record { listed = s .listed + n; failed = s .failed + failed }) ∷ []) (midOf at (length xs - at) xs) ys m
       → (at + m ≤ length (putMid at (length xs - at) xs ys)) × Next s (take (at + m) (putMid at (length xs - at) xs ys)) s'
   unfolding counts
@@ -134,7 +134,7 @@ module _ (s : Listing) (r : Ready s) (held rows : List ℕ) (page : Page) (size 
       let a = all-left h in
       let en : n ≡ length (left s) = shown-left .counted ∙ ap length a in
       let c : countFrame (record { listed = s .listed + n; failed = s .failed + failed }) ≡ countFrame (counts s) =
-      ap₂ (λ (i j : ℕ). countFrame (record { listed = s .listed + i; failed = s .failed + j })) en (ef ∙ ap (λ (l : List Schedule). length (keep (failing p) l)) a) in
+      ap₂ (λ (i j : ℕ). countFrame (record { listed = s .listed + i; failed = s .failed + j })) en (ef ∙ ap (λ (l : List Schedule). length (filter (failing p) l)) a) in
       let fs : List (List ℕ) = map (scheduleFrame p) next256 ++ (countFrame (counts s) ∷ []) in
       let all : Wrote fs out (putMid at (length xs - at) xs ys) (at + m) =
       wrote-more (map (scheduleFrame p) next256) (countFrame (counts s) ∷ []) fs out xs ys at m refl wrote
@@ -154,7 +154,7 @@ module _ (s : Listing) (r : Ready s) (held rows : List ℕ) (page : Page) (size 
         let full : (n < length held / 26) → ⊥ = λ h. false≢true (sym more ∙ paged .ends h) in
         omega (arith, shown-left .counted, few-rows, full, most)
 
-    module _ (s' : Listing) (failed : ℕ) (ef : failed ≡ length (keep (failing p) next256)) (program : s' .program ≡ s .program)
+    module _ (s' : Listing) (failed : ℕ) (ef : failed ≡ length (filter (failing p) next256)) (program : s' .program ≡ s .program)
         (cursor : s' .cursor ≡ page .cursor) (listed : s' .listed ≡ s .listed + n) (fails : s' .failed ≡ s .failed + failed) where
       abbrev behind : List Schedule
       behind = remaining p false (page .cursor)
@@ -167,10 +167,10 @@ module _ (s : Listing) (r : Ready s) (held rows : List ℕ) (page : Page) (size 
       unfolding counts
       counts-same =
           let a : length (left s) ≡ n + length (left s') = ap length split-left ∙ length-append next256 behind ∙ omega (arith, shown-left .counted, ap length left-is) in
-          let b : length (keep (failing p) (left s)) ≡ failed + length (keep (failing (programOf (s' .program))) (left s')) =
-          ap (λ (l : List Schedule). length (keep (failing p) l)) split-left ∙ ap length (keep-append (failing p) next256 behind)
-          ∙ length-append (keep (failing p) next256) (keep (failing p) behind)
-          ∙ ap₂ (λ (i j : ℕ). i + j) (sym ef) (ap₂ (λ (c : Compiled) (l : List Schedule). length (keep (failing (programOf c)) l)) (sym program) (sym left-is)) in
+          let b : length (filter (failing p) (left s)) ≡ failed + length (filter (failing (programOf (s' .program))) (left s')) =
+          ap (λ (l : List Schedule). length (filter (failing p) l)) split-left ∙ ap length (filter-append (failing p) next256 behind)
+          ∙ length-append (filter (failing p) next256) (filter (failing p) behind)
+          ∙ ap₂ (λ (i j : ℕ). i + j) (sym ef) (ap₂ (λ (c : Compiled) (l : List Schedule). length (filter (failing (programOf c)) l)) (sym program) (sym left-is)) in
           ap₂ (λ (i j : ℕ). record { listed = i; failed = j }) (omega (arith, a, listed)) (omega (arith, b, fails))
 
       listed-same : s' .listed + length (left s') ≡ s .listed + length (left s)

@@ -7,7 +7,7 @@ use lib.ListN.{length}
 use Rattle.decoder.specs.Compiled.{programOf}
 use Rattle.program.specs.WellFormed.{WellFormed, Everywhere}
 use Rattle.program.specs.Decode.{refused}
-use Rattle.schedules.specs.Lists.{keep}
+use Rattle.schedules.specs.Lists.{filter}
 use Rattle.schedules.specs.Order.{Schedule}
 use Rattle.sc.specs.Text.{textOf}
 use Rattle.list.specs.Answers.{failing, Counts}
@@ -27,7 +27,7 @@ left s = remaining (programOf (s .program)) false (s .cursor)
 
 -- what the two counts come to, with those that are not printed yet
 unfoldable pub counts : Listing → Counts
-counts s = record { listed = s .listed + length (left s); failed = s .failed + length (keep (failing (programOf (s .program))) (left s)) }
+counts s = record { listed = s .listed + length (left s); failed = s .failed + length (filter (failing (programOf (s .program))) (left s)) }
 
 -- the frames that are left to print
 unfoldable pub framesLeft : Stage → Listing → List (List ℕ)

@@ -8,7 +8,7 @@ ghost use Prim.Native.Nat.{ℕ, _+_, _*_, _/_, _%_, _<_, _≤_};
 ghost use lib.ListN.{length, take, drop};
 ghost use Rattle.program.specs.Program.{Program};
 ghost use Rattle.program.specs.Decode.{refused};
-ghost use Rattle.schedules.specs.Lists.{keep};
+ghost use Rattle.schedules.specs.Lists.{filter};
 ghost use Rattle.schedules.specs.Order.{Schedule};
 ghost use Rattle.graph_writer.specs.NoteText.{Wrote};
 ghost use Rattle.list.specs.Answers.{failing};
@@ -61,7 +61,7 @@ fn schedule_line(out: &mut [u8], row: [u8; 26]) -> usize
 pub(crate) fn schedule_lines(out: &mut [u8], rows: &[u8; 6656], n: usize) -> Lines
     requires { ⌜ (n ≤ 256) × (length (now rows) ≡ 6656) ⌝ }
     ensures { λ r. ⌜ ((p : Program) (ss : List Schedule) (held : List ℕ) → Shown p ss held (now (rows .entry)) n → Short ss →
-        Wrote (map (scheduleFrame p) ss) (now (out .entry)) (now (out .exit)) (r .length) × (r .failed ≡ length (keep (failing p) ss))) ⌝ }
+        Wrote (map (scheduleFrame p) ss) (now (out .entry)) (now (out .exit)) (r .length) × (r .failed ≡ length (filter (failing p) ss))) ⌝ }
 {
     let mut at = 0;
     let mut failed = 0;

@@ -9,7 +9,7 @@ use lib.Dec.{eqb, leb}
 use borrow.Author.Tests.{eqb-true, ne-eqb}
 use Rattle.program.specs.declared.instruction.Instruction.{Instruction}
 use Rattle.program.specs.declared.kind.Kind.{Kind}
-use Rattle.program.specs.Kinds.{row, kinds, find, kindOf}
+use Rattle.program.specs.Kinds.{row, kinds, lookup, kindOf}
 use Rattle.program.specs.Frames.{Frame, byte, kind, known, opens, declares, isAccess, skipOf, operand, buildOwn, build, instruction}
 use Rattle.program.specs.Decode.{among}
 use Rattle.program.specs.WellFormed.{Everywhere, accesses, mostSkipped}
@@ -79,7 +79,7 @@ instructionAt f b =
 
 -- an access counts as one, every other instruction as none
 pub accesses-cons : (f : Frame) → IsInstruction f → (is : List Instruction) → accesses (instruction f ∷ is) ≡ cond (isAccess f) 1 0 + accesses is
-unfolding instruction instructionAt kind isAccess codes buildOwn build accesses kindOf find kinds
+unfolding instruction instructionAt kind isAccess codes buildOwn build accesses kindOf lookup kinds
 accesses-cons f i is =
     by-code f i
     (λ b. accesses (instructionAt f b ∷ is) ≡ cond (leb 0x10 b && leb b 0x13) 1 0 + accesses is)
@@ -87,7 +87,7 @@ accesses-cons f i is =
 
 -- an instruction may skip as many as its frame says
 pub most-skipped : (f : Frame) → IsInstruction f → mostSkipped (instruction f) ≡ skipOf f
-unfolding instruction instructionAt kind skipOf codes buildOwn build kindOf find kinds
+unfolding instruction instructionAt kind skipOf codes buildOwn build kindOf lookup kinds
 most-skipped f i =
     by-code f i
     (λ b. mostSkipped (instructionAt f b) ≡ cond (eqb (kindOf b .skip) 0) 0 (byte f (kindOf b .skip)))

@@ -26,6 +26,6 @@ pub record HoldsRun (code lengths : List ℕ) (p : Program) (s : Schedule) (r : 
   pub schedule : take (r .steps) (r .schedule) ≡ take (r .steps) s
   pub allowed : Allowed SC (start p) (take (r .steps) s)
   pub holds : Holds code lengths (r .machine) (run SC (start p) (take (r .steps) s))
-  pub noted : Noted (r .trail) (notes (start p) (take (r .steps) s))
+  pub noted : Noted (r .log) (notes (start p) (take (r .steps) s))
   pub answer : verdictOf (r .verdict) (run SC (start p) (take (r .steps) s)) ≡ replay p s
   pub all : r .verdict ≡ Whole → take (r .steps) s ≡ s

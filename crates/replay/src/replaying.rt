@@ -25,19 +25,19 @@ pub enum Verdict {
 pub struct Run {
     pub verdict: Verdict,
     pub machine: Machine,
-    pub trail: [u8; 192],
+    pub log: [u8; 192],
     pub schedule: [u8; 24],
     pub steps: usize,
 }
 
 // A run that ends here.
-fn ended_here(verdict: Verdict, m: Machine, trail: [u8; 192], made: [u8; 24], steps: usize) -> Run
-    ensures { λ r. ⌜ r ≡ record { verdict = verdict; machine = m; trail = trail; schedule = made; steps = steps } ⌝ }
+fn ended_here(verdict: Verdict, m: Machine, log: [u8; 192], made: [u8; 24], steps: usize) -> Run
+    ensures { λ r. ⌜ r ≡ record { verdict = verdict; machine = m; log = log; schedule = made; steps = steps } ⌝ }
 {
     Run {
         verdict: verdict,
         machine: m,
-        trail: trail,
+        log: log,
         schedule: made,
         steps: steps,
     }
@@ -79,18 +79,18 @@ pub fn replayed(code: &[u8; 1536], lengths: &[usize; 6], threads: usize, schedul
     ensures { λ r. ⌜ ((p : Program) → Loaded (now (code .entry)) (now (lengths .entry)) threads p → HoldsRun (now (code .entry)) (now (lengths .entry)) p (now (schedule .entry)) r) ⌝ }
 {
     let mut m = started(code, lengths, threads);
-    let mut trail = [0u8; 192];
+    let mut log = [0u8; 192];
     let mut made = [0u8; 24];
     let mut k = 0;
     while k < schedule.len() {
         let t = schedule[k];
         if 6 <= t {
-            return ended_here(Verdict::Refused(20, k), m, trail, made, k);
+            return ended_here(Verdict::Refused(20, k), m, log, made, k);
         }
         let u = wide(t);
         let thread = m.threads[u];
         if lengths[u] <= thread.at {
-            return ended_here(Verdict::Refused(20, k), m, trail, made, k);
+            return ended_here(Verdict::Refused(20, k), m, log, made, k);
         }
         let memory = m.memory;
         let number = thread.done;
@@ -120,11 +120,11 @@ pub fn replayed(code: &[u8; 1536], lengths: &[usize; 6], threads: usize, schedul
             a.writes,
             0,
         ];
-        put_note(&mut trail, k, note);
+        put_note(&mut log, k, note);
         k += 1;
     }
     if ended_all(lengths, m) {
-        return ended_here(Verdict::Whole, m, trail, made, k);
+        return ended_here(Verdict::Whole, m, log, made, k);
     }
-    ended_here(Verdict::Refused(21, k), m, trail, made, k)
+    ended_here(Verdict::Refused(21, k), m, log, made, k)
 }

@@ -2,7 +2,7 @@
 use lines::wide;
 use machine::LastWrite;
 use machine::Machine;
-use machine::may;
+use machine::enabled;
 use machine::step;
 ghost use mathlib.Core.Path.{_≡_};
 ghost use Prim.Native.Nat.{_<_, _≤_};
@@ -39,7 +39,7 @@ pub(crate) fn met(code: &[u8; 1536], lengths: &[usize; 6], m: Machine, t: u8, x:
     ensures { λ r. ⌜ ((σ : State) → Holds (now (code .entry)) (now (lengths .entry)) m σ → place σ t < 8 → MetAlone (now (code .entry)) (now (lengths .entry)) σ t x r) ⌝ }
 {
     let n = facing(m, x);
-    if !may(lengths, n, t) {
+    if !enabled(lengths, n, t) {
         return Lone {
             machine: m,
             place: 0,

@@ -15,7 +15,7 @@ use Rattle.program.specs.declared.instruction.Own.{Own}
 use Rattle.program.specs.declared.instruction.Own.the-variants.{Assign, AddAssign, SkipUnless, Assert}
 use Rattle.program.specs.declared.instruction.Instruction.{Instruction}
 use Rattle.program.specs.declared.instruction.Instruction.the-variants.{Memory, Alone}
-use Rattle.program.specs.Kinds.{kindOf, find, kinds}
+use Rattle.program.specs.Kinds.{kindOf, lookup, kinds}
 use Rattle.program.specs.Frames.{Frame, byte, word, kind, operand, test, buildOwn, build, instruction}
 use Rattle.rows.specs.Rows.{rowAt, instructionAt}
 
@@ -40,7 +40,7 @@ row-word code k j h =
 pub other-kind : (f : Frame) → (byte f 0 ≡ 0x10 → ⊥) → (byte f 0 ≡ 0x11 → ⊥) → (byte f 0 ≡ 0x12 → ⊥) → (byte f 0 ≡ 0x13 → ⊥)
     → (byte f 0 ≡ 0x20 → ⊥) → (byte f 0 ≡ 0x21 → ⊥) → (byte f 0 ≡ 0x22 → ⊥) → (byte f 0 ≡ 0x23 → ⊥)
     → instruction f ≡ Alone (Assert (test Equal (byte f 0) (operand f 0)))
-unfolding instruction buildOwn build kind kindOf find kinds
+unfolding instruction buildOwn build kind kindOf lookup kinds
 other-kind f h10 h11 h12 h13 h20 h21 h22 h23 = go (eqb (byte f 0) 1) (eqb (byte f 0) 2) refl refl where
   go : (x y : Bool) → eqb (byte f 0) 1 ≡ x → eqb (byte f 0) 2 ≡ y → instruction f ≡ Alone (Assert (test Equal (byte f 0) (operand f 0)))
   go true y e d = rw (e, ne-eqb _ _ h10, ne-eqb _ _ h11, ne-eqb _ _ h12, ne-eqb _ _ h13, ne-eqb _ _ h20, ne-eqb _ _ h21, ne-eqb _ _ h22)
@@ -50,35 +50,35 @@ other-kind f h10 h11 h12 h13 h20 h21 h22 h23 = go (eqb (byte f 0) 1) (eqb (byte 
 -- the instruction in one of the 96 rows, by its first byte
 module _ (code : List ℕ) (k : ℕ) (h : k < 96) where
   pub row-store : getD code (k * 16) 0 ≡ 0x10 → instructionAt code k ≡ Memory (Store (getD code (k * 16 + 1) 0) (operand (rowAt code k) 2))
-  unfolding instructionAt instruction buildOwn build kind kindOf find kinds
+  unfolding instructionAt instruction buildOwn build kind kindOf lookup kinds
   row-store e = rw (lt-ltb _ _ h, row-first code k ∙ e, row-byte code k 1 (lit< tt))
 
   pub row-load : getD code (k * 16) 0 ≡ 0x11 → instructionAt code k ≡ Memory (Load (getD code (k * 16 + 1) 0) (getD code (k * 16 + 2) 0))
-  unfolding instructionAt instruction buildOwn build kind kindOf find kinds
+  unfolding instructionAt instruction buildOwn build kind kindOf lookup kinds
   row-load e = rw (lt-ltb _ _ h, row-first code k ∙ e, row-byte code k 1 (lit< tt), row-byte code k 2 (lit< tt))
 
   pub row-fetch-add : getD code (k * 16) 0 ≡ 0x12 → instructionAt code k ≡ Memory (FetchAdd (getD code (k * 16 + 1) 0) (getD code (k * 16 + 2) 0) (operand (rowAt code k) 3))
-  unfolding instructionAt instruction buildOwn build kind kindOf find kinds
+  unfolding instructionAt instruction buildOwn build kind kindOf lookup kinds
   row-fetch-add e = rw (lt-ltb _ _ h, row-first code k ∙ e, row-byte code k 1 (lit< tt), row-byte code k 2 (lit< tt))
 
   pub row-compare-swap : getD code (k * 16) 0 ≡ 0x13 → instructionAt code k ≡ Memory (CompareSwap (getD code (k * 16 + 1) 0) (getD code (k * 16 + 2) 0) (operand (rowAt code k) 3) (operand (rowAt code k) 8))
-  unfolding instructionAt instruction buildOwn build kind kindOf find kinds
+  unfolding instructionAt instruction buildOwn build kind kindOf lookup kinds
   row-compare-swap e = rw (lt-ltb _ _ h, row-first code k ∙ e, row-byte code k 1 (lit< tt), row-byte code k 2 (lit< tt))
 
   pub row-assign : getD code (k * 16) 0 ≡ 0x20 → instructionAt code k ≡ Alone (Assign (getD code (k * 16 + 1) 0) (operand (rowAt code k) 2))
-  unfolding instructionAt instruction buildOwn build kind kindOf find kinds
+  unfolding instructionAt instruction buildOwn build kind kindOf lookup kinds
   row-assign e = rw (lt-ltb _ _ h, row-first code k ∙ e, row-byte code k 1 (lit< tt))
 
   pub row-add-assign : getD code (k * 16) 0 ≡ 0x21 → instructionAt code k ≡ Alone (AddAssign (getD code (k * 16 + 1) 0) (operand (rowAt code k) 2))
-  unfolding instructionAt instruction buildOwn build kind kindOf find kinds
+  unfolding instructionAt instruction buildOwn build kind kindOf lookup kinds
   row-add-assign e = rw (lt-ltb _ _ h, row-first code k ∙ e, row-byte code k 1 (lit< tt))
 
   pub row-skip : getD code (k * 16) 0 ≡ 0x22 → instructionAt code k ≡ Alone (SkipUnless (test Equal (getD code (k * 16 + 1) 0) (operand (rowAt code k) 2)) (getD code (k * 16 + 7) 0))
-  unfolding instructionAt instruction buildOwn build kind kindOf find kinds
+  unfolding instructionAt instruction buildOwn build kind kindOf lookup kinds
   row-skip e = rw (lt-ltb _ _ h, row-first code k ∙ e, row-byte code k 1 (lit< tt), row-byte code k 7 (lit< tt))
 
   pub row-assert : getD code (k * 16) 0 ≡ 0x23 → instructionAt code k ≡ Alone (Assert (test Equal (getD code (k * 16 + 1) 0) (operand (rowAt code k) 2)))
-  unfolding instructionAt instruction buildOwn build kind kindOf find kinds
+  unfolding instructionAt instruction buildOwn build kind kindOf lookup kinds
   row-assert e = rw (lt-ltb _ _ h, row-first code k ∙ e, row-byte code k 1 (lit< tt))
 
   pub row-other : (getD code (k * 16) 0 ≡ 0x10 → ⊥) → (getD code (k * 16) 0 ≡ 0x11 → ⊥) → (getD code (k * 16) 0 ≡ 0x12 → ⊥) → (getD code (k * 16) 0 ≡ 0x13 → ⊥) → (getD code (k * 16) 0 ≡ 0x20 → ⊥) → (getD code (k * 16) 0 ≡ 0x21 → ⊥) → (getD code (k * 16) 0 ≡ 0x22 → ⊥) → (getD code (k * 16) 0 ≡ 0x23 → ⊥)

@@ -14,9 +14,9 @@ use Rattle.program.specs.declared.instruction.Instruction.the-variants.{Memory,
 use Rattle.rows.specs.Rows.{instructionAt, threadCode}
 use Rattle.rows.proofs.Rows.{row-store, row-load, row-fetch-add, row-compare-swap, row-no-access}
 use Rattle.accesses.proofs.HeldSettling.{code-at, code-end}
-use Rattle.schedules.specs.Lists.{upTo, all}
-use Rattle.schedules.proofs.Lists.{in-upTo, all-at, all-of, all-yes, all-no}
-use Rattle.schedules.proofs.Loops.{upTo-none, upTo-more}
+use Rattle.schedules.specs.Lists.{range, all}
+use Rattle.schedules.proofs.Lists.{in-range, all-at, all-of, all-yes, all-no}
+use Rattle.schedules.proofs.Loops.{range-none, range-more}
 use Rattle.sc.specs.Local.{accessTakes, firstPlace, firstTakes, placeOf}
 use Rattle.sc.specs.State.{State, threadOf, place}
 use Rattle.sc.specs.Ahead.{firstMayPut, mayPut}
@@ -27,23 +27,23 @@ use Rattle.rules.specs.Left.{Left, Rests}
 use Rattle.prefix.proofs.RowAccess.{place-first, writer-first}
 
 -- ---- one location more
-own-eight : all (λ s. eqb (setOf (has s) 8) s) (upTo 0 256) ≡ true
-unfolding all upTo has addend setOf
+own-eight : all (λ s. eqb (setOf (has s) 8) s) (range 0 256) ≡ true
+unfolding all range has addend setOf
 own-eight = refl
 
 -- a number that names no location
 pub joined-out : (l s : ℕ) → 8 ≤ l → s < 256 → s ≡ joined l s
 unfolding joined
 joined-out l s h k =
-    sym (eqb-true (setOf (has s) 8) s (all-at (λ s. eqb (setOf (has s) 8) s) (upTo 0 256) s own-eight (in-upTo 0 256 s (omega arith) (omega arith))))
+    sym (eqb-true (setOf (has s) 8) s (all-at (λ s. eqb (setOf (has s) 8) s) (range 0 256) s own-eight (in-range 0 256 s (omega arith) (omega arith))))
     ∙ set-same (has s) (λ k. eqb l k || has s k) 8 (λ t i. let q = ne-eqb l t (λ e. omega (arith, e)) in rw q)
 
-powers : all (λ l. eqb (getD (1 ∷ 2 ∷ 4 ∷ 8 ∷ 16 ∷ 32 ∷ 64 ∷ 128 ∷ []) l 0) (2 ^ l)) (upTo 0 8) ≡ true
-unfolding all upTo
+powers : all (λ l. eqb (getD (1 ∷ 2 ∷ 4 ∷ 8 ∷ 16 ∷ 32 ∷ 64 ∷ 128 ∷ []) l 0) (2 ^ l)) (range 0 8) ≡ true
+unfolding all range
 powers = refl
 
 pub power-at : (l : ℕ) → l < 8 → getD (1 ∷ 2 ∷ 4 ∷ 8 ∷ 16 ∷ 32 ∷ 64 ∷ 128 ∷ []) l 0 ≡ 2 ^ l
-power-at l h = eqb-true (getD (1 ∷ 2 ∷ 4 ∷ 8 ∷ 16 ∷ 32 ∷ 64 ∷ 128 ∷ []) l 0) (2 ^ l) (all-at (λ l. eqb (getD (1 ∷ 2 ∷ 4 ∷ 8 ∷ 16 ∷ 32 ∷ 64 ∷ 128 ∷ []) l 0) (2 ^ l)) (upTo 0 8) l powers (in-upTo 0 8 l (omega arith) (omega arith)))
+power-at l h = eqb-true (getD (1 ∷ 2 ∷ 4 ∷ 8 ∷ 16 ∷ 32 ∷ 64 ∷ 128 ∷ []) l 0) (2 ^ l) (all-at (λ l. eqb (getD (1 ∷ 2 ∷ 4 ∷ 8 ∷ 16 ∷ 32 ∷ 64 ∷ 128 ∷ []) l 0) (2 ^ l)) (range 0 8) l powers (in-range 0 8 l (omega arith) (omega arith)))
 
 pub joined-power : (l s : ℕ) → l < 8 → s < 256 → has s l ≡ false → s + getD (1 ∷ 2 ∷ 4 ∷ 8 ∷ 16 ∷ 32 ∷ 64 ∷ 128 ∷ []) l 0 ≡ joined l s
 joined-power l s h k e = ap (λ (n : ℕ). s + n) (power-at l h) ∙ sym (joined-new l s h k e)
@@ -144,14 +144,14 @@ module _ (code lengths at : List ℕ) (σ : State) (rests : Rests code lengths a
 
 -- ---- a test over the numbers from d on, one at a time
 module _ (f : ℕ → Bool) (d j : ℕ) where
-  pub all-over : j ≡ 0 → all f (upTo d j) ≡ true
-  all-over e = ap (all f) (upTo-none d j e) ∙ all-of f [] (λ x m. absurd (List·Memᴰ·not-nil m))
+  pub all-over : j ≡ 0 → all f (range d j) ≡ true
+  all-over e = ap (all f) (range-none d j e) ∙ all-of f [] (λ x m. absurd (List·Memᴰ·not-nil m))
 
-  pub all-further : 0 < j → f d ≡ true → all f (upTo d j) ≡ all f (upTo (d + 1) (j - 1))
-  all-further h e = ap (all f) (upTo-more d j h) ∙ all-yes f d (upTo (d + 1) (j - 1)) e
+  pub all-further : 0 < j → f d ≡ true → all f (range d j) ≡ all f (range (d + 1) (j - 1))
+  all-further h e = ap (all f) (range-more d j h) ∙ all-yes f d (range (d + 1) (j - 1)) e
 
-  pub all-fails : 0 < j → f d ≡ false → all f (upTo d j) ≡ false
-  all-fails h e = ap (all f) (upTo-more d j h) ∙ all-no f d (upTo (d + 1) (j - 1)) e
+  pub all-fails : 0 < j → f d ≡ false → all f (range d j) ≡ false
+  all-fails h e = ap (all f) (range-more d j h) ∙ all-no f d (range (d + 1) (j - 1)) e
 
 -- ---- the sets row by row, from the last row on
 module _ (code lengths : List ℕ) where
@@ -246,6 +246,6 @@ module _ (σ : State) (s t : ℕ) where
   unfolding sleepsIn
   sleeps-out e = rw e
 
-  pub sleeps-by : (b : Bool) → has s t ≡ true → all (λ u. has s u || not (wakes σ t u)) (upTo 0 6) ≡ b → b ≡ sleepsIn σ s t
+  pub sleeps-by : (b : Bool) → has s t ≡ true → all (λ u. has s u || not (wakes σ t u)) (range 0 6) ≡ b → b ≡ sleepsIn σ s t
   unfolding sleepsIn
   sleeps-by b e q = sym (rw (e, q))

@@ -8,7 +8,7 @@ ghost use Prim.Native.Nat.{ℕ, _<_};
 ghost use lib.Dec.{eqb};
 ghost use lib.ListN.{getD};
 ghost use Rattle.program.specs.Program.{Program};
-ghost use Rattle.schedules.specs.Lists.{upTo, any};
+ghost use Rattle.schedules.specs.Lists.{range, any};
 ghost use Rattle.schedules.specs.Order.{Schedule};
 ghost use Rattle.sc.specs.Graph.{endOf};
 ghost use Rattle.list.specs.Rules.{twin};
@@ -30,7 +30,7 @@ pub fn has_smaller_twin(class: &[usize; 6], x: Place, t: u8) -> bool
     requires { ⌜ t < 6 ⌝ }
     ensures { λ r. ⌜ ((code lengths : List ℕ) (threads groups : ℕ) (p : Program) (v : Schedule)
         → Reached code lengths (now (class .entry)) threads groups x p v
-        → r ≡ any (twin p (endOf p v) t) (upTo 0 t)) ⌝ }
+        → r ≡ any (twin p (endOf p v) t) (range 0 t)) ⌝ }
 {
     let own = wide(t);
     let g = class[own];

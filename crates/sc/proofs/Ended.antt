@@ -12,10 +12,10 @@ use Rattle.program.specs.WellFormed.{WellFormed}
 use Rattle.schedules.specs.Order.{Schedule}
 use Rattle.schedules.specs.System.{ended, Allowed}
 use Rattle.schedules.proofs.Runs.{ended-of, ended-none, full-allowed, allowed-full}
-use Rattle.sc.specs.State.{State, threadOf, may, SC, start}
+use Rattle.sc.specs.State.{State, threadOf, enabled, SC, start}
 use Rattle.sc.specs.Graph.{Full, endOf}
 use Rattle.sc.proofs.Access.{Settled, nothing-pending}
-use Rattle.sc.proofs.Steps.{may-pending, may-range, may-of, in-range}
+use Rattle.sc.proofs.Steps.{enabled-pending, enabled-range, enabled-of, in-range}
 use Rattle.sc.proofs.Lawful.{lawful}
 use Rattle.sc.proofs.Regular.{Regular, regular-run, regular-start}
 
@@ -23,32 +23,32 @@ use Rattle.sc.proofs.Regular.{Regular, regular-run, regular-start}
 abbrev pub Ended : State → ℕ → Type 0
 Ended σ t = threadOf σ t .local .rest ≡ []
 
-pub may-running : (σ : State) (t : ℕ) → may σ t ≡ true → (t < length (σ .threads)) × (Ended σ t → ⊥)
-may-running σ t m = (may-range σ t m, λ e. true≢false (sym (may-pending σ t m) ∙ nothing-pending (threadOf σ t .local) e))
+pub enabled-running : (σ : State) (t : ℕ) → enabled σ t ≡ true → (t < length (σ .threads)) × (Ended σ t → ⊥)
+enabled-running σ t m = (enabled-range σ t m, λ e. true≢false (sym (enabled-pending σ t m) ∙ nothing-pending (threadOf σ t .local) e))
 
-pub running-may : (σ : State) → Regular σ → (t : ℕ) → t < length (σ .threads) → (Ended σ t → ⊥) → may σ t ≡ true
-running-may σ r t h n = go (r .settled t)
+pub running-enabled : (σ : State) → Regular σ → (t : ℕ) → t < length (σ .threads) → (Ended σ t → ⊥) → enabled σ t ≡ true
+running-enabled σ r t h n = go (r .settled t)
   where
-    go : Settled (threadOf σ t .local) → may σ t ≡ true
+    go : Settled (threadOf σ t .local) → enabled σ t ≡ true
     go (inl e) = absurd (n e)
-    go (inr p) = may-of σ t (omega (arith, r .six)) p
+    go (inr p) = enabled-of σ t (omega (arith, r .six)) p
 
 -- a byte may step exactly when it names a thread that has not ended
-pub may-exactly : (σ : State) → Regular σ → (t : ℕ) → (may σ t ≡ true) ↔ ((t < length (σ .threads)) × (Ended σ t → ⊥))
-may-exactly σ r t = (may-running σ t, λ k. running-may σ r t (k .0) (k .1))
+pub enabled-exactly : (σ : State) → Regular σ → (t : ℕ) → (enabled σ t ≡ true) ↔ ((t < length (σ .threads)) × (Ended σ t → ⊥))
+enabled-exactly σ r t = (enabled-running σ t, λ k. running-enabled σ r t (k .0) (k .1))
 
 pub ended-all : (σ : State) → Regular σ → ended SC σ ≡ true → (t : ℕ) → Ended σ t
 ended-all σ r e t = go (r .settled t)
   where
     go : Settled (threadOf σ t .local) → Ended σ t
     go (inl q) = q
-    go (inr p) = let h = in-range σ t p in absurd (true≢false (sym (may-of σ t (omega (arith, r .six)) p) ∙ ended-none SC lawful σ t e))
+    go (inr p) = let h = in-range σ t p in absurd (true≢false (sym (enabled-of σ t (omega (arith, r .six)) p) ∙ ended-none SC lawful σ t e))
 
 pub all-ended : (σ : State) → ((t : ℕ) → Ended σ t) → ended SC σ ≡ true
-all-ended σ h = ended-of SC σ (λ t. go t (may σ t) refl)
+all-ended σ h = ended-of SC σ (λ t. go t (enabled σ t) refl)
   where
-    go : (t : ℕ) (b : Bool) → may σ t ≡ b → may σ t ≡ false
-    go t true e = absurd (may-running σ t e .1 (h t))
+    go : (t : ℕ) (b : Bool) → enabled σ t ≡ b → enabled σ t ≡ false
+    go t true e = absurd (enabled-running σ t e .1 (h t))
     go t false e = e
 
 -- FULL: each byte may step in its turn, and in the end all threads have ended

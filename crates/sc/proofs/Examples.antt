@@ -10,19 +10,19 @@ use Rattle.program.specs.declared.instruction.Access.the-variants.{Store, Load,
 use Rattle.program.specs.declared.instruction.Comparison.the-variants.{Equal}
 use Rattle.program.specs.declared.instruction.Own.the-variants.{Assign, AddAssign, SkipUnless, Assert}
 use Rattle.program.specs.declared.instruction.Instruction.the-variants.{Memory, Alone}
-use Rattle.schedules.specs.Lists.{any, first, upTo}
+use Rattle.schedules.specs.Lists.{any, find, range}
 use Rattle.schedules.specs.Order.{Schedule}
 use Rattle.lines.specs.Digit.{digitOf}
 use Rattle.lines.specs.Text.{digits, text}
-use Rattle.schedules.specs.System.{run, none-may, ended}
+use Rattle.schedules.specs.System.{run, none-enabled, ended}
 use Rattle.schedules.specs.Greedy.{greedy}
 use Rattle.schedules.specs.Orders.{trace, nextOf, clear, clearOf, ready, takeOut, leastOrder}
 use Rattle.sc.specs.Local.{eval, sum32, accessPlace, accessTakes, accessPuts, accessSets, compare, holds, outcome, settle, beginsWithAccess, firstPlace, firstTakes, firstPuts, firstNext, pending, placeOf, takes, puts, next, begin}
-use Rattle.sc.specs.State.{initialWrite, noThread, freshCell, threadOf, cellOf, place, latest, noted, advanced, written, met, step, may, SC, opened, start, failedOf, fails, valueOf, memoryOf}
+use Rattle.sc.specs.State.{initialWrite, noThread, freshCell, threadOf, cellOf, place, latest, noted, advanced, written, met, step, enabled, SC, opened, start, failedOf, fails, valueOf, memoryOf}
 use Rattle.sc.specs.Graph.{readsOf, writesOf, graphOf, graph, endOf}
 use Rattle.sc.specs.Replay.{refused, replayFrom, replay}
 use Rattle.sc.specs.Text.{readFrame, readFrames, eventBytes, writeFrame, writeFrames, frames, textOf, graphText}
-use Rattle.sc.specs.Trail.{given, writes, action, trail, who, conflict, leastOf}
+use Rattle.sc.specs.Actions.{given, writes, action, actions, who, conflict, leastOf}
 
 -- whether the schedule is full (given that its bytes may step), whether it fails, memory at its end, its graph's frames
 pub record Seen : Type 0 where
@@ -33,7 +33,7 @@ pub record Seen : Type 0 where
 
 -- what a proof names on its `unfolding` line to compute with every definition of a run
 unfoldable pub seen : Program → Schedule → Seen
-unfolding eval sum32 accessPlace accessTakes accessPuts accessSets compare holds outcome settle beginsWithAccess firstPlace firstTakes firstPuts firstNext pending placeOf takes puts next begin initialWrite noThread freshCell threadOf cellOf place latest noted advanced written met step may opened start failedOf fails valueOf memoryOf readsOf writesOf graphOf readFrame readFrames eventBytes writeFrame writeFrames frames run none-may ended any upTo initial
+unfolding eval sum32 accessPlace accessTakes accessPuts accessSets compare holds outcome settle beginsWithAccess firstPlace firstTakes firstPuts firstNext pending placeOf takes puts next begin initialWrite noThread freshCell threadOf cellOf place latest noted advanced written met step enabled opened start failedOf fails valueOf memoryOf readsOf writesOf graphOf readFrame readFrames eventBytes writeFrame writeFrames frames run none-enabled ended any range initial
 seen p s = let σ = endOf p s in record { full = ended SC σ; fails = fails σ; memory = memoryOf σ; frames = frames (graphOf σ) }
 
 -- a store of 1 beside two loads
@@ -102,10 +102,10 @@ unfolding seen pair replay replayFrom
 refusals = refl
 
 -- the least order of a run's steps: a reader stays before the store that it did not see, and stores to different locations change places
-least : leastOf (trail (start stores) (2 ∷ 0 ∷ 1 ∷ [])) ≡ 2 ∷ 0 ∷ 1 ∷ []
-unfolding seen stores trace action writes given who conflict leastOrder greedy first ready nextOf clear clearOf takeOut
+least : leastOf (actions (start stores) (2 ∷ 0 ∷ 1 ∷ [])) ≡ 2 ∷ 0 ∷ 1 ∷ []
+unfolding seen stores trace action writes given who conflict leastOrder greedy find ready nextOf clear clearOf takeOut
 least = refl
 
-earlier : leastOf (trail (start pair) (1 ∷ 0 ∷ 1 ∷ 0 ∷ [])) ≡ 0 ∷ 1 ∷ 0 ∷ 1 ∷ []
-unfolding seen pair trace action writes given who conflict leastOrder greedy first ready nextOf clear clearOf takeOut
+earlier : leastOf (actions (start pair) (1 ∷ 0 ∷ 1 ∷ 0 ∷ [])) ≡ 0 ∷ 1 ∷ 0 ∷ 1 ∷ []
+unfolding seen pair trace action writes given who conflict leastOrder greedy find ready nextOf clear clearOf takeOut
 earlier = refl

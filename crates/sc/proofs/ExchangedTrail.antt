@@ -7,9 +7,9 @@ use Rattle.schedules.specs.Order.{Schedule}
 use Rattle.schedules.specs.System.{FullFrom}
 use Rattle.schedules.specs.Orders.{trace}
 use Rattle.sc.specs.State.{State, place, step, SC}
-use Rattle.sc.specs.Trail.{Action, writes, action, trail}
+use Rattle.sc.specs.Actions.{Action, writes, action, actions}
 use Rattle.sc.specs.Exchange.{Permutation, movedThread, movedCell, movedSchedule, Moves}
-use Rattle.sc.specs.ExchangedTrail.{movedAction}
+use Rattle.sc.specs.ExchangedActions.{movedAction}
 use Rattle.sc.proofs.Exchange.{moves-place, moves-cell, moves-step}
 
 -- a step moved to another thread
@@ -34,10 +34,10 @@ module _ (π : ℕ → ℕ) (q : Permutation π) where
   unfolding action movedAction
   moves-action σ τ m t = ap₂ (λ (l : ℕ) (b : Bool). let a : Action = record { thread = π t; location = l; wrote = b } in a) (moves-place π q σ τ m t) (moves-writes σ τ m t)
 
-  pub moves-trail : (z : Schedule) (σ τ : State) → Moves π σ τ → FullFrom SC σ z → trail τ (movedSchedule π z) ≡ map (movedAction π) (trail σ z)
+  pub moves-actions : (z : Schedule) (σ τ : State) → Moves π σ τ → FullFrom SC σ z → actions τ (movedSchedule π z) ≡ map (movedAction π) (actions σ z)
   unfolding trace movedSchedule
-  moves-trail [] σ τ m f = refl
-  moves-trail (t ∷ z) σ τ m f = ap₂ (λ (a : Action) (acts : List Action). a ∷ acts) (moves-action σ τ m t) (moves-trail z (step σ t) (step τ (π t)) (moves-step π q σ τ m t (f .0)) (f .1))
+  moves-actions [] σ τ m f = refl
+  moves-actions (t ∷ z) σ τ m f = ap₂ (λ (a : Action) (acts : List Action). a ∷ acts) (moves-action σ τ m t) (moves-actions z (step σ t) (step τ (π t)) (moves-step π q σ τ m t (f .0)) (f .1))
 
 -- an exchanged schedule, step by step
 pub moved-cons : (π : ℕ → ℕ) (t : ℕ) (z : Schedule) → movedSchedule π (t ∷ z) ≡ π t ∷ movedSchedule π z

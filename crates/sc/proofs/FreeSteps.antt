@@ -8,7 +8,7 @@ use Rattle.schedules.specs.System.{run}
 use Rattle.schedules.specs.Orders.{trace}
 use Rattle.schedules.proofs.Front.{Free}
 use Rattle.sc.specs.State.{State, place, step, SC}
-use Rattle.sc.specs.Trail.{writes, action, trail}
+use Rattle.sc.specs.Actions.{writes, action, actions}
 use Rattle.sc.proofs.Swap.{Independent, action-after}
 
 -- what a step does
@@ -29,10 +29,10 @@ unfolding run
 free-action [] σ t f = refl
 free-action (a ∷ z) σ t f = free-action z (step σ a) t (f .2) ∙ action-after σ a t (Ne·symm (f .0)) (f .1)
 
-pub trail-nil : (σ : State) → trail σ [] ≡ []
+pub actions-nil : (σ : State) → actions σ [] ≡ []
 unfolding trace
-trail-nil σ = refl
+actions-nil σ = refl
 
-pub trail-cons : (σ : State) (t : ℕ) (s : Schedule) → trail σ (t ∷ s) ≡ action σ t ∷ trail (step σ t) s
+pub actions-cons : (σ : State) (t : ℕ) (s : Schedule) → actions σ (t ∷ s) ≡ action σ t ∷ actions (step σ t) s
 unfolding trace
-trail-cons σ t s = refl
+actions-cons σ t s = refl

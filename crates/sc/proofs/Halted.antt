@@ -10,10 +10,10 @@ use Rattle.program.specs.declared.instruction.Instruction.the-variants.{Memory,
 use Rattle.schedules.specs.Order.{Schedule}
 use Rattle.schedules.specs.System.{run, Allowed}
 use Rattle.sc.specs.Local.{Local, accessSets, Outcome, continues, stops, outcome, settle, beginsWithAccess, firstNext, pending, next, begin}
-use Rattle.sc.specs.State.{State, noThread, threadOf, advanced, step, may, SC, opened, start, failedOf, fails}
+use Rattle.sc.specs.State.{State, noThread, threadOf, advanced, step, enabled, SC, opened, start, failedOf, fails}
 use Rattle.sc.specs.Graph.{endOf}
 use Rattle.sc.proofs.Access.{settle-continues, settle-stops, nothing-pending}
-use Rattle.sc.proofs.Steps.{may-pending, may-range, thread-other}
+use Rattle.sc.proofs.Steps.{enabled-pending, enabled-range, thread-other}
 use Rattle.sc.proofs.Change.{thread-cases}
 use Rattle.sc.proofs.Start.{start-cases, everyone}
 use Rattle.sc.proofs.Failing.{fails-at, fails-of}
@@ -39,9 +39,9 @@ next-halts h [] x b = absurd (false≢true b)
 next-halts h (Memory a ∷ is) x b = settle-halts is 0 (accessSets (h .registers) a x)
 next-halts h (Alone o ∷ is) x b = absurd (false≢true b)
 
-halts-step : (σ : State) (t : ℕ) → may σ t ≡ true → ((u : ℕ) → Halts (threadOf σ u .local)) → (u : ℕ) → Halts (threadOf (step σ t) u .local)
+halts-step : (σ : State) (t : ℕ) → enabled σ t ≡ true → ((u : ℕ) → Halts (threadOf σ u .local)) → (u : ℕ) → Halts (threadOf (step σ t) u .local)
 unfolding advanced next pending
-halts-step σ t m h u = thread-cases (λ k x. Halts (x .local)) σ t (may-range σ t m) (next-halts (threadOf σ t .local) (threadOf σ t .local .rest) _ (may-pending σ t m)) u (λ ne. h u)
+halts-step σ t m h u = thread-cases (λ k x. Halts (x .local)) σ t (enabled-range σ t m) (next-halts (threadOf σ t .local) (threadOf σ t .local .rest) _ (enabled-pending σ t m)) u (λ ne. h u)
 
 halts-start : (p : Program) (u : ℕ) → Halts (threadOf (start p) u .local)
 unfolding noThread opened begin
@@ -53,11 +53,11 @@ halts-run [] σ a h = h
 halts-run (t ∷ s) σ a h = halts-run s (step σ t) (a .1) (halts-step σ t (a .0) h)
 
 -- A FAILED RUN STAYS FAILED
-pub stays-failed : (p : Program) (s : Schedule) (t : ℕ) → Allowed SC (start p) s → may (endOf p s) t ≡ true → fails (endOf p s) ≡ true → fails (step (endOf p s) t) ≡ true
+pub stays-failed : (p : Program) (s : Schedule) (t : ℕ) → Allowed SC (start p) s → enabled (endOf p s) t ≡ true → fails (endOf p s) ≡ true → fails (step (endOf p s) t) ≡ true
 unfolding failedOf
 stays-failed p s t a m e =
     let σ : State = endOf p s in
     let r = fails-at σ e in
     let stopped = nothing-pending (threadOf σ (r .0) .local) (halts-run s (start p) a (halts-start p) (r .0) (r .1)) in
-    let ne : r .0 ≢ t = λ q. true≢false (sym (may-pending σ t m) ∙ ap (λ (u : ℕ). pending (threadOf σ u .local)) (sym q) ∙ stopped) in
+    let ne : r .0 ≢ t = λ q. true≢false (sym (enabled-pending σ t m) ∙ ap (λ (u : ℕ). pending (threadOf σ u .local)) (sym q) ∙ stopped) in
     fails-of (step σ t) (r .0) (ap failedOf (thread-other σ t (r .0) ne) ∙ r .1)

@@ -49,7 +49,7 @@ pub mod Printed
 -- for the listing: graphs and trails of exchanged schedules, what an exchange leaves as it is, steps that can be moved, and what is left to do
 pub mod Turning
 pub mod ProgramGraphs
-pub mod ExchangedTrail
+pub mod ExchangedActions
 pub mod FixedState
 pub mod FreeSteps
 pub mod Ahead

@@ -9,10 +9,10 @@ use Rattle.schedules.specs.Order.{Schedule}
 use Rattle.schedules.specs.System.{run, Allowed}
 use Rattle.schedules.proofs.Front.{Free}
 use Rattle.sc.specs.Local.{placeOf, puts}
-use Rattle.sc.specs.State.{State, threadOf, cellOf, place, step, may, SC}
-use Rattle.sc.specs.Trail.{given, writes}
+use Rattle.sc.specs.State.{State, threadOf, cellOf, place, step, enabled, SC}
+use Rattle.sc.specs.Actions.{given, writes}
 use Rattle.sc.specs.Ahead.{mayPut, couldMeet}
-use Rattle.sc.proofs.Steps.{may-pending, thread-other, place-other}
+use Rattle.sc.proofs.Steps.{enabled-pending, thread-other, place-other}
 use Rattle.sc.proofs.Swap.{Independent}
 use Rattle.sc.proofs.Histories.{rest-run}
 use Rattle.sc.proofs.Ahead.{puts-not, elsewhere, meet-end}
@@ -25,15 +25,15 @@ writes-not : (σ : State) (t : ℕ) → ((x : ℕ) → puts (threadOf σ t .loca
 unfolding writes given
 writes-not σ t h = ap given (h (cellOf σ (place σ t) .value))
 
-unmet-independent : (σ : State) (a t : ℕ) → may σ a ≡ true → Unmet σ t a → Independent σ a t
+unmet-independent : (σ : State) (a t : ℕ) → enabled σ a ≡ true → Unmet σ t a → Independent σ a t
 unfolding place
-unmet-independent σ a t m r = go (elsewhere (place σ t) (mayPut (threadOf σ t .local)) (threadOf σ a .local) (may-pending σ a m) r)
+unmet-independent σ a t m r = go (elsewhere (place σ t) (mayPut (threadOf σ t .local)) (threadOf σ a .local) (enabled-pending σ a m) r)
   where
     go : (placeOf (threadOf σ a .local) ≢ place σ t) ⊎ ((mayPut (threadOf σ t .local) ≡ false) × ((x : ℕ) → puts (threadOf σ a .local) x ≡ none)) → Independent σ a t
     go (inl q) = inl q
     go (inr q) = inr (writes-not σ a (q .1), writes-not σ t (puts-not (threadOf σ t .local) (q .0)))
 
-unmet-step : (σ : State) (a t u : ℕ) → may σ a ≡ true → a ≢ t → Unmet σ t u → Unmet (step σ a) t u
+unmet-step : (σ : State) (a t u : ℕ) → enabled σ a ≡ true → a ≢ t → Unmet σ t u → Unmet (step σ a) t u
 unfolding run
 unmet-step σ a t u m ne r =
     let k = meet-end (place σ t) (mayPut (threadOf σ t .local)) (threadOf σ u .local) (threadOf (step σ a) u .local) (rest-run (a ∷ []) σ (m, tt) u) r in

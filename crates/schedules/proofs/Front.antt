@@ -9,7 +9,7 @@ use Rattle.schedules.specs.System.{System}
 
 -- a, then t can be turned round: t may step first, a behind it, and the state is the same
 abbrev pub Commute : (M : System) → M .State → ℕ → ℕ → Type 0
-Commute M σ a t = (M .may σ t ≡ true) × (M .may (M .step σ t) a ≡ true) × (M .step (M .step σ a) t ≡ M .step (M .step σ t) a)
+Commute M σ a t = (M .enabled σ t ≡ true) × (M .enabled (M .step σ t) a ≡ true) × (M .step (M .step σ a) t ≡ M .step (M .step σ t) a)
 
 -- t is independent of each of these steps, as they are taken
 abbrev pub Free : (M : System) → (M .State → ℕ → ℕ → Type 0) → M .State → Schedule → ℕ → Type 0

@@ -8,12 +8,12 @@ use native.Mathlib.Omega.{arith}
 use lib.Dec.{eqb, ltb}
 use lib.ListN.{length}
 use borrow.Author.Tests.{eqb-true, ltb-true}
-use Rattle.schedules.specs.Lists.{upTo, Ascends, Distinct}
+use Rattle.schedules.specs.Lists.{range, Ascends, Distinct}
 use Rattle.schedules.specs.Order.{less}
 use Rattle.schedules.specs.Fulls.{fronts}
 use Rattle.schedules.specs.Permutations.{Permutation, without, each, permsOf, permutations}
 use Rattle.schedules.proofs.Order.{less-heads}
-use Rattle.schedules.proofs.Lists.{in-upTo, upTo-ascends, ascends-append}
+use Rattle.schedules.proofs.Lists.{in-range, range-ascends, ascends-append}
 use Rattle.schedules.proofs.Fulls.{in-fronts, of-fronts, fronts-ascends}
 
 in-without : (a x : ℕ) (xs : List ℕ) → x ≢ a → List·Memᴰ x xs → List·Memᴰ x (without a xs)
@@ -84,8 +84,8 @@ permsOf-ascend (suc n) xs a = each-ascends (λ l. permsOf n l) xs (λ y. permsOf
 -- EVERY PERMUTATION is in the list
 pub permutations-complete : (π : List ℕ) → Permutation π → List·Memᴰ π permutations
 unfolding permutations
-permutations-complete π p = permsOf-complete 6 (upTo 0 6) π (p .six) (λ x m. in-upTo 0 6 x (omega arith) (p .below x m)) (p .distinct)
+permutations-complete π p = permsOf-complete 6 (range 0 6) π (p .six) (λ x m. in-range 0 6 x (omega arith) (p .below x m)) (p .distinct)
 
 pub permutations-ascend : Ascends less permutations
 unfolding permutations
-permutations-ascend = permsOf-ascend 6 (upTo 0 6) (upTo-ascends 0 6)
+permutations-ascend = permsOf-ascend 6 (range 0 6) (range-ascends 0 6)

@@ -6,7 +6,7 @@ use mathlib.Core.Bool.{true, false}
 use mathlib.Core.List.{List, [], _∷_, _++_, map, List·Memᴰ}
 use lib.Dec.{eqb}
 use lib.ListN.{length, getD}
-use Rattle.schedules.specs.Lists.{upTo, Distinct}
+use Rattle.schedules.specs.Lists.{range, Distinct}
 use Rattle.schedules.specs.Fulls.{fronts}
 
 -- six distinct numbers below six
@@ -32,7 +32,7 @@ permsOf (suc n) xs = each (λ l. permsOf n l) xs xs
 
 -- all permutations of six, ascending
 unfoldable pub permutations : List (List ℕ)
-permutations = permsOf 6 (upTo 0 6)
+permutations = permsOf 6 (range 0 6)
 
 -- 1 * 2 * .. * n
 unfoldable pub factorial : ℕ → ℕ
@@ -52,7 +52,7 @@ arranged (suc n) k xs = getD xs (k / factorial (suc n) % suc (suc n)) 0 ∷ arra
 
 -- the permutation with number k
 unfoldable pub permutationOf : ℕ → List ℕ
-permutationOf k = arranged 5 k (upTo 0 6)
+permutationOf k = arranged 5 k (range 0 6)
 
 -- the same in place: what stands d places behind place i is moved to place i
 unfoldable pub bring : ℕ → ℕ → List ℕ → List ℕ
@@ -71,7 +71,7 @@ placeIn (y ∷ ys) x = elim (eqb y x) [ true ↦ 0 | false ↦ suc (placeIn ys x
 
 -- the permutation that undoes π
 unfoldable pub inverse : List ℕ → List ℕ
-inverse π = map (placeIn π) (upTo 0 6)
+inverse π = map (placeIn π) (range 0 6)
 
 -- first π, then ρ
 unfoldable pub compose : List ℕ → List ℕ → List ℕ

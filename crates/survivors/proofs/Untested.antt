@@ -6,7 +6,7 @@ use mathlib.Core.Option.{Option}
 use mathlib.Core.List.{[], _∷_, _++_}
 use Rattle.program.specs.Program.{Program}
 use Rattle.program.specs.WellFormed.{WellFormed}
-use Rattle.schedules.specs.Lists.{upTo, both, any}
+use Rattle.schedules.specs.Lists.{range, both, any}
 use Rattle.schedules.specs.Order.{Schedule}
 use Rattle.schedules.specs.Search.{Uncut}
 use Rattle.schedules.specs.Found.{after, foundFrom}
@@ -15,9 +15,9 @@ use Rattle.schedules.proofs.SameFound.{found-same}
 use Rattle.model.specs.Alike as Alike
 use Rattle.model.specs.Search as Model
 use Rattle.model.proofs.Search.{found-untested}
-use Rattle.sc.specs.State.{State, SC, may, start}
+use Rattle.sc.specs.State.{State, SC, enabled, start}
 use Rattle.sc.specs.Graph.{Full, endOf}
-use Rattle.sc.specs.Trail.{action}
+use Rattle.sc.specs.Actions.{action}
 use Rattle.sc_model.specs.Sequential.{sc}
 use Rattle.sc_model.proofs.Laws.{sc-laws}
 use Rattle.list.specs.Alike.{Smaller, Listed}
@@ -31,8 +31,8 @@ use Rattle.survivors.proofs.Exact.{survivor-listed}
 
 -- a rule that gives up a step where R1 or R2 does, and only what has a smaller alike schedule
 pub record Fair (p : Program) (gives-up : Schedule → State → ℕ → Bool) : Type 0 where
-  pub on-time : (v : Schedule) (t : ℕ) → may (endOf p v) t ≡ true → gives-up v (endOf p v) t ≡ false → late (taken p v) (action (endOf p v) t) ≡ false
-  pub no-twin : (v : Schedule) (t : ℕ) → gives-up v (endOf p v) t ≡ false → any (twin p (endOf p v) t) (upTo 0 t) ≡ false
+  pub on-time : (v : Schedule) (t : ℕ) → enabled (endOf p v) t ≡ true → gives-up v (endOf p v) t ≡ false → late (taken p v) (action (endOf p v) t) ≡ false
+  pub no-twin : (v : Schedule) (t : ℕ) → gives-up v (endOf p v) t ≡ false → any (twin p (endOf p v) t) (range 0 t) ≡ false
   pub smaller : (v : Schedule) (t : ℕ) (z : Schedule) → gives-up v (endOf p v) t ≡ true → Full p (v ++ (t ∷ z)) → Smaller p (v ++ (t ∷ z))
 
 module _ (p : Program) (wf : WellFormed p) (gives-up : Schedule → State → ℕ → Bool) (fair : Fair p gives-up) where
@@ -49,20 +49,20 @@ module _ (p : Program) (wf : WellFormed p) (gives-up : Schedule → State → �
   both-true true = refl
   both-true false = refl
 
-  all-wanted : (only : Bool) (w : Schedule) → Full p w → Uncut SC (start p) gives-up w → lookedFor only p w ≡ Model.wanted sc only p (λ s. true) w
+  all-wanted : (failures : Bool) (w : Schedule) → Full p w → Uncut SC (start p) gives-up w → lookedFor failures p w ≡ Model.wanted sc failures p (λ s. true) w
   unfolding lookedFor Model.wanted failing
   all-wanted false w f u = refl
   all-wanted true w f u = both-true (failing p w)
 
-  sought-same : (only : Bool) → Model.sought sc only p ≡ sought only p
+  sought-same : (failures : Bool) → Model.sought sc failures p ≡ sought failures p
   unfolding Model.sought sought Alike.listOf Alike.alikeBy listOf alikeBy failing
   sought-same false = refl
   sought-same true = refl
 
   -- THE TEST CAN GO: by any such rule the search without it finds what the list has above the bound, in order, or those of it that fail
-  pub untested-is : (only : Bool) (o : Option Schedule) → foundFrom SC 6 gives-up (lookedFor only p) 24 o [] (start p) ≡ after o (sought only p)
+  pub untested-is : (failures : Bool) (o : Option Schedule) → foundFrom SC 6 gives-up (lookedFor failures p) 24 o [] (start p) ≡ after o (sought failures p)
   unfolding Model.found
-  untested-is only o =
-      found-same SC 6 gives-up (start p) (lookedFor only p) (Model.wanted sc only p (λ s. true)) (all-wanted only) 24 o
-      ∙ found-untested sc sc-laws p (wf, refl) gives-up (fair .smaller) (λ s f u. uncut-listed s f u .1) only o
-      ∙ ap (after o) (sought-same only)
+  untested-is failures o =
+      found-same SC 6 gives-up (start p) (lookedFor failures p) (Model.wanted sc failures p (λ s. true)) (all-wanted failures) 24 o
+      ∙ found-untested sc sc-laws p (wf, refl) gives-up (fair .smaller) (λ s f u. uncut-listed s f u .1) failures o
+      ∙ ap (after o) (sought-same failures)

@@ -8,16 +8,16 @@ use Rattle.program.specs.Program.{Program, initial}
 use Rattle.program.specs.declared.instruction.Operand.the-variants.{Constant}
 use Rattle.program.specs.declared.instruction.Access.the-variants.{Store, Load}
 use Rattle.program.specs.declared.instruction.Instruction.the-variants.{Memory}
-use Rattle.schedules.specs.Lists.{upTo, any, all}
+use Rattle.schedules.specs.Lists.{range, any, all}
 use Rattle.schedules.specs.Order.{Schedule}
-use Rattle.schedules.specs.System.{run, none-may, ended}
+use Rattle.schedules.specs.System.{run, none-enabled, ended}
 use Rattle.schedules.specs.Search.{low, past}
-use Rattle.schedules.specs.Found.{inTurn, foundAt, foundBy, foundFrom}
+use Rattle.schedules.specs.Found.{concatRange, foundAt, foundBy, foundFrom}
 use Rattle.schedules.specs.Orders.{trace}
 use Rattle.sc.specs.Local.{eval, accessPlace, accessTakes, accessPuts, accessSets, settle, beginsWithAccess, firstPlace, firstTakes, firstPuts, firstNext, pending, placeOf, takes, puts, next, begin}
-use Rattle.sc.specs.State.{initialWrite, noThread, freshCell, threadOf, cellOf, place, latest, noted, advanced, written, met, step, may, opened, start}
+use Rattle.sc.specs.State.{initialWrite, noThread, freshCell, threadOf, cellOf, place, latest, noted, advanced, written, met, step, enabled, opened, start}
 use Rattle.sc.specs.Graph.{endOf}
-use Rattle.sc.specs.Trail.{given, writes, action, conflict}
+use Rattle.sc.specs.Actions.{given, writes, action, conflict}
 use Rattle.sc.specs.Ahead.{accessMayPut, firstMayPut, mayPut}
 use Rattle.consistent.specs.Same.{sameEvent, sameRead, sameList}
 use Rattle.list.specs.ListOf.{together}
@@ -33,12 +33,12 @@ pub record Seen : Type 0 where
   pub asleep : ℕ
 
 unfoldable pub seen : Program → Schedule → Seen
-unfolding upTo any all run trace eval accessPlace accessTakes accessPuts accessSets settle beginsWithAccess firstPlace firstTakes firstPuts firstNext pending placeOf takes puts next begin initialWrite noThread freshCell threadOf cellOf place latest noted advanced written met step may opened start initial given writes action conflict accessMayPut firstMayPut mayPut has addend setOf joined lateNow lateBehind lateAlong lateSet readsLeft writesLeft meets wakes sleepsIn unwoken settled sleepers
+unfolding range any all run trace eval accessPlace accessTakes accessPuts accessSets settle beginsWithAccess firstPlace firstTakes firstPuts firstNext pending placeOf takes puts next begin initialWrite noThread freshCell threadOf cellOf place latest noted advanced written met step enabled opened start initial given writes action conflict accessMayPut firstMayPut mayPut has addend setOf joined lateNow lateBehind lateAlong lateSet readsLeft writesLeft meets wakes sleepsIn unwoken settled sleepers
 seen p v = record { late = lateSet p v; asleep = sleepers (endOf p v) (lateSet p v) }
 
 -- what the search finds, and those that fail
 unfoldable pub finds : Program → List Schedule
-unfolding upTo any all run trace none-may ended low past inTurn foundAt foundBy foundFrom eval accessPlace accessTakes accessPuts accessSets settle beginsWithAccess firstPlace firstTakes firstPuts firstNext pending placeOf takes puts next begin initialWrite noThread freshCell threadOf cellOf place latest noted advanced written met step may opened start initial given writes action conflict accessMayPut firstMayPut mayPut sameEvent sameRead sameList together sameFlag sameLocal sameHistory silent twin has addend setOf joined lateNow lateBehind lateAlong lateSet readsLeft writesLeft meets wakes sleepsIn unwoken settled sleepers givenUp lookedFor found
+unfolding range any all run trace none-enabled ended low past concatRange foundAt foundBy foundFrom eval accessPlace accessTakes accessPuts accessSets settle beginsWithAccess firstPlace firstTakes firstPuts firstNext pending placeOf takes puts next begin initialWrite noThread freshCell threadOf cellOf place latest noted advanced written met step enabled opened start initial given writes action conflict accessMayPut firstMayPut mayPut sameEvent sameRead sameList together sameFlag sameLocal sameHistory silent twin has addend setOf joined lateNow lateBehind lateAlong lateSet readsLeft writesLeft meets wakes sleepsIn unwoken settled sleepers givenUp lookedFor found
 finds p = found false p none
 
 -- two stores at one location beside one elsewhere: behind thread 2's step the other two are late, and only each other's store could wake them

@@ -9,7 +9,7 @@ use lib.ListN.{getD, set}
 use Rattle.program.specs.Program.{Program}
 use Rattle.schedules.specs.Order.{Schedule}
 use Rattle.sc.specs.State.{State, place, step, start}
-use Rattle.sc.specs.Trail.{writes}
+use Rattle.sc.specs.Actions.{writes}
 use Rattle.list.specs.ListOf.{together}
 
 -- for each of the eight locations the number of the step that wrote it last, from 1, or 0; for each of the six threads its word

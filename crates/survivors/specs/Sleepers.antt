@@ -7,7 +7,7 @@ use mathlib.Core.List.{List, [], _∷_}
 use lib.Dec.{eqb}
 use Rattle.program.specs.declared.instruction.Instruction.{Instruction}
 use Rattle.program.specs.declared.instruction.Instruction.the-variants.{Memory, Alone}
-use Rattle.schedules.specs.Lists.{upTo, all}
+use Rattle.schedules.specs.Lists.{range, all}
 use Rattle.sc.specs.Local.{accessPlace, accessTakes}
 use Rattle.sc.specs.State.{State, threadOf, place}
 use Rattle.sc.specs.Ahead.{accessMayPut, mayPut}
@@ -37,7 +37,7 @@ wakes σ t u =
 
 -- t is in the set, and no thread outside could wake it
 unfoldable pub sleepsIn : State → ℕ → ℕ → Bool
-sleepsIn σ s t = has s t && all (λ u. has s u || not (wakes σ t u)) (upTo 0 6)
+sleepsIn σ s t = has s t && all (λ u. has s u || not (wakes σ t u)) (range 0 6)
 
 -- what is left of the set when those that some thread outside could wake have gone
 unfoldable pub unwoken : State → ℕ → ℕ

@@ -2,17 +2,17 @@
 use mathlib.Core.Path.{_≡_, refl}
 use Rattle.schedules.specs.Calls.{Answer, found, nomore, refused}
 use Rattle.list.specs.Answers.{Violation, fails-first, none-fails, refused-by}
-use Rattle.listing.specs.Said.{said, violationSaid}
-use Rattle.tarczolin.specs.Listed.{listed, violated, toldOf}
+use Rattle.listing.specs.Reply.{said, violationAnswerOf}
+use Rattle.tarczolin.specs.Listed.{listed, violationReply, replyOf}
 
-pub told-said : (a : Answer) → toldOf (said a) ≡ listed a
-unfolding toldOf said listed
-told-said (found s) = refl
-told-said nomore = refl
-told-said (refused n k) = refl
+pub word-answer : (a : Answer) → replyOf (said a) ≡ listed a
+unfolding replyOf said listed
+word-answer (found s) = refl
+word-answer nomore = refl
+word-answer (refused n k) = refl
 
-pub told-violation : (v : Violation) → toldOf (violationSaid v) ≡ violated v
-unfolding toldOf violationSaid violated
-told-violation (fails-first s) = refl
-told-violation none-fails = refl
-told-violation (refused-by n k) = refl
+pub word-violation : (v : Violation) → replyOf (violationAnswerOf v) ≡ violationReply v
+unfolding replyOf violationAnswerOf violationReply
+word-violation (fails-first s) = refl
+word-violation none-fails = refl
+word-violation (refused-by n k) = refl

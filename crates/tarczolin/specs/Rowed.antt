@@ -3,6 +3,6 @@ use Rattle.listing.specs.declared.row_calls.RowsAnswer.{RowsAnswer}
 use Rattle.listing.specs.declared.row_calls.RowsAnswer.the-variants.{Written, Refused}
 use Rattle.tarczolin.specs.Word as word
 
-unfoldable pub rowed : RowsAnswer → word.Said
-rowed (Written n) = word.answered n
-rowed (Refused n k) = word.refused n k
+unfoldable pub rowsReply : RowsAnswer → word.Reply
+rowsReply (Written n) = word.answered n
+rowsReply (Refused n k) = word.refused n k

@@ -12,7 +12,7 @@ use Rattle.program.specs.Program.{Program}
 use Rattle.program.specs.WellFormed.{WellFormed}
 use Rattle.schedules.specs.Order.{Schedule}
 use Rattle.schedules.specs.Found.{after}
-use Rattle.schedules.proofs.Lists.{of-keep}
+use Rattle.schedules.proofs.Lists.{of-filter}
 use Rattle.schedules.proofs.After.{after-none, of-after, after-cut}
 use Rattle.sc.proofs.Lawful.{at-most-24}
 use Rattle.list.specs.Answers.{failing}
@@ -26,16 +26,16 @@ use Rattle.walker.specs.Bounds.{boundAt}
 use Rattle.walker.specs.Cursor.{from, remaining, positionAt, isEnd}
 
 -- a listed schedule has at most 24 steps
-of-sought : (only : Bool) (p : Program) (s : Schedule) → List·Memᴰ s (sought only p) → List·Memᴰ s (listOf p)
+of-sought : (failures : Bool) (p : Program) (s : Schedule) → List·Memᴰ s (sought failures p) → List·Memᴰ s (listOf p)
 unfolding sought
-of-sought true p s m = of-keep (failing p) (listOf p) s m .0
+of-sought true p s m = of-filter (failing p) (listOf p) s m .0
 of-sought false p s m = m
 
-sought-most : (p : Program) → WellFormed p → (only : Bool) (s : Schedule) → List·Memᴰ s (sought only p) → length s ≤ 24
-sought-most p w only s m = at-most-24 p w s (list-exact p s .0 (of-sought only p s m) .0)
+sought-most : (p : Program) → WellFormed p → (failures : Bool) (s : Schedule) → List·Memᴰ s (sought failures p) → length s ≤ 24
+sought-most p w failures s m = at-most-24 p w s (list-exact p s .0 (of-sought failures p s m) .0)
 
-pub sought-24 : (p : Program) → WellFormed p → (only : Bool) (o : Option Schedule) (s : Schedule) → List·Memᴰ s (after o (sought only p)) → length s ≤ 24
-sought-24 p w only o s m = sought-most p w only s (of-after o (sought only p) s m)
+pub sought-24 : (p : Program) → WellFormed p → (failures : Bool) (o : Option Schedule) (s : Schedule) → List·Memᴰ s (after o (sought failures p)) → length s ≤ 24
+sought-24 p w failures o s m = sought-most p w failures s (of-after o (sought failures p) s m)
 
 -- the first k bytes of a schedule are copied: one more
 pub bytes-more : (schedule bytes : List ℕ) (k b : ℕ) → k < length bytes → k < length schedule → take k bytes ≡ take k schedule → b ≡ getD schedule k 0
@@ -59,38 +59,38 @@ first-24 l n k h e =
     let q : k ≡ min 24 n = omega (arith, e) in
     ap (λ (i : ℕ). take i l) q ∙ take-least 24 n l (omega (arith, h))
 
-module _ (p : Program) (only : Bool) (c : Cursor) where
+module _ (p : Program) (failures : Bool) (c : Cursor) where
   -- behind a schedule, of which the cursor has at most 24 bytes
-  pub remaining-behind : WellFormed p → (s : Schedule) → c .position ≡ Behind → take (c .steps) (c .schedule) ≡ take 24 s → remaining p only c ≡ after (some s) (sought only p)
+  pub remaining-behind : WellFormed p → (s : Schedule) → c .position ≡ Behind → take (c .steps) (c .schedule) ≡ take 24 s → remaining p failures c ≡ after (some s) (sought failures p)
   unfolding remaining from
-  remaining-behind w s e q = ap₂ (λ (g : Position) (b : Schedule). from g b (sought only p)) e q ∙ after-cut 24 s (sought only p) (sought-most p w only)
+  remaining-behind w s e q = ap₂ (λ (g : Position) (b : Schedule). from g b (sought failures p)) e q ∙ after-cut 24 s (sought failures p) (sought-most p w failures)
 
   -- at the end
-  pub remaining-end : isEnd (c .position) ≡ true → remaining p only c ≡ []
+  pub remaining-end : isEnd (c .position) ≡ true → remaining p failures c ≡ []
   unfolding remaining from
   remaining-end e = go (c .position) e
     where
-      go : (g : Position) → isEnd g ≡ true → from g (take (c .steps) (c .schedule)) (sought only p) ≡ []
+      go : (g : Position) → isEnd g ≡ true → from g (take (c .steps) (c .schedule)) (sought failures p) ≡ []
       go Beginning q = absurd (false≢true q)
       go Behind q = absurd (false≢true q)
       go End q = refl
 
   -- at most 24 steps each
-  pub remaining-24 : WellFormed p → (s : Schedule) → List·Memᴰ s (remaining p only c) → length s ≤ 24
+  pub remaining-24 : WellFormed p → (s : Schedule) → List·Memᴰ s (remaining p failures c) → length s ≤ 24
   unfolding remaining from
   remaining-24 w s m = go (c .position) m
     where
-      go : (g : Position) → List·Memᴰ s (from g (take (c .steps) (c .schedule)) (sought only p)) → length s ≤ 24
-      go Beginning q = sought-most p w only s q
-      go Behind q = sought-24 p w only (some (take (c .steps) (c .schedule))) s q
+      go : (g : Position) → List·Memᴰ s (from g (take (c .steps) (c .schedule)) (sought failures p)) → length s ≤ 24
+      go Beginning q = sought-most p w failures s q
+      go Behind q = sought-24 p w failures (some (take (c .steps) (c .schedule))) s q
       go End q = absurd (List·Memᴰ·not-nil q)
 
   -- as the search's bound says it
-  pub remaining-along : (along : Bool) (b : Schedule) → c .position ≡ positionAt along → b ≡ take (c .steps) (c .schedule)
-      → after (boundAt along b 0) (sought only p) ≡ remaining p only c
+  pub remaining-tight : (tight : Bool) (b : Schedule) → c .position ≡ positionAt tight → b ≡ take (c .steps) (c .schedule)
+      → after (boundAt tight b 0) (sought failures p) ≡ remaining p failures c
   unfolding remaining from boundAt
-  remaining-along along b e q = go along e
+  remaining-tight tight b e q = go tight e
     where
-      go : (a : Bool) → c .position ≡ positionAt a → after (boundAt a b 0) (sought only p) ≡ from (c .position) (take (c .steps) (c .schedule)) (sought only p)
-      go true k = ap (λ (s : Schedule). after (some s) (sought only p)) q ∙ ap (λ (g : Position). from g (take (c .steps) (c .schedule)) (sought only p)) (sym k)
-      go false k = after-none (sought only p) ∙ ap (λ (g : Position). from g (take (c .steps) (c .schedule)) (sought only p)) (sym k)
+      go : (a : Bool) → c .position ≡ positionAt a → after (boundAt a b 0) (sought failures p) ≡ from (c .position) (take (c .steps) (c .schedule)) (sought failures p)
+      go true k = ap (λ (s : Schedule). after (some s) (sought failures p)) q ∙ ap (λ (g : Position). from g (take (c .steps) (c .schedule)) (sought failures p)) (sym k)
+      go false k = after-none (sought failures p) ∙ ap (λ (g : Position). from g (take (c .steps) (c .schedule)) (sought failures p)) (sym k)

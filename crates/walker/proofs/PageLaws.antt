@@ -22,7 +22,7 @@ use Rattle.walker.specs.Rows.{rowsOf, Shown}
 use Rattle.walker.specs.Cursor.{remaining, positionAt, isEnd, Paged}
 use Rattle.walker.proofs.AddedRows.{rows-length}
 use Rattle.walker.proofs.RowsRead.{shown-length, shown-steps}
-use Rattle.walker.proofs.CursorLaws.{sought-24, remaining-end, remaining-along}
+use Rattle.walker.proofs.CursorLaws.{sought-24, remaining-end, remaining-tight}
 
 -- rows of so many schedules as there is room for leave the buffer's length
 pub shown-size : (p : Program) (ss : List Schedule) (held out : List ℕ) (n : ℕ) → length ss ≤ length held / 26 → Shown p ss held out n → length out ≡ length held
@@ -36,24 +36,24 @@ drop-taken (suc n) [] = refl
 drop-taken (suc n) (x ∷ l) = drop-taken n l
 
 -- a page: its rows, then what is yet to come behind it
-module _ (p : Program) (only : Bool) (c : Cursor) (held out : List ℕ) (r : Page) (page : Paged p only c held out r) where
-  pub page-split : remaining p only c ≡ take (length held / 26) (remaining p only c) ++ remaining p only (r .cursor)
+module _ (p : Program) (failures : Bool) (c : Cursor) (held out : List ℕ) (r : Page) (page : Paged p failures c held out r) where
+  pub page-split : remaining p failures c ≡ take (length held / 26) (remaining p failures c) ++ remaining p failures (r .cursor)
   page-split =
-      let l : List Schedule = remaining p only c in
+      let l : List Schedule = remaining p failures c in
       sym (take-append-drop (length held / 26) l)
       ∙ ap (λ (t : List Schedule). take (length held / 26) l ++ t)
       (sym (drop-taken (length held / 26) l) ∙ ap (λ (k : ℕ). drop k l) (sym (page .shown .counted)) ∙ sym (page .rest))
 
   pub page-size : length out ≡ length held
   page-size =
-      shown-size p (take (length held / 26) (remaining p only c)) held out (r .rows) (omega (arith, length-take (length held / 26) (remaining p only c))) (page .shown)
+      shown-size p (take (length held / 26) (remaining p failures c)) held out (r .rows) (omega (arith, length-take (length held / 26) (remaining p failures c))) (page .shown)
 
 -- at the end there are no rows
-pub page-over : (p : Program) (only : Bool) (c : Cursor) (held : List ℕ) → isEnd (c .position) ≡ true → Paged p only c held held (record { rows = 0; cursor = c })
+pub page-over : (p : Program) (failures : Bool) (c : Cursor) (held : List ℕ) → isEnd (c .position) ≡ true → Paged p failures c held held (record { rows = 0; cursor = c })
 unfolding rowsOf flatMap
-page-over p only c held e =
-    let z = remaining-end p only c e in
-    let n : take (length held / 26) (remaining p only c) ≡ [] = ap (take (length held / 26)) z ∙ take-nil (length held / 26) in
+page-over p failures c held e =
+    let z = remaining-end p failures c e in
+    let n : take (length held / 26) (remaining p failures c) ≡ [] = ap (take (length held / 26)) z ∙ take-nil (length held / 26) in
     record {
       shown = subst (λ (l : List Schedule). Shown p l held held 0) (sym n) (record { counted = refl; text = sym (over-nil held) });
       rest = refl;
@@ -61,18 +61,18 @@ page-over p only c held e =
     }
 
 -- what the search leaves: rows of the first so many behind the bound, which are those that the cursor has yet to come
-module _ (p : Program) (w : WellFormed p) (only along : Bool) (c : Cursor) (b held out : List ℕ) (rows : ℕ) (at : c .position ≡ positionAt along)
-    (bytes : b ≡ take (c .steps) (c .schedule)) (found : Shown p (take (length held / 26) (after (boundAt along b 0) (sought only p))) held out rows) where
+module _ (p : Program) (w : WellFormed p) (failures tight : Bool) (c : Cursor) (b held out : List ℕ) (rows : ℕ) (at : c .position ≡ positionAt tight)
+    (bytes : b ≡ take (c .steps) (c .schedule)) (found : Shown p (take (length held / 26) (after (boundAt tight b 0) (sought failures p))) held out rows) where
   abbrev room : ℕ
   room = length held / 26
 
   abbrev rest : List Schedule
-  rest = after (boundAt along b 0) (sought only p)
+  rest = after (boundAt tight b 0) (sought failures p)
 
-  same : rest ≡ remaining p only c
-  same = remaining-along p only c along b at bytes
+  same : rest ≡ remaining p failures c
+  same = remaining-tight p failures c tight b at bytes
 
-  shown : Shown p (take room (remaining p only c)) held out rows
+  shown : Shown p (take room (remaining p failures c)) held out rows
   shown = subst (λ (l : List Schedule). Shown p (take room l) held out rows) same found
 
   size : length out ≡ length held
@@ -85,16 +85,16 @@ module _ (p : Program) (w : WellFormed p) (only along : Bool) (c : Cursor) (b he
   counted = found .counted
 
   -- fewer rows than there is room for: nothing is left
-  pub page-ended : (e : Cursor) → isEnd (e .position) ≡ true → rows < length out / 26 → Paged p only c held out (record { rows = rows; cursor = e })
+  pub page-ended : (e : Cursor) → isEnd (e .position) ≡ true → rows < length out / 26 → Paged p failures c held out (record { rows = rows; cursor = e })
   page-ended e q h =
-      let n : length (remaining p only c) ≤ rows = omega (arith, h, room-is, counted, length-take room rest, ap length same) in
-      record { shown = shown; rest = remaining-end p only e q ∙ sym (drop-of-length-le (remaining p only c) n); ends = λ _. q }
+      let n : length (remaining p failures c) ≤ rows = omega (arith, h, room-is, counted, length-take room rest, ap length same) in
+      record { shown = shown; rest = remaining-end p failures e q ∙ sym (drop-of-length-le (remaining p failures c) n); ends = λ _. q }
 
   -- there was no room
-  pub page-none : length out / 26 ≤ rows → rows ≡ 0 → Paged p only c held out (record { rows = rows; cursor = c })
+  pub page-none : length out / 26 ≤ rows → rows ≡ 0 → Paged p failures c held out (record { rows = rows; cursor = c })
   page-none h z = record {
     shown = shown;
-    rest = ap (λ (k : ℕ). drop k (remaining p only c)) (sym z);
+    rest = ap (λ (k : ℕ). drop k (remaining p failures c)) (sym z);
     ends = λ l. absurd (omega (arith, h, l, room-is));
   }
 
@@ -112,7 +112,7 @@ module _ (p : Program) (w : WellFormed p) (only along : Bool) (c : Cursor) (b he
         split-at rest (rows - 1) [] there ∙ ap (λ (i : ℕ). take (rows - 1) rest ++ (last ∷ drop i rest)) j
 
     last-24 : length last ≤ 24
-    last-24 = sought-24 p w only (boundAt along b 0) last (subst (List·Memᴰ last) (sym split) (Memᴰ·append-right (take (rows - 1) rest) (List·Memᴰ·head refl)))
+    last-24 = sought-24 p w failures (boundAt tight b 0) last (subst (List·Memᴰ last) (sym split) (Memᴰ·append-right (take (rows - 1) rest) (List·Memᴰ·head refl)))
 
     in-rows : getD (take room rest) (rows - 1) [] ≡ last
     in-rows = getD-take room rest (rows - 1) [] (omega (arith, counted, length-take room rest, nonzero))
@@ -136,12 +136,12 @@ module _ (p : Program) (w : WellFormed p) (only along : Bool) (c : Cursor) (b he
 
     pub page-full : (n : ℕ) (s : List ℕ) (e : Cursor) → n ≡ getD out ((rows - 1) * 26) 0
         → s ≡ take ((rows - 1) * 26 + 2 + n - ((rows - 1) * 26 + 2)) (drop ((rows - 1) * 26 + 2) out)
-        → remaining p only e ≡ after (some s) (sought only p) → Paged p only c held out (record { rows = rows; cursor = e })
+        → remaining p failures e ≡ after (some s) (sought failures p) → Paged p failures c held out (record { rows = rows; cursor = e })
     page-full n s e q t r =
         let k : (rows - 1) * 26 + 2 + n - ((rows - 1) * 26 + 2) ≡ length last = omega (arith, last-length n q) in
         record {
           shown = shown;
-          rest = r ∙ ap (λ (x : Schedule). after (some x) (sought only p)) (t ∙ last-steps _ k)
-              ∙ sought-on p only (boundAt along b 0) (take (rows - 1) rest) last (drop rows rest) split ∙ ap (drop rows) same;
+          rest = r ∙ ap (λ (x : Schedule). after (some x) (sought failures p)) (t ∙ last-steps _ k)
+              ∙ sought-on p failures (boundAt tight b 0) (take (rows - 1) rest) last (drop rows rest) split ∙ ap (drop rows) same;
           ends = λ l. absurd (omega (arith, full, l, room-is));
         }

@@ -23,7 +23,7 @@ from End s l = []
 
 -- of the listed schedules, or of those of them that fail
 unfoldable pub remaining : Program → Bool → Cursor → List Schedule
-remaining p only c = from (c .position) (take (c .steps) (c .schedule)) (sought only p)
+remaining p failures c = from (c .position) (take (c .steps) (c .schedule)) (sought failures p)
 
 -- before the first, or behind a schedule
 abbrev pub positionAt : Bool → Position
@@ -36,10 +36,10 @@ isEnd Beginning = false
 isEnd Behind = false
 isEnd End = true
 
-pub record Paged (p : Program) (only : Bool) (c : Cursor) (held out : List ℕ) (r : Page) : Type 0 where
+pub record Paged (p : Program) (failures : Bool) (c : Cursor) (held out : List ℕ) (r : Page) : Type 0 where
   -- the rows of what is yet to come, as many as there is room for, stand over the front of what the buffer held
-  pub shown : Shown p (take (length held / 26) (remaining p only c)) held out (r .rows)
+  pub shown : Shown p (take (length held / 26) (remaining p failures c)) held out (r .rows)
   -- behind the page what was to come is still to come, but for these
-  pub rest : remaining p only (r .cursor) ≡ drop (r .rows) (remaining p only c)
+  pub rest : remaining p failures (r .cursor) ≡ drop (r .rows) (remaining p failures c)
   -- where there was room for more the end is reached
   pub ends : r .rows < length held / 26 → isEnd (r .cursor .position) ≡ true

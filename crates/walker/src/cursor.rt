@@ -28,7 +28,7 @@ pub struct Cursor {
 
 // All is yet to come.
 pub fn beginning() -> Cursor
-    ensures { λ r. ⌜ ((p : Program) (only : Bool) → remaining p only r ≡ sought only p) ⌝ }
+    ensures { λ r. ⌜ ((p : Program) (failures : Bool) → remaining p failures r ≡ sought failures p) ⌝ }
 {
     Cursor {
         position: Position::Beginning,
@@ -69,7 +69,7 @@ pub(crate) fn at_most_24(n: usize) -> usize
 
 // What is after a schedule is yet to come. The schedule need not be listed nor full; of a longer one 24 bytes tell, since no listed one has more.
 pub fn behind(schedule: &[u8]) -> Cursor
-    ensures { λ r. ⌜ ((p : Program) (only : Bool) → WellFormed p → remaining p only r ≡ after (some (now (schedule .entry))) (sought only p)) ⌝ }
+    ensures { λ r. ⌜ ((p : Program) (failures : Bool) → WellFormed p → remaining p failures r ≡ after (some (now (schedule .entry))) (sought failures p)) ⌝ }
 {
     let n = at_most_24(schedule.len());
     let mut bytes = [0u8; 24];

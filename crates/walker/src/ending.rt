@@ -19,10 +19,10 @@ ghost use Rattle.prefix.specs.Reached.{Reached};
 ghost use Rattle.walker.specs.Walked.{Adds};
 
 // Whether a schedule that fails or not is looked for.
-fn is_meant(only: bool, f: bool) -> bool
-    ensures { λ r. ⌜ r ≡ (not only || f) ⌝ }
+fn is_meant(failures: bool, f: bool) -> bool
+    ensures { λ r. ⌜ r ≡ (not failures || f) ⌝ }
 {
-    if only {
+    if failures {
         return f;
     }
     true
@@ -34,14 +34,14 @@ pub(crate) fn at_end(x: Place, a: Aim, out: &mut [u8]) -> usize
     ensures within { λ r. ⌜ r ≤ a .room ⌝ }
     ensures added { λ r. ⌜ ((code lengths class : List ℕ) (threads groups : ℕ) (p : Program) (v : Schedule)
         → Reached code lengths class threads groups x p v → ended SC (endOf p v) ≡ true
-        → Adds p (a .room) (foundBehind (a .only) p (x .steps) none v) (now (out .entry)) (a .rows) (now (out .exit)) r) ⌝ }
+        → Adds p (a .room) (foundBehind (a .failures) p (x .steps) none v) (now (out .entry)) (a .rows) (now (out .exit)) r) ⌝ }
 {
     let rows = a.rows;
     if a.room <= rows {
         return rows;
     }
     let f = fails(x.machine);
-    if !is_meant(a.only, f) {
+    if !is_meant(a.failures, f) {
         return rows;
     }
     let schedule = x.schedule;

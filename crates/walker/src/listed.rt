@@ -18,14 +18,14 @@ ghost use Rattle.walker.specs.Rows.{Shown};
 // the output has room for; answers how many.
 pub(crate) fn listed_rows(
     program: Compiled,
-    only: bool,
+    failures: bool,
     bound: &[u8],
-    along: bool,
+    tight: bool,
     out: &mut [u8],
 ) -> usize
     requires { ⌜ WellFormed (programOf program) ⌝ }
     ensures { λ r. ⌜ Shown (programOf program)
-        (take (length (now (out .entry)) / 26) (after (boundAt along (now (bound .entry)) 0) (sought only (programOf program))))
+        (take (length (now (out .entry)) / 26) (after (boundAt tight (now (bound .entry)) 0) (sought failures (programOf program))))
         (now (out .entry)) (now (out .exit)) r ⌝ }
 {
     let code = program.code;
@@ -35,8 +35,8 @@ pub(crate) fn listed_rows(
     let left = left_sets(&code, &lengths);
     let x = begun(&code, &lengths, program.threads);
     let a = Aim {
-        only: only,
-        along: along,
+        failures: failures,
+        tight: tight,
         room: out.len() / 26,
         rows: 0,
     };

@@ -20,13 +20,13 @@ pub struct Page {
 }
 
 // From the first one on, or behind the cursor's schedule.
-fn search_on(program: Compiled, cursor: Cursor, along: bool, only: bool, out: &mut [u8]) -> Page
-    requires { ⌜ WellFormed (programOf program) × (cursor .position ≡ positionAt along) ⌝ }
-    ensures { λ r. ⌜ Paged (programOf program) only cursor (now (out .entry)) (now (out .exit)) r ⌝ }
+fn search_on(program: Compiled, cursor: Cursor, tight: bool, failures: bool, out: &mut [u8]) -> Page
+    requires { ⌜ WellFormed (programOf program) × (cursor .position ≡ positionAt tight) ⌝ }
+    ensures { λ r. ⌜ Paged (programOf program) failures cursor (now (out .entry)) (now (out .exit)) r ⌝ }
 {
     let schedule = cursor.schedule;
     let steps = at_most_24(cursor.steps);
-    let rows = listed_rows(program, only, &schedule[..steps], along, out);
+    let rows = listed_rows(program, failures, &schedule[..steps], tight, out);
     if rows < out.len() / 26 {
         return Page {
             rows: rows,
@@ -48,14 +48,14 @@ fn search_on(program: Compiled, cursor: Cursor, along: bool, only: bool, out: &m
 }
 
 // Writes the rows of what is yet to come, as many as the output has room for.
-pub fn next_page(program: Compiled, cursor: Cursor, only: bool, out: &mut [u8]) -> Page
+pub fn next_page(program: Compiled, cursor: Cursor, failures: bool, out: &mut [u8]) -> Page
     requires { ⌜ WellFormed (programOf program) ⌝ }
-    ensures { λ r. ⌜ Paged (programOf program) only cursor (now (out .entry)) (now (out .exit)) r ⌝ }
+    ensures { λ r. ⌜ Paged (programOf program) failures cursor (now (out .entry)) (now (out .exit)) r ⌝ }
 {
     let position = cursor.position;
     match position {
-        Position::Beginning => search_on(program, cursor, false, only, out),
-        Position::Behind => search_on(program, cursor, true, only, out),
+        Position::Beginning => search_on(program, cursor, false, failures, out),
+        Position::Behind => search_on(program, cursor, true, failures, out),
         Position::End => Page {
             rows: 0,
             cursor: cursor,

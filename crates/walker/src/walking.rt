@@ -1,10 +1,10 @@
 // The search: depth first, threads ascending, from a prefix of a run.
 use crate::aim::Aim;
 use crate::bounds::first_thread;
-use crate::bounds::stays_along;
+use crate::bounds::stays_tight;
 use crate::ending::at_end;
 use machine::ended_all;
-use machine::may;
+use machine::enabled;
 use prefix::Place;
 use prefix::advanced;
 use prefix::is_late;
@@ -38,10 +38,10 @@ fn visit(
     ensures within { λ r. ⌜ r ≤ a .room ⌝ }
     ensures added { λ r. ⌜ ((threads groups : ℕ) (p : Program) (v : Schedule)
         → Reached (now (code .entry)) (now (lengths .entry)) (now (class .entry)) threads groups x p v
-        → Adds p (a .room) (foundWith (a .only) p (x .steps) (boundAt (a .along) (now (bound .entry)) (x .steps)) v t)
+        → Adds p (a .room) (foundWith (a .failures) p (x .steps) (boundAt (a .tight) (now (bound .entry)) (x .steps)) v t)
         (now (out .entry)) (a .rows) (now (out .exit)) r) ⌝ }
 {
-    if !may(lengths, x.machine, t) {
+    if !enabled(lengths, x.machine, t) {
         return a.rows;
     }
     if is_late(x.late, t) {
@@ -55,8 +55,8 @@ fn visit(
         return a.rows;
     }
     let b = Aim {
-        only: a.only,
-        along: stays_along(bound, a.along, x.steps, t),
+        failures: a.failures,
+        tight: stays_tight(bound, a.tight, x.steps, t),
         room: a.room,
         rows: a.rows,
     };
@@ -80,11 +80,11 @@ pub(crate) fn walk(
     ensures within { λ r. ⌜ r ≤ a .room ⌝ }
     ensures added { λ r. ⌜ ((threads groups : ℕ) (p : Program) (v : Schedule)
         → Reached (now (code .entry)) (now (lengths .entry)) (now (class .entry)) threads groups x p v
-        → Adds p (a .room) (foundBehind (a .only) p (x .steps) (boundAt (a .along) (now (bound .entry)) (x .steps)) v)
+        → Adds p (a .room) (foundBehind (a .failures) p (x .steps) (boundAt (a .tight) (now (bound .entry)) (x .steps)) v)
         (now (out .entry)) (a .rows) (now (out .exit)) r) ⌝ }
 {
     if ended_all(lengths, x.machine) {
-        if a.along {
+        if a.tight {
             return a.rows;
         }
         return at_end(x, a, out);
@@ -93,14 +93,14 @@ pub(crate) fn walk(
         return a.rows;
     }
     let mut n = a.rows;
-    let mut t = first_thread(bound, a.along, x.steps);
+    let mut t = first_thread(bound, a.tight, x.steps);
     while t < 6 {
         if a.room <= n {
             return n;
         }
         let b = Aim {
-            only: a.only,
-            along: a.along,
+            failures: a.failures,
+            tight: a.tight,
             room: a.room,
             rows: n,
         };

@@ -4,7 +4,7 @@ use mathlib.Core.Path.{_∙_}
 use borrow.Author.Tests.{eq-eqb, ne-eqb}
 use Rattle.rows.proofs.Rows.{row-store, row-load, row-fetch-add, row-compare-swap}
 use Rattle.sc.specs.Local.{sum32, accessPlace, accessTakes, accessPuts, accessSets}
-use Rattle.sc.specs.Trail.{given}
+use Rattle.sc.specs.Actions.{given}
 use Rattle.accesses.proofs.HeldRows.{access-none}
 use Rattle.accesses.proofs.by_row.accessed_at.Statement.{statement}
 use Rattle.accesses.proofs.by_row.accessed_at.Tie as tie

@@ -5,7 +5,7 @@ use mathlib.Core.Path.{_≡_, _∙_, sym, ap}
 use native.Mathlib.Omega.{arith}
 use Rattle.lines.specs.Frame.{pairs}
 use Rattle.program.specs.declared.kind.Kind.{Kind}
-use Rattle.program.specs.Kinds.{kindOf, find, kinds}
+use Rattle.program.specs.Kinds.{kindOf, lookup, kinds}
 use Rattle.program.specs.Frames.{kind}
 use Rattle.decoder.specs.Held.{instructionRefusal}
 use Rattle.decoder.proofs.RefusalByCounts.{too-short, too-long, length-fits, refused-3, refused-4, opening-refused, alike-refused, instruction-refused}
@@ -72,7 +72,7 @@ returns-4 c =
     .left)) (sym (c9 .field .ensures .0) ∙ c .before .if4 .taken)
 
 members-fit-requires : tie.Need-members-fit-requires
-unfolding kindOf find kinds
+unfolding kindOf lookup kinds
 members-fit-requires c κs =
     let c8 = c .before .before .before .before .before .before .before .before in
     let c11 = c8 .before .before .before in

@@ -11,14 +11,14 @@ use Rattle.graph_writer.proofs.noting.put_note.Statement.{statement}
 use Rattle.graph_writer.proofs.noting.put_note.Tie as tie
 
 abbrev Inv-loop : tie.InvT-loop
-Inv-loop trail₀ k note at j₀ trail j = (j ≤ 8) × (trail ≡ sets trail₀ (k * 8) (take j note))
+Inv-loop trail₀ k note at j₀ log j = (j ≤ 8) × (log ≡ sets trail₀ (k * 8) (take j note))
 
 abbrev μ-loop : tie.MeasureT-loop
-μ-loop trail₀ k note at j₀ trail j = 8 - j
+μ-loop trail₀ k note at j₀ log j = 8 - j
 
 -- one byte more
-stored-more : (old trail note : List ℕ) (i j : ℕ) → j < length note → trail ≡ sets old i (take j note) → set trail (i + j) (getD note j 0) ≡ sets old i (take (j + 1) note)
-stored-more old trail note i j h e =
+stored-more : (old log note : List ℕ) (i j : ℕ) → j < length note → log ≡ sets old i (take j note) → set log (i + j) (getD note j 0) ≡ sets old i (take (j + 1) note)
+stored-more old log note i j h e =
     ap (λ (l : List ℕ). set l (i + j) (getD note j 0)) e
     ∙ ap (λ (n : ℕ). set (sets old i (take j note)) (i + n) (getD note j 0)) (sym (length-take-le j note (omega arith)))
     ∙ sets-more (take j note) old i (getD note j 0)
@@ -38,8 +38,8 @@ returns-2 c =
     let loop = c .before .loop in
     let args = c .before .before .before .args in
     let e : length (args .t3) ≡ 8 = search needs in
-    loop .inv .1 ∙ ap (sets (args .trail .now) (args .k * 8)) (take-all (loop .j) (args .t3) (omega (arith, c .loop-test .left, e)))
-    ∙ sym (put-room (args .trail .now) (args .k) (args .t3) (omega (arith, c .before .before .if1 .left)))
+    loop .inv .1 ∙ ap (sets (args .log .now) (args .k * 8)) (take-all (loop .j) (args .t3) (omega (arith, c .loop-test .left, e)))
+    ∙ sym (put-room (args .log .now) (args .k) (args .t3) (omega (arith, c .before .before .if1 .left)))
 
 pub put-note-spec : {M : Type 1} → statement M
 put-note-spec = tie.close (tie.spec Inv-loop μ-loop returns (λ c. search needs) loop-holds (λ c. search needs) (λ c. search needs) (λ c. search needs) (λ c. search needs) (λ c. search needs) loop-again returns-2)

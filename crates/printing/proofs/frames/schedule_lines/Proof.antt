@@ -8,7 +8,7 @@ use lib.ListN.{length, take}
 use lib.Seq.{take-all}
 use borrow.Rule.Slice.PartMut.{midOf, putMid, mid-len}
 use Rattle.program.specs.Program.{Program}
-use Rattle.schedules.specs.Lists.{keep}
+use Rattle.schedules.specs.Lists.{filter}
 use Rattle.schedules.specs.Order.{Schedule}
 use Rattle.graph_writer.specs.NoteText.{Wrote}
 use Rattle.graph_writer.proofs.WrittenLines.{wrote-none}
@@ -24,13 +24,13 @@ abbrev Inv-loop : tie.InvT-loop
 Inv-loop out₀ rows n at₀ failed₀ k₀ out at failed k =
     (k ≤ n) × (at ≤ length out) × (length out ≡ length out₀) × (failed ≤ k * 256)
     × ((p : Program) (ss : List Schedule) (held : List ℕ) → Shown p ss held rows n → Short ss
-    → (Wrote (map (scheduleFrame p) (take k ss)) out₀ out at) × (failed ≡ length (keep (failing p) (take k ss))))
+    → (Wrote (map (scheduleFrame p) (take k ss)) out₀ out at) × (failed ≡ length (filter (failing p) (take k ss))))
 
 abbrev μ-loop : tie.MeasureT-loop
 μ-loop out₀ rows n at₀ failed₀ k₀ out at failed k = n - k
 
 loop-holds : tie.Need-loop-holds Inv-loop μ-loop
-unfolding keep
+unfolding filter
 loop-holds c = (search needs, search needs, search needs, search needs, λ p ss held w short. (wrote-none (c .before .args .out .now), refl))
 
 -- how far the lines reach
@@ -61,7 +61,7 @@ returns : tie.Need-returns Inv-loop μ-loop
 returns c p ss held w short =
     let l = c .before .loop in
     let e : take (l .k) ss ≡ ss = take-all (l .k) ss (omega (arith, w .counted, c .loop-test .left, l .inv .0)) in
-    subst (λ (ts : List Schedule). (Wrote (map (scheduleFrame p) ts) (c .before .before .before .args .out .now) (l .out) (l .at)) × (l .failed ≡ length (keep (failing p) ts))) e
+    subst (λ (ts : List Schedule). (Wrote (map (scheduleFrame p) ts) (c .before .before .before .args .out .now) (l .out) (l .at)) × (l .failed ≡ length (filter (failing p) ts))) e
     (l .inv .4 p ss held w short)
 
 pub schedule-lines-spec : {M : Type 1} → statement M

@@ -8,7 +8,7 @@ use native.Mathlib.Omega.{arith}
 use lib.ListN.{length, take, replicate, length-replicate}
 use borrow.Rule.Slice.PartMut.{midOf, putMid, mid-len}
 use Rattle.decoder.specs.Compiled.{programOf}
-use Rattle.schedules.specs.Lists.{keep}
+use Rattle.schedules.specs.Lists.{filter}
 use Rattle.graph_writer.specs.NoteText.{Wrote}
 use Rattle.graph_writer.proofs.WrittenLines.{wrote-within}
 use Rattle.list.specs.Answers.{failing}
@@ -56,7 +56,7 @@ abbrev out : (c : tie.After-slice-known2) → List ℕ
 out c = c .before .before .before .before .before .before .before .before .before .before .before .args .out .now
 
 wrote : (c : tie.After-slice-known2) → (Wrote (map (scheduleFrame (programOf (state (rowed c) .program))) (take 256 (left (state (rowed c))))) (out c) (c .before .before .schedule-lines .last .0) (c .before .before .schedule-lines .result .length))
-    × (c .before .before .schedule-lines .result .failed ≡ length (keep (failing (programOf (state (rowed c) .program))) (take 256 (left (state (rowed c))))))
+    × (c .before .before .schedule-lines .result .failed ≡ length (filter (failing (programOf (state (rowed c) .program))) (take 256 (left (state (rowed c))))))
 wrote c =
     let r = rowed c in
     c .before .before .schedule-lines .ensures (programOf (state r .program)) (take 256 (left (state r))) empty

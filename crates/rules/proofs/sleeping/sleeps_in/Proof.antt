@@ -5,7 +5,7 @@ use Prim.Native.Nat.{ℕ, _-_, _+_, _≤_}
 use mathlib.Core.Path.{_≡_, refl, sym, ap, _∙_}
 use mathlib.Core.Bool.{Bool, not, _||_}
 use native.Mathlib.Omega.{arith}
-use Rattle.schedules.specs.Lists.{upTo, all}
+use Rattle.schedules.specs.Lists.{range, all}
 use Rattle.sc.specs.State.{State, Thread, threadOf, place}
 use Rattle.sc.specs.Ahead.{mayPut}
 use Rattle.survivors.specs.Sets.{has}
@@ -17,7 +17,7 @@ use Rattle.rules.proofs.sleeping.sleeps_in.Tie as tie
 
 abbrev Inv-loop : tie.InvT-loop
 Inv-loop code lengths left at set t a u₀ u =
-    (u ≤ 6) × ((σ : State) → Rests code lengths at σ → Left code lengths left → all (λ k. has set k || not (wakes σ t k)) (upTo 0 6) ≡ all (λ k. has set k || not (wakes σ t k)) (upTo u (6 - u)))
+    (u ≤ 6) × ((σ : State) → Rests code lengths at σ → Left code lengths left → all (λ k. has set k || not (wakes σ t k)) (range 0 6) ≡ all (λ k. has set k || not (wakes σ t k)) (range u (6 - u)))
 
 abbrev μ-loop : tie.MeasureT-loop
 μ-loop code lengths left at set t a u₀ u = 6 - u
@@ -56,7 +56,7 @@ loop-again c =
           (s .0 ∙ ap (place σ) ((c .before .before .before .before .before .wide) .ensures .0)) (s .1 ∙ ap (λ (i : ℕ). mayPut (threadOf σ i .local)) ((c .before .before .before .before .before .wide) .ensures .0)) in
           let n : 6 - u - 1 ≡ 6 - (u + 1) = omega arith in
           (c .before .before .before .loop) .inv .1 σ rests holds ∙ all-further (λ k. has (a .set) k || not (wakes σ (a .t) k)) u (6 - u) (omega (arith, (c .before .before .loop-test) .taken)) (sym q ∙ sym ((c .before .is-quiet) .ensures (a .code .now) holds) ∙ not-false _ ((c .if2) .left))
-          ∙ ap (λ (j : ℕ). all (λ k. has (a .set) k || not (wakes σ (a .t) k)) (upTo (u + 1) j)) n,
+          ∙ ap (λ (j : ℕ). all (λ k. has (a .set) k || not (wakes σ (a .t) k)) (range (u + 1) j)) n,
     )
 
 returns-3 : tie.Need-returns-3 Inv-loop μ-loop

@@ -1,13 +1,13 @@
--- `stays_along` compares the bound's next byte with the step.
+-- `stays_tight` compares the bound's next byte with the step.
 use borrow.Author.Needs.{needs}
-use Rattle.walker.proofs.BoundSteps.{past-along, past-end, past-apart}
-use Rattle.walker.proofs.bounds.stays_along.Statement.{statement}
-use Rattle.walker.proofs.bounds.stays_along.Tie as tie
+use Rattle.walker.proofs.BoundSteps.{past-tight, past-end, past-apart}
+use Rattle.walker.proofs.bounds.stays_tight.Statement.{statement}
+use Rattle.walker.proofs.bounds.stays_tight.Tie as tie
 
 returns : tie.Need-returns
 returns c =
     let a = c .before .before .before .args in
-    rw (c .before .before .if1 .taken) (past-along (a .bound .now) (a .k) (a .t) (c .before .if2 .taken))
+    rw (c .before .before .if1 .taken) (past-tight (a .bound .now) (a .k) (a .t) (c .before .if2 .taken))
 
 returns-2 : tie.Need-returns-2
 returns-2 c = let a = c .before .before .args in rw (c .before .if1 .taken) (past-end (a .bound .now) (a .k) (a .t) (c .if2 .left))
@@ -15,5 +15,5 @@ returns-2 c = let a = c .before .before .args in rw (c .before .if1 .taken) (pas
 returns-3 : tie.Need-returns-3
 returns-3 c = let a = c .before .args in rw (c .if1 .left) (past-apart (a .bound .now) (a .k) (a .t))
 
-pub stays-along-spec : {M : Type 1} → statement M
-stays-along-spec = tie.close (tie.spec (λ c. search needs) returns returns-2 returns-3)
+pub stays-tight-spec : {M : Type 1} → statement M
+stays-tight-spec = tie.close (tie.spec (λ c. search needs) returns returns-2 returns-3)

@@ -6,7 +6,7 @@ use Rattle.walker.proofs.cursor.beginning.Tie as tie
 
 returns : tie.Need-returns
 unfolding remaining from
-returns c p only = refl
+returns c p failures = refl
 
 pub beginning-spec : {M : Type 1} → statement M
 beginning-spec = tie.close (tie.spec returns)

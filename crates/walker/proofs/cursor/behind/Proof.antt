@@ -32,12 +32,12 @@ loop-again c =
     (omega (arith, h), search needs, bytes-more (c .before .before .before .before .before .args .schedule .now) (l .bytes) (l .k) _ (omega (arith, h, n, s)) (omega (arith, h, n)) (l .inv .2) refl)
 
 returns : tie.Need-returns Inv-loop μ-loop
-returns c p only w =
+returns c p failures w =
     let l = c .before .loop in
     let n = c .before .before .at-most-24 in
     let s = c .before .before .before .before .args .schedule .now in
     let k : l .k ≡ n .result = omega (arith, l .inv .0, c .loop-test .left) in
-    remaining-behind p only _ w s refl
+    remaining-behind p failures _ w s refl
     (ap (λ (i : ℕ). take i (l .bytes)) (sym k) ∙ l .inv .2 ∙ ap (λ (i : ℕ). take i s) (k ∙ n .ensures) ∙ take-least (length s) 24 s (omega arith))
 
 pub behind-spec : {M : Type 1} → statement M

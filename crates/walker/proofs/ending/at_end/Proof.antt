@@ -25,7 +25,7 @@ returns-2 c =
       entry .pre .1,
       λ code lengths class threads groups p v at e.
           adds-none p (a .a .room) _ (a .out .now) (a .a .rows)
-          (behind-passed (a .a .only) p (a .x .steps) v (c .before .before .fails .result) e (sym (c .before .before .fails .ensures ∙ fails-by (at .holds))) (sym (c .before .is-meant .ensures) ∙ not-true _ (c .if2 .taken))),
+          (behind-passed (a .a .failures) p (a .x .steps) v (c .before .before .fails .result) e (sym (c .before .before .fails .ensures ∙ fails-by (at .holds))) (sym (c .before .is-meant .ensures) ∙ not-true _ (c .if2 .taken))),
     )
 
 returns-3 : tie.Need-returns-3
@@ -38,7 +38,7 @@ returns-3 c = (
       let f : failing p v ≡ c .before .before .before .before .before .before .before .fails .result = sym (c .before .before .before .before .before .before .before .fails .ensures ∙ fails-by (at .holds)) in
       let w = at .schedule in
       adds-one p (a .a .room) _ v (a .out .now) (c .before .before .put-row .last .0) (a .a .rows)
-      (behind-end (a .a .only) p (a .x .steps) v (c .before .before .before .before .before .before .before .fails .result) e f (sym (c .before .before .before .before .before .before .is-meant .ensures) ∙ not-false _ (c .before .before .before .before .before .if2 .left)))
+      (behind-end (a .a .failures) p (a .x .steps) v (c .before .before .before .before .before .before .before .fails .result) e f (sym (c .before .before .before .before .before .before .is-meant .ensures) ∙ not-false _ (c .before .before .before .before .before .if2 .left)))
       (c .before .before .before .before .before .before .before .before .if1 .left) (c .before .before .put-row .ensures ∙ rw (w, f)),
 )
 

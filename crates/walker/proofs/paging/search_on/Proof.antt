@@ -38,7 +38,7 @@ returns c =
     let d = c .before .before .before in
     let entry = d .before .before .before .before .before .before .before in
     let a = entry .args in
-    page-ended (programOf (a .program)) (entry .pre .0) (a .only) (a .along) (a .cursor) _ (a .out .now) _ _ (entry .pre .1) (bytes d) (d .before .listed-rows .ensures)
+    page-ended (programOf (a .program)) (entry .pre .0) (a .failures) (a .tight) (a .cursor) _ (a .out .now) _ _ (entry .pre .1) (bytes d) (d .before .listed-rows .ensures)
     (c .end .result) (ap isEnd (c .end .ensures)) (c .before .if1 .taken)
 
 returns-2 : tie.Need-returns-2
@@ -46,7 +46,7 @@ returns-2 c =
     let d = c .before .before .before in
     let entry = d .before .before .before .before .before .before .before in
     let a = entry .args in
-    page-none (programOf (a .program)) (entry .pre .0) (a .only) (a .along) (a .cursor) _ (a .out .now) _ _ (entry .pre .1) (bytes d) (d .before .listed-rows .ensures)
+    page-none (programOf (a .program)) (entry .pre .0) (a .failures) (a .tight) (a .cursor) _ (a .out .now) _ _ (entry .pre .1) (bytes d) (d .before .listed-rows .ensures)
     (c .before .if1 .left) (c .if2 .taken)
 
 -- the rows lie within the output
@@ -64,7 +64,7 @@ within c =
     let d = c .before .before .before in
     let entry = d .before .before .before .before .before .before .before in
     let a = entry .args in
-    last-within (programOf (a .program)) (entry .pre .0) (a .only) (a .along) (a .cursor) _ (a .out .now) _ _ (entry .pre .1) (bytes d) (d .before .listed-rows .ensures)
+    last-within (programOf (a .program)) (entry .pre .0) (a .failures) (a .tight) (a .cursor) _ (a .out .now) _ _ (entry .pre .1) (bytes d) (d .before .listed-rows .ensures)
     (c .before .if1 .left) (c .if2 .left)
 
 few : (c : tie.After-wide) → c .wide .result ≤ 24
@@ -73,7 +73,7 @@ few c =
     let d = b .before .before .before in
     let entry = d .before .before .before .before .before .before .before in
     let a = entry .args in
-    last-few (programOf (a .program)) (entry .pre .0) (a .only) (a .along) (a .cursor) _ (a .out .now) _ _ (entry .pre .1) (bytes d) (d .before .listed-rows .ensures)
+    last-few (programOf (a .program)) (entry .pre .0) (a .failures) (a .tight) (a .cursor) _ (a .out .now) _ _ (entry .pre .1) (bytes d) (d .before .listed-rows .ensures)
     (b .before .if1 .left) (b .if2 .left) (c .wide .result) (c .wide .ensures .0)
 
 mul-at : tie.Need-mul-at
@@ -104,8 +104,8 @@ returns-3 c =
     let d = b .before .before .before in
     let entry = d .before .before .before .before .before .before .before in
     let a = entry .args in
-    page-full (programOf (a .program)) (entry .pre .0) (a .only) (a .along) (a .cursor) _ (a .out .now) _ _ (entry .pre .1) (bytes d) (d .before .listed-rows .ensures)
-    (b .before .if1 .left) (b .if2 .left) (w .result) _ (c .behind .result) (w .ensures) refl (c .behind .ensures (programOf (a .program)) (a .only) (entry .pre .0))
+    page-full (programOf (a .program)) (entry .pre .0) (a .failures) (a .tight) (a .cursor) _ (a .out .now) _ _ (entry .pre .1) (bytes d) (d .before .listed-rows .ensures)
+    (b .before .if1 .left) (b .if2 .left) (w .result) _ (c .behind .result) (w .ensures) refl (c .behind .ensures (programOf (a .program)) (a .failures) (entry .pre .0))
 
 pub search-on-spec : {M : Type 1} → statement M
 search-on-spec =

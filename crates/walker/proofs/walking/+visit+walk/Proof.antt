@@ -12,7 +12,7 @@ use borrow.Fn.PlainCycle.{Measures, is, falls, and}
 use Rattle.sc.specs.Graph.{endOf}
 use Rattle.survivors.proofs.Search.{behind-stuck}
 use Rattle.prefix.proofs.ReachedStep.{reached-most}
-use Rattle.machine.proofs.HeldAsking.{ended-by, may-by}
+use Rattle.machine.proofs.HeldAsking.{ended-by, enabled-by}
 use Rattle.walker.specs.Bounds.{boundAt}
 use Rattle.walker.proofs.AddedRows.{adds-none, adds-same}
 use Rattle.walker.proofs.WalkTurns.{visit-ended, visit-late, visit-twin, visit-asleep, visit-less, visit-on, bound-met, bound-apart, Rest, rest-start, rest-next, rest-over, rest-full}
@@ -23,13 +23,13 @@ use Rattle.walker.proofs.walking.walk.Reads as walk
 use Rattle.walker.proofs.walking.walk.Kinds as walk-kinds
 use Rattle.walker.proofs.walking.+visit+walk.Lts-walk as walk-lts
 use Rattle.machine.proofs.ended_all.Reads as ended-all-reads
-use Rattle.machine.proofs.may.Reads as may-reads
+use Rattle.machine.proofs.enabled.Reads as enabled-reads
 use Rattle.prefix.proofs.advanced.Reads as advanced-reads
 use Rattle.prefix.proofs.is_late.Reads as is-late-reads
 use Rattle.rules.proofs.some_asleep.Reads as some-asleep-reads
 use Rattle.rules.proofs.has_smaller_twin.Reads as has-smaller-twin-reads
 use Rattle.walker.proofs.bounds.first_thread.Reads as first-thread-reads
-use Rattle.walker.proofs.bounds.stays_along.Reads as stays-along-reads
+use Rattle.walker.proofs.bounds.stays_tight.Reads as stays-tight-reads
 use Rattle.walker.proofs.ending.at_end.Reads as at-end-reads
 use Rattle.walker.proofs.walking.+visit+walk.{statement}
 use Rattle.walker.proofs.walking.+visit+walk.Tie.{close}
@@ -54,8 +54,8 @@ walk-below t = and 6 walk-kinds.ps (falls 6 walk-kinds.ps _<_ μ-walk t) walk.Pr
 
 abbrev visit-callees : ℕ → visit-lts.Claims
 visit-callees t = (
-  may-reads.Asked,
-  may-reads.Learnt,
+  enabled-reads.Asked,
+  enabled-reads.Learnt,
   is-late-reads.Asked,
   is-late-reads.Learnt,
   has-smaller-twin-reads.Asked,
@@ -64,8 +64,8 @@ visit-callees t = (
   advanced-reads.Learnt,
   some-asleep-reads.Asked,
   some-asleep-reads.Learnt,
-  stays-along-reads.Asked,
-  stays-along-reads.Learnt,
+  stays-tight-reads.Asked,
+  stays-tight-reads.Learnt,
   walk-below t,
   walk.Post,
 )
@@ -81,7 +81,7 @@ visit-returns t c =
     let pre = entry .pre in
     let a = entry .args in (
       pre .1 .2,
-      λ threads groups p v at. adds-none p (a .a .room) _ (a .out .now) (a .a .rows) (visit-ended (a .code .now) (a .lengths .now) (a .class .now) threads groups (a .x) p v at (a .a .only) (boundAt (a .a .along) (a .bound .now) (a .x .steps)) (a .t) (sym (c .before .may .ensures ∙ may-by (at .holds) (a .t)) ∙ not-true _ (c .if1 .taken))),
+      λ threads groups p v at. adds-none p (a .a .room) _ (a .out .now) (a .a .rows) (visit-ended (a .code .now) (a .lengths .now) (a .class .now) threads groups (a .x) p v at (a .a .failures) (boundAt (a .a .tight) (a .bound .now) (a .x .steps)) (a .t) (sym (c .before .enabled .ensures ∙ enabled-by (at .holds) (a .t)) ∙ not-true _ (c .if1 .taken))),
     )
 
 visit-returns-2 : (t : ℕ) → visit-lts.Need-returns-2 (visit-callees t) (visit-at t) visit.Post
@@ -90,7 +90,7 @@ visit-returns-2 t c =
     let pre = entry .pre in
     let a = entry .args in (
       pre .1 .2,
-      λ threads groups p v at. adds-none p (a .a .room) _ (a .out .now) (a .a .rows) (visit-late (a .code .now) (a .lengths .now) (a .class .now) threads groups (a .x) p v at (a .a .only) (boundAt (a .a .along) (a .bound .now) (a .x .steps)) (a .t) (sym (c .before .before .before .may .ensures ∙ may-by (at .holds) (a .t)) ∙ not-false _ (c .before .before .if1 .left)) (sym (c .before .is-late .ensures) ∙ c .if2 .taken)),
+      λ threads groups p v at. adds-none p (a .a .room) _ (a .out .now) (a .a .rows) (visit-late (a .code .now) (a .lengths .now) (a .class .now) threads groups (a .x) p v at (a .a .failures) (boundAt (a .a .tight) (a .bound .now) (a .x .steps)) (a .t) (sym (c .before .before .before .enabled .ensures ∙ enabled-by (at .holds) (a .t)) ∙ not-false _ (c .before .before .if1 .left)) (sym (c .before .is-late .ensures) ∙ c .if2 .taken)),
     )
 
 visit-returns-3 : (t : ℕ) → visit-lts.Need-returns-3 (visit-callees t) (visit-at t) visit.Post
@@ -99,7 +99,7 @@ visit-returns-3 t c =
     let pre = entry .pre in
     let a = entry .args in (
       pre .1 .2,
-      λ threads groups p v at. adds-none p (a .a .room) _ (a .out .now) (a .a .rows) (visit-twin (a .code .now) (a .lengths .now) (a .class .now) threads groups (a .x) p v at (a .a .only) (boundAt (a .a .along) (a .bound .now) (a .x .steps)) (a .t) (sym (c .before .before .before .before .before .may .ensures ∙ may-by (at .holds) (a .t)) ∙ not-false _ (c .before .before .before .before .if1 .left)) (sym (c .before .has-smaller-twin .ensures (a .code .now) (a .lengths .now) threads groups p v at) ∙ c .if3 .taken)),
+      λ threads groups p v at. adds-none p (a .a .room) _ (a .out .now) (a .a .rows) (visit-twin (a .code .now) (a .lengths .now) (a .class .now) threads groups (a .x) p v at (a .a .failures) (boundAt (a .a .tight) (a .bound .now) (a .x .steps)) (a .t) (sym (c .before .before .before .before .before .enabled .ensures ∙ enabled-by (at .holds) (a .t)) ∙ not-false _ (c .before .before .before .before .if1 .left)) (sym (c .before .has-smaller-twin .ensures (a .code .now) (a .lengths .now) threads groups p v at) ∙ c .if3 .taken)),
     )
 
 visit-advanced-requires : (t : ℕ) → visit-lts.Need-advanced-requires (visit-callees t) (visit-at t) visit.Post
@@ -108,7 +108,7 @@ visit-advanced-requires t c κs =
     let pre = entry .pre in
     let a = entry .args in
     let e = pre .1 .0 in
-    (a .class .now, e .0, e .1, e .2, e .3, e .4, (sym (c .before .before .before .before .before .may .ensures ∙ may-by (e .4 .holds) (a .t)) ∙ not-false _ (c .before .before .before .before .if1 .left)))
+    (a .class .now, e .0, e .1, e .2, e .3, e .4, (sym (c .before .before .before .before .before .enabled .ensures ∙ enabled-by (e .4 .holds) (a .t)) ∙ not-false _ (c .before .before .before .before .if1 .left)))
 
 visit-some-asleep-requires : (t : ℕ) → visit-lts.Need-some-asleep-requires (visit-callees t) (visit-at t) visit.Post
 visit-some-asleep-requires t c κs =
@@ -124,7 +124,7 @@ visit-returns-4 t c =
     let pre = entry .pre in
     let a = entry .args in (
       pre .1 .2,
-      λ threads groups p v at. adds-none p (a .a .room) _ (a .out .now) (a .a .rows) (visit-asleep (a .code .now) (a .lengths .now) (a .class .now) threads groups (a .x) p v at (a .a .only) (boundAt (a .a .along) (a .bound .now) (a .x .steps)) (a .t) (sym (c .before .before .before .before .before .before .before .before .may .ensures ∙ may-by (at .holds) (a .t)) ∙ not-false _ (c .before .before .before .before .before .before .before .if1 .left)) (sym (c .before .some-asleep .ensures (a .class .now) threads groups p (v ++ (a .t ∷ [])) (c .before .before .advanced .ensures (a .class .now) threads groups p v at)) ∙ c .if4 .taken)),
+      λ threads groups p v at. adds-none p (a .a .room) _ (a .out .now) (a .a .rows) (visit-asleep (a .code .now) (a .lengths .now) (a .class .now) threads groups (a .x) p v at (a .a .failures) (boundAt (a .a .tight) (a .bound .now) (a .x .steps)) (a .t) (sym (c .before .before .before .before .before .before .before .before .enabled .ensures ∙ enabled-by (at .holds) (a .t)) ∙ not-false _ (c .before .before .before .before .before .before .before .if1 .left)) (sym (c .before .some-asleep .ensures (a .class .now) threads groups p (v ++ (a .t ∷ [])) (c .before .before .advanced .ensures (a .class .now) threads groups p v at)) ∙ c .if4 .taken)),
     )
 
 visit-walk-requires : (t : ℕ) → visit-lts.Need-walk-requires (visit-callees t) (visit-at t) visit.Post
@@ -134,7 +134,7 @@ visit-walk-requires t c κs =
     let a = entry .args in
     let e = pre .1 .0 in
     let next = c .before .before .before .before .advanced .ensures (a .class .now) (e .0) (e .1) (e .2) (e .3) (e .4) in (
-      omega (arith, pre .0, visit-less (a .code .now) (a .lengths .now) (a .class .now) (e .0) (e .1) (a .x) (e .2) (e .3) (e .4) (a .a .only) (boundAt (a .a .along) (a .bound .now) (a .x .steps)) (a .t) (sym (c .before .before .before .before .before .before .before .before .before .before .may .ensures ∙ may-by (e .4 .holds) (a .t)) ∙ not-false _ (c .before .before .before .before .before .before .before .before .before .if1 .left)) (c .before .before .before .before .advanced .result) next),
+      omega (arith, pre .0, visit-less (a .code .now) (a .lengths .now) (a .class .now) (e .0) (e .1) (a .x) (e .2) (e .3) (e .4) (a .a .failures) (boundAt (a .a .tight) (a .bound .now) (a .x .steps)) (a .t) (sym (c .before .before .before .before .before .before .before .before .before .before .enabled .ensures ∙ enabled-by (e .4 .holds) (a .t)) ∙ not-false _ (c .before .before .before .before .before .before .before .before .before .if1 .left)) (c .before .before .before .before .advanced .result) next),
       ((e .0, e .1, e .2, e .3 ++ (a .t ∷ []), next), pre .1 .1, pre .1 .2, pre .1 .3),
     )
 
@@ -148,18 +148,18 @@ visit-returns-5 t c =
       λ threads groups p v at.
           let next = c .before .before .before .before .before .before .before .advanced .ensures (a .class .now) threads groups p v at in
           adds-same p (a .a .room) _ _ (a .out .now) _ (a .a .rows) _
-          (visit-on (a .code .now) (a .lengths .now) (a .class .now) threads groups (a .x) p v at (a .a .only) (boundAt (a .a .along) (a .bound .now) (a .x .steps)) (a .t) (sym (c .before .before .before .before .before .before .before .before .before .before .before .before .before .may .ensures ∙ may-by (at .holds) (a .t)) ∙ not-false _ (c .before .before .before .before .before .before .before .before .before .before .before .before .if1 .left)) (c .before .before .before .before .before .before .before .advanced .result) next
+          (visit-on (a .code .now) (a .lengths .now) (a .class .now) threads groups (a .x) p v at (a .a .failures) (boundAt (a .a .tight) (a .bound .now) (a .x .steps)) (a .t) (sym (c .before .before .before .before .before .before .before .before .before .before .before .before .before .enabled .ensures ∙ enabled-by (at .holds) (a .t)) ∙ not-false _ (c .before .before .before .before .before .before .before .before .before .before .before .before .if1 .left)) (c .before .before .before .before .before .before .before .advanced .result) next
           (sym (c .before .before .before .before .before .before .before .before .before .before .before .is-late .ensures) ∙ c .before .before .before .before .before .before .before .before .before .before .if2 .left)
           (sym (c .before .before .before .before .before .before .before .before .before .has-smaller-twin .ensures (a .code .now) (a .lengths .now) threads groups p v at) ∙ c .before .before .before .before .before .before .before .before .if3 .left)
           (sym (c .before .before .before .before .before .before .some-asleep .ensures (a .class .now) threads groups p (v ++ (a .t ∷ [])) next) ∙ c .before .before .before .before .before .if4 .left)
-          (c .before .before .before .before .stays-along .result) (a .bound .now) (c .before .before .before .before .stays-along .ensures))
+          (c .before .before .before .before .stays-tight .result) (a .bound .now) (c .before .before .before .before .stays-tight .ensures))
           (walked .ensures .1 threads groups p (v ++ (a .t ∷ [])) next),
     )
 
 -- ---- walk
 abbrev walk-Inv-loop : walk-lts.InvT-loop
 walk-Inv-loop code lengths class left x bound a out₀ n₀ t₀ out n t =
-    (n ≤ a .room) × (length out ≡ length out₀) × Rest code lengths class (a .only) x (boundAt (a .along) bound (x .steps)) out₀ (a .room) (a .rows) out n t
+    (n ≤ a .room) × (length out ≡ length out₀) × Rest code lengths class (a .failures) x (boundAt (a .tight) bound (x .steps)) out₀ (a .room) (a .rows) out n t
 
 abbrev walk-μ-loop : walk-lts.MeasureT-loop
 walk-μ-loop code lengths class left x bound a out₀ n₀ t₀ out n t = 6 - t
@@ -170,7 +170,7 @@ walk-returns t c =
     let pre = entry .pre in
     let a = entry .args in (
       pre .1 .2,
-      λ threads groups p v at. rw (c .if2 .taken) (adds-none p (a .a .room) _ (a .out .now) (a .a .rows) (bound-met (a .a .only) p (a .x .steps) v (a .bound .now) (sym (c .before .before .ended-all .ensures ∙ ended-by (at .holds)) ∙ c .before .if1 .taken))),
+      λ threads groups p v at. rw (c .if2 .taken) (adds-none p (a .a .room) _ (a .out .now) (a .a .rows) (bound-met (a .a .failures) p (a .x .steps) v (a .bound .now) (sym (c .before .before .ended-all .ensures ∙ ended-by (at .holds)) ∙ c .before .if1 .taken))),
     )
 
 walk-at-end-requires : (t : ℕ) → walk-lts.Need-at-end-requires (walk-callees t) (walk-at t) walk.Post walk-Inv-loop walk-μ-loop
@@ -188,7 +188,7 @@ walk-returns-2 t c =
     let a = entry .args in (
       c .before .before .at-end .ensures .0,
       λ threads groups p v at.
-          rw (c .before .before .before .before .if2 .left) (adds-same p (a .a .room) _ _ (a .out .now) _ (a .a .rows) _ (bound-apart (a .a .only) p (a .x .steps) v (a .bound .now))
+          rw (c .before .before .before .before .if2 .left) (adds-same p (a .a .room) _ _ (a .out .now) _ (a .a .rows) _ (bound-apart (a .a .failures) p (a .x .steps) v (a .bound .now))
           (c .before .before .at-end .ensures .1 (a .code .now) (a .lengths .now) (a .class .now) threads groups p v at (sym (c .before .before .before .before .before .before .ended-all .ensures ∙ ended-by (at .holds)) ∙ c .before .before .before .before .before .if1 .taken))),
     )
 
@@ -198,7 +198,7 @@ walk-returns-3 t c =
     let pre = entry .pre in
     let a = entry .args in (
       pre .1 .2,
-      λ threads groups p v at. adds-none p (a .a .room) _ (a .out .now) (a .a .rows) (behind-stuck (a .a .only) p (a .x .steps) v (boundAt (a .a .along) (a .bound .now) (a .x .steps)) (sym (c .before .before .before .ended-all .ensures ∙ ended-by (at .holds)) ∙ c .before .before .if1 .left) (c .if3 .taken)),
+      λ threads groups p v at. adds-none p (a .a .room) _ (a .out .now) (a .a .rows) (behind-stuck (a .a .failures) p (a .x .steps) v (boundAt (a .a .tight) (a .bound .now) (a .x .steps)) (sym (c .before .before .before .ended-all .ensures ∙ ended-by (at .holds)) ∙ c .before .before .if1 .left) (c .if3 .taken)),
     )
 
 walk-loop-holds : (t : ℕ) → walk-lts.Need-loop-holds (walk-callees t) (walk-at t) walk.Post walk-Inv-loop walk-μ-loop
@@ -208,7 +208,7 @@ walk-loop-holds t c =
     let a = entry .args in (
       pre .1 .2,
       refl,
-      rest-start (a .code .now) (a .lengths .now) (a .class .now) (a .a .only) (a .x) (boundAt (a .a .along) (a .bound .now) (a .x .steps)) (a .out .now) (a .a .room) (a .a .rows) (c .first-thread .result) (λ threads groups p v at. sym (c .before .before .before .before .ended-all .ensures ∙ ended-by (at .holds)) ∙ c .before .before .before .if1 .left) (c .before .if3 .left) (c .first-thread .ensures),
+      rest-start (a .code .now) (a .lengths .now) (a .class .now) (a .a .failures) (a .x) (boundAt (a .a .tight) (a .bound .now) (a .x .steps)) (a .out .now) (a .a .room) (a .a .rows) (c .first-thread .result) (λ threads groups p v at. sym (c .before .before .before .before .ended-all .ensures ∙ ended-by (at .holds)) ∙ c .before .before .before .if1 .left) (c .before .if3 .left) (c .first-thread .ensures),
     )
 
 walk-returns-4 : (t : ℕ) → walk-lts.Need-returns-4 (walk-callees t) (walk-at t) walk.Post walk-Inv-loop walk-μ-loop
@@ -217,7 +217,7 @@ walk-returns-4 t c =
     let pre = entry .pre in
     let a = entry .args in
     let loop = c .before .before .before .loop in
-    (loop .inv .0, rest-full (a .code .now) (a .lengths .now) (a .class .now) (a .a .only) (a .x) (boundAt (a .a .along) (a .bound .now) (a .x .steps)) (a .out .now) (a .a .room) (a .a .rows) (loop .out) (loop .n) (loop .t) (c .if4 .taken) (loop .inv .2))
+    (loop .inv .0, rest-full (a .code .now) (a .lengths .now) (a .class .now) (a .a .failures) (a .x) (boundAt (a .a .tight) (a .bound .now) (a .x .steps)) (a .out .now) (a .a .room) (a .a .rows) (loop .out) (loop .n) (loop .t) (c .if4 .taken) (loop .inv .2))
 
 walk-visit-requires : (t : ℕ) → walk-lts.Need-visit-requires (walk-callees t) (walk-at t) walk.Post walk-Inv-loop walk-μ-loop
 walk-visit-requires t c κs =
@@ -236,7 +236,7 @@ walk-loop-again t c =
     let visited = c .before .before .visit in (
       visited .ensures .0,
       c .before .out2 .given ∙ loop .inv .1,
-      rest-next (a .code .now) (a .lengths .now) (a .class .now) (a .a .only) (a .x) (boundAt (a .a .along) (a .bound .now) (a .x .steps)) (a .out .now) (a .a .room) (a .a .rows) (loop .out) _ (loop .n) _ (loop .t) (c .before .before .before .before .before .before .loop-test .taken) (loop .inv .2) (visited .ensures .1),
+      rest-next (a .code .now) (a .lengths .now) (a .class .now) (a .a .failures) (a .x) (boundAt (a .a .tight) (a .bound .now) (a .x .steps)) (a .out .now) (a .a .room) (a .a .rows) (loop .out) _ (loop .n) _ (loop .t) (c .before .before .before .before .before .before .loop-test .taken) (loop .inv .2) (visited .ensures .1),
     )
 
 walk-returns-5 : (t : ℕ) → walk-lts.Need-returns-5 (walk-callees t) (walk-at t) walk.Post walk-Inv-loop walk-μ-loop
@@ -245,7 +245,7 @@ walk-returns-5 t c =
     let pre = entry .pre in
     let a = entry .args in
     let loop = c .before .loop in
-    (loop .inv .0, rest-over (a .code .now) (a .lengths .now) (a .class .now) (a .a .only) (a .x) (boundAt (a .a .along) (a .bound .now) (a .x .steps)) (a .out .now) (a .a .room) (a .a .rows) (loop .out) (loop .n) (loop .t) (c .loop-test .left) (loop .inv .2))
+    (loop .inv .0, rest-over (a .code .now) (a .lengths .now) (a .class .now) (a .a .failures) (a .x) (boundAt (a .a .tight) (a .bound .now) (a .x .steps)) (a .out .now) (a .a .room) (a .a .rows) (loop .out) (loop .n) (loop .t) (c .loop-test .left) (loop .inv .2))
 
 pub +visit+walk-spec : {M : Type 1} → statement M
 +visit+walk-spec = close μ-visit μ-walk

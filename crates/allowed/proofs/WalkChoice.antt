@@ -10,16 +10,16 @@ use native.Mathlib.Decide.{ℕ-discrete}
 use borrow.Author.Tests.{lt-ltb}
 use lib.ListN.{length, getD}
 use Rattle.program.specs.Program.{Program}
-use Rattle.schedules.specs.Lists.{first, upTo}
+use Rattle.schedules.specs.Lists.{find, range}
 use Rattle.schedules.specs.Order.{Schedule}
 use Rattle.schedules.specs.System.{run}
-use Rattle.schedules.proofs.Lists.{first-yes, first-no}
+use Rattle.schedules.proofs.Lists.{find-yes, find-no}
 use Rattle.machine.specs.declared.state.Machine.{Machine}
-use Rattle.sc.specs.State.{Event, initialWrite, Thread, State, noThread, threadOf, cellOf, latest, place, may, SC, start}
+use Rattle.sc.specs.State.{Event, initialWrite, Thread, State, noThread, threadOf, cellOf, latest, place, enabled, SC, start}
 use Rattle.sc.specs.Graph.{Graph}
 use Rattle.graph_writer.specs.Notes.{note, noteBytes}
 use Rattle.machine.specs.Held.{Ready}
-use Rattle.sc.proofs.Steps.{missing, may-small, may-range, run-threads}
+use Rattle.sc.proofs.Steps.{missing, enabled-small, enabled-range, run-threads}
 use Rattle.sc.proofs.Start.{start-threads}
 use Rattle.sc.proofs.Regular.{Regular, regular-run, regular-start}
 use Rattle.machine.proofs.HeldAsking.{ready-held}
@@ -27,30 +27,30 @@ use Rattle.machine.proofs.HeldStart.{threads-held, short-held}
 use Rattle.consistent.specs.Consistent.{locationOf}
 use Rattle.consistent.proofs.RoundValues.{values}
 use Rattle.consistent.proofs.Walk.{fits}
-use Rattle.enabled.specs.HeldWalk.{Drawn, Ordering, Ranged, NoteOf, Walking, threadOr, nextOf}
+use Rattle.allowed.specs.HeldWalk.{Drawn, Ordering, Ranged, NoteOf, Walking, threadOr, nextOf}
 use Rattle.consistent.proofs.Readable.{Readable}
 use Rattle.consistent.proofs.Parsed.{read-readable}
 use Rattle.rounds.proofs.HeldRoundTurns.{six-held, near-held}
 
 -- ---- the first of the numbers from a on
-first-at : (f : ℕ → Bool) (n a t : ℕ) → ((u : ℕ) → a ≤ u → u < t → f u ≡ false) → a ≤ t → t < a + n → f t ≡ true → first f (upTo a n) ≡ some t
-unfolding upTo
+first-at : (f : ℕ → Bool) (n a t : ℕ) → ((u : ℕ) → a ≤ u → u < t → f u ≡ false) → a ≤ t → t < a + n → f t ≡ true → find f (range a n) ≡ some t
+unfolding range
 first-at f zero a t before h k e = absurd (omega arith)
 first-at f (suc n) a t before h k e = go (ℕ-discrete a t) (λ q x. first-at f n (suc a) t (λ u y z. before u (omega arith) z) x (omega arith) e)
   where
-    go : Dec (a ≡ t) → (a ≢ t → suc a ≤ t → first f (upTo (suc a) n) ≡ some t) → first f (a ∷ upTo (suc a) n) ≡ some t
-    go (yes q) ih = first-yes f a (upTo (suc a) n) (ap f q ∙ e) ∙ ap some q
-    go (no q) ih = first-no f a (upTo (suc a) n) (before a (omega arith) (omega (arith, q))) ∙ ih q (omega (arith, q))
+    go : Dec (a ≡ t) → (a ≢ t → suc a ≤ t → find f (range (suc a) n) ≡ some t) → find f (a ∷ range (suc a) n) ≡ some t
+    go (yes q) ih = find-yes f a (range (suc a) n) (ap f q ∙ e) ∙ ap some q
+    go (no q) ih = find-no f a (range (suc a) n) (before a (omega arith) (omega (arith, q))) ∙ ih q (omega (arith, q))
 
-first-none : (f : ℕ → Bool) (n a : ℕ) → ((u : ℕ) → a ≤ u → u < a + n → f u ≡ false) → first f (upTo a n) ≡ none
-unfolding upTo first
+first-none : (f : ℕ → Bool) (n a : ℕ) → ((u : ℕ) → a ≤ u → u < a + n → f u ≡ false) → find f (range a n) ≡ none
+unfolding range find
 first-none f zero a no-one = refl
-first-none f (suc n) a no-one = first-no f a (upTo (suc a) n) (no-one a (omega arith) (omega arith)) ∙ first-none f n (suc a) (λ u x y. no-one u (omega arith) (omega arith))
+first-none f (suc n) a no-one = find-no f a (range (suc a) n) (no-one a (omega arith) (omega arith)) ∙ first-none f n (suc a) (λ u x y. no-one u (omega arith) (omega arith))
 
 -- a thread that may not step does not fit
-fits-may : (g : Graph) (pl : Event → ℕ) (σ : State) (t : ℕ) → may σ t ≡ false → fits g pl σ t ≡ false
+fits-enabled : (g : Graph) (pl : Event → ℕ) (σ : State) (t : ℕ) → enabled σ t ≡ false → fits g pl σ t ≡ false
 unfolding fits
-fits-may g pl σ t e = rw e
+fits-enabled g pl σ t e = rw e
 
 module _ (code lengths : List ℕ) (n : ℕ) (pairs table : List ℕ) (p : Program) (g : Graph) (m : Machine) (counts : List ℕ) (s : Schedule)
     (W : Walking code lengths n pairs table p g m counts s) where
@@ -87,9 +87,9 @@ module _ (code lengths : List ℕ) (n : ℕ) (pairs table : List ℕ) (p : Progr
   idle-done = ap (λ (h : Thread). h .history .done) (missing σ 254 (omega (arith, threads-many, walk-six)))
 
   -- a thread that may step
-  module _ (t : ℕ) (ok : may σ t ≡ true) where
+  module _ (t : ℕ) (ok : enabled σ t ≡ true) where
     pub walk-below : t < n
-    walk-below = omega (arith, may-range σ t ok, threads-many)
+    walk-below = omega (arith, enabled-range σ t ok, threads-many)
 
     pub walk-ready : Ready lengths m t
     walk-ready = ready-held code lengths m σ (W .holds) t (short-held code lengths n p (W .given .loaded) t walk-below) ok
@@ -100,8 +100,8 @@ module _ (code lengths : List ℕ) (n : ℕ) (pairs table : List ℕ) (p : Progr
     pub walk-ranged : (b : List ℕ) → NoteOf b σ t → Ranged b
     unfolding noteBytes note
     walk-ranged b e = subst Ranged (sym e) (record {
-      thread = may-small σ t ok;
-      number = let r = walk-ready in let d = W .holds .threads t (may-small σ t ok) .done in omega (arith, r .left, r .sixteen, r .bounded);
+      thread = enabled-small σ t ok;
+      number = let r = walk-ready in let d = W .holds .threads t (enabled-small σ t ok) .done in omega (arith, r .left, r .sixteen, r .bounded);
       location = walk-near;
     })
 
@@ -130,5 +130,5 @@ module _ (code lengths : List ℕ) (n : ℕ) (pairs table : List ℕ) (p : Progr
       go (yes q) = ap (fits g (locationOf p (values p g 24)) σ) q ∙ e
       go (no q) = before u (omega (arith, q))
 
-  pub ended-over : (t : ℕ) → may σ t ≡ false → fits g (locationOf p (values p g 24)) σ t ≡ false
-  ended-over t e = fits-may g (locationOf p (values p g 24)) σ t e
+  pub ended-over : (t : ℕ) → enabled σ t ≡ false → fits g (locationOf p (values p g 24)) σ t ≡ false
+  ended-over t e = fits-enabled g (locationOf p (values p g 24)) σ t e

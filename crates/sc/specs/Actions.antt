@@ -28,8 +28,8 @@ unfoldable pub action : State → ℕ → Action
 action σ t = record { thread = t; location = place σ t; wrote = writes σ t }
 
 -- what the steps of a schedule do, in order
-abbrev pub trail : State → Schedule → List Action
-trail σ s = trace SC action σ s
+abbrev pub actions : State → Schedule → List Action
+actions σ s = trace SC action σ s
 
 -- the thread of an action
 unfoldable pub who : Action → ℕ

@@ -7,7 +7,7 @@ ghost use Rattle.sc.specs.State.{State};
 ghost use Rattle.sc.specs.Graph.{Graph};
 ghost use Rattle.consistent.specs.Consistent.{Values};
 ghost use Rattle.consistent.proofs.Walk.{noneWaits};
-ghost use Rattle.enabled.specs.HeldWalk.{waitsAt, Drawn};
+ghost use Rattle.allowed.specs.HeldWalk.{waitsAt, Drawn};
 
 // Whether the read in entry k, other than access d of thread t, takes from (u, j) at location l and is not yet done.
 fn waits(

@@ -1,7 +1,7 @@
 // The least thread whose next access the graph allows.
 use crate::allowing::allowed;
 use machine::Machine;
-use machine::may;
+use machine::enabled;
 use machine::step;
 ghost use mathlib.Core.Path.{_≡_};
 ghost use Prim.Native.Nat.{ℕ, _<_, _≤_};
@@ -14,7 +14,7 @@ ghost use Rattle.sc.specs.Graph.{Graph};
 ghost use Rattle.consistent.specs.Consistent.{locationOf};
 ghost use Rattle.consistent.proofs.RoundValues.{values};
 ghost use Rattle.consistent.proofs.Walk.{fits};
-ghost use Rattle.enabled.specs.HeldWalk.{Walking, threadOr, nextOf};
+ghost use Rattle.allowed.specs.HeldWalk.{Walking, threadOr, nextOf};
 
 // Whether thread t may step and the graph allows its next access.
 fn may_go(
@@ -30,7 +30,7 @@ fn may_go(
     requires { ⌜ ((l : ℕ) → getD counts l 0 < 24) × ((p : Program) × (g : Graph) × (s : Schedule) × Walking (now code) (now lengths) threads pairs places p g m counts s) ⌝ }
     ensures { λ r. ⌜ ((p : Program) (g : Graph) (s : Schedule) → Walking (now (code .entry)) (now (lengths .entry)) threads pairs places p g m counts s → r ≡ fits g (locationOf p (values p g 24)) (run SC (start p) s) t) ⌝ }
 {
-    if !may(lengths, m, t) {
+    if !enabled(lengths, m, t) {
         return false;
     }
     let s = step(code, lengths, m, t);

@@ -6,11 +6,11 @@ ghost use mathlib.Core.Path.{_≡_};
 ghost use Prim.Native.Nat.{ℕ, _<_, _≤_};
 ghost use mathlib.Core.Bool.{true};
 ghost use lib.ListN.{getD};
-ghost use Rattle.sc.specs.State.{State, may};
+ghost use Rattle.sc.specs.State.{State, enabled};
 ghost use Rattle.sc.specs.Graph.{Graph};
 ghost use Rattle.consistent.specs.Consistent.{Values};
 ghost use Rattle.consistent.proofs.Walk.{fits};
-ghost use Rattle.enabled.specs.HeldWalk.{readAllowed, turnAllowed, Ranged, Drawn, Ordering, NoteOf};
+ghost use Rattle.allowed.specs.HeldWalk.{readAllowed, writeAllowed, Ranged, Drawn, Ordering, NoteOf};
 
 // A read: its source is the last write of its location, and it goes where the table says.
 fn read_allowed(pairs: [u8; 576], places: [u8; 96], note: [u8; 8]) -> bool
@@ -31,9 +31,9 @@ fn read_allowed(pairs: [u8; 576], places: [u8; 96], note: [u8; 8]) -> bool
 }
 
 // A write: it is its turn, when so many writes have been made at each location.
-fn turn_allowed(pairs: [u8; 576], made: [usize; 8], note: [u8; 8]) -> bool
+fn write_allowed(pairs: [u8; 576], made: [usize; 8], note: [u8; 8]) -> bool
     requires { ⌜ Ranged note × ((l : ℕ) → getD made l 0 < 24) ⌝ }
-    ensures { λ r. ⌜ r ≡ turnAllowed pairs made note ⌝ }
+    ensures { λ r. ⌜ r ≡ writeAllowed pairs made note ⌝ }
 {
     let l = wide(note[2]);
     let k = 96 + (l * 24 + made[l]);
@@ -53,7 +53,7 @@ pub(crate) fn allowed(
     note: [u8; 8],
 ) -> bool
     requires { ⌜ (threads ≤ 6) × Ranged note × ((l : ℕ) → getD made l 0 < 24) ⌝ }
-    ensures { λ r. ⌜ ((g : Graph) (place : Values) (σ : State) (t : ℕ) → Drawn pairs places threads m g place σ → Ordering pairs made g σ → may σ t ≡ true → t < threads → NoteOf note σ t → (getD note 4 0 ≡ 254 → ⊥) → r ≡ fits g place σ t) ⌝ }
+    ensures { λ r. ⌜ ((g : Graph) (place : Values) (σ : State) (t : ℕ) → Drawn pairs places threads m g place σ → Ordering pairs made g σ → enabled σ t ≡ true → t < threads → NoteOf note σ t → (getD note 4 0 ≡ 254 → ⊥) → r ≡ fits g place σ t) ⌝ }
 {
     if !read_allowed(pairs, places, note) {
         return false;
@@ -61,7 +61,7 @@ pub(crate) fn allowed(
     if note[6] == 0 {
         return true;
     }
-    if !turn_allowed(pairs, made, note) {
+    if !write_allowed(pairs, made, note) {
         return false;
     }
     none_waits(

@@ -12,10 +12,10 @@ use Rattle.sc.specs.Graph.{Graph}
 use Rattle.consistent.specs.Consistent.{locationOf}
 use Rattle.consistent.proofs.RoundValues.{values}
 use Rattle.consistent.proofs.Walk.{fits}
-use Rattle.enabled.specs.HeldWalk.{Walking}
-use Rattle.enabled.proofs.WalkChoice.{chosen-one, chosen-none, passed-over}
-use Rattle.enabled.proofs.choosing.chosen.Statement.{statement}
-use Rattle.enabled.proofs.choosing.chosen.Tie as tie
+use Rattle.allowed.specs.HeldWalk.{Walking}
+use Rattle.allowed.proofs.WalkChoice.{chosen-one, chosen-none, passed-over}
+use Rattle.allowed.proofs.choosing.chosen.Statement.{statement}
+use Rattle.allowed.proofs.choosing.chosen.Tie as tie
 
 abbrev Inv-loop : tie.InvT-loop
 Inv-loop code lengths threads pairs places m counts t₀ t =

@@ -7,7 +7,7 @@ use mathlib.Core.List.{List, reverse, List·Memᴰ}
 use lib.Dec.{eqb, ltb}
 use lib.ListN.{length, getD}
 use Rattle.program.specs.Program.{Program}
-use Rattle.schedules.specs.Lists.{first, upTo}
+use Rattle.schedules.specs.Lists.{find, range}
 use Rattle.schedules.specs.Order.{Schedule}
 use Rattle.schedules.specs.System.{run, Allowed}
 use Rattle.machine.specs.declared.state.Machine.{Machine}
@@ -54,8 +54,8 @@ readAllowed pairs places b =
     && eqb (getD places (getD b 0 0 * 16 + getD b 1 0) 0) (getD b 2 0)))
 
 -- the turn of a write, when so many have been made at each location
-abbrev pub turnAllowed : List ℕ → List ℕ → List ℕ → Bool
-turnAllowed pairs made b =
+abbrev pub writeAllowed : List ℕ → List ℕ → List ℕ → Bool
+writeAllowed pairs made b =
     eqb (getD pairs ((96 + (getD b 2 0 * 24 + getD made (getD b 2 0) 0)) * 2) 0) (getD b 0 0)
     && eqb (getD pairs ((96 + (getD b 2 0 * 24 + getD made (getD b 2 0) 0)) * 2 + 1) 0) (getD b 1 0)
 
@@ -86,4 +86,4 @@ threadOr t = cond (ltb t 6) (some t) none
 
 -- the least thread whose next access the graph allows
 abbrev pub nextOf : Program → Graph → Schedule → Option ℕ
-nextOf p g s = first (fits g (locationOf p (values p g 24)) (run SC (start p) s)) (upTo 0 6)
+nextOf p g s = find (fits g (locationOf p (values p g 24)) (run SC (start p) s)) (range 0 6)

@@ -1,8 +1,8 @@
 -- `waits` asks five things of an entry.
 use borrow.Author.Needs.{needs}
 use borrow.Author.Tests.{eq-eqb, ne-eqb, lt-ltb, le-ltb}
-use Rattle.enabled.proofs.waiting.waits.Statement.{statement}
-use Rattle.enabled.proofs.waiting.waits.Tie as tie
+use Rattle.allowed.proofs.waiting.waits.Statement.{statement}
+use Rattle.allowed.proofs.waiting.waits.Tie as tie
 
 returns : tie.Need-returns
 returns c = rw (ne-eqb _ _ (c .if1 .taken))

@@ -10,8 +10,8 @@ use borrow.Author.Tests.{eqb-true, not-true}
 use lib.Dec.{eqb, ltb}
 use lib.ListN.{length, getD}
 use Rattle.program.proofs.Tests.{both}
-use Rattle.schedules.specs.Lists.{all, upTo}
-use Rattle.schedules.proofs.Lists.{in-upTo, of-upTo, all-at, all-of}
+use Rattle.schedules.specs.Lists.{all, range}
+use Rattle.schedules.proofs.Lists.{in-range, of-range, all-at, all-of}
 use Rattle.machine.specs.declared.state.Machine.{Machine}
 use Rattle.sc.specs.State.{Event, State, threadOf}
 use Rattle.sc.specs.Graph.{Graph}
@@ -19,7 +19,7 @@ use Rattle.consistent.specs.Consistent.{rowOf, Values}
 use Rattle.consistent.specs.Same.{sameEvent}
 use Rattle.consistent.proofs.Walk.{waits, noneWaits}
 use Rattle.graph_reader.specs.Held.{noLine, lineIn}
-use Rattle.enabled.specs.HeldWalk.{waitsAt, Drawn}
+use Rattle.allowed.specs.HeldWalk.{waitsAt, Drawn}
 use Rattle.consistent.proofs.Tests.{not-of}
 use Rattle.graph_reader.proofs.TabledGraph.{line-of, of-line}
 
@@ -63,7 +63,7 @@ module _ (pairs places : List ℕ) (n : ℕ) (m : Machine) (g : Graph) (place : 
       go : (b : Bool) → noneWaits g place σ l (u, j) (t, d) ≡ b → noneWaits g place σ l (u, j) (t, d) ≡ false
       go false q = q
       go true q =
-          let a = all-at (λ v. all (λ r. not (waits place σ l (u, j) (t, d) v r)) (rowOf g v)) (upTo 0 (length (g .reads))) (k / 16) q (in-upTo 0 (length (g .reads)) (k / 16) (omega arith) (omega (arith, D .rows))) in
+          let a = all-at (λ v. all (λ r. not (waits place σ l (u, j) (t, d) v r)) (rowOf g v)) (range 0 (length (g .reads))) (k / 16) q (in-range 0 (length (g .reads)) (k / 16) (omega arith) (omega (arith, D .rows))) in
           let b = all-at (λ r. not (waits place σ l (u, j) (t, d) (k / 16) r)) (rowOf g (k / 16)) (k % 16, lineIn (rowOf g (k / 16)) (k % 16)) a
           (of-line (rowOf g (k / 16)) (k % 16) (λ z. mark (sym source ∙ ap (λ (x : Event). x .0) z))) in
           absurd (true≢false (sym waiting ∙ not-true _ b))
@@ -71,10 +71,10 @@ module _ (pairs places : List ℕ) (n : ℕ) (m : Machine) (g : Graph) (place : 
   -- none does
   pub no-one-waits : ((k : ℕ) → k < 16 * n → waitsAt pairs places m k l u j t d ≡ false) → noneWaits g place σ l (u, j) (t, d) ≡ true
   unfolding noneWaits
-  no-one-waits none = all-of (λ v. all (λ r. not (waits place σ l (u, j) (t, d) v r)) (rowOf g v)) (upTo 0 (length (g .reads)))
+  no-one-waits none = all-of (λ v. all (λ r. not (waits place σ l (u, j) (t, d) v r)) (rowOf g v)) (range 0 (length (g .reads)))
       (λ v a. all-of (λ r. not (waits place σ l (u, j) (t, d) v r)) (rowOf g v) (λ r b. not-of (waits place σ l (u, j) (t, d) v r) (λ w.
       let s : r .0 < 16 = D .small v r b in
-      let c = of-upTo 0 (length (g .reads)) v a in
+      let c = of-range 0 (length (g .reads)) v a in
       let z = D .rows in
       let e : lineIn (rowOf g v) (r .0) ≡ r .1 = line-of (rowOf g v) (D .ordered v) (r .0) (r .1) b in
       true≢false (sym w ∙ sym (entry-waits v (r .0) (omega (arith, c .1)) s ∙ ap (λ (x : Event). waits place σ l (u, j) (t, d) v (r .0, x)) e) ∙ none (v * 16 + r .0) (omega (arith, c .1))))))

@@ -11,15 +11,15 @@ use lib.ListN.{length, getD}
 use Rattle.schedules.specs.Lists.{any}
 use Rattle.machine.specs.declared.state.Machine.{Machine}
 use Rattle.sc.specs.Local.{placeOf, takes, puts}
-use Rattle.sc.specs.State.{Event, initialWrite, Cell, State, threadOf, cellOf, latest, place, may}
+use Rattle.sc.specs.State.{Event, initialWrite, Cell, State, threadOf, cellOf, latest, place, enabled}
 use Rattle.sc.specs.Graph.{Graph}
-use Rattle.sc.specs.Trail.{given, writes}
+use Rattle.sc.specs.Actions.{given, writes}
 use Rattle.graph_writer.specs.Notes.{note, noteBytes}
 use Rattle.consistent.specs.Consistent.{rowOf, orderOf, Values}
 use Rattle.consistent.specs.Same.{sameEvent, sameRead}
 use Rattle.consistent.proofs.Walk.{noneWaits, turnOf, readFits, writeFits, fits}
 use Rattle.graph_reader.specs.Held.{noLine}
-use Rattle.enabled.specs.HeldWalk.{Drawn, Ordering, Ranged, NoteOf, readAllowed, turnAllowed}
+use Rattle.allowed.specs.HeldWalk.{Drawn, Ordering, Ranged, NoteOf, readAllowed, writeAllowed}
 use Rattle.graph_reader.proofs.TabledGraph.{read-test}
 
 -- what stands behind a list's end does not matter to an event that is neither
@@ -68,7 +68,7 @@ module _ (pairs places : List ℕ) (n : ℕ) (m : Machine) (made : List ℕ) (g 
           (sym (D .places t d small s)))
 
   -- the write
-  turn-part : t < 6 → place σ t < 8 → length (c .writes) < 24 → sameEvent (turnOf (orderOf g (place σ t)) (length (c .writes))) e ≡ turnAllowed pairs made (noteBytes (note σ t))
+  turn-part : t < 6 → place σ t < 8 → length (c .writes) < 24 → sameEvent (turnOf (orderOf g (place σ t)) (length (c .writes))) e ≡ writeAllowed pairs made (noteBytes (note σ t))
   unfolding turnOf noteBytes note sameEvent
   turn-part six near room =
       let x = Q .orders (place σ t) (length (c .writes)) near room in
@@ -78,24 +78,24 @@ module _ (pairs places : List ℕ) (n : ℕ) (m : Machine) (made : List ℕ) (g 
       ∙ ap (λ (z : ℕ). eqb (getD pairs ((96 + (place σ t * 24 + z)) * 2) 0) t && eqb (getD pairs ((96 + (place σ t * 24 + z)) * 2 + 1) 0) d) (sym k)
 
   write-part : t < 6 → place σ t < 8 → length (c .writes) < 24 → writeFits g pl σ e (place σ t) c (puts (threadOf σ t .local) (c .value))
-      ≡ cond (eqb (cond (writes σ t) 1 0) 0) true (turnAllowed pairs made (noteBytes (note σ t)) && noneWaits g pl σ (place σ t) (latest (c .writes)) e)
+      ≡ cond (eqb (cond (writes σ t) 1 0) 0) true (writeAllowed pairs made (noteBytes (note σ t)) && noneWaits g pl σ (place σ t) (latest (c .writes)) e)
   unfolding writeFits writes given
   write-part six near room = go (puts (threadOf σ t .local) (c .value)) refl
     where
       go : (o : Option ℕ) → puts (threadOf σ t .local) (c .value) ≡ o → writeFits g pl σ e (place σ t) c (puts (threadOf σ t .local) (c .value))
-          ≡ cond (eqb (cond (writes σ t) 1 0) 0) true (turnAllowed pairs made (noteBytes (note σ t)) && noneWaits g pl σ (place σ t) (latest (c .writes)) e)
+          ≡ cond (eqb (cond (writes σ t) 1 0) 0) true (writeAllowed pairs made (noteBytes (note σ t)) && noneWaits g pl σ (place σ t) (latest (c .writes)) e)
       go none q = rw (q, writeFits, given)
       go (some v) q = rw (q, writeFits, given) (ap (λ (x : Bool). x && noneWaits g pl σ (place σ t) (latest (c .writes)) e) (turn-part six near room))
 
 -- both, by the note's bytes
 pub fits-by : (pairs places : List ℕ) (n : ℕ) (m : Machine) (made : List ℕ) (g : Graph) (pl : Values) (σ : State) (t : ℕ) (b : List ℕ) → Drawn pairs places n m g pl σ → Ordering pairs made g σ
-    → may σ t ≡ true → t < n → NoteOf b σ t → Ranged b → ((l : ℕ) → getD made l 0 < 24) → (getD b 4 0 ≡ 254 → ⊥)
-    → fits g pl σ t ≡ (readAllowed pairs places b && cond (eqb (getD b 6 0) 0) true (turnAllowed pairs made b && noneWaits g pl σ (getD b 2 0) (getD b 4 0, getD b 5 0) (getD b 0 0, getD b 1 0)))
+    → enabled σ t ≡ true → t < n → NoteOf b σ t → Ranged b → ((l : ℕ) → getD made l 0 < 24) → (getD b 4 0 ≡ 254 → ⊥)
+    → fits g pl σ t ≡ (readAllowed pairs places b && cond (eqb (getD b 6 0) 0) true (writeAllowed pairs made b && noneWaits g pl σ (getD b 2 0) (getD b 4 0, getD b 5 0) (getD b 0 0, getD b 1 0)))
 unfolding fits noteBytes note place
-fits-by pairs places n m made g pl σ t b D Q ok h e range room mark =
-    let near : place σ t < 8 = subst (λ (x : List ℕ). getD x 2 0 < 8) e (range .location) in
-    let number : threadOf σ t .history .done < 16 = subst (λ (x : List ℕ). getD x 1 0 < 16) e (range .number) in
-    let six : t < 6 = subst (λ (x : List ℕ). getD x 0 0 < 6) e (range .thread) in
+fits-by pairs places n m made g pl σ t b D Q ok h e in-range room mark =
+    let near : place σ t < 8 = subst (λ (x : List ℕ). getD x 2 0 < 8) e (in-range .location) in
+    let number : threadOf σ t .history .done < 16 = subst (λ (x : List ℕ). getD x 1 0 < 16) e (in-range .number) in
+    let six : t < 6 = subst (λ (x : List ℕ). getD x 0 0 < 6) e (in-range .thread) in
     let free : latest (cellOf σ (place σ t) .writes) .0 ≡ 254 → ⊥ = subst (λ (x : List ℕ). getD x 4 0 ≡ 254 → ⊥) e mark in
     let k = Q .made (place σ t) near in
     rw (e, ok) (ap₂ _&&_ (read-part pairs places n m made g pl σ t D Q h number free) (write-part pairs places n m made g pl σ t D Q h six near (omega (arith, room (place σ t)))))

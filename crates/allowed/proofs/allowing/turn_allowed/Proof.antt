@@ -1,9 +1,9 @@
--- `turn_allowed` compares the entry whose turn it is with the step.
+-- `write_allowed` compares the entry whose turn it is with the step.
 use borrow.Author.Needs.{needs}
 use native.Mathlib.Omega.{arith}
 use borrow.Author.Tests.{eq-eqb, ne-eqb}
-use Rattle.enabled.proofs.allowing.turn_allowed.Statement.{statement}
-use Rattle.enabled.proofs.allowing.turn_allowed.Tie as tie
+use Rattle.allowed.proofs.allowing.write_allowed.Statement.{statement}
+use Rattle.allowed.proofs.allowing.write_allowed.Tie as tie
 
 mul-k : tie.Need-mul-k
 mul-k c = omega (arith, c .before .pre .0 .location, c .wide .ensures .0, c .before .pre .1 (c .wide .result))
@@ -41,5 +41,5 @@ array-read-result c = omega (arith, c .before .before .pre .0 .location, c .befo
 returns-2 : tie.Need-returns-2
 returns-2 c = rw (← c .before .wide .ensures .0, eq-eqb _ _ (c .if1 .left))
 
-pub turn-allowed-spec : {M : Type 1} → statement M
-turn-allowed-spec = tie.close (tie.spec (λ c. search needs) (λ c κs. search needs) mul-k mul-k-2 array-read-k add-k add-k-2 mul-if1 array-read-if1 (λ c. search needs) returns mul-result add-result array-read-result (λ c. search needs) returns-2)
+pub write-allowed-spec : {M : Type 1} → statement M
+write-allowed-spec = tie.close (tie.spec (λ c. search needs) (λ c κs. search needs) mul-k mul-k-2 array-read-k add-k add-k-2 mul-if1 array-read-if1 (λ c. search needs) returns mul-result add-result array-read-result (λ c. search needs) returns-2)

@@ -4,10 +4,10 @@ use Prim.Native.Nat.{ℕ, _≤_, _<_, _-_, _*_}
 use mathlib.Core.Path.{_≡_, _∙_, sym}
 use mathlib.Core.Bool.{false}
 use native.Mathlib.Omega.{arith}
-use Rattle.enabled.specs.HeldWalk.{waitsAt}
-use Rattle.enabled.proofs.EntriesWait.{one-waits, no-one-waits, one-more-none}
-use Rattle.enabled.proofs.waiting.none_waits.Statement.{statement}
-use Rattle.enabled.proofs.waiting.none_waits.Tie as tie
+use Rattle.allowed.specs.HeldWalk.{waitsAt}
+use Rattle.allowed.proofs.EntriesWait.{one-waits, no-one-waits, one-more-none}
+use Rattle.allowed.proofs.waiting.none_waits.Statement.{statement}
+use Rattle.allowed.proofs.waiting.none_waits.Tie as tie
 
 abbrev Inv-loop : tie.InvT-loop
 Inv-loop pairs places threads m l u j t d k₀ k = (k ≤ 16 * threads) × ((i : ℕ) → i < k → waitsAt pairs places m i l u j t d ≡ false)

@@ -11,34 +11,34 @@ use Rattle.schedules.specs.Permutations.{moved}
 use Rattle.schedules.proofs.Lists.{all-at, all-not}
 use Rattle.schedules.proofs.Order.{AtMost, less-transitive}
 use Rattle.model.specs.Exchange.{Exchange, permitted}
-use Rattle.model.specs.Model.{Model, endOf, Full, graph, trail, movedSchedule}
+use Rattle.model.specs.Model.{Model, endOf, Full, graph, actions, movedSchedule}
 use Rattle.model.specs.Laws.{Admitted, Laws}
 use Rattle.model.specs.Alike.{Smaller}
-use Rattle.model.specs.Search.{leastBy, unbeaten}
+use Rattle.model.specs.Search.{leastBy, representative}
 use Rattle.model.proofs.Permitted.{tabled, permitted-exchange, exchange-permitted}
 use Rattle.model.proofs.Orders.{leastOf, least-with-graph}
-use Rattle.model.proofs.Exchanged.{exchanged, exchanged-graph, exchanged-trail}
+use Rattle.model.proofs.Exchanged.{exchanged, exchanged-graph, exchanged-actions}
 use Rattle.model.proofs.Alike.{alike-sym}
 
 module _ (M : Model) (L : Laws M) (p : Program) (a : Admitted M p) where
   -- the least schedule with the graph of s exchanged by π
   pub record LeastAlike (π : ℕ → ℕ) (s g : Schedule) : Type 0 where
     pub full : Full M p g
-    pub turned : M .Turns π (graph M p s) (graph M p g)
-    pub least : (r : Schedule) → Full M p r → M .Turns π (graph M p s) (graph M p r) → AtMost g r
+    pub turned : M .Renames π (graph M p s) (graph M p g)
+    pub least : (r : Schedule) → Full M p r → M .Renames π (graph M p s) (graph M p r) → AtMost g r
 
-  pub least-alike : (s : Schedule) → Full M p s → (π : ℕ → ℕ) → Exchange p π → LeastAlike π s (leastOf M (L .steps) (map (M .movedAction π) (trail M p s)))
+  pub least-alike : (s : Schedule) → Full M p s → (π : ℕ → ℕ) → Exchange p π → LeastAlike π s (leastOf M (L .steps) (map (M .movedAction π) (actions M p s)))
   least-alike s f π x =
       let e = exchanged M L p a π x s f in
       let g = exchanged-graph M L p a π x s f in
       let o = least-with-graph M L p a (movedSchedule M π s) (e .0) in
-      subst (λ (acts : List (M .Action)). LeastAlike π s (leastOf M (L .steps) acts)) (exchanged-trail M L p a π x s f) (record {
+      subst (λ (acts : List (M .Action)). LeastAlike π s (leastOf M (L .steps) acts)) (exchanged-actions M L p a π x s f) (record {
         full = o .0;
-        turned = subst (M .Turns π (graph M p s)) (sym (ap (M .graphOf) (o .1))) g;
-        least = λ r fr t. o .2 r fr (L .program p a .turned-once π x s r (movedSchedule M π s) t g);
+        turned = subst (M .Renames π (graph M p s)) (sym (ap (M .graphOf) (o .1))) g;
+        least = λ r fr t. o .2 r fr (L .program p a .renamed-once π x s r (movedSchedule M π s) t g);
       })
 
-  pub least-by : (s : Schedule) → Full M p s → (π : List ℕ) → List·Memᴰ π (permitted p) → LeastAlike (moved π) s (leastBy M π (trail M p s))
+  pub least-by : (s : Schedule) → Full M p s → (π : List ℕ) → List·Memᴰ π (permitted p) → LeastAlike (moved π) s (leastBy M π (actions M p s))
   unfolding leastBy
   least-by s f π m = least-alike s f (moved π) (permitted-exchange p π m)
 
@@ -47,23 +47,23 @@ module _ (M : Model) (L : Laws M) (p : Program) (a : Admitted M p) where
   not-less r s (inr e) u l = less-transitive r s u e l
 
   -- THE TEST IS EXACT
-  pub unbeaten-least : (s : Schedule) → Full M p s → unbeaten M p s ≡ true → Smaller M p s → ⊥
-  unfolding unbeaten
-  unbeaten-least s f e b =
+  pub representative-least : (s : Schedule) → Full M p s → representative M p s ≡ true → Smaller M p s → ⊥
+  unfolding representative
+  representative-least s f e b =
       let l = alike-sym M L p a (b .0) s (b .3) in
       let k = exchange-permitted p (l .0) (l .1) in
       let π : List ℕ = tabled (l .0) in
       let g = least-by s f π (k .0) in
-      let n = all-at (λ π. not (less (leastBy M π (trail M p s)) s)) (permitted p) π e (k .0) in
-      let i = not-less (leastBy M π (trail M p s)) (b .0) (g .least (b .0) (b .1) (subst (λ (ρ : ℕ → ℕ). M .Turns ρ (graph M p s) (graph M p (b .0))) (sym (k .1)) (l .2))) s (b .2) in
+      let n = all-at (λ π. not (less (leastBy M π (actions M p s)) s)) (permitted p) π e (k .0) in
+      let i = not-less (leastBy M π (actions M p s)) (b .0) (g .least (b .0) (b .1) (subst (λ (ρ : ℕ → ℕ). M .Renames ρ (graph M p s) (graph M p (b .0))) (sym (k .1)) (l .2))) s (b .2) in
       false≢true (rw i at n)
 
-  pub beaten-smaller : (s : Schedule) → Full M p s → unbeaten M p s ≡ false → Smaller M p s
-  unfolding unbeaten
+  pub beaten-smaller : (s : Schedule) → Full M p s → representative M p s ≡ false → Smaller M p s
+  unfolding representative
   beaten-smaller s f e =
-      let x = all-not (λ π. not (less (leastBy M π (trail M p s)) s)) (permitted p) e in
+      let x = all-not (λ π. not (less (leastBy M π (actions M p s)) s)) (permitted p) e in
       let g = least-by s f (x .0) (x .1) in
-      let r : Schedule = leastBy M (x .0) (trail M p s) in
+      let r : Schedule = leastBy M (x .0) (actions M p s) in
       (r, g .full, not-false (less r s) (x .2), alike-sym M L p a s r (moved (x .0), permitted-exchange p (x .0) (x .1), g .turned))
     where
       not-false : (b : Bool) → not b ≡ false → b ≡ true

@@ -2,8 +2,8 @@
 use borrow.Author.Needs.{needs}
 use native.Mathlib.Omega.{arith}
 use borrow.Author.Tests.{eq-eqb, ne-eqb}
-use Rattle.enabled.proofs.allowing.read_allowed.Statement.{statement}
-use Rattle.enabled.proofs.allowing.read_allowed.Tie as tie
+use Rattle.allowed.proofs.allowing.read_allowed.Statement.{statement}
+use Rattle.allowed.proofs.allowing.read_allowed.Tie as tie
 
 returns : tie.Need-returns
 returns c = rw (eq-eqb _ _ (c .if1 .taken))
