@@ -1,5 +1,5 @@
--- What one instruction does, as the code carries it out: to a thread by itself where it is no access, and else on what memory holds. For the
--- machine's own functions: nothing here is needed to read what a step is.
+-- What one instruction does, as the code carries it out: to a thread by itself where it is no access, and else on what memory holds. For
+-- the machine's own functions: nothing here is needed to read what a step is.
 use Prim.Native.Nat.{ℕ}
 use mathlib.Core.Bool.{true, false, cond}
 use mathlib.Core.Option.{Option, none, some}

@@ -20,7 +20,8 @@ pub fn settle(
     done: u8,
 ) -> ThreadState
     requires { ⌜ (t < 6) × (n ≤ 16) × (from ≤ n) ⌝ }
-    ensures local { λ s. ⌜ localOf (threadCode (now (code .entry)) t n) s ≡ settle 0 registers (drop from (threadCode (now (code .entry)) t n)) ⌝ }
+    ensures local { λ s. ⌜ localOf (threadCode (now (code .entry)) t n) s
+        ≡ settle 0 registers (drop from (threadCode (now (code .entry)) t n)) ⌝ }
     ensures within { λ s. ⌜ (from ≤ s .at) × (s .at ≤ n) × (s .done ≡ done) ⌝ }
 {
     let mut rs = registers;
@@ -55,7 +56,8 @@ pub fn settle(
     }
 }
 
-// The same, quick where an access or the end comes at once. The registers are taken one by one, so that none of the ways keeps them in memory.
+// The same, quick where an access or the end comes at once. The registers are taken one by one, so that none of the ways keeps them in
+// memory.
 pub fn settled(
     code: &[u8; 1536],
     t: usize,
@@ -65,7 +67,8 @@ pub fn settled(
     done: u8,
 ) -> ThreadState
     requires { ⌜ (t < 6) × (n ≤ 16) × (from ≤ n) ⌝ }
-    ensures local { λ s. ⌜ localOf (threadCode (now (code .entry)) t n) s ≡ settle 0 registers (drop from (threadCode (now (code .entry)) t n)) ⌝ }
+    ensures local { λ s. ⌜ localOf (threadCode (now (code .entry)) t n) s
+        ≡ settle 0 registers (drop from (threadCode (now (code .entry)) t n)) ⌝ }
     ensures within { λ s. ⌜ (from ≤ s .at) × (s .at ≤ n) × (s .done ≡ done) ⌝ }
 {
     if from < n {

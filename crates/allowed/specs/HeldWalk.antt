@@ -50,7 +50,8 @@ NoteOf bytes σ t = bytes ≡ noteBytes (note σ t)
 abbrev pub readAllowed : List ℕ → List ℕ → List ℕ → Bool
 readAllowed pairs places b =
     cond (eqb (getD b 3 0) 0) true
-    (eqb (getD pairs ((getD b 0 0 * 16 + getD b 1 0) * 2) 0) (getD b 4 0) && (eqb (getD pairs ((getD b 0 0 * 16 + getD b 1 0) * 2 + 1) 0) (getD b 5 0)
+    (eqb (getD pairs ((getD b 0 0 * 16 + getD b 1 0) * 2) 0) (getD b 4 0)
+    && (eqb (getD pairs ((getD b 0 0 * 16 + getD b 1 0) * 2 + 1) 0) (getD b 5 0)
     && eqb (getD places (getD b 0 0 * 16 + getD b 1 0) 0) (getD b 2 0)))
 
 -- the turn of a write, when so many have been made at each location

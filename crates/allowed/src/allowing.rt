@@ -53,7 +53,8 @@ pub(crate) fn allowed(
     note: [u8; 8],
 ) -> bool
     requires { ⌜ (threads ≤ 6) × Ranged note × ((l : ℕ) → getD made l 0 < 24) ⌝ }
-    ensures { λ r. ⌜ ((g : Graph) (place : Values) (σ : State) (t : ℕ) → Drawn pairs places threads m g place σ → Ordering pairs made g σ → enabled σ t ≡ true → t < threads → NoteOf note σ t → (getD note 4 0 ≡ 254 → ⊥) → r ≡ fits g place σ t) ⌝ }
+    ensures { λ r. ⌜ ((g : Graph) (place : Values) (σ : State) (t : ℕ) → Drawn pairs places threads m g place σ → Ordering pairs made g σ
+        → enabled σ t ≡ true → t < threads → NoteOf note σ t → (getD note 4 0 ≡ 254 → ⊥) → r ≡ fits g place σ t) ⌝ }
 {
     if !read_allowed(pairs, places, note) {
         return false;

@@ -27,8 +27,11 @@ fn may_go(
     counts: [usize; 8],
     t: u8,
 ) -> bool
-    requires { ⌜ ((l : ℕ) → getD counts l 0 < 24) × ((p : Program) × (g : Graph) × (s : Schedule) × Walking (now code) (now lengths) threads pairs places p g m counts s) ⌝ }
-    ensures { λ r. ⌜ ((p : Program) (g : Graph) (s : Schedule) → Walking (now (code .entry)) (now (lengths .entry)) threads pairs places p g m counts s → r ≡ fits g (locationOf p (values p g 24)) (run SC (start p) s) t) ⌝ }
+    requires { ⌜ ((l : ℕ) → getD counts l 0 < 24) × ((p : Program) × (g : Graph) × (s : Schedule)
+        × Walking (now code) (now lengths) threads pairs places p g m counts s) ⌝ }
+    ensures { λ r. ⌜ ((p : Program) (g : Graph) (s : Schedule)
+        → Walking (now (code .entry)) (now (lengths .entry)) threads pairs places p g m counts s
+        → r ≡ fits g (locationOf p (values p g 24)) (run SC (start p) s) t) ⌝ }
 {
     if !enabled(lengths, m, t) {
         return false;
@@ -48,8 +51,10 @@ pub fn chosen(
     m: Machine,
     counts: [usize; 8],
 ) -> u8
-    requires { ⌜ ((l : ℕ) → getD counts l 0 < 24) × ((p : Program) × (g : Graph) × (s : Schedule) × Walking (now code) (now lengths) threads pairs places p g m counts s) ⌝ }
-    ensures { λ r. ⌜ (r ≤ 6) × ((p : Program) (g : Graph) (s : Schedule) → Walking (now (code .entry)) (now (lengths .entry)) threads pairs places p g m counts s → threadOr r ≡ nextOf p g s) ⌝ }
+    requires { ⌜ ((l : ℕ) → getD counts l 0 < 24) × ((p : Program) × (g : Graph) × (s : Schedule)
+        × Walking (now code) (now lengths) threads pairs places p g m counts s) ⌝ }
+    ensures { λ r. ⌜ (r ≤ 6) × ((p : Program) (g : Graph) (s : Schedule)
+        → Walking (now (code .entry)) (now (lengths .entry)) threads pairs places p g m counts s → threadOr r ≡ nextOf p g s) ⌝ }
 {
     let mut t = 0u8;
     while t < 6 {

@@ -56,7 +56,8 @@ pub(crate) fn none_waits(
     d: u8,
 ) -> bool
     requires { ⌜ threads ≤ 6 ⌝ }
-    ensures { λ r. ⌜ ((g : Graph) (place : Values) (σ : State) → Drawn pairs places threads m g place σ → (u ≡ 254 → ⊥) → r ≡ noneWaits g place σ l (u, j) (t, d)) ⌝ }
+    ensures { λ r. ⌜ ((g : Graph) (place : Values) (σ : State) → Drawn pairs places threads m g place σ → (u ≡ 254 → ⊥)
+        → r ≡ noneWaits g place σ l (u, j) (t, d)) ⌝ }
 {
     let mut k = 0;
     while k < 16 * threads {

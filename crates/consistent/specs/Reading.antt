@@ -1,5 +1,6 @@
 -- Graph texts: the lines `40 t i u j` and `41 l t i ..` of a graph, with the refusals 30 to 33. Lines are taken in order, each by number; a
--- refusal's place is its line, from 1. A text of no lines is the graph without events. All else that is wrong with a graph is the answer no.
+-- refusal's place is its line, from 1. A text of no lines is the graph without events. All else that is wrong with a graph is the answer
+-- no.
 use Prim.Native.Nat.{ℕ, _+_, _%_}
 use mathlib.Core.Bool.{Bool, true, cond, not, _&&_, _||_}
 use mathlib.Core.Option.{none, some}

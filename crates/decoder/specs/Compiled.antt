@@ -1,4 +1,5 @@
--- The program that the decoder hands over, read as document 01's program, and its answer read as an acceptance or a refusal's number and place.
+-- The program that the decoder hands over, read as document 01's program, and its answer read as an acceptance or a refusal's number and
+-- place.
 use Prim.Native.Nat.{ℕ, zero, suc, _+_}
 use mathlib.Core.Bool.{Bool, true, false}
 use mathlib.Core.List.{List, [], _∷_}

@@ -31,7 +31,8 @@ pub(crate) fn far_skip(
     lengths: [usize; 6],
 ) -> usize
     requires { ⌜ (threads ≤ 6) × ((t : ℕ) → getD lengths t 0 ≤ 16) ⌝ }
-    ensures { λ k. ⌜ ((cs : List (List Placed)) → HeldThreads (now (code .entry)) (now (rows .entry)) threads lengths cs → k ≡ firstFarSkip cs) ⌝ }
+    ensures { λ k. ⌜ ((cs : List (List Placed)) → HeldThreads (now (code .entry)) (now (rows .entry)) threads lengths cs
+        → k ≡ firstFarSkip cs) ⌝ }
 {
     let mut t = 0;
     while t < threads {

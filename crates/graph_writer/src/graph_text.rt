@@ -9,7 +9,8 @@ ghost use lib.ListN.{length};
 ghost use Rattle.lines.specs.Over.{over};
 ghost use Rattle.graph_writer.specs.Notes.{Note, Noted};
 ghost use Rattle.sc.specs.Text.{eventBytes, textOf};
-ghost use Rattle.graph_writer.specs.NoteText.{readIn, readsIn, writesIn, threadFrames, orderFrame, readFramesIn, orderFramesIn, noteFrames, noteAt, notesAt, Wrote};
+ghost use Rattle.graph_writer.specs.NoteText.{readIn, readsIn, writesIn, threadFrames, orderFrame, readFramesIn, orderFramesIn};
+ghost use Rattle.graph_writer.specs.NoteText.{noteFrames, noteAt, notesAt, Wrote};
 
 // The line of note k, if it states a read of thread t.
 fn write_read(out: &mut [u8], log: &[u8; 192], k: usize, t: u8) -> usize
@@ -72,7 +73,8 @@ fn fill_order(frame: &mut [u8; 64], log: &[u8; 192], steps: usize, l: u8) -> usi
     requires { ⌜ (length (now frame) ≡ 64) × (steps ≤ 24) ⌝ }
     ensures count { λ n. ⌜ n ≡ length (0x41 ∷ l ∷ eventBytes (writesIn l (notesAt (now (log .entry)) steps))) ⌝ }
     ensures few { λ n. ⌜ n ≤ 50 ⌝ }
-    ensures content { λ n. ⌜ now (frame .exit) ≡ over (0x41 ∷ l ∷ eventBytes (writesIn l (notesAt (now (log .entry)) steps))) (now (frame .entry)) ⌝ }
+    ensures content { λ n. ⌜ now (frame .exit) ≡ over (0x41 ∷ l
+        ∷ eventBytes (writesIn l (notesAt (now (log .entry)) steps))) (now (frame .entry)) ⌝ }
 {
     frame[0] = 0x41;
     frame[1] = l;

@@ -42,8 +42,10 @@ pub(crate) fn judged(
     pairs: [u8; 576],
     counts: [usize; 8],
 ) -> Finding
-    requires { ⌜ ((p : Program) × (text : List ℕ) × (g : Graph) × Loaded (now code) (now lengths) threads p × (readGraph threads text ≡ parsed g) × Tabled pairs counts g) ⌝ }
-    ensures { λ r. ⌜ ((p : Program) (text : List ℕ) (g : Graph) → Loaded (now (code .entry)) (now (lengths .entry)) threads p → readGraph threads text ≡ parsed g → Tabled pairs counts g → JudgedAs (r .yes) (r .schedule) (r .steps) (judge p g)) ⌝ }
+    requires { ⌜ ((p : Program) × (text : List ℕ) × (g : Graph) × Loaded (now code) (now lengths) threads p
+        × (readGraph threads text ≡ parsed g) × Tabled pairs counts g) ⌝ }
+    ensures { λ r. ⌜ ((p : Program) (text : List ℕ) (g : Graph) → Loaded (now (code .entry)) (now (lengths .entry)) threads p
+        → readGraph threads text ≡ parsed g → Tabled pairs counts g → JudgedAs (r .yes) (r .schedule) (r .steps) (judge p g)) ⌝ }
 {
     let table = places(code, lengths, threads, pairs);
     let w = walked(code, lengths, threads, pairs, table);

@@ -28,7 +28,8 @@ pub(crate) fn walked(
     places: [u8; 96],
 ) -> Walk
     requires { ⌜ ((p : Program) × (g : Graph) × Given (now code) (now lengths) threads pairs places p g) ⌝ }
-    ensures { λ r. ⌜ ((p : Program) (g : Graph) → Given (now (code .entry)) (now (lengths .entry)) threads pairs places p g → Walked (now (code .entry)) (now (lengths .entry)) p g r) ⌝ }
+    ensures { λ r. ⌜ ((p : Program) (g : Graph) → Given (now (code .entry)) (now (lengths .entry)) threads pairs places p g
+        → Walked (now (code .entry)) (now (lengths .entry)) p g r) ⌝ }
 {
     let mut schedule = [0u8; 24];
     let mut made = [254u8; 576];

@@ -1,5 +1,5 @@
--- Document 01's list. Two full schedules are alike if some permutation, moving threads only within their `02` line, turns one's graph into the
--- other's. A full schedule is listed if no smaller one is alike to it. With no `02` line only the identity is permitted.
+-- Document 01's list. Two full schedules are alike if some permutation, moving threads only within their `02` line, turns one's graph into
+-- the other's. A full schedule is listed if no smaller one is alike to it. With no `02` line only the identity is permitted.
 use Prim.Native.Nat.{ℕ}
 use mathlib.Core.Path.{_≡_}
 use mathlib.Core.Bool.{true}

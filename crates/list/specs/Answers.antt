@@ -1,5 +1,5 @@
--- What the four calls answer on an accepted program, and the outputs behind them, in document 01's terms. The program's own refusals come before
--- all of this. 22 is next: exactly where the output has fewer than 24 bytes, also where nothing would be written.
+-- What the four calls answer on an accepted program, and the outputs behind them, in document 01's terms. The program's own refusals come
+-- before all of this. 22 is next: exactly where the output has fewer than 24 bytes, also where nothing would be written.
 use Prim.Native.Nat.{ℕ}
 use mathlib.Core.Bool.{Bool, true, false}
 use mathlib.Core.Option.{Option, none, some}

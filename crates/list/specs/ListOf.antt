@@ -1,5 +1,5 @@
--- The list, executable: all full schedules in order, of which those stay to which no earlier one is alike. Exchanges are tried one after the
--- other, among the permutations of six that move each thread only within its `02` line.
+-- The list, executable: all full schedules in order, of which those stay to which no earlier one is alike. Exchanges are tried one after
+-- the other, among the permutations of six that move each thread only within its `02` line.
 use Prim.Native.Nat.{ℕ}
 use mathlib.Core.Bool.{Bool}
 use mathlib.Core.List.{List}

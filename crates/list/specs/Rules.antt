@@ -31,7 +31,8 @@ sameFlag false b = not b
 
 -- as much code left, the same registers, and the same outcome so far
 unfoldable pub sameLocal : Local → Local → Bool
-sameLocal h k = eqb (length (h .rest)) (length (k .rest)) && (sameList eqb (h .registers) (k .registers) && sameFlag (h .failed) (k .failed))
+sameLocal h k = eqb (length (h .rest)) (length (k .rest))
+    && (sameList eqb (h .registers) (k .registers) && sameFlag (h .failed) (k .failed))
 
 -- as many accesses done, and the same reads
 unfoldable pub sameHistory : History → History → Bool
@@ -45,4 +46,5 @@ silent σ u = all (λ (c : Cell). all (λ (e : Event). not (eqb (e .0) u)) (c .w
 unfoldable pub twin : Program → State → ℕ → ℕ → Bool
 twin p σ t u =
     together (p .groups) u t
-    && (sameLocal (threadOf σ u .local) (threadOf σ t .local) && (sameHistory (threadOf σ u .history) (threadOf σ t .history) && (silent σ u && silent σ t)))
+    && (sameLocal (threadOf σ u .local) (threadOf σ t .local)
+    && (sameHistory (threadOf σ u .history) (threadOf σ t .history) && (silent σ u && silent σ t)))

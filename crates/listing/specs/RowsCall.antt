@@ -1,5 +1,5 @@
--- What the calls that give many listed schedules at a time say of a program file: as many rows as the output has room for stand in front of it; or
--- the file is refused, and no byte changes.
+-- What the calls that give many listed schedules at a time say of a program file: as many rows as the output has room for stand in front of
+-- it; or the file is refused, and no byte changes.
 use Prim.Native.Nat.{ℕ, _/_}
 use mathlib.Core.List.{List}
 use mathlib.Core.Option.{Option}

@@ -1,5 +1,5 @@
--- The answers of the calls that give a schedule, as the code gives them: the schedule's length, since the schedule itself stands in front of the
--- output; or that there is none; or the refusal's number and place.
+-- The answers of the calls that give a schedule, as the code gives them: the schedule's length, since the schedule itself stands in front
+-- of the output; or that there is none; or the refusal's number and place.
 use lib.ListN.{length}
 use Rattle.schedules.specs.Calls.{Answer, found, nomore, refused}
 use Rattle.listing.specs.declared.calling.ListAnswer.{ListAnswer}

@@ -44,8 +44,10 @@ fn put_schedule(out: &mut [u8], row: &[u8; 26], n: usize)
 // The first one that is yet to come, of all that are listed or of those that fail.
 fn next_listed(program: Compiled, cursor: Cursor, failures: bool, out: &mut [u8]) -> ListAnswer
     requires { ⌜ WellFormed (programOf program) ⌝ }
-    ensures answer { λ r. ⌜ r ≡ listAnswerOf (answerTo (short 24 (now (out .entry))) (headOf (remaining (programOf program) failures cursor))) ⌝ }
-    ensures output { λ r. ⌜ now (out .exit) ≡ content (answerTo (short 24 (now (out .entry))) (headOf (remaining (programOf program) failures cursor))) (now (out .entry)) ⌝ }
+    ensures answer { λ r. ⌜ r ≡ listAnswerOf (answerTo (short 24 (now (out .entry)))
+        (headOf (remaining (programOf program) failures cursor))) ⌝ }
+    ensures output { λ r. ⌜ now (out .exit) ≡ content (answerTo (short 24 (now (out .entry)))
+        (headOf (remaining (programOf program) failures cursor))) (now (out .entry)) ⌝ }
 {
     if out.len() < 24 {
         return ListAnswer::Refused(22, 0);

@@ -32,7 +32,8 @@ pub enum CountAnswer {
 // How many of these rows are of schedules that fail.
 fn failing_in(rows: &[u8; 1664], n: usize) -> usize
     requires { ⌜ n ≤ 64 ⌝ }
-    ensures { λ r. ⌜ ((p : Program) (ss : List Schedule) (held : List ℕ) → Shown p ss held (now (rows .entry)) n → r ≡ length (filter (failing p) ss)) ⌝ }
+    ensures { λ r. ⌜ ((p : Program) (ss : List Schedule) (held : List ℕ) → Shown p ss held (now (rows .entry)) n
+        → r ≡ length (filter (failing p) ss)) ⌝ }
 {
     let mut failing = 0;
     let mut k = 0;

@@ -58,7 +58,8 @@ pub record Holds (code lengths : List ℕ) (m : Machine) (σ : State) : Type 0 w
 -- a thread's own part of that
 abbrev pub HoldsAt : List ℕ → List ℕ → ThreadState → State → ℕ → Type 0
 HoldsAt code lengths k σ t =
-    HoldsThread (threadCode code t (getD lengths t 0)) k (threadOf σ t) × (t < length (σ .threads) → threadOf σ t .local .registers ≡ k .registers)
+    HoldsThread (threadCode code t (getD lengths t 0)) k (threadOf σ t)
+    × (t < length (σ .threads) → threadOf σ t .local .registers ≡ k .registers)
 
 -- the threads of this well-formed program stand in these rows
 pub record Loaded (code lengths : List ℕ) (threads : ℕ) (p : Program) : Type 0 where
@@ -91,7 +92,11 @@ lastBehind e = record { thread = e .thread; number = e .number }
 -- the machine behind a step of thread t that changes so much, and the step's note
 abbrev pub behind : Machine → ℕ → Effect → Stepped
 behind m t e = record {
-  machine = record { threads = set (m .threads) t (threadBehind e); memory = set (m .memory) (e .place) (e .value); last = set (m .last) (e .place) (lastBehind e) };
+  machine = record {
+    threads = set (m .threads) t (threadBehind e);
+    memory = set (m .memory) (e .place) (e .value);
+    last = set (m .last) (e .place) (lastBehind e);
+  };
   note = e .note;
 }
 

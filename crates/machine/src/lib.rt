@@ -9,9 +9,9 @@ mod starting;
 // What may be asked of a state.
 mod asking;
 
+pub use asking::enabled;
 pub use asking::ended_all;
 pub use asking::fails;
-pub use asking::enabled;
 pub use starting::started;
 pub use state::LastWrite;
 pub use state::Machine;

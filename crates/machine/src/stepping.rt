@@ -13,8 +13,8 @@ ghost use lib.ListN.{set};
 ghost use Rattle.sc.specs.State.{State, place, enabled};
 ghost use Rattle.machine.specs.Held.{threadAt, Holds, ReadyThread, Ready, HoldsStep, behind, whole};
 
-// What a step changes: its thread, and at its place the value and the last write, as they are behind it; and the step's note. Single bytes that
-// are stored together behind the step stand apart here, so that no processor reads two stores as one load.
+// What a step changes: its thread, and at its place the value and the last write, as they are behind it; and the step's note. Single bytes
+// that are stored together behind the step stand apart here, so that no processor reads two stores as one load.
 pub struct Effect {
     pub registers: [u32; 4],
     pub at: usize,
@@ -27,8 +27,8 @@ pub struct Effect {
     pub number: u8,
 }
 
-// What a step gives back: its thread's registers and memory whole, and the rest of its thread; its place, and whether it reads and writes (1 or
-// 0). The last writes are its caller's: one of them is read and stored where they lie.
+// What a step gives back: its thread's registers and memory whole, and the rest of its thread; its place, and whether it reads and writes
+// (1 or 0). The last writes are its caller's: one of them is read and stored where they lie.
 pub struct After {
     pub registers: [u32; 4],
     pub at: usize,
@@ -82,7 +82,9 @@ pub fn acted(
 ) -> Effect
     requires { ⌜ ReadyThread (now lengths) thread t ⌝ }
     ensures within { λ e. ⌜ e .place < 8 ⌝ }
-    ensures step { λ e. ⌜ ((m : Machine) (σ : State) → threadAt m t ≡ thread → m .memory ≡ memory → m .last ≡ last → Holds (now (code .entry)) (now (lengths .entry)) m σ → enabled σ t ≡ true → place σ t < 8 → HoldsStep (now (code .entry)) (now (lengths .entry)) σ t (behind m t e)) ⌝ }
+    ensures step { λ e. ⌜ ((m : Machine) (σ : State) → threadAt m t ≡ thread → m .memory ≡ memory → m .last ≡ last
+        → Holds (now (code .entry)) (now (lengths .entry)) m σ → enabled σ t ≡ true → place σ t < 8
+        → HoldsStep (now (code .entry)) (now (lengths .entry)) σ t (behind m t e)) ⌝ }
 {
     let u = wide(t);
     let at = thread.at;
@@ -127,8 +129,8 @@ fn value_or(j: u32, i: u32, v: u32, x: u32) -> u32
     x
 }
 
-// Memory with v at k; unchanged where there is no such location. Each value is chosen by a comparison, so that memory moves in wide registers
-// and no store of one value waits in front of a load of many.
+// Memory with v at k; unchanged where there is no such location. Each value is chosen by a comparison, so that memory moves in wide
+// registers and no store of one value waits in front of a load of many.
 fn with_value(memory: [u32; 8], k: usize, v: u32) -> [u32; 8]
     ensures { λ r. ⌜ r ≡ set memory k v ⌝ }
 {
@@ -156,7 +158,9 @@ pub fn after_step(
 ) -> After
     requires { ⌜ ReadyThread (now lengths) thread t ⌝ }
     ensures within { λ a. ⌜ a .place < 8 ⌝ }
-    ensures step { λ a. ⌜ ((m : Machine) (σ : State) → threadAt m t ≡ thread → m .memory ≡ memory → Holds (now (code .entry)) (now (lengths .entry)) m σ → enabled σ t ≡ true → place σ t < 8 → HoldsStep (now (code .entry)) (now (lengths .entry)) σ t (whole m t t a)) ⌝ }
+    ensures step { λ a. ⌜ ((m : Machine) (σ : State) → threadAt m t ≡ thread → m .memory ≡ memory
+        → Holds (now (code .entry)) (now (lengths .entry)) m σ → enabled σ t ≡ true → place σ t < 8
+        → HoldsStep (now (code .entry)) (now (lengths .entry)) σ t (whole m t t a)) ⌝ }
 {
     let u = wide(t);
     let at = thread.at;
@@ -183,7 +187,8 @@ pub fn after_step(
 // A step of thread t, which has not ended.
 pub fn step(code: &[u8; 1536], lengths: &[usize; 6], m: Machine, t: u8) -> Stepped
     requires { ⌜ Ready (now lengths) m t ⌝ }
-    ensures { λ r. ⌜ ((σ : State) → Holds (now (code .entry)) (now (lengths .entry)) m σ → enabled σ t ≡ true → place σ t < 8 → HoldsStep (now (code .entry)) (now (lengths .entry)) σ t r) ⌝ }
+    ensures { λ r. ⌜ ((σ : State) → Holds (now (code .entry)) (now (lengths .entry)) m σ → enabled σ t ≡ true → place σ t < 8
+        → HoldsStep (now (code .entry)) (now (lengths .entry)) σ t r) ⌝ }
 {
     let mut n = m;
     let u = wide(t);

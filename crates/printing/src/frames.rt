@@ -49,7 +49,8 @@ fn steps_of(row: [u8; 26]) -> usize
 // The line of the schedule in this row.
 fn schedule_line(out: &mut [u8], row: [u8; 26]) -> usize
     ensures within { λ r. ⌜ r ≤ length (now (out .entry)) ⌝ }
-    ensures line { λ r. ⌜ ((s : Schedule) (f : Bool) → row ≡ rowBytes s f → length s ≤ 24 → Wrote ((0x50 ∷ cond f 1 0 ∷ s) ∷ []) (now (out .entry)) (now (out .exit)) r) ⌝ }
+    ensures line { λ r. ⌜ ((s : Schedule) (f : Bool) → row ≡ rowBytes s f → length s ≤ 24
+        → Wrote ((0x50 ∷ cond f 1 0 ∷ s) ∷ []) (now (out .entry)) (now (out .exit)) r) ⌝ }
 {
     let n = steps_of(row);
     let mut frame = row;
@@ -61,7 +62,8 @@ fn schedule_line(out: &mut [u8], row: [u8; 26]) -> usize
 pub(crate) fn schedule_lines(out: &mut [u8], rows: &[u8; 6656], n: usize) -> Lines
     requires { ⌜ (n ≤ 256) × (length (now rows) ≡ 6656) ⌝ }
     ensures { λ r. ⌜ ((p : Program) (ss : List Schedule) (held : List ℕ) → Shown p ss held (now (rows .entry)) n → Short ss →
-        Wrote (map (scheduleFrame p) ss) (now (out .entry)) (now (out .exit)) (r .length) × (r .failed ≡ length (filter (failing p) ss))) ⌝ }
+        Wrote (map (scheduleFrame p) ss) (now (out .entry)) (now (out .exit)) (r .length)
+        × (r .failed ≡ length (filter (failing p) ss))) ⌝ }
 {
     let mut at = 0;
     let mut failed = 0;

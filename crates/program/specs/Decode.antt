@@ -1,5 +1,5 @@
--- Program files: document 01's "Program file" with its refusals 1 to 9.
--- 1 comes first; then the lines in order, each by 2, 3, 4, 5, 6, 8; then 9; then 7 at the earliest line. A file that gets none of these is an accepted program.
+-- Program files: document 01's "Program file" with its refusals 1 to 9. 1 comes first; then the lines in order, each by 2, 3, 4, 5, 6, 8;
+-- then 9; then 7 at the earliest line. A file that gets none of these is an accepted program.
 use Prim.Native.Nat.{ℕ, _+_, _-_}
 use mathlib.Core.Bool.{Bool, true, false, cond, not, _&&_, _||_}
 use mathlib.Core.List.{List, [], _∷_, _++_, map}

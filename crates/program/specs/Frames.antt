@@ -35,7 +35,8 @@ kind f = kindOf (byte f 0)
 unfoldable pub known : Frame → Bool
 known f = leb (kind f .least) (length f) && leb (length f) (kind f .most)
 
--- refusal 4: r below 4, l below 8, n from 1 to 15, an operand 00 and a constant, or 01 and a register below 4; a field that the kind lacks is in range
+-- refusal 4: r below 4, l below 8, n from 1 to 15, an operand 00 and a constant, or 01 and a register below 4; a field that the kind lacks
+-- is in range
 unfoldable pub registerFits : Frame → ℕ → Bool
 registerFits f i = eqb i 0 || ltb (byte f i) 4
 

@@ -1,4 +1,5 @@
-// Program files: what they say and when they are refused (document 01's "Program file", refusals 1 to 9). Definitions and laws; no functions.
+// Program files: what they say and when they are refused (document 01's "Program file", refusals 1 to 9). Definitions and laws; no
+// functions.
 
 // The instructions of a thread.
 mod instruction;

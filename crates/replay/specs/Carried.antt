@@ -19,8 +19,8 @@ unfoldable pub verdictOf : Verdict → State → Replayed
 verdictOf Whole σ = whole σ
 verdictOf (Refused n k) σ = refused n k
 
--- what carrying out a schedule leaves: the steps that were made, each of which might be and stands in the run's own schedule, the state behind
--- them, their notes, and the answer
+-- what carrying out a schedule leaves: the steps that were made, each of which might be and stands in the run's own schedule, the state
+-- behind them, their notes, and the answer
 pub record HoldsRun (code lengths : List ℕ) (p : Program) (s : Schedule) (r : Run) : Type 0 where
   pub counted : r .steps ≤ length s
   pub schedule : take (r .steps) (r .schedule) ≡ take (r .steps) s

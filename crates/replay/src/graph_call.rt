@@ -21,7 +21,8 @@ pub enum GraphAnswer {
 fn graph_of(p: Compiled, schedule: &[u8], out: &mut [u8]) -> GraphAnswer
     requires { ⌜ WellFormed (programOf p) ⌝ }
     ensures answer { λ r. ⌜ r ≡ graphAnswerOf (graphAnswer (programOf p) (now (schedule .entry)) (length (now (out .entry)))) ⌝ }
-    ensures output { λ r. ⌜ now (out .exit) ≡ graphOutput (graphAnswer (programOf p) (now (schedule .entry)) (length (now (out .entry)))) (now (out .entry)) ⌝ }
+    ensures output { λ r. ⌜ now (out .exit) ≡ graphOutput (graphAnswer (programOf p) (now (schedule .entry)) (length (now (out .entry))))
+        (now (out .entry)) ⌝ }
 {
     if out.len() < 512 {
         return GraphAnswer::Refused(22, 0);
@@ -43,7 +44,8 @@ fn graph_of(p: Compiled, schedule: &[u8], out: &mut [u8]) -> GraphAnswer
 // Of a program file: its refusals come first, then 22 for an output shorter than 512 bytes, then 20 and 21 of the schedule.
 pub fn graph(file: &[u8], schedule: &[u8], out: &mut [u8]) -> GraphAnswer
     ensures answer { λ r. ⌜ r ≡ graphAnswerOf (graphFile (now (file .entry)) (now (schedule .entry)) (length (now (out .entry)))) ⌝ }
-    ensures output { λ r. ⌜ now (out .exit) ≡ graphOutput (graphFile (now (file .entry)) (now (schedule .entry)) (length (now (out .entry)))) (now (out .entry)) ⌝ }
+    ensures output { λ r. ⌜ now (out .exit) ≡ graphOutput (graphFile (now (file .entry)) (now (schedule .entry))
+        (length (now (out .entry)))) (now (out .entry)) ⌝ }
 {
     let a = decoder::decode(file);
     let v = a.verdict;

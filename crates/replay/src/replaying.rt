@@ -1,4 +1,5 @@
-// A schedule of any length carried out as far as it goes: whole, or refused by 20 at its first byte that may not step, or by 21 if it is not full.
+// A schedule of any length carried out as far as it goes: whole, or refused by 20 at its first byte that may not step, or by 21 if it is
+// not full.
 use accesses::ThreadState;
 use graph_writer::put_note;
 use lines::wide;
@@ -53,8 +54,8 @@ fn byte_or(j: u8, i: u8, v: u8, x: u8) -> u8
     x
 }
 
-// The schedule so far, given back whole with t as step k; there is none behind its 24 bytes. Each byte is chosen by a comparison, so that no
-// store of one byte waits in front of a load of many.
+// The schedule so far, given back whole with t as step k; there is none behind its 24 bytes. Each byte is chosen by a comparison, so that
+// no store of one byte waits in front of a load of many.
 fn with_step(made: [u8; 24], k: usize, t: u8) -> [u8; 24]
     ensures { λ r. ⌜ r ≡ set made k t ⌝ }
 {
@@ -72,11 +73,12 @@ fn with_step(made: [u8; 24], k: usize, t: u8) -> [u8; 24]
     steps
 }
 
-// Carries out a schedule of the program in these rows. A step takes memory, its thread's registers and the schedule so far and gives them back
-// whole.
+// Carries out a schedule of the program in these rows. A step takes memory, its thread's registers and the schedule so far and gives them
+// back whole.
 pub fn replayed(code: &[u8; 1536], lengths: &[usize; 6], threads: usize, schedule: &[u8]) -> Run
     requires { ⌜ ((p : Program) × Loaded (now code) (now lengths) threads p) ⌝ }
-    ensures { λ r. ⌜ ((p : Program) → Loaded (now (code .entry)) (now (lengths .entry)) threads p → HoldsRun (now (code .entry)) (now (lengths .entry)) p (now (schedule .entry)) r) ⌝ }
+    ensures { λ r. ⌜ ((p : Program) → Loaded (now (code .entry)) (now (lengths .entry)) threads p
+        → HoldsRun (now (code .entry)) (now (lengths .entry)) p (now (schedule .entry)) r) ⌝ }
 {
     let mut m = started(code, lengths, threads);
     let mut log = [0u8; 192];

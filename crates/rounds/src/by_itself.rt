@@ -36,7 +36,8 @@ fn facing(m: Machine, x: u32) -> Machine
 // Thread t's next access, which finds x.
 pub(crate) fn met(code: &[u8; 1536], lengths: &[usize; 6], m: Machine, t: u8, x: u32) -> Lone
     requires { ⌜ (t < 6) × (getD (now lengths) t 0 ≤ 16) × ((σ : State) × Holds (now code) (now lengths) m σ) ⌝ }
-    ensures { λ r. ⌜ ((σ : State) → Holds (now (code .entry)) (now (lengths .entry)) m σ → place σ t < 8 → MetAlone (now (code .entry)) (now (lengths .entry)) σ t x r) ⌝ }
+    ensures { λ r. ⌜ ((σ : State) → Holds (now (code .entry)) (now (lengths .entry)) m σ → place σ t < 8
+        → MetAlone (now (code .entry)) (now (lengths .entry)) σ t x r) ⌝ }
 {
     let n = facing(m, x);
     if !enabled(lengths, n, t) {

@@ -37,7 +37,8 @@ fn standing(start: Machine, m: Machine, k: usize) -> Machine
 // Every thread by itself on these values.
 fn in_round(code: &[u8; 1536], lengths: &[usize; 6], threads: usize, values: [u32; 96]) -> Round
     requires { ⌜ ((p : Program) × Loaded (now code) (now lengths) threads p) ⌝ }
-    ensures { λ r. ⌜ ((p : Program) → Loaded (now (code .entry)) (now (lengths .entry)) threads p → RoundHeld threads p values (r .places) (r .left)) ⌝ }
+    ensures { λ r. ⌜ ((p : Program) → Loaded (now (code .entry)) (now (lengths .entry)) threads p
+        → RoundHeld threads p values (r .places) (r .left)) ⌝ }
 {
     let start = started(code, lengths, threads);
     let mut places = [0u8; 96];
@@ -90,7 +91,9 @@ fn next_values(pairs: [u8; 576], left: [u32; 96]) -> [u32; 96]
 // Where each access goes on the values of the last round.
 pub fn places(code: &[u8; 1536], lengths: &[usize; 6], threads: usize, pairs: [u8; 576]) -> [u8; 96]
     requires { ⌜ ((p : Program) × Loaded (now code) (now lengths) threads p) ⌝ }
-    ensures { λ r. ⌜ ((p : Program) (text counts : List ℕ) (g : Graph) → Loaded (now (code .entry)) (now (lengths .entry)) threads p → readGraph threads text ≡ parsed g → Tabled pairs counts g → (t i : ℕ) → t < threads → i < 16 → getD r (t * 16 + i) 0 ≡ locationOf p (values p g 24) (t, i)) ⌝ }
+    ensures { λ r. ⌜ ((p : Program) (text counts : List ℕ) (g : Graph) → Loaded (now (code .entry)) (now (lengths .entry)) threads p
+        → readGraph threads text ≡ parsed g → Tabled pairs counts g → (t i : ℕ) → t < threads → i < 16
+        → getD r (t * 16 + i) 0 ≡ locationOf p (values p g 24) (t, i)) ⌝ }
 {
     let mut vs = [0u32; 96];
     let mut k = 0usize;

@@ -1,5 +1,5 @@
--- The steps of an exchanged run: each is its thread's step moved to the thread in whose place it comes, at the same location, writing or not
--- as before.
+-- The steps of an exchanged run: each is its thread's step moved to the thread in whose place it comes, at the same location, writing or
+-- not as before.
 use Prim.Native.Nat.{ℕ}
 use Rattle.sc.specs.Actions.{Action}
 

@@ -1,5 +1,6 @@
--- What the graph call says, in document 01's words. Refusals in order: the program's, then 22 for an output shorter than 512 bytes, then 20 and 21
--- of the schedule. Otherwise the text of the schedule's graph, which then stands in front of the output. Only a text changes the output.
+-- What the graph call says, in document 01's words. Refusals in order: the program's, then 22 for an output shorter than 512 bytes, then 20
+-- and 21 of the schedule. Otherwise the text of the schedule's graph, which then stands in front of the output. Only a text changes the
+-- output.
 use Prim.Native.Nat.{ℕ}
 use mathlib.Core.Bool.{cond}
 use mathlib.Core.List.{List}

@@ -1,7 +1,7 @@
 -- A list of schedules walked by calls. Each call has an output of its own; until a schedule has been answered it is a start, from then on a
 -- continue from the schedule answered last. Refused, with 22 at place 0, are exactly the calls whose output is shorter than `need`.
--- `called` is what one call does, and stands in the contracts of start and continue; `Dialogue` says that each call did so, from what the calls
--- before it answered; `due` is what the whole list of calls is to give. That they agree is the one claim about a list of calls.
+-- `called` is what one call does, and stands in the contracts of start and continue; `Dialogue` says that each call did so, from what the
+-- calls before it answered; `due` is what the whole list of calls is to give. That they agree is the one claim about a list of calls.
 use Prim.Native.Nat.{ℕ, zero, suc}
 use mathlib.Core.Path.{_≡_}
 use mathlib.Core.Bool.{Bool, true, false}

@@ -1,5 +1,5 @@
--- The permutations of six, each as the list of where 0, 1, .. 5 go: all of them ascending, by recursion, and each from its number, 0 to 719,
--- by divisions. A number from 720 on gives the permutation of its rest modulo 720.
+-- The permutations of six, each as the list of where 0, 1, .. 5 go: all of them ascending, by recursion, and each from its number, 0 to
+-- 719, by divisions. A number from 720 on gives the permutation of its rest modulo 720.
 use Prim.Native.Nat.{ℕ, zero, suc, _*_, _/_, _%_, _<_}
 use mathlib.Core.Path.{_≡_}
 use mathlib.Core.Bool.{true, false}

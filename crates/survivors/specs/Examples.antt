@@ -14,8 +14,10 @@ use Rattle.schedules.specs.System.{run, none-enabled, ended}
 use Rattle.schedules.specs.Search.{low, past}
 use Rattle.schedules.specs.Found.{concatRange, foundAt, foundBy, foundFrom}
 use Rattle.schedules.specs.Orders.{trace}
-use Rattle.sc.specs.Local.{eval, accessPlace, accessTakes, accessPuts, accessSets, settle, beginsWithAccess, firstPlace, firstTakes, firstPuts, firstNext, pending, placeOf, takes, puts, next, begin}
-use Rattle.sc.specs.State.{initialWrite, noThread, freshCell, threadOf, cellOf, place, latest, noted, advanced, written, met, step, enabled, opened, start}
+use Rattle.sc.specs.Local.{eval, accessPlace, accessTakes, accessPuts, accessSets, settle, beginsWithAccess, firstPlace, firstTakes}
+use Rattle.sc.specs.Local.{firstPuts, firstNext, pending, placeOf, takes, puts, next, begin}
+use Rattle.sc.specs.State.{initialWrite, noThread, freshCell, threadOf, cellOf, place, latest, noted, advanced, written, met, step}
+use Rattle.sc.specs.State.{enabled, opened, start}
 use Rattle.sc.specs.Graph.{endOf}
 use Rattle.sc.specs.Actions.{given, writes, action, conflict}
 use Rattle.sc.specs.Ahead.{accessMayPut, firstMayPut, mayPut}
@@ -41,7 +43,8 @@ unfoldable pub finds : Program → List Schedule
 unfolding range any all run trace none-enabled ended low past concatRange foundAt foundBy foundFrom eval accessPlace accessTakes accessPuts accessSets settle beginsWithAccess firstPlace firstTakes firstPuts firstNext pending placeOf takes puts next begin initialWrite noThread freshCell threadOf cellOf place latest noted advanced written met step enabled opened start initial given writes action conflict accessMayPut firstMayPut mayPut sameEvent sameRead sameList together sameFlag sameLocal sameHistory silent twin has addend setOf joined lateNow lateBehind lateAlong lateSet readsLeft writesLeft meets wakes sleepsIn unwoken settled sleepers givenUp lookedFor found
 finds p = found false p none
 
--- two stores at one location beside one elsewhere: behind thread 2's step the other two are late, and only each other's store could wake them
+-- two stores at one location beside one elsewhere: behind thread 2's step the other two are late, and only each other's store could wake
+-- them
 circle : Program
 circle = record {
   threads =

@@ -1,6 +1,6 @@
--- R2 by words: each thread carries one word of 64 bits for its reads, and two threads of one `02` line are twins exactly when their words are
--- equal. A read adds five bits, the number of the step that wrote what it reads; so each location carries the number of the step that wrote
--- it last. A thread that wrote, or whose reads no longer fit, can have no twin: its word is one that no other thread has.
+-- R2 by words: each thread carries one word of 64 bits for its reads, and two threads of one `02` line are twins exactly when their words
+-- are equal. A read adds five bits, the number of the step that wrote what it reads; so each location carries the number of the step that
+-- wrote it last. A thread that wrote, or whose reads no longer fit, can have no twin: its word is one that no other thread has.
 use Prim.Native.Nat.{ℕ, _+_, _*_, _^_}
 use mathlib.Core.Bool.{Bool, true, false, _&&_}
 use mathlib.Core.List.{List, [], _∷_}

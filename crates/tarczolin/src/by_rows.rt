@@ -19,7 +19,8 @@ fn rows_word(a: RowsAnswer) -> u64
     }
 }
 
-// Kind 1 with the number of rows, which stand in front of `out`: the first listed schedules, as many as have room; kind 3 with number and place.
+// Kind 1 with the number of rows, which stand in front of `out`: the first listed schedules, as many as have room; kind 3 with number and
+// place.
 #[no_mangle]
 pub extern "C" fn tarczolin_rows(file: &[u8], out: &mut [u8]) -> u64
     ensures answer { λ w. ⌜ w ≡ wordOf (rowsReply (rowsAnswerOf (decode (now (file .entry))) none (now (out .entry)))) ⌝ }
@@ -31,7 +32,8 @@ pub extern "C" fn tarczolin_rows(file: &[u8], out: &mut [u8]) -> u64
 // The same for the listed schedules after a given one, which need not be listed nor full.
 #[no_mangle]
 pub extern "C" fn tarczolin_rows_after(file: &[u8], schedule: &[u8], out: &mut [u8]) -> u64
-    ensures answer { λ w. ⌜ w ≡ wordOf (rowsReply (rowsAnswerOf (decode (now (file .entry))) (some (now (schedule .entry))) (now (out .entry)))) ⌝ }
+    ensures answer { λ w. ⌜ w ≡ wordOf (rowsReply (rowsAnswerOf (decode (now (file .entry))) (some (now (schedule .entry)))
+        (now (out .entry)))) ⌝ }
     ensures output { λ w. ⌜ now (out .exit) ≡ rowsOutput (decode (now (file .entry))) (some (now (schedule .entry))) (now (out .entry)) ⌝ }
 {
     rows_word(listing::next_rows(file, schedule, out))

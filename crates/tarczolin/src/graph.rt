@@ -12,7 +12,8 @@ ghost use Rattle.tarczolin.specs.Graphed.{graphReply};
 #[no_mangle]
 pub extern "C" fn tarczolin_graph(file: &[u8], schedule: &[u8], out: &mut [u8]) -> u64
     ensures answer { λ w. ⌜ w ≡ wordOf (graphReply (graphFile (now (file .entry)) (now (schedule .entry)) (length (now (out .entry))))) ⌝ }
-    ensures output { λ w. ⌜ now (out .exit) ≡ graphOutput (graphFile (now (file .entry)) (now (schedule .entry)) (length (now (out .entry)))) (now (out .entry)) ⌝ }
+    ensures output { λ w. ⌜ now (out .exit) ≡ graphOutput (graphFile (now (file .entry)) (now (schedule .entry))
+        (length (now (out .entry)))) (now (out .entry)) ⌝ }
 {
     let a = replay::graph(file, schedule, out);
     match a {

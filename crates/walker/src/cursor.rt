@@ -67,9 +67,11 @@ pub(crate) fn at_most_24(n: usize) -> usize
     if 24 < n { 24 } else { n }
 }
 
-// What is after a schedule is yet to come. The schedule need not be listed nor full; of a longer one 24 bytes tell, since no listed one has more.
+// What is after a schedule is yet to come. The schedule need not be listed nor full; of a longer one 24 bytes tell, since no listed one has
+// more.
 pub fn behind(schedule: &[u8]) -> Cursor
-    ensures { λ r. ⌜ ((p : Program) (failures : Bool) → WellFormed p → remaining p failures r ≡ after (some (now (schedule .entry))) (sought failures p)) ⌝ }
+    ensures { λ r. ⌜ ((p : Program) (failures : Bool) → WellFormed p
+        → remaining p failures r ≡ after (some (now (schedule .entry))) (sought failures p)) ⌝ }
 {
     let n = at_most_24(schedule.len());
     let mut bytes = [0u8; 24];

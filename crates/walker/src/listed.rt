@@ -14,8 +14,8 @@ ghost use Rattle.list.specs.Search.{sought};
 ghost use Rattle.walker.specs.Bounds.{boundAt};
 ghost use Rattle.walker.specs.Rows.{Shown};
 
-// Writes the rows of the listed schedules (of those that fail, if only these are wanted) behind the bound, or from the first one on, as many as
-// the output has room for; answers how many.
+// Writes the rows of the listed schedules (of those that fail, if only these are wanted) behind the bound, or from the first one on, as
+// many as the output has room for; answers how many.
 pub(crate) fn listed_rows(
     program: Compiled,
     failures: bool,
