@@ -10,6 +10,7 @@ use crate::local::value;
 use crate::local::with_register;
 use lines::wide;
 use program::Operand;
+use rows::Code;
 use rows::operand_at;
 use std::num::wrapping_add_u32;
 ghost use mathlib.Core.Path.{_≡_};
@@ -26,7 +27,7 @@ ghost use Rattle.sc.specs.Local.{holds, outcome, beginsWithAccess};
 ghost use Rattle.accesses.specs.CarriedOut.{carried, accessOf};
 
 // Whether it is an access.
-pub(crate) fn is_access(code: &[u8; 1536], row: usize) -> bool
+pub(crate) fn is_access(code: &Code, row: usize) -> bool
     requires { ⌜ row < 96 ⌝ }
     ensures { λ r. ⌜ r ≡ beginsWithAccess (instructionAt (now (code .entry)) row ∷ []) ⌝ }
 {
@@ -91,7 +92,7 @@ fn asserted(registers: [u32; 4], held: bool) -> Carried
 }
 
 // Carries out what is no access.
-pub(crate) fn carried_out(code: &[u8; 1536], row: usize, registers: [u32; 4]) -> Carried
+pub(crate) fn carried_out(code: &Code, row: usize, registers: [u32; 4]) -> Carried
     requires { ⌜ row < 96 ⌝ }
     ensures { λ s. ⌜ ((o : Own) → instructionAt (now (code .entry)) row ≡ Alone o → s ≡ carried registers (outcome registers o)) ⌝ }
 {
@@ -115,7 +116,7 @@ pub(crate) fn carried_out(code: &[u8; 1536], row: usize, registers: [u32; 4]) ->
 }
 
 // Does the access on finding memory so. Operands are read before the register changes.
-pub fn accessed_at(code: &[u8; 1536], row: usize, registers: [u32; 4], memory: [u32; 8]) -> Access
+pub fn accessed_at(code: &Code, row: usize, registers: [u32; 4], memory: [u32; 8]) -> Access
     requires { ⌜ row < 96 ⌝ }
     ensures { λ a. ⌜ a ≡ accessOf (instructionAt (now (code .entry)) row) registers memory ⌝ }
 {

@@ -3,6 +3,7 @@ use crate::by_row::carried_out;
 use crate::by_row::is_access;
 use crate::thread::ThreadState;
 use lines::wide;
+use rows::Code;
 ghost use mathlib.Core.Path.{_≡_};
 ghost use Prim.Native.Nat.{_+_, _*_, _<_, _≤_};
 ghost use lib.ListN.{drop};
@@ -12,7 +13,7 @@ ghost use Rattle.accesses.specs.CarriedOut.{localOf};
 
 // Thread t, of n instructions, from instruction `from` on with these registers, having done so many accesses.
 pub fn settle(
-    code: &[u8; 1536],
+    code: &Code,
     t: usize,
     n: usize,
     from: usize,
@@ -59,7 +60,7 @@ pub fn settle(
 // The same, quick where an access or the end comes at once. The registers are taken one by one, so that none of the ways keeps them in
 // memory.
 pub fn settled(
-    code: &[u8; 1536],
+    code: &Code,
     t: usize,
     n: usize,
     from: usize,

@@ -2,6 +2,7 @@
 use crate::waiting::none_waits;
 use lines::wide;
 use machine::Machine;
+use program::STEPS;
 ghost use mathlib.Core.Path.{_≡_};
 ghost use Prim.Native.Nat.{ℕ, _<_, _≤_};
 ghost use mathlib.Core.Bool.{true};
@@ -36,7 +37,7 @@ fn write_allowed(pairs: [u8; 576], made: [usize; 8], note: [u8; 8]) -> bool
     ensures { λ r. ⌜ r ≡ writeAllowed pairs made note ⌝ }
 {
     let l = wide(note[2]);
-    let k = 96 + (l * 24 + made[l]);
+    let k = 96 + (l * STEPS + made[l]);
     if pairs[k * 2] != note[0] {
         return false;
     }

@@ -3,6 +3,7 @@ use crate::allowing::allowed;
 use machine::Machine;
 use machine::enabled;
 use machine::step;
+use rows::Code;
 ghost use mathlib.Core.Path.{_≡_};
 ghost use Prim.Native.Nat.{ℕ, _<_, _≤_};
 ghost use lib.ListN.{getD};
@@ -18,7 +19,7 @@ ghost use Rattle.allowed.specs.HeldWalk.{Walking, threadOr, nextOf};
 
 // Whether thread t may step and the graph allows its next access.
 fn may_go(
-    code: &[u8; 1536],
+    code: &Code,
     lengths: &[usize; 6],
     threads: usize,
     pairs: [u8; 576],
@@ -43,7 +44,7 @@ fn may_go(
 
 // That thread, or 6 if there is none.
 pub fn chosen(
-    code: &[u8; 1536],
+    code: &Code,
     lengths: &[usize; 6],
     threads: usize,
     pairs: [u8; 576],

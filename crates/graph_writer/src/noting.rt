@@ -1,4 +1,5 @@
 // The notes of a run, eight bytes each, one after the other.
+use program::STEPS;
 ghost use mathlib.Core.Path.{_≡_};
 ghost use Rattle.graph_writer.specs.Notes.{putNote};
 
@@ -6,7 +7,7 @@ ghost use Rattle.graph_writer.specs.Notes.{putNote};
 pub fn put_note(log: &mut [u8; 192], k: usize, note: [u8; 8])
     ensures { λ r. ⌜ now (log .exit) ≡ putNote (now (log .entry)) k note ⌝ }
 {
-    if 24 <= k {
+    if STEPS <= k {
         return;
     }
     let at = k * 8;

@@ -1,5 +1,6 @@
 // The table of the graph that the walk has made so far.
 use lines::wide;
+use program::STEPS;
 ghost use mathlib.Core.Path.{_≡_};
 ghost use Prim.Native.Nat.{ℕ, _<_};
 ghost use lib.ListN.{getD};
@@ -40,7 +41,7 @@ pub(crate) fn with_event(pairs: [u8; 576], counts: [usize; 8], note: [u8; 8]) ->
     }
     let l = wide(note[2]);
     let c = counts[l];
-    let at = (96 + (l * 24 + c)) * 2;
+    let at = (96 + (l * STEPS + c)) * 2;
     let mut p = pairs;
     let mut n = counts;
     p[at] = note[0];

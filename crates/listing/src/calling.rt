@@ -1,9 +1,11 @@
 // The calls that give a schedule: start, continue, violation.
 use decoder::Compiled;
 use lines::wide;
+use program::STEPS;
 use replay::Verdict;
 use replay::replayed;
 use walker::Cursor;
+use walker::ROW;
 use walker::beginning;
 use walker::behind;
 use walker::next_page;
@@ -30,7 +32,7 @@ pub enum ListAnswer {
 }
 
 // Copies the n steps of a row to the front of the output.
-fn put_schedule(out: &mut [u8], row: &[u8; 26], n: usize)
+fn put_schedule(out: &mut [u8], row: &[u8; ROW], n: usize)
     requires { ⌜ (n ≤ 24) × (24 ≤ length (now out)) × (length (now row) ≡ 26) ⌝ }
     ensures { λ r. ⌜ now (out .exit) ≡ over (take n (drop 2 (now (row .entry)))) (now (out .entry)) ⌝ }
 {
@@ -49,10 +51,10 @@ fn next_listed(program: Compiled, cursor: Cursor, failures: bool, out: &mut [u8]
     ensures output { λ r. ⌜ now (out .exit) ≡ content (answerTo (short 24 (now (out .entry)))
         (headOf (remaining (programOf program) failures cursor))) (now (out .entry)) ⌝ }
 {
-    if out.len() < 24 {
+    if out.len() < STEPS {
         return ListAnswer::Refused(22, 0);
     }
-    let mut row = [0u8; 26];
+    let mut row = [0u8; ROW];
     let page = next_page(program, cursor, failures, &mut row);
     if page.rows == 0 {
         return ListAnswer::NoMore;
@@ -68,7 +70,7 @@ fn continued(program: Compiled, schedule: &[u8], out: &mut [u8]) -> ListAnswer
     ensures answer { λ r. ⌜ r ≡ listAnswerOf (continueOf (programOf program) (now (schedule .entry)) (now (out .entry)) .0) ⌝ }
     ensures output { λ r. ⌜ now (out .exit) ≡ continueOf (programOf program) (now (schedule .entry)) (now (out .entry)) .1 ⌝ }
 {
-    if out.len() < 24 {
+    if out.len() < STEPS {
         return ListAnswer::Refused(22, 0);
     }
     let code = program.code;

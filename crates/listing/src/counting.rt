@@ -1,5 +1,6 @@
 // How many schedules are listed, and how many of these fail.
 use decoder::Compiled;
+use walker::ROW;
 use walker::beginning;
 use walker::is_end;
 use walker::next_page;
@@ -38,7 +39,7 @@ fn failing_in(rows: &[u8; 1664], n: usize) -> usize
     let mut failing = 0;
     let mut k = 0;
     while k < n {
-        if rows[k * 26 + 1] == 1 {
+        if rows[k * ROW + 1] == 1 {
             failing += 1;
         }
         k += 1;

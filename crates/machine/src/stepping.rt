@@ -5,6 +5,7 @@ use accesses::ThreadState;
 use accesses::accessed_at;
 use accesses::settled;
 use lines::wide;
+use rows::Code;
 ghost use mathlib.Core.Path.{_≡_};
 ghost use mathlib.Core.Bool.{true, cond};
 ghost use Prim.Native.Nat.{_<_};
@@ -73,7 +74,7 @@ pub fn last_behind(writes: u8, t: u8, number: u8, e: LastWrite) -> LastWrite
 // What a step of thread t changes where the thread stands so, with this memory and these last writes. A search that has its own copy of the
 // machine stores these few values there: no machine is passed.
 pub fn acted(
-    code: &[u8; 1536],
+    code: &Code,
     lengths: &[usize; 6],
     thread: ThreadState,
     memory: [u32; 8],
@@ -150,7 +151,7 @@ fn with_value(memory: [u32; 8], k: usize, v: u32) -> [u32; 8]
 
 // A step of thread t where the thread stands so: its registers and memory are taken by value and given back whole.
 pub fn after_step(
-    code: &[u8; 1536],
+    code: &Code,
     lengths: &[usize; 6],
     thread: ThreadState,
     memory: [u32; 8],
@@ -185,7 +186,7 @@ pub fn after_step(
 }
 
 // A step of thread t, which has not ended.
-pub fn step(code: &[u8; 1536], lengths: &[usize; 6], m: Machine, t: u8) -> Stepped
+pub fn step(code: &Code, lengths: &[usize; 6], m: Machine, t: u8) -> Stepped
     requires { ⌜ Ready (now lengths) m t ⌝ }
     ensures { λ r. ⌜ ((σ : State) → Holds (now (code .entry)) (now (lengths .entry)) m σ → enabled σ t ≡ true → place σ t < 8
         → HoldsStep (now (code .entry)) (now (lengths .entry)) σ t r) ⌝ }

@@ -10,6 +10,8 @@ use machine::LastWrite;
 use machine::Machine;
 use machine::acted;
 use machine::started;
+use program::STEPS;
+use rows::Code;
 ghost use mathlib.Core.Path.{_≡_};
 ghost use mathlib.Core.Bool.{true};
 ghost use mathlib.Core.List.{List, [], _∷_, _++_};
@@ -24,7 +26,7 @@ ghost use Rattle.prefix.specs.Reached.{Reached};
 ghost use Rattle.prefix.specs.Steps.{Short, Carried};
 
 // Before the first step of the program in these rows.
-pub fn begun(code: &[u8; 1536], lengths: &[usize; 6], threads: usize) -> Place
+pub fn begun(code: &Code, lengths: &[usize; 6], threads: usize) -> Place
     requires { ⌜ ((p : Program) × Loaded (now code) (now lengths) threads p) ⌝ }
     ensures { λ r. ⌜ ((class : List ℕ) (groups : ℕ) (p : Program) → Loaded (now (code .entry)) (now (lengths .entry)) threads p
         → Lined class groups p → Reached (now (code .entry)) (now (lengths .entry)) class threads groups r p []) ⌝ }
@@ -32,7 +34,7 @@ pub fn begun(code: &[u8; 1536], lengths: &[usize; 6], threads: usize) -> Place
     let m = started(code, lengths, threads);
     Place {
         machine: m,
-        schedule: [0u8; 24],
+        schedule: [0u8; STEPS],
         steps: 0,
         late: 0,
         stamps: [0u8; 8],
@@ -42,7 +44,7 @@ pub fn begun(code: &[u8; 1536], lengths: &[usize; 6], threads: usize) -> Place
 
 // The place behind a step of thread t at location l, which wrote or not, and which led to this machine.
 fn carried(
-    code: &[u8; 1536],
+    code: &Code,
     lengths: &[usize; 6],
     x: Place,
     m: Machine,
@@ -81,7 +83,7 @@ fn carried(
 }
 
 // Behind a step of thread t, which has not ended.
-pub fn advanced(code: &[u8; 1536], lengths: &[usize; 6], x: Place, t: u8) -> Place
+pub fn advanced(code: &Code, lengths: &[usize; 6], x: Place, t: u8) -> Place
     requires { ⌜ ((class : List ℕ) × (threads : ℕ) × (groups : ℕ) × (p : Program) × (v : Schedule)
         × Reached (now code) (now lengths) class threads groups x p v × (enabled (endOf p v) t ≡ true)) ⌝ }
     ensures { λ r. ⌜ ((class : List ℕ) (threads groups : ℕ) (p : Program) (v : Schedule)

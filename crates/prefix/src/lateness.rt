@@ -5,6 +5,7 @@ use crate::waiting::conflicts_at;
 use accesses::ThreadState;
 use lines::wide;
 use machine::Machine;
+use rows::Code;
 ghost use mathlib.Core.Path.{_≡_};
 ghost use mathlib.Core.Bool.{_||_};
 ghost use Prim.Native.Nat.{_<_, _≤_};
@@ -35,7 +36,7 @@ fn is_before(late: u8, t: u8, u: u8) -> bool
 
 // Whether thread u, which stands so with this memory behind the step a, is late.
 fn is_late_behind(
-    code: &[u8; 1536],
+    code: &Code,
     lengths: &[usize; 6],
     k: ThreadState,
     memory: [u32; 8],
@@ -63,13 +64,7 @@ fn is_late_behind(
 }
 
 // The late set behind the step a, which led to this machine.
-pub(crate) fn late_behind(
-    code: &[u8; 1536],
-    lengths: &[usize; 6],
-    m: Machine,
-    late: u8,
-    a: Step,
-) -> u8
+pub(crate) fn late_behind(code: &Code, lengths: &[usize; 6], m: Machine, late: u8, a: Step) -> u8
     requires { ⌜ Short (now lengths) m ⌝ }
     ensures { λ r. ⌜ ((σ : State) → Holds (now (code .entry)) (now (lengths .entry)) m σ → r ≡ lateBehind σ late (actionOf a)) ⌝ }
 {

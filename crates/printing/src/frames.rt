@@ -1,6 +1,8 @@
 // Lines of the output, each into the part of the buffer behind the last.
 use lines::wide;
 use lines::write;
+use program::STEPS;
+use walker::ROW;
 ghost use mathlib.Core.Path.{_≡_};
 ghost use mathlib.Core.Bool.{Bool, cond};
 ghost use mathlib.Core.List.{List, [], _∷_, map};
@@ -23,14 +25,14 @@ pub struct Lines {
 }
 
 // Row k of these rows of 26 bytes.
-fn row_at(rows: &[u8; 6656], k: usize) -> [u8; 26]
+fn row_at(rows: &[u8; 6656], k: usize) -> [u8; ROW]
     requires { ⌜ (k < 256) × (length (now rows) ≡ 6656) ⌝ }
     ensures { λ r. ⌜ r ≡ take 26 (drop (k * 26) (now (rows .entry))) ⌝ }
 {
-    let mut row = [0u8; 26];
-    let from = k * 26;
+    let mut row = [0u8; ROW];
+    let from = k * ROW;
     let mut i = 0;
-    while i < 26 {
+    while i < ROW {
         row[i] = rows[from + i];
         i += 1;
     }
@@ -38,16 +40,16 @@ fn row_at(rows: &[u8; 6656], k: usize) -> [u8; 26]
 }
 
 // How many steps the schedule of this row has.
-fn steps_of(row: [u8; 26]) -> usize
+fn steps_of(row: [u8; ROW]) -> usize
     ensures most { λ r. ⌜ r ≤ 24 ⌝ }
     ensures steps { λ r. ⌜ ((s : Schedule) (f : Bool) → row ≡ rowBytes s f → length s ≤ 24 → r ≡ length s) ⌝ }
 {
     let n = wide(row[0]);
-    if 24 < n { 24 } else { n }
+    if STEPS < n { STEPS } else { n }
 }
 
 // The line of the schedule in this row.
-fn schedule_line(out: &mut [u8], row: [u8; 26]) -> usize
+fn schedule_line(out: &mut [u8], row: [u8; ROW]) -> usize
     ensures within { λ r. ⌜ r ≤ length (now (out .entry)) ⌝ }
     ensures line { λ r. ⌜ ((s : Schedule) (f : Bool) → row ≡ rowBytes s f → length s ≤ 24
         → Wrote ((0x50 ∷ cond f 1 0 ∷ s) ∷ []) (now (out .entry)) (now (out .exit)) r) ⌝ }

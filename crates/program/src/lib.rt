@@ -1,6 +1,8 @@
 // Program files: what they say and when they are refused (document 01's "Program file", refusals 1 to 9). Definitions and laws; no
 // functions.
 
+// Limits of a program.
+mod limits;
 // The instructions of a thread.
 mod instruction;
 // The kinds of frame: their lengths and where their fields stand.
@@ -13,3 +15,4 @@ pub use instruction::Operand;
 pub use instruction::Own;
 pub use instruction::Test;
 pub use kind::Kind;
+pub use limits::STEPS;

@@ -8,6 +8,8 @@ use machine::after_step;
 use machine::ended_all;
 use machine::last_behind;
 use machine::started;
+use program::STEPS;
+use rows::Code;
 ghost use mathlib.Core.Path.{_≡_};
 ghost use mathlib.Core.Bool.{cond};
 ghost use lib.Dec.{eqb};
@@ -27,12 +29,12 @@ pub struct Run {
     pub verdict: Verdict,
     pub machine: Machine,
     pub log: [u8; 192],
-    pub schedule: [u8; 24],
+    pub schedule: [u8; STEPS],
     pub steps: usize,
 }
 
 // A run that ends here.
-fn ended_here(verdict: Verdict, m: Machine, log: [u8; 192], made: [u8; 24], steps: usize) -> Run
+fn ended_here(verdict: Verdict, m: Machine, log: [u8; 192], made: [u8; STEPS], steps: usize) -> Run
     ensures { λ r. ⌜ r ≡ record { verdict = verdict; machine = m; log = log; schedule = made; steps = steps } ⌝ }
 {
     Run {
@@ -56,16 +58,16 @@ fn byte_or(j: u8, i: u8, v: u8, x: u8) -> u8
 
 // The schedule so far, given back whole with t as step k; there is none behind its 24 bytes. Each byte is chosen by a comparison, so that
 // no store of one byte waits in front of a load of many.
-fn with_step(made: [u8; 24], k: usize, t: u8) -> [u8; 24]
+fn with_step(made: [u8; STEPS], k: usize, t: u8) -> [u8; STEPS]
     ensures { λ r. ⌜ r ≡ set made k t ⌝ }
 {
-    if 24 <= k {
+    if STEPS <= k {
         return made;
     }
     let j = k as u8;
     let mut steps = made;
     let mut i = 0u8;
-    while i < 24 {
+    while i < STEPS {
         let n = wide(i);
         steps[n] = byte_or(j, i, t, made[n]);
         i += 1;
@@ -75,14 +77,14 @@ fn with_step(made: [u8; 24], k: usize, t: u8) -> [u8; 24]
 
 // Carries out a schedule of the program in these rows. A step takes memory, its thread's registers and the schedule so far and gives them
 // back whole.
-pub fn replayed(code: &[u8; 1536], lengths: &[usize; 6], threads: usize, schedule: &[u8]) -> Run
+pub fn replayed(code: &Code, lengths: &[usize; 6], threads: usize, schedule: &[u8]) -> Run
     requires { ⌜ ((p : Program) × Loaded (now code) (now lengths) threads p) ⌝ }
     ensures { λ r. ⌜ ((p : Program) → Loaded (now (code .entry)) (now (lengths .entry)) threads p
         → HoldsRun (now (code .entry)) (now (lengths .entry)) p (now (schedule .entry)) r) ⌝ }
 {
     let mut m = started(code, lengths, threads);
     let mut log = [0u8; 192];
-    let mut made = [0u8; 24];
+    let mut made = [0u8; STEPS];
     let mut k = 0;
     while k < schedule.len() {
         let t = schedule[k];

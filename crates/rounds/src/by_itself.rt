@@ -4,6 +4,7 @@ use machine::LastWrite;
 use machine::Machine;
 use machine::enabled;
 use machine::step;
+use rows::Code;
 ghost use mathlib.Core.Path.{_≡_};
 ghost use Prim.Native.Nat.{_<_, _≤_};
 ghost use lib.ListN.{getD};
@@ -34,7 +35,7 @@ fn facing(m: Machine, x: u32) -> Machine
 }
 
 // Thread t's next access, which finds x.
-pub(crate) fn met(code: &[u8; 1536], lengths: &[usize; 6], m: Machine, t: u8, x: u32) -> Lone
+pub(crate) fn met(code: &Code, lengths: &[usize; 6], m: Machine, t: u8, x: u32) -> Lone
     requires { ⌜ (t < 6) × (getD (now lengths) t 0 ≤ 16) × ((σ : State) × Holds (now code) (now lengths) m σ) ⌝ }
     ensures { λ r. ⌜ ((σ : State) → Holds (now (code .entry)) (now (lengths .entry)) m σ → place σ t < 8
         → MetAlone (now (code .entry)) (now (lengths .entry)) σ t x r) ⌝ }

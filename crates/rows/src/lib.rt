@@ -9,6 +9,8 @@ mod row;
 
 pub use fields::in_range;
 pub use kinds::kind_of;
+pub use row::CODE_BYTES;
+pub use row::Code;
 pub use row::operand_at;
 pub use row::put_row;
 pub use row::same_bytes;

@@ -10,8 +10,13 @@ ghost use Rattle.program.specs.Frames.{operand, skipOf};
 ghost use Rattle.rows.specs.Rows.{rowAt};
 ghost use Rattle.rows.specs.Bytes.{agree, Written};
 
+// The bytes of a program's code: 96 rows of sixteen.
+pub const CODE_BYTES: usize = 1536;
+
+pub type Code = [u8; CODE_BYTES];
+
 // The operand in row `row` at position `j`.
-pub fn operand_at(code: &[u8; 1536], row: usize, j: usize) -> Operand
+pub fn operand_at(code: &Code, row: usize, j: usize) -> Operand
     requires { ⌜ (row < 96) × (j < 12) ⌝ }
     ensures { λ r. ⌜ r ≡ operand (rowAt (now (code .entry)) row) j ⌝ }
 {
@@ -24,7 +29,7 @@ pub fn operand_at(code: &[u8; 1536], row: usize, j: usize) -> Operand
 }
 
 // How many instructions the one in row `row` may skip.
-pub fn skip_at(code: &[u8; 1536], row: usize) -> usize
+pub fn skip_at(code: &Code, row: usize) -> usize
     requires { ⌜ row < 96 ⌝ }
     ensures { λ r. ⌜ r ≡ skipOf (rowAt (now (code .entry)) row) ⌝ }
 {
@@ -36,7 +41,7 @@ pub fn skip_at(code: &[u8; 1536], row: usize) -> usize
 }
 
 // Whether the n bytes from a on and those from b on are the same.
-pub fn same_bytes(code: &[u8; 1536], a: usize, b: usize, n: usize) -> bool
+pub fn same_bytes(code: &Code, a: usize, b: usize, n: usize) -> bool
     requires { ⌜ (a + n ≤ 1536) × (b + n ≤ 1536) ⌝ }
     ensures { λ r. ⌜ r ≡ agree (now (code .entry)) a b n ⌝ }
 {
@@ -51,7 +56,7 @@ pub fn same_bytes(code: &[u8; 1536], a: usize, b: usize, n: usize) -> bool
 }
 
 // Puts the n bytes of the line's frame into row `row`.
-pub fn put_row(code: &mut [u8; 1536], row: usize, line: &[u8], n: usize)
+pub fn put_row(code: &mut Code, row: usize, line: &[u8], n: usize)
     requires { ⌜ (row < 96) × (n ≤ 16) × (length (now code) ≡ 1536) ⌝ }
     ensures { λ r. ⌜ Written (now (code .entry)) (row * 16) (pairs (now (line .entry))) n (now (code .exit)) ⌝ }
 {

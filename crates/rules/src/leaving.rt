@@ -2,6 +2,7 @@
 use prefix::is_in;
 use prefix::is_writer;
 use prefix::location_at;
+use rows::Code;
 ghost use mathlib.Core.Path.{_≡_};
 ghost use mathlib.Core.List.{List, [], _∷_};
 ghost use Prim.Native.Nat.{_+_, _<_, _≤_};
@@ -29,7 +30,7 @@ fn with_location(l: u8, set: u8) -> u8
 }
 
 // Whether the row holds an access that reads.
-fn is_reader(code: &[u8; 1536], row: usize) -> bool
+fn is_reader(code: &Code, row: usize) -> bool
     requires { ⌜ row < 96 ⌝ }
     ensures { λ r. ⌜ r ≡ firstTakes (instructionAt (now (code .entry)) row ∷ []) ⌝ }
 {
@@ -47,7 +48,7 @@ fn is_reader(code: &[u8; 1536], row: usize) -> bool
 }
 
 // What code may read that begins with the row's instruction, where the code behind it may read this.
-fn reads_from(code: &[u8; 1536], row: usize, set: u8) -> u8
+fn reads_from(code: &Code, row: usize, set: u8) -> u8
     requires { ⌜ row < 96 ⌝ }
     ensures { λ r. ⌜ ((is : List Instruction) → set ≡ readsLeft is → r ≡ readsLeft (instructionAt (now (code .entry)) row ∷ is)) ⌝ }
 {
@@ -58,7 +59,7 @@ fn reads_from(code: &[u8; 1536], row: usize, set: u8) -> u8
 }
 
 // What it may write, where the code behind it may write this.
-fn writes_from(code: &[u8; 1536], row: usize, set: u8) -> u8
+fn writes_from(code: &Code, row: usize, set: u8) -> u8
     requires { ⌜ row < 96 ⌝ }
     ensures { λ r. ⌜ ((is : List Instruction) → set ≡ writesLeft is → r ≡ writesLeft (instructionAt (now (code .entry)) row ∷ is)) ⌝ }
 {
@@ -80,7 +81,7 @@ fn behind(left: &[u8; 192], k: usize, i: usize, n: usize) -> u8
 }
 
 // The sets of all rows: of reads, then of writes.
-pub fn left_sets(code: &[u8; 1536], lengths: &[usize; 6]) -> [u8; 192]
+pub fn left_sets(code: &Code, lengths: &[usize; 6]) -> [u8; 192]
     ensures { λ r. ⌜ Left (now (code .entry)) (now (lengths .entry)) r ⌝ }
 {
     let mut left = [0u8; 192];

@@ -1,4 +1,5 @@
 // A cursor: a place in the list that is walked.
+use program::STEPS;
 ghost use mathlib.Core.Path.{_≡_};
 ghost use mathlib.Core.Bool.{Bool};
 ghost use Prim.Native.Nat.{min};
@@ -22,7 +23,7 @@ pub enum Position {
 // Where it stands; the schedule behind which it stands has so many steps.
 pub struct Cursor {
     pub position: Position,
-    pub schedule: [u8; 24],
+    pub schedule: [u8; STEPS],
     pub steps: usize,
 }
 
@@ -32,7 +33,7 @@ pub fn beginning() -> Cursor
 {
     Cursor {
         position: Position::Beginning,
-        schedule: [0u8; 24],
+        schedule: [0u8; STEPS],
         steps: 0,
     }
 }
@@ -43,7 +44,7 @@ pub(crate) fn end() -> Cursor
 {
     Cursor {
         position: Position::End,
-        schedule: [0u8; 24],
+        schedule: [0u8; STEPS],
         steps: 0,
     }
 }
@@ -64,7 +65,7 @@ pub fn is_end(cursor: Cursor) -> bool
 pub(crate) fn at_most_24(n: usize) -> usize
     ensures { λ r. ⌜ r ≡ min n 24 ⌝ }
 {
-    if 24 < n { 24 } else { n }
+    if STEPS < n { STEPS } else { n }
 }
 
 // What is after a schedule is yet to come. The schedule need not be listed nor full; of a longer one 24 bytes tell, since no listed one has
@@ -74,7 +75,7 @@ pub fn behind(schedule: &[u8]) -> Cursor
         → remaining p failures r ≡ after (some (now (schedule .entry))) (sought failures p)) ⌝ }
 {
     let n = at_most_24(schedule.len());
-    let mut bytes = [0u8; 24];
+    let mut bytes = [0u8; STEPS];
     let mut k = 0;
     while k < n {
         bytes[k] = schedule[k];

@@ -1,5 +1,6 @@
 // What the search does at a full schedule.
 use crate::aim::Aim;
+use crate::putting::ROW;
 use crate::putting::put_row;
 use machine::fails;
 use prefix::Place;
@@ -45,6 +46,6 @@ pub(crate) fn at_end(x: Place, a: Aim, out: &mut [u8]) -> usize
         return rows;
     }
     let schedule = x.schedule;
-    put_row(&mut out[rows * 26..], schedule, x.steps, f);
+    put_row(&mut out[rows * ROW..], schedule, x.steps, f);
     rows + 1
 }

@@ -25,3 +25,4 @@ pub use cursor::behind;
 pub use cursor::is_end;
 pub use paging::Page;
 pub use paging::next_page;
+pub use putting::ROW;

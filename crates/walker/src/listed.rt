@@ -1,5 +1,6 @@
 // The listed schedules of a decoded program behind a bound, as rows in a lent buffer.
 use crate::aim::Aim;
+use crate::putting::ROW;
 use crate::walking::walk;
 use decoder::Compiled;
 use prefix::begun;
@@ -37,7 +38,7 @@ pub(crate) fn listed_rows(
     let a = Aim {
         failures: failures,
         tight: tight,
-        room: out.len() / 26,
+        room: out.len() / ROW,
         rows: 0,
     };
     walk(&code, &lengths, &class, &left, x, bound, a, out)

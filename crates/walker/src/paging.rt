@@ -5,6 +5,7 @@ use crate::cursor::at_most_24;
 use crate::cursor::behind;
 use crate::cursor::end;
 use crate::listed::listed_rows;
+use crate::putting::ROW;
 use decoder::Compiled;
 use lines::wide;
 ghost use mathlib.Core.Path.{_≡_};
@@ -27,7 +28,7 @@ fn search_on(program: Compiled, cursor: Cursor, tight: bool, failures: bool, out
     let schedule = cursor.schedule;
     let steps = at_most_24(cursor.steps);
     let rows = listed_rows(program, failures, &schedule[..steps], tight, out);
-    if rows < out.len() / 26 {
+    if rows < out.len() / ROW {
         return Page {
             rows: rows,
             cursor: end(),
@@ -39,7 +40,7 @@ fn search_on(program: Compiled, cursor: Cursor, tight: bool, failures: bool, out
             cursor: cursor,
         };
     }
-    let at = (rows - 1) * 26;
+    let at = (rows - 1) * ROW;
     let last = wide(out[at]);
     Page {
         rows: rows,

@@ -8,6 +8,8 @@ use machine::ended_all;
 use prefix::Place;
 use prefix::advanced;
 use prefix::is_late;
+use program::STEPS;
+use rows::Code;
 use rules::has_smaller_twin;
 use rules::some_asleep;
 ghost use Prim.Native.Nat.{ℕ, _*_, _<_, _≤_};
@@ -22,7 +24,7 @@ ghost use Rattle.walker.specs.Walked.{Adds};
 
 // Adds what is found with t as the next step, unless t has ended or a rule gives that step up.
 fn visit(
-    code: &[u8; 1536],
+    code: &Code,
     lengths: &[usize; 6],
     class: &[usize; 6],
     left: &[u8; 192],
@@ -65,7 +67,7 @@ fn visit(
 
 // Adds all that is found behind the steps taken.
 pub(crate) fn walk(
-    code: &[u8; 1536],
+    code: &Code,
     lengths: &[usize; 6],
     class: &[usize; 6],
     left: &[u8; 192],
@@ -89,7 +91,7 @@ pub(crate) fn walk(
         }
         return at_end(x, a, out);
     }
-    if 24 <= x.steps {
+    if STEPS <= x.steps {
         return a.rows;
     }
     let mut n = a.rows;
