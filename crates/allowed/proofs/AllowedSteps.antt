@@ -17,7 +17,7 @@ use Rattle.sc.specs.Actions.{given, writes}
 use Rattle.graph_writer.specs.Notes.{note, noteBytes}
 use Rattle.consistent.specs.Consistent.{rowOf, orderOf, Values}
 use Rattle.consistent.specs.Same.{sameEvent, sameRead}
-use Rattle.consistent.proofs.Walk.{noneWaits, turnOf, readFits, writeFits, fits}
+use Rattle.consistent.proofs.Walk.{noneWaits, nextWrite, readFits, writeFits, fits}
 use Rattle.graph_reader.specs.Held.{noLine}
 use Rattle.allowed.specs.HeldWalk.{Drawn, Ordering, Ranged, NoteOf, readAllowed, writeAllowed}
 use Rattle.graph_reader.proofs.TabledGraph.{read-test}
@@ -68,8 +68,8 @@ module _ (pairs places : List ℕ) (n : ℕ) (m : Machine) (made : List ℕ) (g 
           (sym (D .places t d small s)))
 
   -- the write
-  turn-part : t < 6 → place σ t < 8 → length (c .writes) < 24 → sameEvent (turnOf (orderOf g (place σ t)) (length (c .writes))) e ≡ writeAllowed pairs made (noteBytes (note σ t))
-  unfolding turnOf noteBytes note sameEvent
+  turn-part : t < 6 → place σ t < 8 → length (c .writes) < 24 → sameEvent (nextWrite (orderOf g (place σ t)) (length (c .writes))) e ≡ writeAllowed pairs made (noteBytes (note σ t))
+  unfolding nextWrite noteBytes note sameEvent
   turn-part six near room =
       let x = Q .orders (place σ t) (length (c .writes)) near room in
       let k = Q .made (place σ t) near in

@@ -25,7 +25,7 @@ use Rattle.replay.specs.declared.replaying.Verdict.the-variants.{Whole, Refused
 use Rattle.listing.specs.declared.calling.ListAnswer.{ListAnswer}
 use Rattle.list.specs.Answers.{startOf, continued, continueOf, failing, Violation, refused-by, violationBy, violationContent, violationOf}
 use Rattle.listing.specs.OnFile.{startOn, startFile, continueOn, continueFile, violationOn, violationFile}
-use Rattle.listing.specs.Said.{listAnswerOf, violationAnswerOf}
+use Rattle.listing.specs.AnswerOf.{listAnswerOf, violationAnswerOf}
 use Rattle.list.specs.ListOf.{listOf}
 use Rattle.list.specs.Search.{sought}
 use Rattle.walker.specs.declared.cursor.Cursor.{Cursor}

@@ -20,7 +20,7 @@ ghost use Rattle.schedules.specs.Calls.{answerTo, short, content};
 ghost use Rattle.walker.specs.Cursor.{remaining};
 ghost use Rattle.list.specs.Answers.{continueOf};
 ghost use Rattle.listing.specs.OnFile.{startFile, continueFile, violationFile};
-ghost use Rattle.listing.specs.Said.{listAnswerOf, violationAnswerOf};
+ghost use Rattle.listing.specs.AnswerOf.{listAnswerOf, violationAnswerOf};
 
 pub enum ListAnswer {
     // A schedule of so many steps stands in front of the output.

@@ -67,7 +67,7 @@ fn with_step(made: [u8; STEPS], k: usize, t: u8) -> [u8; STEPS]
     let j = k as u8;
     let mut steps = made;
     let mut i = 0u8;
-    while i < STEPS {
+    while i < 24 {
         let n = wide(i);
         steps[n] = byte_or(j, i, t, made[n]);
         i += 1;

@@ -52,12 +52,16 @@ unfolding run
 halts-run [] σ a h = h
 halts-run (t ∷ s) σ a h = halts-run s (step σ t) (a .1) (halts-step σ t (a .0) h)
 
+-- along a run a failed assertion of a thread leaves it no code
+pub halted : (p : Program) (s : Schedule) → Allowed SC (start p) s → (t : ℕ) → threadOf (endOf p s) t .local .failed ≡ true → threadOf (endOf p s) t .local .rest ≡ []
+halted p s a = halts-run s (start p) a (halts-start p)
+
 -- A FAILED RUN STAYS FAILED
 pub stays-failed : (p : Program) (s : Schedule) (t : ℕ) → Allowed SC (start p) s → enabled (endOf p s) t ≡ true → fails (endOf p s) ≡ true → fails (step (endOf p s) t) ≡ true
 unfolding failedOf
 stays-failed p s t a m e =
     let σ : State = endOf p s in
     let r = fails-at σ e in
-    let stopped = nothing-pending (threadOf σ (r .0) .local) (halts-run s (start p) a (halts-start p) (r .0) (r .1)) in
+    let stopped = nothing-pending (threadOf σ (r .0) .local) (halted p s a (r .0) (r .1)) in
     let ne : r .0 ≢ t = λ q. true≢false (sym (enabled-pending σ t m) ∙ ap (λ (u : ℕ). pending (threadOf σ u .local)) (sym q) ∙ stopped) in
     fails-of (step σ t) (r .0) (ap failedOf (thread-other σ t (r .0) ne) ∙ r .1)

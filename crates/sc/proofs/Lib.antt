@@ -23,8 +23,6 @@ pub mod Orders
 pub mod Regular
 pub mod Histories
 pub mod Growth
--- full schedules in document 01's words
-pub mod Ended
 -- replaying a schedule: whole exactly when full, refused by 20 or 21 exactly where it should be
 pub mod Replay
 pub mod SmallRefusals
@@ -36,6 +34,8 @@ pub mod Permitted
 pub mod Failing
 -- a run that failed stays so
 pub mod Halted
+-- full schedules in document 01's words
+pub mod Ended
 -- T3(b): full schedules with one graph do the same steps, end in the same state, and the least is found from any
 pub mod Reading
 pub mod Determined

@@ -37,7 +37,7 @@ use Rattle.tarczolin.specs.Check.{checkReply}
 use Rattle.tarczolin.specs.Graphed.{graphReply}
 use Rattle.tarczolin.specs.Listed.{listed, violationReply}
 use Rattle.tarczolin.specs.Tallied.{countReply}
-use Rattle.tarczolin.specs.Rowed.{rowsReply}
+use Rattle.tarczolin.specs.ByRows.{rowsReply}
 
 -- a refusal of the program fits every call's word
 pub refusal-fits : (file : List ℕ) (n k : ℕ) → decode file ≡ refused n k → (n < 256) × (k < 2 ^ 48)

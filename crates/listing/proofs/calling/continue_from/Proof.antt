@@ -3,7 +3,7 @@ use borrow.Author.Needs.{needs}
 use mathlib.Core.Path.{sym, ap, _∙_}
 use Rattle.decoder.specs.Compiled.{programOf}
 use Rattle.schedules.specs.Calls.{Result}
-use Rattle.listing.specs.Said.{listAnswerOf}
+use Rattle.listing.specs.AnswerOf.{listAnswerOf}
 use Rattle.decoder.proofs.Decoded.{decoded-refused, decoded-accepted, decoded-well-formed}
 use Rattle.listing.proofs.FileCalls.{continue-file, continue-file-refused}
 use Rattle.listing.proofs.calling.continue_from.Statement.{statement}

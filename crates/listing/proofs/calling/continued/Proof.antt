@@ -4,7 +4,7 @@ use mathlib.Core.Bool.{false}
 use mathlib.Core.Path.{sym, ap, _∙_}
 use Rattle.decoder.specs.Compiled.{programOf}
 use Rattle.schedules.specs.Calls.{Result}
-use Rattle.listing.specs.Said.{listAnswerOf}
+use Rattle.listing.specs.AnswerOf.{listAnswerOf}
 use Rattle.machine.proofs.HeldStart.{loaded-compiled}
 use Rattle.listing.proofs.FileCalls.{continue-short, continue-refused, continue-whole, continue-output}
 use Rattle.listing.proofs.calling.continued.Statement.{statement}

@@ -7,7 +7,7 @@ use Rattle.decoder.specs.Compiled.{programOf}
 use Rattle.schedules.specs.Calls.{Answer, content}
 use Rattle.walker.specs.Cursor.{remaining}
 use Rattle.schedules.proofs.Offered.{content-found, content-nomore, content-refused}
-use Rattle.listing.specs.Said.{listAnswerOf}
+use Rattle.listing.specs.AnswerOf.{listAnswerOf}
 use Rattle.listing.specs.declared.calling.ListAnswer.{ListAnswer}
 use Rattle.listing.specs.declared.calling.ListAnswer.the-variants.{Found}
 use Rattle.listing.proofs.FirstRow.{first-none}

@@ -3,7 +3,7 @@ use borrow.Author.Needs.{needs}
 use mathlib.Core.Bool.{false}
 use mathlib.Core.Path.{sym, ap, _∙_}
 use Rattle.decoder.specs.Compiled.{programOf}
-use Rattle.listing.specs.Said.{listAnswerOf}
+use Rattle.listing.specs.AnswerOf.{listAnswerOf}
 use Rattle.decoder.proofs.Decoded.{decoded-refused, decoded-accepted, decoded-well-formed}
 use Rattle.listing.proofs.FileCalls.{start-refused, start-refused-out, start-answered, start-output}
 use Rattle.listing.proofs.calling.start.Statement.{statement}

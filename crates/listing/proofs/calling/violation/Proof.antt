@@ -6,7 +6,7 @@ use mathlib.Core.List.{List}
 use Prim.Native.Nat.{ℕ}
 use Rattle.decoder.specs.Compiled.{programOf}
 use Rattle.list.specs.Answers.{Violation}
-use Rattle.listing.specs.Said.{violationAnswerOf}
+use Rattle.listing.specs.AnswerOf.{violationAnswerOf}
 use Rattle.decoder.proofs.Decoded.{decoded-refused, decoded-accepted, decoded-well-formed}
 use Rattle.listing.proofs.FileCalls.{violation-refused, violation-answer, violation-output}
 use Rattle.listing.proofs.calling.violation.Statement.{statement}

@@ -105,7 +105,7 @@ returns-3 c =
     let entry = d .before .before .before .before .before .before .before in
     let a = entry .args in
     page-full (programOf (a .program)) (entry .pre .0) (a .failures) (a .tight) (a .cursor) _ (a .out .now) _ _ (entry .pre .1) (bytes d) (d .before .listed-rows .ensures)
-    (b .before .if1 .left) (b .if2 .left) (w .result) _ (c .behind .result) (w .ensures) refl (c .behind .ensures (programOf (a .program)) (a .failures) (entry .pre .0))
+    (b .before .if1 .left) (b .if2 .left) (w .result) _ (c .behind .result) (w .ensures .0) refl (c .behind .ensures (programOf (a .program)) (a .failures) (entry .pre .0))
 
 pub search-on-spec : {M : Type 1} → statement M
 search-on-spec =

@@ -2,11 +2,11 @@
 use mathlib.Core.Path.{_≡_, refl}
 use Rattle.schedules.specs.Calls.{Answer, found, nomore, refused}
 use Rattle.list.specs.Answers.{Violation, fails-first, none-fails, refused-by}
-use Rattle.listing.specs.Reply.{said, violationAnswerOf}
+use Rattle.listing.specs.AnswerOf.{listAnswerOf, violationAnswerOf}
 use Rattle.tarczolin.specs.Listed.{listed, violationReply, replyOf}
 
-pub word-answer : (a : Answer) → replyOf (said a) ≡ listed a
-unfolding replyOf said listed
+pub word-answer : (a : Answer) → replyOf (listAnswerOf a) ≡ listed a
+unfolding replyOf listAnswerOf listed
 word-answer (found s) = refl
 word-answer nomore = refl
 word-answer (refused n k) = refl
