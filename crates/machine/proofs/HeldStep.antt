@@ -19,13 +19,15 @@ use Rattle.accesses.specs.declared.thread.ThreadState.{ThreadState}
 use Rattle.machine.specs.declared.state.LastWrite.{LastWrite}
 use Rattle.machine.specs.declared.state.Machine.{Machine}
 use Rattle.machine.specs.declared.stepping.After.{After}
-use Rattle.machine.specs.declared.stepping.Effect.{Effect}
+use Rattle.machine.specs.declared.stepping.Moved.{Moved}
 use Rattle.sc.specs.Local.{Local, settle, firstTakes, firstPuts, firstNext, pending, takes, puts, next}
 use Rattle.sc.specs.State.{Thread, Cell, State, threadOf, cellOf, place, latest, advanced, step, enabled}
 use Rattle.sc.specs.Actions.{writes}
 use Rattle.graph_writer.specs.Notes.{note, noteBytes}
+use Rattle.graph_writer.proofs.NoteGraph.{noted-location, noted-wrote}
+use Rattle.graph_writer.proofs.NotesHeld.{byte-location, byte-wrote}
 use Rattle.accesses.specs.CarriedOut.{accessOf, localOf}
-use Rattle.machine.specs.Held.{idle, unwritten, threadAt, lastAt, eventOf, HoldsThread, Holds, HoldsStep, threadBehind, lastBehind, behind, whole}
+use Rattle.machine.specs.Held.{idle, unwritten, threadAt, lastAt, eventOf, HoldsThread, Holds, HoldsStep, HoldsMoved, threadAfter, whole}
 use Rattle.sc.proofs.Access.{Settled, settle-law}
 use Rattle.sc.proofs.Steps.{enabled-small, enabled-range, cell-other, step-threads, step-cells}
 use Rattle.sc.proofs.Change.{thread-cases, noted-done, wrote-own, Change, kept, wrote, change}
@@ -196,84 +198,7 @@ pub record Acted (code lengths : List ℕ) (thread : ThreadState) (memory : List
   pub later : thread .at + 1 ≤ k .at
   pub counted : k .done ≡ thread .done + 1
 
--- a location's last write behind it
-abbrev pub lastOf : ℕ → ThreadState → LastWrite → Access → LastWrite
-lastOf t thread e a = cond (eqb (a .writes) 1) (record { thread = t; number = thread .done }) e
-
--- what it changes; the code names a location l by its remainder
-abbrev pub effectOf : ℕ → ThreadState → List ℕ → List LastWrite → Access → ThreadState → ℕ → Effect
-effectOf t thread memory last a k l = record {
-  registers = k .registers;
-  at = k .at;
-  done = k .done;
-  failed = k .failed;
-  place = l % 8;
-  value = cond (eqb (a .writes) 1) (a .value) (getD memory (l % 8) 0);
-  thread = lastOf t thread (getD last (l % 8) unwritten) a .thread;
-  number = lastOf t thread (getD last (l % 8) unwritten) a .number;
-  note = t ∷ thread .done ∷ a .location ∷ a .reads ∷ getD last (l % 8) unwritten .thread ∷ getD last (l % 8) unwritten .number ∷ a .writes ∷ 0 ∷ [];
-}
-
-module _ (code lengths : List ℕ) (m : Machine) (σ : State) (t : ℕ) (held : Holds code lengths m σ) (ok : enabled σ t ≡ true) (near : place σ t < 8)
-    (a : Access) (k : ThreadState) (l : ℕ) (el : l ≡ a .location) (acts : Acted code lengths (threadAt m t) (m .memory) t a k) where
-  abbrev x : Instruction
-  x = instructionAt code (t * 16 + threadAt m t .at)
-
-  abbrev effect : Effect
-  effect = effectOf t (threadAt m t) (m .memory) (m .last) a k l
-
-  own-location : l % 8 ≡ a .location
-  own-location =
-      let q = at-place code lengths m σ t held ok near x a k (acts .left) refl (acts .access) (acts .local) (acts .later) (acts .counted) in
-      ap (λ (v : ℕ). v % 8) el ∙ mod-eq-of-lt (omega (arith, q, near))
-
-  holds-behind : Holds code lengths (behind m t effect .machine) (step σ t)
-  holds-behind = go (eqb (a .writes) 1) refl
-    where
-      entry : Bool → LastWrite
-      entry b =
-          let e : LastWrite = cond b (record { thread = t; number = threadAt m t .done }) (getD (m .last) (l % 8) unwritten) in
-          record { thread = e .thread; number = e .number }
-
-      go : (b : Bool) → eqb (a .writes) 1 ≡ b → Holds code lengths (behind m t effect .machine) (step σ t)
-      go true q =
-          holds-written code lengths m σ t held ok near x a (threadBehind effect) (acts .left) refl (acts .access) (acts .local) (acts .later) (acts .counted)
-          (behind m t effect .machine) refl (l % 8) own-location (eqb-true (a .writes) 1 q)
-          (ap (λ (b : Bool). set (m .memory) (l % 8) (cond b (a .value) (getD (m .memory) (l % 8) 0))) q)
-          (ap (λ (b : Bool). set (m .last) (l % 8) (entry b)) q)
-      go false q =
-          holds-still code lengths m σ t held ok near x a (threadBehind effect) (acts .left) refl (acts .access) (acts .local) (acts .later) (acts .counted)
-          (behind m t effect .machine) refl (λ e. true≢false (sym (eq-eqb (a .writes) 1 e) ∙ q))
-          (ap (λ (b : Bool). set (m .memory) (l % 8) (cond b (a .value) (getD (m .memory) (l % 8) 0))) q ∙ set-getD (m .memory) (l % 8) 0)
-          (ap (λ (b : Bool). set (m .last) (l % 8) (entry b)) q ∙ set-getD (m .last) (l % 8) unwritten)
-
-  pub holds-effect : HoldsStep code lengths σ t (behind m t effect)
-  holds-effect = record {
-    holds = holds-behind;
-    noted = note-behind code lengths m σ t held ok near x a k (acts .left) refl (acts .access) (acts .local) (acts .later) (acts .counted) (lastAt m (l % 8)) (ap (lastAt m) own-location);
-  }
-
--- the code has the thread, the memory and the last writes by themselves, and the thread's number as u
-pub effect-holds : (code lengths : List ℕ) (m : Machine) (σ : State) (t u : ℕ) (thread : ThreadState) (memory : List ℕ) (last : List LastWrite) (a : Access) (k : ThreadState) (l : ℕ)
-    → u ≡ t → l ≡ a .location → Acted code lengths thread memory u a k
-    → threadAt m t ≡ thread → m .memory ≡ memory → m .last ≡ last → Holds code lengths m σ → enabled σ t ≡ true → place σ t < 8 → HoldsStep code lengths σ t (behind m t (effectOf t thread memory last a k l))
-effect-holds code lengths m σ t u thread memory last a k l eu el acts et em es held ok near =
-    subst (λ (v : ℕ). P v thread memory last) (sym eu)
-    (subst (λ (h : ThreadState). P t h memory last) et
-    (subst (λ (v : List ℕ). P t (threadAt m t) v last) em
-    (subst (P t (threadAt m t) (m .memory)) es (holds-effect code lengths m σ t held ok near a k l el)))) acts
-  where
-    P : ℕ → ThreadState → List ℕ → List LastWrite → Type 0
-    P v h n w = Acted code lengths h n v a k → HoldsStep code lengths σ t (behind m t (effectOf t h n w a k l))
-
--- what a step changes, stored in the machine that it was found in
-pub stored-step : (code lengths : List ℕ) (m : Machine) (t u : ℕ) (e : Effect) → u ≡ t
-    → ((n : Machine) (τ : State) → threadAt n t ≡ threadAt m u → n .memory ≡ m .memory → n .last ≡ m .last → Holds code lengths n τ → enabled τ t ≡ true → place τ t < 8 → HoldsStep code lengths τ t (behind n t e))
-    → (τ : State) → Holds code lengths m τ → enabled τ t ≡ true → place τ t < 8 → HoldsStep code lengths τ t (behind m u e)
-stored-step code lengths m t u e eu acts τ held ok near =
-    subst (λ (v : ℕ). HoldsStep code lengths τ t (behind m v e)) (sym eu) (acts m τ (ap (threadAt m) (sym eu)) refl refl held ok near)
-
--- given back whole: memory with the step's place changed
+-- what it gives back; the code names a location l by its remainder
 abbrev pub afterOf : Access → ThreadState → List ℕ → ℕ → After
 afterOf a k memory l = record {
   registers = k .registers;
@@ -287,13 +212,51 @@ afterOf a k memory l = record {
   writes = a .writes;
 }
 
+module _ (code lengths : List ℕ) (m : Machine) (σ : State) (t : ℕ) (held : Holds code lengths m σ) (ok : enabled σ t ≡ true) (near : place σ t < 8)
+    (a : Access) (k : ThreadState) (l : ℕ) (el : l ≡ a .location) (acts : Acted code lengths (threadAt m t) (m .memory) t a k) where
+  abbrev x : Instruction
+  x = instructionAt code (t * 16 + threadAt m t .at)
+
+  abbrev after : After
+  after = afterOf a k (m .memory) l
+
+  own-location : l % 8 ≡ a .location
+  own-location =
+      let q = at-place code lengths m σ t held ok near x a k (acts .left) refl (acts .access) (acts .local) (acts .later) (acts .counted) in
+      ap (λ (v : ℕ). v % 8) el ∙ mod-eq-of-lt (omega (arith, q, near))
+
+  holds-behind : Holds code lengths (whole m t t after .machine) (step σ t)
+  holds-behind = go (eqb (a .writes) 1) refl
+    where
+      entry : Bool → LastWrite
+      entry b = cond b (record { thread = t; number = threadAt m t .done }) (lastAt m (l % 8))
+
+      go : (b : Bool) → eqb (a .writes) 1 ≡ b → Holds code lengths (whole m t t after .machine) (step σ t)
+      go true q =
+          holds-written code lengths m σ t held ok near x a (threadAfter after) (acts .left) refl (acts .access) (acts .local) (acts .later) (acts .counted)
+          (whole m t t after .machine) refl (l % 8) own-location (eqb-true (a .writes) 1 q)
+          (ap (λ (b : Bool). set (m .memory) (l % 8) (cond b (a .value) (getD (m .memory) (l % 8) 0))) q)
+          (ap (λ (b : Bool). set (m .last) (l % 8) (entry b)) q)
+      go false q =
+          holds-still code lengths m σ t held ok near x a (threadAfter after) (acts .left) refl (acts .access) (acts .local) (acts .later) (acts .counted)
+          (whole m t t after .machine) refl (λ e. true≢false (sym (eq-eqb (a .writes) 1 e) ∙ q))
+          (ap (λ (b : Bool). set (m .memory) (l % 8) (cond b (a .value) (getD (m .memory) (l % 8) 0))) q ∙ set-getD (m .memory) (l % 8) 0)
+          (ap (λ (b : Bool). set (m .last) (l % 8) (entry b)) q ∙ set-getD (m .last) (l % 8) unwritten)
+
+  pub holds-after : HoldsStep code lengths σ t (whole m t t after)
+  holds-after = record {
+    holds = holds-behind;
+    noted = note-behind code lengths m σ t held ok near x a k (acts .left) refl (acts .access) (acts .local) (acts .later) (acts .counted) (lastAt m (l % 8)) (ap (lastAt m) own-location);
+  }
+
+-- the code has the thread and the memory by themselves, and the thread's number as u
 pub after-holds : (code lengths : List ℕ) (m : Machine) (σ : State) (t u : ℕ) (thread : ThreadState) (memory : List ℕ) (a : Access) (k : ThreadState) (l : ℕ)
     → u ≡ t → l ≡ a .location → Acted code lengths thread memory u a k
     → threadAt m t ≡ thread → m .memory ≡ memory → Holds code lengths m σ → enabled σ t ≡ true → place σ t < 8 → HoldsStep code lengths σ t (whole m t t (afterOf a k memory l))
 after-holds code lengths m σ t u thread memory a k l eu el acts et em held ok near =
     subst (λ (v : ℕ). P v thread memory) (sym eu)
     (subst (λ (h : ThreadState). P t h memory) et
-    (subst (P t (threadAt m t)) em (holds-effect code lengths m σ t held ok near a k l el))) acts
+    (subst (P t (threadAt m t)) em (holds-after code lengths m σ t held ok near a k l el))) acts
   where
     P : ℕ → ThreadState → List ℕ → Type 0
     P v h n = Acted code lengths h n v a k → HoldsStep code lengths σ t (whole m t t (afterOf a k n l))
@@ -304,3 +267,15 @@ pub stored-whole : (code lengths : List ℕ) (m : Machine) (t u : ℕ) (a : Afte
     → (τ : State) → Holds code lengths m τ → enabled τ t ≡ true → place τ t < 8 → HoldsStep code lengths τ t (whole m u t a)
 stored-whole code lengths m t u a eu acts τ held ok near =
     subst (λ (v : ℕ). HoldsStep code lengths τ t (whole m v t a)) (sym eu) (acts m τ (ap (threadAt m) (sym eu)) refl held ok near)
+
+-- to one who keeps no last writes and no note
+abbrev pub movedOf : After → Moved
+movedOf a = record { thread = threadAfter a; memory = a .memory; location = a .location; wrote = eqb (a .writes) 1 }
+
+pub moved-holds : (code lengths : List ℕ) (m : Machine) (σ : State) (t : ℕ) (a : After) → HoldsStep code lengths σ t (whole m t t a) → HoldsMoved code lengths m σ t (movedOf a)
+moved-holds code lengths m σ t a s = record {
+  last = whole m t t a .machine .last;
+  holds = s .holds;
+  location = ap (λ (bs : List ℕ). getD bs 2 0) (s .noted) ∙ byte-location (note σ t) ∙ noted-location σ t;
+  wrote = ap (λ (bs : List ℕ). eqb (getD bs 6 0) 1) (s .noted) ∙ byte-wrote (note σ t) ∙ noted-wrote σ t;
+}

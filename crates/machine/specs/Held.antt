@@ -13,10 +13,11 @@ use Rattle.accesses.specs.declared.thread.ThreadState.{ThreadState}
 use Rattle.machine.specs.declared.state.LastWrite.{LastWrite}
 use Rattle.machine.specs.declared.state.Machine.{Machine}
 use Rattle.machine.specs.declared.stepping.After.{After}
-use Rattle.machine.specs.declared.stepping.Effect.{Effect}
+use Rattle.machine.specs.declared.stepping.Moved.{Moved}
 use Rattle.machine.specs.declared.stepping.Stepped.{Stepped}
 use Rattle.sc.specs.Local.{pending}
-use Rattle.sc.specs.State.{Event, Thread, State, threadOf, cellOf, latest, step}
+use Rattle.sc.specs.State.{Event, Thread, State, threadOf, cellOf, latest, place, step}
+use Rattle.sc.specs.Actions.{writes}
 use Rattle.graph_writer.specs.Notes.{note, noteBytes}
 
 -- what an array of threads, and one of last writes, reads as behind its end
@@ -82,23 +83,13 @@ pub record HoldsStep (code lengths : List ℕ) (σ : State) (t : ℕ) (r : Stepp
   pub holds : Holds code lengths (r .machine) (step σ t)
   pub noted : r .note ≡ noteBytes (note σ t)
 
--- the thread and the last write that a step leaves
-abbrev pub threadBehind : Effect → ThreadState
-threadBehind e = record { registers = e .registers; at = e .at; done = e .done; failed = e .failed }
-
-abbrev pub lastBehind : Effect → LastWrite
-lastBehind e = record { thread = e .thread; number = e .number }
-
--- the machine behind a step of thread t that changes so much, and the step's note
-abbrev pub behind : Machine → ℕ → Effect → Stepped
-behind m t e = record {
-  machine = record {
-    threads = set (m .threads) t (threadBehind e);
-    memory = set (m .memory) (e .place) (e .value);
-    last = set (m .last) (e .place) (lastBehind e);
-  };
-  note = e .note;
-}
+-- what it leaves to one who keeps no last writes of the machine m: the next state with some last writes, the step's location, and whether
+-- it wrote
+pub record HoldsMoved (code lengths : List ℕ) (m : Machine) (σ : State) (t : ℕ) (a : Moved) : Type 0 where
+  pub last : List LastWrite
+  pub holds : Holds code lengths (record { threads = set (m .threads) t (a .thread); memory = a .memory; last = last }) (step σ t)
+  pub location : a .location ≡ place σ t
+  pub wrote : a .wrote ≡ writes σ t
 
 -- the thread that a step leaves where it gives registers and memory back whole; the last write of its place, where e was; and its note
 abbrev pub threadAfter : After → ThreadState

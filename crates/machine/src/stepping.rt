@@ -12,21 +12,7 @@ ghost use Prim.Native.Nat.{_<_};
 ghost use lib.Dec.{eqb};
 ghost use lib.ListN.{set};
 ghost use Rattle.sc.specs.State.{State, place, enabled};
-ghost use Rattle.machine.specs.Held.{threadAt, Holds, ReadyThread, Ready, HoldsStep, behind, whole};
-
-// What a step changes: its thread, and at its place the value and the last write, as they are behind it; and the step's note. Single bytes
-// that are stored together behind the step stand apart here, so that no processor reads two stores as one load.
-pub struct Effect {
-    pub registers: [u32; 4],
-    pub at: usize,
-    pub place: usize,
-    pub note: [u8; 8],
-    pub value: u32,
-    pub done: u8,
-    pub thread: u8,
-    pub failed: bool,
-    pub number: u8,
-}
+ghost use Rattle.machine.specs.Held.{threadAt, Holds, ReadyThread, Ready, HoldsStep, HoldsMoved, whole};
 
 // What a step gives back: its thread's registers and memory whole, and the rest of its thread; its place, and whether it reads and writes
 // (1 or 0). The last writes are its caller's: one of them is read and stored where they lie.
@@ -40,6 +26,15 @@ pub struct After {
     pub location: u8,
     pub reads: u8,
     pub writes: u8,
+}
+
+// What a step gives back to one who keeps no last writes: its thread with the registers, and memory, whole; its location, and whether it
+// wrote.
+pub struct Moved {
+    pub thread: ThreadState,
+    pub memory: [u32; 8],
+    pub location: u8,
+    pub wrote: bool,
 }
 
 // The machine behind a step, and the step's note.
@@ -69,55 +64,6 @@ pub fn last_behind(writes: u8, t: u8, number: u8, e: LastWrite) -> LastWrite
         };
     }
     e
-}
-
-// What a step of thread t changes where the thread stands so, with this memory and these last writes. A search that has its own copy of the
-// machine stores these few values there: no machine is passed.
-pub fn acted(
-    code: &Code,
-    lengths: &[usize; 6],
-    thread: ThreadState,
-    memory: [u32; 8],
-    last: [LastWrite; 8],
-    t: u8,
-) -> Effect
-    requires { ⌜ ReadyThread (now lengths) thread t ⌝ }
-    ensures within { λ e. ⌜ e .place < 8 ⌝ }
-    ensures step { λ e. ⌜ ((m : Machine) (σ : State) → threadAt m t ≡ thread → m .memory ≡ memory → m .last ≡ last
-        → Holds (now (code .entry)) (now (lengths .entry)) m σ → enabled σ t ≡ true → place σ t < 8
-        → HoldsStep (now (code .entry)) (now (lengths .entry)) σ t (behind m t e)) ⌝ }
-{
-    let u = wide(t);
-    let at = thread.at;
-    let done = thread.done;
-    let registers = thread.registers;
-    let a = accessed_at(code, u * 16 + at, registers, memory);
-    let rs = a.registers;
-    let k = settled(code, u, lengths[u], at + 1, rs, done + 1);
-    let ks = k.registers;
-    let l = wide(a.location) % 8;
-    let e = last[l];
-    let w = last_behind(a.writes, t, done, e);
-    Effect {
-        registers: ks,
-        at: k.at,
-        done: k.done,
-        failed: k.failed,
-        place: l,
-        value: value_behind(a.writes, a.value, memory[l]),
-        thread: w.thread,
-        number: w.number,
-        note: [
-            t,
-            done,
-            a.location,
-            a.reads,
-            e.thread,
-            e.number,
-            a.writes,
-            0,
-        ],
-    }
 }
 
 // v where j is i, else x.
@@ -182,6 +128,35 @@ pub fn after_step(
         location: a.location,
         reads: a.reads,
         writes: a.writes,
+    }
+}
+
+// The same for one who keeps no last writes and no note.
+pub fn lean_step(
+    code: &Code,
+    lengths: &[usize; 6],
+    thread: ThreadState,
+    memory: [u32; 8],
+    t: u8,
+) -> Moved
+    requires { ⌜ ReadyThread (now lengths) thread t ⌝ }
+    ensures { λ a. ⌜ ((m : Machine) (σ : State) → threadAt m t ≡ thread → m .memory ≡ memory
+        → Holds (now (code .entry)) (now (lengths .entry)) m σ → enabled σ t ≡ true → place σ t < 8
+        → HoldsMoved (now (code .entry)) (now (lengths .entry)) m σ t a) ⌝ }
+{
+    let a = after_step(code, lengths, thread, memory, t);
+    let registers = a.registers;
+    let values = a.memory;
+    Moved {
+        thread: ThreadState {
+            registers: registers,
+            at: a.at,
+            done: a.done,
+            failed: a.failed,
+        },
+        memory: values,
+        location: a.location,
+        wrote: a.writes == 1,
     }
 }
 

@@ -141,13 +141,12 @@ pub fn some_asleep(code: &Code, lengths: &[usize; 6], left: &[u8; 192], x: Place
     if x.late == 0 {
         return false;
     }
-    let m = x.machine;
-    let a = m.threads[0];
-    let b = m.threads[1];
-    let c = m.threads[2];
-    let d = m.threads[3];
-    let e = m.threads[4];
-    let f = m.threads[5];
+    let a = x.threads[0];
+    let b = x.threads[1];
+    let c = x.threads[2];
+    let d = x.threads[3];
+    let e = x.threads[4];
+    let f = x.threads[5];
     let at = [a.at, b.at, c.at, d.at, e.at, f.at];
     let mut set = x.late;
     while set != 0 {

@@ -1,6 +1,6 @@
 -- The search as the code walks it: with one next step, over the next steps in turn, and at a full schedule.
 use Prim.Native.Nat.{ℕ, _+_, _-_, _<_, _≤_}
-use mathlib.Core.Path.{_≡_, refl, sym, ap, _∙_}
+use mathlib.Core.Path.{_≡_, refl, sym, ap, subst, _∙_}
 use mathlib.Core.Bool.{Bool, true, false, not}
 use mathlib.Core.Option.{Option, none}
 use mathlib.Core.List.{List, [], _∷_, _++_}
@@ -22,33 +22,24 @@ use Rattle.survivors.specs.Sets.{has}
 use Rattle.survivors.specs.LateSet.{lateSet}
 use Rattle.survivors.specs.Sleepers.{sleepers}
 use Rattle.survivors.specs.Search.{foundBehind, foundWith}
-use Rattle.survivors.proofs.Search.{up-late, up-twin, up-asleep, up-not, with-ended, with-given-up, with-live, behind-bound, behind-turns}
+use Rattle.survivors.proofs.Search.{up-asleep, up-not, with-given-up, with-live, behind-bound, behind-turns}
 use Rattle.prefix.specs.Reached.{Reached}
 use Rattle.prefix.specs.declared.place.Place.{Place}
 use Rattle.prefix.proofs.ReachedStep.{reached-room}
 use Rattle.walker.specs.Bounds.{boundAt}
+use Rattle.walker.specs.Tried.{tried}
 use Rattle.walker.specs.Walked.{Adds}
+use Rattle.walker.proofs.TriedSteps.{tried-enabled, tried-on-time, tried-alone, untried-none}
 use Rattle.walker.proofs.AddedRows.{adds-none, adds-full, adds-more, adds-same}
 
 -- ---- with one next step
 module _ (code lengths class : List ℕ) (threads groups : ℕ) (x : Place) (p : Program) (v : Schedule) (at : Reached code lengths class threads groups x p v)
     (failures : Bool) (o : Option Schedule) (t : ℕ) where
-  -- the thread has ended
-  pub visit-ended : enabled (endOf p v) t ≡ false → foundWith failures p (x .steps) o v t ≡ []
-  visit-ended e = with-ended failures p (x .steps) o v t e
+  module _ (is : tried p v t ≡ true) where
+    ok : enabled (endOf p v) t ≡ true
+    ok = tried-enabled p v t is
 
-  module _ (ok : enabled (endOf p v) t ≡ true) where
-    -- whether it is late, as the code asks it
-    asked-late : has (lateSet p v) t ≡ has (x .late) t
-    asked-late = ap (λ (s : ℕ). has s t) (sym (at .late))
-
-    -- the rules
-    pub visit-late : has (x .late) t ≡ true → foundWith failures p (x .steps) o v t ≡ []
-    visit-late e = with-given-up failures p (x .steps) o v t ok (up-late p v t (asked-late ∙ e))
-
-    pub visit-twin : any (twin p (endOf p v) t) (range 0 t) ≡ true → foundWith failures p (x .steps) o v t ≡ []
-    visit-twin e = with-given-up failures p (x .steps) o v t ok (up-twin p v t e)
-
+    -- it leaves some asleep
     pub visit-asleep : not (eqb (sleepers (endOf p (v ++ (t ∷ []))) (lateSet p (v ++ (t ∷ [])))) 0) ≡ true → foundWith failures p (x .steps) o v t ≡ []
     visit-asleep e = with-given-up failures p (x .steps) o v t ok (up-asleep p v t (eqb-false _ 0 (not-true _ e)))
 
@@ -62,12 +53,11 @@ module _ (code lengths class : List ℕ) (threads groups : ℕ) (x : Place) (p :
       visit-less = omega (arith, next-steps, reached-room code lengths class threads groups x p v at t ok)
 
       -- no rule gives it up
-      pub visit-on : has (x .late) t ≡ false → any (twin p (endOf p v) t) (range 0 t) ≡ false
-          → not (eqb (sleepers (endOf p (v ++ (t ∷ []))) (lateSet p (v ++ (t ∷ [])))) 0) ≡ false
+      pub visit-on : not (eqb (sleepers (endOf p (v ++ (t ∷ []))) (lateSet p (v ++ (t ∷ [])))) 0) ≡ false
           → (still : Bool) (bound : List ℕ) → boundAt still bound (x .steps + 1) ≡ past o t
           → foundWith failures p (x .steps) o v t ≡ foundBehind failures p (y .steps) (boundAt still bound (y .steps)) (v ++ (t ∷ []))
-      visit-on a b c still bound e =
-          with-live failures p (x .steps) o v t ok (up-not p v t (asked-late ∙ a) b (eqb-true _ 0 (not-false _ c)))
+      visit-on c still bound e =
+          with-live failures p (x .steps) o v t ok (up-not p v t (tried-on-time p v t is) (tried-alone p v t is) (eqb-true _ 0 (not-false _ c)))
           ∙ ap (λ (q : Option Schedule). foundBehind failures p (x .steps + 1) q (v ++ (t ∷ []))) (sym e)
           ∙ ap (λ (k : ℕ). foundBehind failures p k (boundAt still bound k) (v ++ (t ∷ []))) (sym next-steps)
 
@@ -108,6 +98,33 @@ module _ (code lengths class : List ℕ) (failures : Bool) (x : Place) (o : Opti
       rest threads groups p v at out'' n''
       (adds-same p room _ _ out out'' n n'' (concat-range-more (λ d. foundWith failures p (x .steps) o v d) 6 t h)
       (adds-more p room (foundWith failures p (x .steps) o v t) _ out out' out'' n n' n'' (adds threads groups p v at) a))
+
+  -- one that is not tried
+  rest-skip : (out : List ℕ) (n t : ℕ) → t < 6 → Still out n t
+      → ((threads groups : ℕ) (p : Program) (v : Schedule) → Reached code lengths class threads groups x p v → tried p v t ≡ false)
+      → Still out n (t + 1)
+  rest-skip out n t h rest not-tried =
+      rest-next out out n n t h rest (λ threads groups p v at. adds-none p room _ out n (untried-none p v t failures (x .steps) o (not-tried threads groups p v at)))
+
+  -- a turn of the loop, whether or not its step is tried: what the code holds behind it
+  abbrev Turned : (out : List ℕ) (n t : ℕ) → Type 0
+  Turned out n t = (n ≤ room) × (length out ≡ length out₀) × Still out n (t + 1)
+
+  turned-as : (out out' : List ℕ) (n n' t : ℕ) → out' ≡ out → n' ≡ n → Turned out n t → Turned out' n' t
+  turned-as out out' n n' t eo en h = subst (λ (l : List ℕ). Turned l n' t) (sym eo) (subst (λ (k : ℕ). Turned out k t) (sym en) h)
+
+  pub turn-taken : (out out' behind : List ℕ) (n n' k t : ℕ) → t < 6 → length out ≡ length out₀ → Still out n t
+      → n' ≤ room → length out' ≡ length out
+      → ((threads groups : ℕ) (p : Program) (v : Schedule) → Reached code lengths class threads groups x p v → Adds p room (foundWith failures p (x .steps) o v t) out n out' n')
+      → behind ≡ out' → k ≡ n' → (k ≤ room) × (length behind ≡ length out₀) × Still behind k (t + 1)
+  turn-taken out out' behind n n' k t h same rest fits long adds eo en =
+      turned-as out' behind n' k t eo en (fits, long ∙ same, rest-next out out' n n' t h rest adds)
+
+  pub turn-skipped : (out behind : List ℕ) (n k t : ℕ) → t < 6 → n ≤ room → length out ≡ length out₀ → Still out n t
+      → ((threads groups : ℕ) (p : Program) (v : Schedule) → Reached code lengths class threads groups x p v → tried p v t ≡ false)
+      → behind ≡ out → k ≡ n → (k ≤ room) × (length behind ≡ length out₀) × Still behind k (t + 1)
+  turn-skipped out behind n k t h fits same rest not-tried eo en =
+      turned-as out behind n k t eo en (fits, same, rest-skip out n t h rest not-tried)
 
   -- no step is left
   pub rest-over : (out : List ℕ) (n t : ℕ) → 6 ≤ t → Still out n t → (threads groups : ℕ) (p : Program) (v : Schedule)

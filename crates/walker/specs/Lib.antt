@@ -5,5 +5,7 @@ pub mod Rows
 pub mod Cursor
 -- a search's bound, step by step; for the code
 pub mod Bounds
+-- which next steps are tried; for the code
+pub mod Tried
 -- what the search adds to the rows in its output; for the code
 pub mod Walked

@@ -2,7 +2,7 @@
 use crate::aim::Aim;
 use crate::putting::ROW;
 use crate::putting::put_row;
-use machine::fails;
+use accesses::ThreadState;
 use prefix::Place;
 ghost use mathlib.Core.Path.{_≡_};
 ghost use mathlib.Core.Bool.{true, not, _||_};
@@ -13,8 +13,10 @@ ghost use lib.ListN.{length};
 ghost use Rattle.program.specs.Program.{Program};
 ghost use Rattle.schedules.specs.Order.{Schedule};
 ghost use Rattle.schedules.specs.System.{ended};
-ghost use Rattle.sc.specs.State.{SC};
+ghost use Rattle.sc.specs.State.{State, SC, fails};
 ghost use Rattle.sc.specs.Graph.{endOf};
+ghost use Rattle.machine.specs.Held.{Holds};
+ghost use Rattle.machine.specs.declared.state.Machine.{Machine};
 ghost use Rattle.survivors.specs.Search.{foundBehind};
 ghost use Rattle.prefix.specs.Reached.{Reached};
 ghost use Rattle.walker.specs.Walked.{Adds};
@@ -29,6 +31,21 @@ fn is_meant(failures: bool, f: bool) -> bool
     true
 }
 
+// Whether an assertion of one of these threads failed.
+fn some_failed(threads: [ThreadState; 6]) -> bool
+    ensures { λ r. ⌜ ((code lengths : List ℕ) (m : Machine) (σ : State) → m .threads ≡ threads → Holds code lengths m σ → r ≡ fails σ) ⌝ }
+{
+    let mut t = 0;
+    while t < 6 {
+        let thread = threads[t];
+        if thread.failed {
+            return true;
+        }
+        t += 1;
+    }
+    false
+}
+
 // Adds its row, if it is looked for and there is room; answers how many rows there are.
 pub(crate) fn at_end(x: Place, a: Aim, out: &mut [u8]) -> usize
     requires { ⌜ (x .steps ≤ 24) × (a .rows ≤ a .room) × (a .room * 26 ≤ length (now out)) ⌝ }
@@ -41,7 +58,8 @@ pub(crate) fn at_end(x: Place, a: Aim, out: &mut [u8]) -> usize
     if a.room <= rows {
         return rows;
     }
-    let f = fails(x.machine);
+    let threads = x.threads;
+    let f = some_failed(threads);
     if !is_meant(a.failures, f) {
         return rows;
     }
