@@ -51,7 +51,7 @@ def unknown_edits(text, root):
                 yield f'docs/CLAIMS.md names the edit {name}, and no crate has it'
 
 
-CALLS = {'byte_at', 'line_end', 'first_rows', 'next_rows', 'continue_from', 'instruction_at'}
+CALLS = {'byte_at', 'line_end', 'first_rows', 'next_rows', 'continue_from'}
 
 
 def said(root):

@@ -1,19 +1,26 @@
 -- What the functions that read a row by its bytes rest on: four registers chosen one by one, and rows that are accesses or none.
-use Prim.Native.Nat.{ℕ, zero, suc, _*_, _<_, _≤_}
+use Prim.Native.Nat.{ℕ, zero, suc, _+_, _*_, _<_, _≤_}
 use native.Mathlib.Omega.{arith}
-use mathlib.Core.Path.{_≡_, refl, sym, _∙_}
-use mathlib.Core.Bool.{true, false, cond, true≢false, false≢true}
+use mathlib.Core.Path.{_≡_, refl, sym, ap, _∙_}
+use mathlib.Core.Bool.{Bool, true, false, cond, true≢false}
 use mathlib.Core.List.{List, [], _∷_}
 use lib.Dec.{eqb}
 use lib.ListN.{length, getD, set, List·getD-eq-default}
 use lib.Seq.{set-out}
 use borrow.Author.Tests.{ne-eqb}
+use Rattle.program.specs.declared.instruction.Operand.{Operand}
+use Rattle.program.specs.declared.instruction.Comparison.the-variants.{Equal}
+use Rattle.program.specs.declared.instruction.Test.{Test}
+use Rattle.program.specs.declared.instruction.Own.{Own}
+use Rattle.program.specs.declared.instruction.Own.the-variants.{Assign, AddAssign, SkipUnless, Assert}
 use Rattle.program.specs.declared.instruction.Instruction.{Instruction}
-use Rattle.program.specs.declared.instruction.Instruction.the-variants.{Store, Load, FetchAdd, CompareSwap, Assign, AddAssign, SkipUnless, Assert}
-use Rattle.rows.specs.Rows.{instructionAt}
-use Rattle.rows.proofs.Rows.{row-store, row-load, row-fetch-add, row-compare-swap, row-no-access}
-use Rattle.sc.specs.Local.{beginsWithAccess}
-use Rattle.accesses.specs.Turns.{standing, turnOf, accessing, accessOf}
+use Rattle.program.specs.declared.instruction.Instruction.the-variants.{Alone}
+use Rattle.program.specs.Frames.{operand, test}
+use Rattle.rows.specs.Rows.{rowAt, instructionAt}
+use Rattle.rows.proofs.Rows.{row-store, row-load, row-fetch-add, row-compare-swap, row-assign, row-add-assign, row-skip, row-assert, row-other, row-no-access}
+use Rattle.sc.specs.Local.{holds, outcome, beginsWithAccess}
+use Rattle.accesses.specs.declared.local.Carried.{Carried}
+use Rattle.accesses.specs.CarriedOut.{carried, accessing, accessOf}
 
 -- ---- four registers
 by-four : (P : List ℕ → Type 0) → ((a b c d : ℕ) → P (a ∷ b ∷ c ∷ d ∷ [])) → (rs : List ℕ) → length rs ≡ 4 → P rs
@@ -57,18 +64,6 @@ pub same-four : (rs : List ℕ) → length rs ≡ 4 → (getD rs 0 0 ∷ getD rs
 same-four rs e = by-four (λ rs. (getD rs 0 0 ∷ getD rs 1 0 ∷ getD rs 2 0 ∷ getD rs 3 0 ∷ []) ≡ rs) (λ a b c d. refl) rs e
 
 -- ---- accesses and other instructions
--- a thread by itself stands before an access
-pub access-turn : (i : Instruction) (rs : List ℕ) → beginsWithAccess (i ∷ []) ≡ true → standing rs ≡ turnOf i rs
-unfolding beginsWithAccess
-access-turn (Store l p) rs e = refl
-access-turn (Load r l) rs e = refl
-access-turn (FetchAdd r l p) rs e = refl
-access-turn (CompareSwap r l p q) rs e = refl
-access-turn (Assign r p) rs e = absurd (false≢true e)
-access-turn (AddAssign r p) rs e = absurd (false≢true e)
-access-turn (SkipUnless r p n) rs e = absurd (false≢true e)
-access-turn (Assert r p) rs e = absurd (false≢true e)
-
 -- row k of the code
 module _ (code : List ℕ) (k : ℕ) (h : k < 96) where
   pub access-store : getD code (k * 16) 0 ≡ 0x10 → beginsWithAccess (instructionAt code k ∷ []) ≡ true
@@ -91,10 +86,10 @@ module _ (code : List ℕ) (k : ℕ) (h : k < 96) where
     -- none of them
     pub no-access : beginsWithAccess (instructionAt code k ∷ []) ≡ false
     unfolding beginsWithAccess
-    no-access = row-no-access code k h (λ i. beginsWithAccess (i ∷ []) ≡ false) n10 n11 n12 n13 (λ r p. refl) (λ r p. refl) (λ r p n. refl) (λ r p. refl)
+    no-access = row-no-access code k h (λ i. beginsWithAccess (i ∷ []) ≡ false) n10 n11 n12 n13 (λ o. refl)
 
     pub access-none : (rs m : List ℕ) → accessing 0 0 rs 0 0 ≡ accessOf (instructionAt code k) rs m
-    access-none rs m = row-no-access code k h (λ i. accessing 0 0 rs 0 0 ≡ accessOf i rs m) n10 n11 n12 n13 (λ r p. refl) (λ r p. refl) (λ r p n. refl) (λ r p. refl)
+    access-none rs m = row-no-access code k h (λ i. accessing 0 0 rs 0 0 ≡ accessOf i rs m) n10 n11 n12 n13 (λ o. refl)
 
   -- a row that is no access begins with none of the four bytes
   module _ (e : beginsWithAccess (instructionAt code k ∷ []) ≡ false) where
@@ -109,3 +104,48 @@ module _ (code : List ℕ) (k : ℕ) (h : k < 96) where
 
     pub not-compare-swap : getD code (k * 16) 0 ≡ 0x13 → ⊥
     not-compare-swap q = true≢false (sym (access-compare-swap q) ∙ e)
+
+-- ---- what is no access, carried out
+-- an instruction is one of a thread's own alone
+own-carried : (x : Instruction) (rs : List ℕ) (s : Carried) (a : Own) → x ≡ Alone a → s ≡ carried rs (outcome rs a) → (o : Own) → x ≡ Alone o → s ≡ carried rs (outcome rs o)
+own-carried x rs s a ea es o eo =
+    let q : Alone a ≡ Alone o = sym ea ∙ eo in
+    let same : a ≡ o = cc in
+    es ∙ ap (λ (k : Own). carried rs (outcome rs k)) same
+
+-- row k of the code, by its first byte: s is what the code gives for registers rs, p its operand, b what it finds of the test
+module _ (code : List ℕ) (k : ℕ) (h : k < 96) (rs : List ℕ) (s : Carried) where
+  pub carried-assign : getD code (k * 16) 0 ≡ 0x20 → (p : Operand) → p ≡ operand (rowAt code k) 2
+      → s ≡ carried rs (outcome rs (Assign (getD code (k * 16 + 1) 0) p)) → (o : Own) → instructionAt code k ≡ Alone o → s ≡ carried rs (outcome rs o)
+  carried-assign e p ep es = own-carried (instructionAt code k) rs s _ (row-assign code k h e ∙ ap (λ (q : Operand). Alone (Assign (getD code (k * 16 + 1) 0) q)) (sym ep)) es
+
+  pub carried-add : getD code (k * 16) 0 ≡ 0x21 → (p : Operand) → p ≡ operand (rowAt code k) 2
+      → s ≡ carried rs (outcome rs (AddAssign (getD code (k * 16 + 1) 0) p)) → (o : Own) → instructionAt code k ≡ Alone o → s ≡ carried rs (outcome rs o)
+  carried-add e p ep es = own-carried (instructionAt code k) rs s _ (row-add-assign code k h e ∙ ap (λ (q : Operand). Alone (AddAssign (getD code (k * 16 + 1) 0) q)) (sym ep)) es
+
+  pub carried-skip : getD code (k * 16) 0 ≡ 0x22 → (p : Operand) → p ≡ operand (rowAt code k) 2 → (b : Bool) → b ≡ holds rs (test Equal (getD code (k * 16 + 1) 0) p)
+      → ((t : Test) → b ≡ holds rs t → s ≡ carried rs (outcome rs (SkipUnless t (getD code (k * 16 + 7) 0))))
+      → (o : Own) → instructionAt code k ≡ Alone o → s ≡ carried rs (outcome rs o)
+  carried-skip e p ep b eb es =
+      own-carried (instructionAt code k) rs s _
+      (row-skip code k h e ∙ ap (λ (q : Operand). Alone (SkipUnless (test Equal (getD code (k * 16 + 1) 0) q) (getD code (k * 16 + 7) 0))) (sym ep))
+      (es (test Equal (getD code (k * 16 + 1) 0) p) eb)
+
+  pub carried-assert : getD code (k * 16) 0 ≡ 0x23 → (p : Operand) → p ≡ operand (rowAt code k) 2 → (b : Bool) → b ≡ holds rs (test Equal (getD code (k * 16 + 1) 0) p)
+      → ((t : Test) → b ≡ holds rs t → s ≡ carried rs (outcome rs (Assert t))) → (o : Own) → instructionAt code k ≡ Alone o → s ≡ carried rs (outcome rs o)
+  carried-assert e p ep b eb es =
+      own-carried (instructionAt code k) rs s _
+      (row-assert code k h e ∙ ap (λ (q : Operand). Alone (Assert (test Equal (getD code (k * 16 + 1) 0) q))) (sym ep))
+      (es (test Equal (getD code (k * 16 + 1) 0) p) eb)
+
+  -- none of the four, where it is no access
+  pub carried-other : (getD code (k * 16) 0 ≡ 0x20 → ⊥) → (getD code (k * 16) 0 ≡ 0x21 → ⊥) → (getD code (k * 16) 0 ≡ 0x22 → ⊥) → (getD code (k * 16) 0 ≡ 0x23 → ⊥)
+      → (p : Operand) → p ≡ operand (rowAt code k) 0 → (b : Bool) → b ≡ holds rs (test Equal (getD code (k * 16) 0) p)
+      → ((t : Test) → b ≡ holds rs t → s ≡ carried rs (outcome rs (Assert t))) → (o : Own) → instructionAt code k ≡ Alone o → s ≡ carried rs (outcome rs o)
+  unfolding beginsWithAccess
+  carried-other n20 n21 n22 n23 p ep b eb es o eo =
+      let no : beginsWithAccess (instructionAt code k ∷ []) ≡ false = ap (λ (x : Instruction). beginsWithAccess (x ∷ [])) eo in
+      own-carried (instructionAt code k) rs s _
+      (row-other code k h (not-store code k h no) (not-load code k h no) (not-fetch-add code k h no) (not-compare-swap code k h no) n20 n21 n22 n23
+      ∙ ap (λ (q : Operand). Alone (Assert (test Equal (getD code (k * 16) 0) q))) (sym ep))
+      (es (test Equal (getD code (k * 16) 0) p) eb) o eo

@@ -2,7 +2,7 @@
 -- How the machine's functions meet the definitions.
 -- registers chosen one by one, and rows by their first byte
 pub mod HeldRows
--- settling by turns
-pub mod HeldTurns
+-- settling, one instruction after the other
+pub mod HeldSettling
 -- an access as the code does it
 pub mod HeldAccess

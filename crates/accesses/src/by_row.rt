@@ -2,27 +2,32 @@
 use crate::accessing::Access;
 use crate::accessing::done;
 use crate::accessing::found;
-use crate::local::Turn;
+use crate::local::Carried;
 use crate::local::failed;
-use crate::local::left;
 use crate::local::passed;
 use crate::local::register_at;
 use crate::local::value;
-use crate::local::wide;
 use crate::local::with_register;
+use lines::wide;
 use program::Operand;
+use rows::Code;
 use rows::operand_at;
 use std::num::wrapping_add_u32;
 ghost use mathlib.Core.Path.{_≡_};
 ghost use mathlib.Core.List.{[], _∷_};
 ghost use Prim.Native.Nat.{_<_};
-ghost use Rattle.program.specs.declared.instruction.Instruction.the-variants.{Assign, AddAssign, SkipUnless, Assert};
+ghost use Rattle.program.specs.declared.instruction.Comparison.the-variants.{Equal};
+ghost use Rattle.program.specs.declared.instruction.Test.{Test};
+ghost use Rattle.program.specs.declared.instruction.Own.{Own};
+ghost use Rattle.program.specs.declared.instruction.Own.the-variants.{Assign, AddAssign, SkipUnless, Assert};
+ghost use Rattle.program.specs.declared.instruction.Instruction.the-variants.{Alone};
+ghost use Rattle.program.specs.Frames.{test};
 ghost use Rattle.rows.specs.Rows.{instructionAt};
-ghost use Rattle.sc.specs.Local.{beginsWithAccess};
-ghost use Rattle.accesses.specs.Turns.{turnOf, accessOf};
+ghost use Rattle.sc.specs.Local.{holds, outcome, beginsWithAccess};
+ghost use Rattle.accesses.specs.CarriedOut.{carried, accessOf};
 
 // Whether it is an access.
-pub(crate) fn is_access(code: &[u8; 1536], row: usize) -> bool
+pub(crate) fn is_access(code: &Code, row: usize) -> bool
     requires { ⌜ row < 96 ⌝ }
     ensures { λ r. ⌜ r ≡ beginsWithAccess (instructionAt (now (code .entry)) row ∷ []) ⌝ }
 {
@@ -43,50 +48,54 @@ pub(crate) fn is_access(code: &[u8; 1536], row: usize) -> bool
 }
 
 // An operand into a register.
-fn assigned(registers: [u32; 4], r: u8, p: Operand) -> Turn
-    ensures { λ s. ⌜ s ≡ turnOf (Assign r p) registers ⌝ }
+fn assigned(registers: [u32; 4], r: u8, p: Operand) -> Carried
+    ensures { λ s. ⌜ s ≡ carried registers (outcome registers (Assign r p)) ⌝ }
 {
     let v = value(p, registers);
     passed(with_register(registers, wide(r), v), 0)
 }
 
 // An operand added to a register.
-fn added(registers: [u32; 4], r: u8, p: Operand) -> Turn
-    ensures { λ s. ⌜ s ≡ turnOf (AddAssign r p) registers ⌝ }
+fn added(registers: [u32; 4], r: u8, p: Operand) -> Carried
+    ensures { λ s. ⌜ s ≡ carried registers (outcome registers (AddAssign r p)) ⌝ }
 {
     let k = wide(r);
     let v = wrapping_add_u32(register_at(registers, k), value(p, registers));
     passed(with_register(registers, k, v), 0)
 }
 
-// A skip of n instructions unless the register is the operand.
-fn skipping(registers: [u32; 4], r: u8, p: Operand, n: u8) -> Turn
-    ensures { λ s. ⌜ s ≡ turnOf (SkipUnless r p n) registers ⌝ }
+// Whether the register is the operand.
+fn is_equal(registers: [u32; 4], r: u8, p: Operand) -> bool
+    ensures { λ b. ⌜ b ≡ holds registers (test Equal r p) ⌝ }
 {
-    if register_at(registers, wide(r)) == value(p, registers) {
+    register_at(registers, wide(r)) == value(p, registers)
+}
+
+// A skip of n instructions unless its test holds.
+fn skipping(registers: [u32; 4], held: bool, n: u8) -> Carried
+    ensures { λ s. ⌜ ((t : Test) → held ≡ holds registers t → s ≡ carried registers (outcome registers (SkipUnless t n))) ⌝ }
+{
+    if held {
         return passed(registers, 0);
     }
     passed(registers, n)
 }
 
-// An assertion that the register is the operand.
-fn asserted(registers: [u32; 4], r: u8, p: Operand) -> Turn
-    ensures { λ s. ⌜ s ≡ turnOf (Assert r p) registers ⌝ }
+// An assertion that its test holds.
+fn asserted(registers: [u32; 4], held: bool) -> Carried
+    ensures { λ s. ⌜ ((t : Test) → held ≡ holds registers t → s ≡ carried registers (outcome registers (Assert t))) ⌝ }
 {
-    if register_at(registers, wide(r)) == value(p, registers) {
+    if held {
         return passed(registers, 0);
     }
     failed(registers)
 }
 
-// Carries it out unless it is an access.
-pub(crate) fn turned(code: &[u8; 1536], row: usize, registers: [u32; 4]) -> Turn
+// Carries out what is no access.
+pub(crate) fn carried_out(code: &Code, row: usize, registers: [u32; 4]) -> Carried
     requires { ⌜ row < 96 ⌝ }
-    ensures { λ s. ⌜ s ≡ turnOf (instructionAt (now (code .entry)) row) registers ⌝ }
+    ensures { λ s. ⌜ ((o : Own) → instructionAt (now (code .entry)) row ≡ Alone o → s ≡ carried registers (outcome registers o)) ⌝ }
 {
-    if is_access(code, row) {
-        return left(registers);
-    }
     let at = row * 16;
     let b = code[at];
     let r = code[at + 1];
@@ -97,16 +106,17 @@ pub(crate) fn turned(code: &[u8; 1536], row: usize, registers: [u32; 4]) -> Turn
         return added(registers, r, operand_at(code, row, 2));
     }
     if b == 0x22 {
-        return skipping(registers, r, operand_at(code, row, 2), code[at + 7]);
+        let held = is_equal(registers, r, operand_at(code, row, 2));
+        return skipping(registers, held, code[at + 7]);
     }
     if b == 0x23 {
-        return asserted(registers, r, operand_at(code, row, 2));
+        return asserted(registers, is_equal(registers, r, operand_at(code, row, 2)));
     }
-    asserted(registers, b, operand_at(code, row, 0))
+    asserted(registers, is_equal(registers, b, operand_at(code, row, 0)))
 }
 
 // Does the access on finding memory so. Operands are read before the register changes.
-pub fn accessed_at(code: &[u8; 1536], row: usize, registers: [u32; 4], memory: [u32; 8]) -> Access
+pub fn accessed_at(code: &Code, row: usize, registers: [u32; 4], memory: [u32; 8]) -> Access
     requires { ⌜ row < 96 ⌝ }
     ensures { λ a. ⌜ a ≡ accessOf (instructionAt (now (code .entry)) row) registers memory ⌝ }
 {

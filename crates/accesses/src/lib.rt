@@ -12,9 +12,7 @@ mod settling;
 mod thread;
 
 pub use accessing::Access;
-pub use accessing::accessed;
 pub use by_row::accessed_at;
-pub use local::wide;
 pub use settling::settle;
 pub use settling::settled;
 pub use thread::ThreadState;

@@ -5,7 +5,7 @@ ghost use mathlib.Core.Bool.{cond};
 ghost use lib.Dec.{eqb};
 ghost use lib.ListN.{getD, set};
 ghost use Rattle.sc.specs.Local.{eval};
-ghost use Rattle.accesses.specs.Turns.{standing, going, failing};
+ghost use Rattle.accesses.specs.CarriedOut.{going, failing};
 
 // v where k is i, else w.
 fn chosen(k: usize, i: usize, v: u32, w: u32) -> u32
@@ -38,13 +38,6 @@ pub(crate) fn with_register(registers: [u32; 4], k: usize, v: u32) -> [u32; 4]
     [a, b, c, d]
 }
 
-// A byte as a larger number.
-pub fn wide(x: u8) -> usize
-    ensures { λ r. ⌜ r ≡ x ⌝ }
-{
-    x as usize
-}
-
 // The value of an operand.
 pub(crate) fn value(p: Operand, registers: [u32; 4]) -> u32
     ensures { λ r. ⌜ r ≡ eval registers p ⌝ }
@@ -55,33 +48,19 @@ pub(crate) fn value(p: Operand, registers: [u32; 4]) -> u32
     }
 }
 
-// What one instruction does to a thread by itself: nothing if it is an access; else the registers behind it, whether it is an assertion that
-// fails, and how many instructions are skipped.
-pub struct Turn {
-    pub access: bool,
+// An instruction that is no access, carried out: the registers behind it, whether it is an assertion that failed, and how many instructions
+// are skipped.
+pub struct Carried {
     pub failed: bool,
     pub registers: [u32; 4],
     pub skip: u8,
 }
 
-// An access, which is left alone.
-pub(crate) fn left(registers: [u32; 4]) -> Turn
-    ensures { λ r. ⌜ r ≡ standing registers ⌝ }
-{
-    Turn {
-        access: true,
-        failed: false,
-        registers: registers,
-        skip: 0,
-    }
-}
-
-// Carried out, with these registers behind it, and so many instructions skipped.
-pub(crate) fn passed(registers: [u32; 4], skip: u8) -> Turn
+// With these registers behind it, and so many instructions skipped.
+pub(crate) fn passed(registers: [u32; 4], skip: u8) -> Carried
     ensures { λ r. ⌜ r ≡ going registers skip ⌝ }
 {
-    Turn {
-        access: false,
+    Carried {
         failed: false,
         registers: registers,
         skip: skip,
@@ -89,11 +68,10 @@ pub(crate) fn passed(registers: [u32; 4], skip: u8) -> Turn
 }
 
 // An assertion that failed.
-pub(crate) fn failed(registers: [u32; 4]) -> Turn
+pub(crate) fn failed(registers: [u32; 4]) -> Carried
     ensures { λ r. ⌜ r ≡ failing registers ⌝ }
 {
-    Turn {
-        access: false,
+    Carried {
         failed: true,
         registers: registers,
         skip: 0,

@@ -1,18 +1,19 @@
 // A thread carried to its next access, or to its end.
+use crate::by_row::carried_out;
 use crate::by_row::is_access;
-use crate::by_row::turned;
-use crate::local::wide;
 use crate::thread::ThreadState;
+use lines::wide;
+use rows::Code;
 ghost use mathlib.Core.Path.{_≡_};
 ghost use Prim.Native.Nat.{_+_, _*_, _<_, _≤_};
 ghost use lib.ListN.{drop};
 ghost use Rattle.rows.specs.Rows.{threadCode};
 ghost use Rattle.sc.specs.Local.{settle};
-ghost use Rattle.accesses.specs.Turns.{localOf};
+ghost use Rattle.accesses.specs.CarriedOut.{localOf};
 
 // Thread t, of n instructions, from instruction `from` on with these registers, having done so many accesses.
 pub fn settle(
-    code: &[u8; 1536],
+    code: &Code,
     t: usize,
     n: usize,
     from: usize,
@@ -20,14 +21,15 @@ pub fn settle(
     done: u8,
 ) -> ThreadState
     requires { ⌜ (t < 6) × (n ≤ 16) × (from ≤ n) ⌝ }
-    ensures local { λ s. ⌜ localOf (threadCode (now (code .entry)) t n) s ≡ settle 0 registers (drop from (threadCode (now (code .entry)) t n)) ⌝ }
+    ensures local { λ s. ⌜ localOf (threadCode (now (code .entry)) t n) s
+        ≡ settle 0 registers (drop from (threadCode (now (code .entry)) t n)) ⌝ }
     ensures within { λ s. ⌜ (from ≤ s .at) × (s .at ≤ n) × (s .done ≡ done) ⌝ }
 {
     let mut rs = registers;
     let mut i = from;
     while i < n {
-        let turn = turned(code, t * 16 + i, rs);
-        if turn.access {
+        let row = t * 16 + i;
+        if is_access(code, row) {
             return ThreadState {
                 registers: rs,
                 at: i,
@@ -35,7 +37,8 @@ pub fn settle(
                 failed: false,
             };
         }
-        if turn.failed {
+        let c = carried_out(code, row, rs);
+        if c.failed {
             return ThreadState {
                 registers: rs,
                 at: n,
@@ -43,8 +46,8 @@ pub fn settle(
                 failed: true,
             };
         }
-        rs = turn.registers;
-        i = i + wide(turn.skip) + 1;
+        rs = c.registers;
+        i = i + wide(c.skip) + 1;
     }
     ThreadState {
         registers: rs,
@@ -54,9 +57,10 @@ pub fn settle(
     }
 }
 
-// The same, quick where an access or the end comes at once. The registers are taken one by one, so that none of the ways keeps them in memory.
+// The same, quick where an access or the end comes at once. The registers are taken one by one, so that none of the ways keeps them in
+// memory.
 pub fn settled(
-    code: &[u8; 1536],
+    code: &Code,
     t: usize,
     n: usize,
     from: usize,
@@ -64,7 +68,8 @@ pub fn settled(
     done: u8,
 ) -> ThreadState
     requires { ⌜ (t < 6) × (n ≤ 16) × (from ≤ n) ⌝ }
-    ensures local { λ s. ⌜ localOf (threadCode (now (code .entry)) t n) s ≡ settle 0 registers (drop from (threadCode (now (code .entry)) t n)) ⌝ }
+    ensures local { λ s. ⌜ localOf (threadCode (now (code .entry)) t n) s
+        ≡ settle 0 registers (drop from (threadCode (now (code .entry)) t n)) ⌝ }
     ensures within { λ s. ⌜ (from ≤ s .at) × (s .at ≤ n) × (s .done ≡ done) ⌝ }
 {
     if from < n {

@@ -10,8 +10,18 @@ pub record Graph : Type 0 where
 
 -- P 8: both loads read the initial write: no
 abbrev pub neither : Graph
-neither = record { file = buffering .file; text = (0x40 ∷ 0 ∷ 1 ∷ 0xff ∷ 0xff ∷ []) ∷ (0x40 ∷ 1 ∷ 1 ∷ 0xff ∷ 0xff ∷ []) ∷ (0x41 ∷ 0 ∷ 0 ∷ 0 ∷ []) ∷ (0x41 ∷ 1 ∷ 1 ∷ 0 ∷ []) ∷ []; answer = inconsistent }
+neither = record {
+  file = buffering .file;
+  text = (0x40 ∷ 0 ∷ 1 ∷ 0xff ∷ 0xff ∷ []) ∷ (0x40 ∷ 1 ∷ 1 ∷ 0xff ∷ 0xff ∷ [])
+      ∷ (0x41 ∷ 0 ∷ 0 ∷ 0 ∷ []) ∷ (0x41 ∷ 1 ∷ 1 ∷ 0 ∷ []) ∷ [];
+  answer = inconsistent;
+}
 
 -- P 9: the second load reads the first thread's store: yes, with the least schedule
 abbrev pub one : Graph
-one = record { file = buffering .file; text = (0x40 ∷ 0 ∷ 1 ∷ 0xff ∷ 0xff ∷ []) ∷ (0x40 ∷ 1 ∷ 1 ∷ 0 ∷ 0 ∷ []) ∷ (0x41 ∷ 0 ∷ 0 ∷ 0 ∷ []) ∷ (0x41 ∷ 1 ∷ 1 ∷ 0 ∷ []) ∷ []; answer = consistent (0 ∷ 0 ∷ 1 ∷ 1 ∷ []) }
+one = record {
+  file = buffering .file;
+  text = (0x40 ∷ 0 ∷ 1 ∷ 0xff ∷ 0xff ∷ []) ∷ (0x40 ∷ 1 ∷ 1 ∷ 0 ∷ 0 ∷ []) ∷ (0x41 ∷ 0 ∷ 0 ∷ 0 ∷ [])
+      ∷ (0x41 ∷ 1 ∷ 1 ∷ 0 ∷ []) ∷ [];
+  answer = consistent (0 ∷ 0 ∷ 1 ∷ 1 ∷ []);
+}

@@ -60,27 +60,45 @@ abbrev storeLoads : List Frame
 storeLoads = thread ∷ store 0 (constant 1) ∷ thread ∷ load 0 0 ∷ thread ∷ load 0 0 ∷ []
 
 abbrev pub whole : Row
-whole = record { file = storeLoads ++ (alike (1 ∷ 2 ∷ []) ∷ []); prints = passes (0 ∷ 1 ∷ 2 ∷ []) ∷ passes (1 ∷ 0 ∷ 2 ∷ []) ∷ passes (1 ∷ 2 ∷ 0 ∷ []) ∷ counts 3 0 ∷ [] }
+whole = record {
+  file = storeLoads ++ (alike (1 ∷ 2 ∷ []) ∷ []);
+  prints = passes (0 ∷ 1 ∷ 2 ∷ []) ∷ passes (1 ∷ 0 ∷ 2 ∷ []) ∷ passes (1 ∷ 2 ∷ 0 ∷ []) ∷ counts 3 0 ∷ [];
+}
 
 abbrev pub wholeApart : Row
-wholeApart = record { file = storeLoads; prints = passes (0 ∷ 1 ∷ 2 ∷ []) ∷ passes (1 ∷ 0 ∷ 2 ∷ []) ∷ passes (1 ∷ 2 ∷ 0 ∷ []) ∷ passes (2 ∷ 0 ∷ 1 ∷ []) ∷ counts 4 0 ∷ [] }
+wholeApart = record {
+  file = storeLoads;
+  prints = passes (0 ∷ 1 ∷ 2 ∷ []) ∷ passes (1 ∷ 0 ∷ 2 ∷ []) ∷ passes (1 ∷ 2 ∷ 0 ∷ [])
+      ∷ passes (2 ∷ 0 ∷ 1 ∷ []) ∷ counts 4 0 ∷ [];
+}
 
 -- P 3: two threads, load, add 1, store, all on location 0; and declared alike
 abbrev increment : List Frame
 increment = thread ∷ load 0 0 ∷ addAssign 0 (constant 1) ∷ store 0 (register 0) ∷ []
 
 abbrev pub increments : Row
-increments = record { file = increment ++ increment; prints = passes (0 ∷ 0 ∷ 1 ∷ 1 ∷ []) ∷ passes (0 ∷ 1 ∷ 0 ∷ 1 ∷ []) ∷ passes (0 ∷ 1 ∷ 1 ∷ 0 ∷ []) ∷ passes (1 ∷ 1 ∷ 0 ∷ 0 ∷ []) ∷ counts 4 0 ∷ [] }
+increments = record {
+  file = increment ++ increment;
+  prints = passes (0 ∷ 0 ∷ 1 ∷ 1 ∷ []) ∷ passes (0 ∷ 1 ∷ 0 ∷ 1 ∷ []) ∷ passes (0 ∷ 1 ∷ 1 ∷ 0 ∷ []) ∷ passes (1 ∷ 1 ∷ 0 ∷ 0 ∷ [])
+      ∷ counts 4 0 ∷ [];
+}
 
 abbrev pub incrementsAlike : Row
-incrementsAlike = record { file = increment ++ (increment ++ (alike (0 ∷ 1 ∷ []) ∷ [])); prints = passes (0 ∷ 0 ∷ 1 ∷ 1 ∷ []) ∷ passes (0 ∷ 1 ∷ 0 ∷ 1 ∷ []) ∷ counts 2 0 ∷ [] }
+incrementsAlike = record {
+  file = increment ++ (increment ++ (alike (0 ∷ 1 ∷ []) ∷ []));
+  prints = passes (0 ∷ 0 ∷ 1 ∷ 1 ∷ []) ∷ passes (0 ∷ 1 ∷ 0 ∷ 1 ∷ []) ∷ counts 2 0 ∷ [];
+}
 
 -- P 4: three compare and swaps of 0 to 1 on one location; and declared alike
 abbrev swap : List Frame
 swap = thread ∷ compareSwap 0 0 (constant 0) (constant 1) ∷ []
 
 abbrev pub swaps : Row
-swaps = record { file = swap ++ (swap ++ swap); prints = passes (0 ∷ 1 ∷ 2 ∷ []) ∷ passes (1 ∷ 0 ∷ 2 ∷ []) ∷ passes (2 ∷ 0 ∷ 1 ∷ []) ∷ counts 3 0 ∷ [] }
+swaps = record {
+  file = swap ++ (swap ++ swap);
+  prints = passes (0 ∷ 1 ∷ 2 ∷ []) ∷ passes (1 ∷ 0 ∷ 2 ∷ []) ∷ passes (2 ∷ 0 ∷ 1 ∷ [])
+      ∷ counts 3 0 ∷ [];
+}
 
 abbrev pub swapsAlike : Row
 swapsAlike = record { file = swap ++ (swap ++ (swap ++ (alike (0 ∷ 1 ∷ 2 ∷ []) ∷ []))); prints = passes (0 ∷ 1 ∷ 2 ∷ []) ∷ counts 1 0 ∷ [] }
@@ -92,12 +110,16 @@ adding = thread ∷ fetchAdd 0 0 (constant 1) ∷ []
 abbrev pub adds : Row
 adds = record {
   file = adding ++ (adding ++ adding);
-  prints = passes (0 ∷ 1 ∷ 2 ∷ []) ∷ passes (0 ∷ 2 ∷ 1 ∷ []) ∷ passes (1 ∷ 0 ∷ 2 ∷ []) ∷ passes (1 ∷ 2 ∷ 0 ∷ []) ∷ passes (2 ∷ 0 ∷ 1 ∷ []) ∷ passes (2 ∷ 1 ∷ 0 ∷ []) ∷ counts 6 0 ∷ [];
+  prints = passes (0 ∷ 1 ∷ 2 ∷ []) ∷ passes (0 ∷ 2 ∷ 1 ∷ []) ∷ passes (1 ∷ 0 ∷ 2 ∷ []) ∷ passes (1 ∷ 2 ∷ 0 ∷ []) ∷ passes (2 ∷ 0 ∷ 1 ∷ [])
+      ∷ passes (2 ∷ 1 ∷ 0 ∷ []) ∷ counts 6 0 ∷ [];
 }
 
 -- P 6: the same declared alike
 abbrev pub addsAlike : Row
-addsAlike = record { file = adding ++ (adding ++ (adding ++ (alike (0 ∷ 1 ∷ 2 ∷ []) ∷ []))); prints = passes (0 ∷ 1 ∷ 2 ∷ []) ∷ counts 1 0 ∷ [] }
+addsAlike = record {
+  file = adding ++ (adding ++ (adding ++ (alike (0 ∷ 1 ∷ 2 ∷ []) ∷ [])));
+  prints = passes (0 ∷ 1 ∷ 2 ∷ []) ∷ counts 1 0 ∷ [];
+}
 
 -- P 7: store 1 at location 0, load location 1, beside store 1 at location 1, load location 0; P 8 and P 9 are graphs of this program
 abbrev pub buffering : Row

@@ -1,5 +1,5 @@
--- The table of the ten P cases, lists and graphs together: each file, as bytes, is printed as its row says, byte for byte, and each graph text,
--- as bytes, is answered as its row says. One computed test for all.
+-- The table of the ten P cases, lists and graphs together: each file, as bytes, is printed as its row says, byte for byte, and each graph
+-- text, as bytes, is answered as its row says. One computed test for all.
 use Prim.Native.Nat.{ℕ}
 use mathlib.Core.Path.{_≡_, refl}
 use mathlib.Core.Bool.{Bool, true, false}
@@ -8,10 +8,13 @@ use lib.Dec.{eqb}
 use Rattle.lines.specs.Digit.{digit, value, digitOf}
 use Rattle.lines.specs.Frame.{hexadecimal, pairs, frame, lineOf}
 use Rattle.lines.specs.Text.{digits, text}
-use Rattle.lines.specs.TextLines.{prepend, before, split}
-use Rattle.program.specs.Kinds.{kinds, find, kindOf}
-use Rattle.program.specs.Frames.{word, kind, known, registerFits, locationFits, skipFits, operandFits, inRange, opens, declares, isAccess, skipOf, operand, build, instruction}
-use Rattle.program.specs.Decode.{fresh, threadAt, lastThread, inPlace, accessesIn, allAccessesIn, withinLimits, same, sameCode, among, grouped, memberFits, followersFit, membersFit, alikeFits, frameRefusal, frameOf, after, farSkip, firstFarSkip, programIn, finish, readLines, decode}
+use Rattle.lines.specs.TextLines.{prepend, before, split, frameOf}
+use Rattle.program.specs.Kinds.{kinds, lookup, kindOf}
+use Rattle.program.specs.Frames.{word, kind, known, registerFits, locationFits, skipFits, operandFits, inRange, opens, declares, isAccess}
+use Rattle.program.specs.Frames.{skipOf, operand, buildOwn, build, instruction}
+use Rattle.program.specs.Decode.{fresh, threadAt, lastThread, inPlace, accessesIn, allAccessesIn, withinLimits, same, sameCode, among}
+use Rattle.program.specs.Decode.{grouped, memberFits, followersFit, membersFit, alikeFits, frameRefusal, after, farSkip, firstFarSkip}
+use Rattle.program.specs.Decode.{programIn, finish, readLines, decode}
 use Rattle.program.specs.WellFormed.{accesses}
 use Rattle.schedules.specs.Lists.{all}
 use Rattle.schedules.specs.Computing.{computing}
@@ -23,15 +26,16 @@ use Rattle.consistent.specs.Same.{sameEvent, sameRead, sameList}
 use Rattle.consistent.specs.Answer.{Answer, consistent, inconsistent, refusing}
 use Rattle.consistent.proofs.ByWalk.{answerOn, answerFile}
 use Rattle.consistent.proofs.TextExamples.{answering}
-use Rattle.list.specs.ListOf.{together, permits, permitted, turns, alikeBy, alike, listOf}
+use Rattle.list.specs.ListOf.{together, permits, permitted, renames, alikeBy, alike, listOf}
 use Rattle.list.specs.Answers.{failing, countOf}
 use Rattle.listing.specs.Printed.{bytesOf, flag, scheduleFrame, countFrame, printedFrames, printed}
-use Rattle.cases.specs.Rows.{Row, empty, whole, wholeApart, increments, incrementsAlike, swaps, swapsAlike, adds, addsAlike, buffering, asserting}
+use Rattle.cases.specs.Rows.{Row, empty, whole, wholeApart, increments, incrementsAlike, swaps, swapsAlike, adds, addsAlike}
+use Rattle.cases.specs.Rows.{buffering, asserting}
 use Rattle.cases.specs.Graphs.{Graph, neither, one}
 
 -- what a proof names to compute what is printed
 unfoldable pub computed : List ℕ → List ℕ
-unfolding computing seen digit value digitOf hexadecimal pairs frame lineOf digits text prepend before split kinds find kindOf word kind known registerFits locationFits skipFits operandFits inRange opens declares isAccess skipOf operand build instruction fresh threadAt lastThread inPlace accessesIn allAccessesIn withinLimits same sameCode among grouped memberFits followersFit membersFit alikeFits frameRefusal frameOf after farSkip firstFarSkip programIn finish readLines decode accesses size accessesLeft movedEvent movedRead movedReads movedWrites together permits permitted sameEvent sameRead sameList turns alikeBy alike listOf failing countOf bytesOf flag scheduleFrame countFrame printedFrames textOf printed
+unfolding computing seen digit value digitOf hexadecimal pairs frame lineOf digits text prepend before split kinds lookup kindOf word kind known registerFits locationFits skipFits operandFits inRange opens declares isAccess skipOf operand buildOwn build instruction fresh threadAt lastThread inPlace accessesIn allAccessesIn withinLimits same sameCode among grouped memberFits followersFit membersFit alikeFits frameRefusal frameOf after farSkip firstFarSkip programIn finish readLines decode accesses size accessesLeft movedEvent movedRead movedReads movedWrites together permits permitted sameEvent sameRead sameList renames alikeBy alike listOf failing countOf bytesOf flag scheduleFrame countFrame printedFrames textOf printed
 computed file = printed file
 
 -- a row: a program with its list, or a graph text with the judge's answer

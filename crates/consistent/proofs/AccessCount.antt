@@ -8,14 +8,14 @@ use lib.ListN.{length}
 use Rattle.program.specs.Program.{Program, codeOf}
 use Rattle.program.specs.WellFormed.{WellFormed, accesses}
 use Rattle.program.specs.declared.instruction.Instruction.{Instruction}
-use Rattle.program.specs.declared.instruction.Instruction.the-variants.{Store, Load, FetchAdd, CompareSwap, Assign, AddAssign, SkipUnless, Assert}
+use Rattle.program.specs.declared.instruction.Instruction.the-variants.{Memory, Alone}
 use Rattle.program.proofs.Everywhere.{everywhere-getD}
 use Rattle.schedules.specs.Order.{Schedule}
 use Rattle.schedules.specs.System.{run, Allowed}
 use Rattle.sc.specs.Local.{takes}
-use Rattle.sc.specs.State.{State, threadOf, cellOf, place, latest, advanced, step, may, SC, start}
+use Rattle.sc.specs.State.{State, threadOf, cellOf, place, latest, advanced, step, enabled, SC, start}
 use Rattle.sc.proofs.Access.{suffix-accesses, next-fewer}
-use Rattle.sc.proofs.Steps.{may-pending, may-range}
+use Rattle.sc.proofs.Steps.{enabled-pending, enabled-range}
 use Rattle.sc.proofs.Change.{thread-cases, noted-done}
 use Rattle.sc.proofs.Start.{start-history}
 use Rattle.sc.proofs.Histories.{rest-code}
@@ -23,27 +23,21 @@ use Rattle.sc.proofs.Histories.{rest-code}
 accesses-length : (is : List Instruction) → accesses is ≤ length is
 unfolding accesses
 accesses-length [] = omega arith
-accesses-length (Store l p ∷ is) = omega (arith, accesses-length is)
-accesses-length (Load r l ∷ is) = omega (arith, accesses-length is)
-accesses-length (FetchAdd r l p ∷ is) = omega (arith, accesses-length is)
-accesses-length (CompareSwap r l e v ∷ is) = omega (arith, accesses-length is)
-accesses-length (Assign r p ∷ is) = omega (arith, accesses-length is)
-accesses-length (AddAssign r p ∷ is) = omega (arith, accesses-length is)
-accesses-length (SkipUnless r p n ∷ is) = omega (arith, accesses-length is)
-accesses-length (Assert r p ∷ is) = omega (arith, accesses-length is)
+accesses-length (Memory a ∷ is) = omega (arith, accesses-length is)
+accesses-length (Alone o ∷ is) = omega (arith, accesses-length is)
 
 -- what thread u has done and what is left of it
 abbrev total : State → ℕ → ℕ
 total σ u = threadOf σ u .history .done + accesses (threadOf σ u .local .rest)
 
-total-step : (σ : State) (t : ℕ) → may σ t ≡ true → (u : ℕ) → total (step σ t) u ≤ total σ u
+total-step : (σ : State) (t : ℕ) → enabled σ t ≡ true → (u : ℕ) → total (step σ t) u ≤ total σ u
 unfolding advanced
-total-step σ t m u = thread-cases (λ k h. h .history .done + accesses (h .local .rest) ≤ total σ k) σ t (may-range σ t m)
+total-step σ t m u = thread-cases (λ k h. h .history .done + accesses (h .local .rest) ≤ total σ k) σ t (enabled-range σ t m)
     (omega (
       arith,
       noted-done (takes (threadOf σ t .local)) (latest (cellOf σ (place σ t) .writes)) (threadOf σ t .history),
       next-fewer
-          (threadOf σ t .local) (cellOf σ (place σ t) .value) (may-pending σ t m),
+          (threadOf σ t .local) (cellOf σ (place σ t) .value) (enabled-pending σ t m),
     )) u (λ ne. omega arith)
 
 total-run : (z : Schedule) (σ : State) → Allowed SC σ z → (u : ℕ) → total (run SC σ z) u ≤ total σ u

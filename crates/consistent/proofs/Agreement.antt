@@ -8,9 +8,9 @@ use lib.ListN.{length}
 use Rattle.program.specs.Program.{Program}
 use Rattle.program.specs.WellFormed.{WellFormed}
 use Rattle.sc.specs.Local.{Local, placeOf, takes, puts, next}
-use Rattle.sc.specs.State.{Cell, State, threadOf, cellOf, place, latest, advanced, step, may, start}
+use Rattle.sc.specs.State.{Cell, State, threadOf, cellOf, place, latest, advanced, step, enabled, start}
 use Rattle.sc.proofs.Access.{blind-next, blind-puts}
-use Rattle.sc.proofs.Steps.{may-pending, may-range, step-threads}
+use Rattle.sc.proofs.Steps.{enabled-pending, enabled-range, step-threads}
 use Rattle.sc.proofs.Change.{thread-cases, noted-done, Change, kept, wrote}
 use Rattle.sc.proofs.Start.{start-threads, start-writes, start-history}
 use Rattle.sc.proofs.Regular.{Regular, changes, regular-step, regular-start}
@@ -45,14 +45,14 @@ module _ (p : Program) (v : Values) where
     pub reads-as : takes (threadOf σ t .local) ≡ takes (localAt p v (upcoming σ t))
     reads-as = ap takes (A .locals t)
 
-    module _ (m : may σ t ≡ true) (finds : Reads p v (upcoming σ t) → v (upcoming σ t) ≡ here .value) where
+    module _ (m : enabled σ t ≡ true) (finds : Reads p v (upcoming σ t) → v (upcoming σ t) ≡ here .value) where
       -- the step writes what the event writes
       pub writes-as : puts (threadOf σ t .local) (here .value) ≡ outOf p v (upcoming σ t)
       writes-as = go (takes (threadOf σ t .local)) refl ∙ ap (λ (h : Local). puts h (v (upcoming σ t))) (A .locals t)
         where
           go : (b : Bool) → takes (threadOf σ t .local) ≡ b → puts (threadOf σ t .local) (here .value) ≡ puts (threadOf σ t .local) (v (upcoming σ t))
           go true e = ap (puts (threadOf σ t .local)) (sym (finds (sym reads-as ∙ e)))
-          go false e = let r = blind-puts (threadOf σ t .local) (here .value) (v (upcoming σ t)) (may-pending σ t m) e in r .1 ∙ sym (r .2)
+          go false e = let r = blind-puts (threadOf σ t .local) (here .value) (v (upcoming σ t)) (enabled-pending σ t m) e in r .1 ∙ sym (r .2)
 
       goes-as : next (threadOf σ t .local) (here .value) ≡ alone p v t (suc (threadOf σ t .history .done))
       unfolding alone
@@ -60,7 +60,7 @@ module _ (p : Program) (v : Values) where
         where
           go : (b : Bool) → takes (threadOf σ t .local) ≡ b → next (threadOf σ t .local) (here .value) ≡ next (threadOf σ t .local) (v (upcoming σ t))
           go true e = ap (next (threadOf σ t .local)) (sym (finds (sym reads-as ∙ e)))
-          go false e = blind-next (threadOf σ t .local) (here .value) (v (upcoming σ t)) (may-pending σ t m) e
+          go false e = blind-next (threadOf σ t .local) (here .value) (v (upcoming σ t)) (enabled-pending σ t m) e
 
       own : advanced (threadOf σ t) here .local ≡ alone p v t (advanced (threadOf σ t) here .history .done)
       unfolding advanced
@@ -75,6 +75,6 @@ module _ (p : Program) (v : Values) where
       agrees-step = record {
         regular = regular-step σ t (A .regular) m;
         threads = step-threads σ t ∙ A .threads;
-        locals = λ u. thread-cases (λ k h. h .local ≡ alone p v k (h .history .done)) σ t (may-range σ t m) own u (λ ne. A .locals u);
+        locals = λ u. thread-cases (λ k h. h .local ≡ alone p v k (h .history .done)) σ t (enabled-range σ t m) own u (λ ne. A .locals u);
         values = λ l. value-after l (changes σ (A .regular) t l);
       }

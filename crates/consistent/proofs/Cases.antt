@@ -18,7 +18,7 @@ buffering-formed = record {
   sixteen = (omega arith, (omega arith, tt));
   access-24 = omega arith;
   ranges = (((omega arith, omega arith), ((omega arith, omega arith), tt)), (((omega arith, omega arith), ((omega arith, omega arith), tt)), tt));
-  skips = (tt, (tt, tt));
+  skips = ((omega arith, (omega arith, tt)), ((omega arith, (omega arith, tt)), tt));
   groups = tt;
   apart = tt;
 }
@@ -36,5 +36,5 @@ yes-found : judge buffering firstSeen ≡ some (0 ∷ 0 ∷ 1 ∷ 1 ∷ [])
 unfolding judging
 yes-found = refl
 
-pub first-yes : LeastFor buffering firstSeen (0 ∷ 0 ∷ 1 ∷ 1 ∷ []) × Consistent buffering firstSeen
-first-yes = let r = judge-yes buffering buffering-formed firstSeen (0 ∷ 0 ∷ 1 ∷ 1 ∷ []) yes-found in (r .0, r .1)
+pub find-yes : LeastFor buffering firstSeen (0 ∷ 0 ∷ 1 ∷ 1 ∷ []) × Consistent buffering firstSeen
+find-yes = let r = judge-yes buffering buffering-formed firstSeen (0 ∷ 0 ∷ 1 ∷ 1 ∷ []) yes-found in (r .0, r .1)

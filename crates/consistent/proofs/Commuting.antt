@@ -6,20 +6,20 @@ use mathlib.Core.Bool.{Bool, true, false, true≢false}
 use native.Mathlib.Decide.{ℕ-discrete}
 use lib.ListN.{length}
 use Rattle.sc.specs.Local.{takes}
-use Rattle.sc.specs.State.{Event, State, threadOf, cellOf, place, latest, step, may}
-use Rattle.sc.specs.Trail.{given, writes}
+use Rattle.sc.specs.State.{Event, State, threadOf, cellOf, place, latest, step, enabled}
+use Rattle.sc.specs.Actions.{given, writes}
 use Rattle.sc.specs.Graph.{Graph}
 use Rattle.sc.proofs.Access.{blind-puts}
-use Rattle.sc.proofs.Steps.{may-pending, thread-other, may-other}
+use Rattle.sc.proofs.Steps.{enabled-pending, thread-other, enabled-other}
 use Rattle.sc.proofs.Swap.{Independent, swap, cell-after}
 use Rattle.sc.proofs.Histories.{upcoming, upcoming-undone, done-more}
 use Rattle.consistent.specs.Consistent.{orderOf}
-use Rattle.consistent.proofs.Walk.{turnOf, fits}
+use Rattle.consistent.proofs.Walk.{nextWrite, fits}
 use Rattle.consistent.proofs.Fitting.{FitAt, fits-is, is-fits}
 
 module _ (g : Graph) (pl : Event → ℕ) (σ : State) where
   -- an access that does not write reads
-  silent-reads : (t : ℕ) → may σ t ≡ true → writes σ t ≡ false → takes (threadOf σ t .local) ≡ true
+  silent-reads : (t : ℕ) → enabled σ t ≡ true → writes σ t ≡ false → takes (threadOf σ t .local) ≡ true
   unfolding writes given place
   silent-reads t m w = go (takes (threadOf σ t .local)) refl
     where
@@ -27,7 +27,7 @@ module _ (g : Graph) (pl : Event → ℕ) (σ : State) where
       go true e = e
       go false e =
           let x = cellOf σ (place σ t) .value in
-          let r = blind-puts (threadOf σ t .local) x x (may-pending σ t m) e in
+          let r = blind-puts (threadOf σ t .local) x x (enabled-pending σ t m) e in
           absurd (true≢false (ap given (sym (r .1)) ∙ w))
 
   -- one that writes does not meet another that fits
@@ -36,7 +36,7 @@ module _ (g : Graph) (pl : Event → ℕ) (σ : State) where
   clash x y n X Y q w = go (writes σ y) refl
     where
       go : (b : Bool) → writes σ y ≡ b → ⊥
-      go true e = n (ap (λ (i : Event). i .0) (sym (X .writes w .0) ∙ ap (λ (l : ℕ). turnOf (orderOf g l) (length (cellOf σ l .writes))) q ∙ Y .writes e .0))
+      go true e = n (ap (λ (i : Event). i .0) (sym (X .writes w .0) ∙ ap (λ (l : ℕ). nextWrite (orderOf g l) (length (cellOf σ l .writes))) q ∙ Y .writes e .0))
       go false e =
           let r = Y .reads (silent-reads y (Y .live) e) in
           upcoming-undone σ y (X .writes w .1 (upcoming σ y) (latest (cellOf σ (place σ y) .writes)) (r .0)
@@ -59,7 +59,7 @@ module _ (g : Graph) (pl : Event → ℕ) (σ : State) where
   fit-stays : (a b : ℕ) → a ≢ b → FitAt g pl σ a → FitAt g pl σ b → FitAt g pl (step σ a) b
   unfolding place
   fit-stays a b n A B =
-      rw (may-other σ a b (Ne·symm n), thread-other σ a b (Ne·symm n), cell-after σ a b (fit-independent a b n A B))
+      rw (enabled-other σ a b (Ne·symm n), thread-other σ a b (Ne·symm n), cell-after σ a b (fit-independent a b n A B))
       (record { live = B .live; reads = B .reads; writes = λ w. let r = B .writes w in (r .0, λ x s k q i j. done-more σ a (A .live) x (r .1 x s k q i j)) })
 
   pub fits-stays : (a b : ℕ) → a ≢ b → fits g pl σ a ≡ true → fits g pl σ b ≡ true → fits g pl (step σ a) b ≡ true

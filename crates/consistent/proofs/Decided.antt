@@ -8,8 +8,8 @@ use native.Mathlib.Omega.{arith}
 use native.Mathlib.Decide.{ℕ-discrete, decLt, map-dec}
 use lib.ListN.{length, List·getD-eq-default}
 use Rattle.program.specs.Program.{Program}
-use Rattle.schedules.specs.Lists.{upTo}
-use Rattle.schedules.proofs.Lists.{in-upTo}
+use Rattle.schedules.specs.Lists.{range}
+use Rattle.schedules.proofs.Lists.{in-range}
 use Rattle.sc.specs.State.{Event, initialWrite}
 use Rattle.sc.specs.Graph.{Graph}
 use Rattle.consistent.specs.Consistent.{rowOf, orderOf, coherenceOf, ReadsFrom, Later, Values, locationOf, Before, program-order, reads-from, coherence, from-reads}
@@ -49,17 +49,17 @@ module _ (p : Program) (g : Graph) (v : Values) (x y : Event) where
   B = Before p g v x y
 
   abbrev InList : Type 0
-  InList = (l : ℕ) × List·Memᴰ l (upTo 0 (length (g .writes))) × Later (orderOf g l) y x
+  InList = (l : ℕ) × List·Memᴰ l (range 0 (length (g .writes))) × Later (orderOf g l) y x
 
   abbrev After : Type 0
   After = (r : ℕ × Event) × List·Memᴰ r (rowOf g (x .0)) × ((r .0 ≡ x .1) × Later (coherenceOf g (locationOf p v x)) y (r .1))
 
   -- a list that is not there is empty
-  listed : (l : ℕ) → Later (orderOf g l) y x → List·Memᴰ l (upTo 0 (length (g .writes)))
+  listed : (l : ℕ) → Later (orderOf g l) y x → List·Memᴰ l (range 0 (length (g .writes)))
   listed l f = go (decLt l (length (g .writes)))
     where
-      go : Dec (l < length (g .writes)) → List·Memᴰ l (upTo 0 (length (g .writes)))
-      go (yes h) = in-upTo 0 (length (g .writes)) l (omega arith) (omega arith)
+      go : Dec (l < length (g .writes)) → List·Memᴰ l (range 0 (length (g .writes)))
+      go (yes h) = in-range 0 (length (g .writes)) l (omega arith) (omega arith)
       go (no h) = absurd (subst (λ (ws : List Event). Later ws y x) (List·getD-eq-default (g .writes) [] {n = l} (omega arith)) f)
 
   by-program : Dec ((x .0 ≡ y .0) × (x .1 < y .1))
@@ -70,7 +70,7 @@ module _ (p : Program) (g : Graph) (v : Values) (x y : Event) where
       (dec-some (λ r. _≡_ {A = ℕ × Event} r (y .1, x)) (λ r. ×-discrete ℕ-discrete same-event r (y .1, x)) (rowOf g (y .0)))) (dec-not (same-event x initialWrite))
 
   by-coherence : Dec InList
-  by-coherence = dec-some (λ l. Later (orderOf g l) y x) (λ l. dec-later (orderOf g l) y x) (upTo 0 (length (g .writes)))
+  by-coherence = dec-some (λ l. Later (orderOf g l) y x) (λ l. dec-later (orderOf g l) y x) (range 0 (length (g .writes)))
 
   by-from-reads : Dec (After × (x ≢ y))
   by-from-reads = Dec·and (dec-some (λ r. (r .0 ≡ x .1) × Later (coherenceOf g (locationOf p v x)) y (r .1))

@@ -11,7 +11,7 @@ use borrow.Author.Tests.{le-ltb}
 use lib.ListN.{length, take, drop}
 use lib.Seq.{drop-at}
 use Rattle.lines.specs.Over.{over}
-use Rattle.lines.proofs.Over.{take-over}
+use Rattle.lines.proofs.Over.{take-over, drop-over}
 use Rattle.program.specs.Program.{Program}
 use Rattle.program.specs.WellFormed.{WellFormed}
 use Rattle.program.specs.Decode.{Decoded, accepted, refused, decode}
@@ -22,7 +22,7 @@ use Rattle.sc.specs.State.{State}
 use Rattle.sc.specs.Text.{graphText}
 use Rattle.sc.specs.Replay.{Replayed, whole, replay}
 use Rattle.sc.specs.Replay as Replay
-use Rattle.sc.specs.GraphCall.{GraphSaid, texted, texting, graphAnswer, graphOn, graphFile, graphOutput}
+use Rattle.sc.specs.GraphCall.{GraphResult, texted, texting, graphAnswer, graphOn, graphFile, graphOutput}
 use Rattle.sc.proofs.Lawful.{at-most-24}
 use Rattle.sc.proofs.Replay.{replay-whole}
 use Rattle.consistent.specs.Consistent.{Consistent}
@@ -78,17 +78,13 @@ module _ (file : List ℕ) (p : Program) (ok : decode file ≡ accepted p) where
           (r .0, sym i ∙ ap (λ (τ : State). graphText (graphOf τ)) (r .1))
       go (Replay.refused n k) q e = absurd (let z : _≡_ {A = ℕ} 0 1 = cc in omega arith)
 
-  drop-over : (t l : List ℕ) → drop (length t) (over t l) ≡ drop (length t) l
-  unfolding over
-  drop-over t l = drop-at t (drop (length t) l) (length t) refl
-
   text-in-front : (s : Schedule) → Full p s → (out : List ℕ) → 512 ≤ length out →
       (take (length (textFor p s)) (graphOutput (graphFile file s (length out)) out) ≡ textFor p s)
       × (drop (length (textFor p s)) (graphOutput (graphFile file s (length out)) out) ≡ drop (length (textFor p s)) out)
   unfolding graphOutput
   text-in-front s f out h =
       let t = textFor p s in
-      let e = ap (λ (x : GraphSaid). graphOutput x out) (has-text s (length out) h t .1 (f, refl)) in
+      let e = ap (λ (x : GraphResult). graphOutput x out) (has-text s (length out) h t .1 (f, refl)) in
       (ap (take (length t)) e ∙ take-over t out, ap (drop (length t)) e ∙ drop-over t out)
 
   -- ---- the judge

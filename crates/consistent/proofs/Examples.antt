@@ -6,11 +6,15 @@ use mathlib.Core.Option.{Option, none, some}
 use mathlib.Core.List.{List, [], _∷_, _++_}
 use lib.Dec.{eqb}
 use Rattle.program.specs.Program.{Program}
+use Rattle.program.specs.Frames.{test}
 use Rattle.program.specs.WellFormed.{accesses}
 use Rattle.program.specs.declared.instruction.Instruction.{Instruction}
 use Rattle.program.specs.declared.instruction.Operand.the-variants.{Constant, Register}
-use Rattle.program.specs.declared.instruction.Instruction.the-variants.{Store, Load, FetchAdd, CompareSwap, AddAssign, SkipUnless, Assert}
-use Rattle.schedules.specs.Lists.{upTo, any, all, first}
+use Rattle.program.specs.declared.instruction.Access.the-variants.{Store, Load, FetchAdd, CompareSwap}
+use Rattle.program.specs.declared.instruction.Comparison.the-variants.{Equal}
+use Rattle.program.specs.declared.instruction.Own.the-variants.{AddAssign, SkipUnless, Assert}
+use Rattle.program.specs.declared.instruction.Instruction.the-variants.{Memory, Alone}
+use Rattle.schedules.specs.Lists.{range, any, all, find}
 use Rattle.schedules.specs.Order.{Schedule}
 use Rattle.schedules.specs.Fulls.{fronts, branch, fullsFrom, fulls}
 use Rattle.schedules.specs.Greedy.{greedy}
@@ -20,11 +24,11 @@ use Rattle.sc.proofs.Examples.{seen}
 use Rattle.consistent.specs.Consistent.{alone}
 use Rattle.consistent.specs.Same.{sameEvent, sameRead, sameList}
 use Rattle.consistent.proofs.RoundValues.{sourceIn, orZero, leftBy, nextRound, values}
-use Rattle.consistent.proofs.Walk.{waits, noneWaits, turnOf, readFits, writeFits, fits, walk, sameGraph, judge}
+use Rattle.consistent.proofs.Walk.{waits, noneWaits, nextWrite, readFits, writeFits, fits, walk, sameGraph, judge}
 
 -- what a proof names on its `unfolding` line to compute with the judge
 unfoldable pub judging : Program → Graph → Option Schedule
-unfolding seen upTo any all first greedy alone sameEvent sameRead sourceIn orZero leftBy nextRound values waits noneWaits turnOf readFits writeFits fits walk sameList sameGraph judge
+unfolding seen range any all find greedy alone sameEvent sameRead sourceIn orZero leftBy nextRound values waits noneWaits nextWrite readFits writeFits fits walk sameList sameGraph judge
 judging p g = judge p g
 
 -- threads of which none are declared alike
@@ -51,7 +55,7 @@ right c = sameAnswer (judge (c .program) (c .graph)) (c .answer)
 
 -- each thread stores at a location and loads the other's
 abbrev pub buffering : Program
-buffering = threadsOf ((Store 0 (Constant 1) ∷ Load 0 1 ∷ []) ∷ (Store 1 (Constant 1) ∷ Load 0 0 ∷ []) ∷ [])
+buffering = threadsOf ((Memory (Store 0 (Constant 1)) ∷ Memory (Load 0 1) ∷ []) ∷ (Memory (Store 1 (Constant 1)) ∷ Memory (Load 0 0) ∷ []) ∷ [])
 
 abbrev pub neitherSeen : Graph
 neitherSeen = graphWith (((1, initialWrite) ∷ []) ∷ ((1, initialWrite) ∷ []) ∷ []) ((0, 0) ∷ []) ((1, 0) ∷ [])
@@ -60,26 +64,26 @@ abbrev pub firstSeen : Graph
 firstSeen = graphWith (((1, initialWrite) ∷ []) ∷ ((1, (0, 0)) ∷ []) ∷ []) ((0, 0) ∷ []) ((1, 0) ∷ [])
 
 abbrev pub twoAdds : Program
-twoAdds = threadsOf ((FetchAdd 0 0 (Constant 1) ∷ []) ∷ (FetchAdd 0 0 (Constant 1) ∷ []) ∷ [])
+twoAdds = threadsOf ((Memory (FetchAdd 0 0 (Constant 1)) ∷ []) ∷ (Memory (FetchAdd 0 0 (Constant 1)) ∷ []) ∷ [])
 
 -- the first add reads from itself
 abbrev pub selfish : Graph
 selfish = graphWith (((0, (0, 0)) ∷ []) ∷ ((0, (0, 0)) ∷ []) ∷ []) ((1, 0) ∷ (0, 0) ∷ []) []
 
 abbrev twoSwaps : Program
-twoSwaps = threadsOf ((CompareSwap 0 0 (Constant 0) (Constant 1) ∷ []) ∷ (CompareSwap 0 0 (Constant 0) (Constant 1) ∷ []) ∷ [])
+twoSwaps = threadsOf ((Memory (CompareSwap 0 0 (Constant 0) (Constant 1)) ∷ []) ∷ (Memory (CompareSwap 0 0 (Constant 0) (Constant 1)) ∷ []) ∷ [])
 
 -- each thread stores at the other's location what it loaded
 abbrev copies : Program
-copies = threadsOf ((Load 0 0 ∷ Store 1 (Register 0) ∷ []) ∷ (Load 0 1 ∷ Store 0 (Register 0) ∷ []) ∷ [])
+copies = threadsOf ((Memory (Load 0 0) ∷ Memory (Store 1 (Register 0)) ∷ []) ∷ (Memory (Load 0 1) ∷ Memory (Store 0 (Register 0)) ∷ []) ∷ [])
 
 -- the read of location 0 comes behind another: only its place tells that the store must wait for it
 abbrev pub behind : Program
-behind = threadsOf ((Store 0 (Constant 1) ∷ []) ∷ (Load 0 1 ∷ Load 0 0 ∷ []) ∷ [])
+behind = threadsOf ((Memory (Store 0 (Constant 1)) ∷ []) ∷ (Memory (Load 0 1) ∷ Memory (Load 0 0) ∷ []) ∷ [])
 
 -- the second read goes to location 0 if the first one found 0
 abbrev choosing : Program
-choosing = threadsOf ((Store 0 (Constant 1) ∷ []) ∷ (Load 0 1 ∷ SkipUnless 0 (Constant 0) 1 ∷ Load 1 0 ∷ Load 2 2 ∷ []) ∷ [])
+choosing = threadsOf ((Memory (Store 0 (Constant 1)) ∷ []) ∷ (Memory (Load 0 1) ∷ Alone (SkipUnless (test Equal 0 (Constant 0)) 1) ∷ Memory (Load 1 0) ∷ Memory (Load 2 2) ∷ []) ∷ [])
 
 pub cases : List Case
 cases =
@@ -131,7 +135,7 @@ agrees p =
     all (λ s. all (λ r. let g = mixed (graph p s) (graph p r) in sameAnswer (judge p g) (firstWith p g ss)) ss) ss
 
 abbrev increment : List Instruction
-increment = Load 0 0 ∷ AddAssign 0 (Constant 1) ∷ Store 0 (Register 0) ∷ []
+increment = Memory (Load 0 0) ∷ Alone (AddAssign 0 (Constant 1)) ∷ Memory (Store 0 (Register 0)) ∷ []
 
 abbrev small : List Program
 small =
@@ -141,8 +145,8 @@ small =
     copies ∷
     behind ∷
     threadsOf (increment ∷ increment ∷ []) ∷
-    threadsOf ((Load 0 0 ∷ Assert 0 (Constant 0) ∷ []) ∷ (Store 0 (Constant 1) ∷ []) ∷ []) ∷
-    threadsOf ((Store 0 (Constant 1) ∷ []) ∷ (Load 0 0 ∷ []) ∷ (Load 0 0 ∷ []) ∷ []) ∷
+    threadsOf ((Memory (Load 0 0) ∷ Alone (Assert (test Equal 0 (Constant 0))) ∷ []) ∷ (Memory (Store 0 (Constant 1)) ∷ []) ∷ []) ∷
+    threadsOf ((Memory (Store 0 (Constant 1)) ∷ []) ∷ (Memory (Load 0 0) ∷ []) ∷ (Memory (Load 0 0) ∷ []) ∷ []) ∷
     []
 
 pub all-agree : all agrees small ≡ true
@@ -151,7 +155,7 @@ all-agree = refl
 
 -- 24 accesses in one chain
 abbrev four : List Instruction
-four = FetchAdd 0 0 (Constant 1) ∷ FetchAdd 0 0 (Constant 1) ∷ FetchAdd 0 0 (Constant 1) ∷ FetchAdd 0 0 (Constant 1) ∷ []
+four = Memory (FetchAdd 0 0 (Constant 1)) ∷ Memory (FetchAdd 0 0 (Constant 1)) ∷ Memory (FetchAdd 0 0 (Constant 1)) ∷ Memory (FetchAdd 0 0 (Constant 1)) ∷ []
 
 abbrev chain : Program
 chain = threadsOf (four ∷ four ∷ four ∷ four ∷ four ∷ four ∷ [])

@@ -11,31 +11,31 @@ use borrow.Author.Tests.{ltb-true, lt-ltb, eqb-true, eq-eqb, not-true}
 use lib.Dec.{eqb, ltb}
 use lib.ListN.{length, List·getD-eq-default}
 use Rattle.program.proofs.Tests.{both}
-use Rattle.schedules.specs.Lists.{any, all, upTo}
-use Rattle.schedules.proofs.Lists.{in-upTo, any-yes, any-of, all-at, all-of}
+use Rattle.schedules.specs.Lists.{any, all, range}
+use Rattle.schedules.proofs.Lists.{in-range, any-yes, any-of, all-at, all-of}
 use Rattle.sc.specs.Local.{Local, placeOf, takes, puts}
-use Rattle.sc.specs.State.{Event, Thread, Cell, State, threadOf, cellOf, latest, may}
-use Rattle.sc.specs.Trail.{given}
+use Rattle.sc.specs.State.{Event, Thread, Cell, State, threadOf, cellOf, latest, enabled}
+use Rattle.sc.specs.Actions.{given}
 use Rattle.sc.specs.Graph.{Graph}
 use Rattle.sc.proofs.Histories.{upcoming, Done}
 use Rattle.consistent.specs.Consistent.{rowOf, orderOf, ReadsFrom}
 use Rattle.consistent.specs.Same.{sameEvent, sameRead}
-use Rattle.consistent.proofs.Walk.{waits, noneWaits, turnOf, readFits, writeFits, fits}
+use Rattle.consistent.proofs.Walk.{waits, noneWaits, nextWrite, readFits, writeFits, fits}
 use Rattle.consistent.proofs.Tests.{both-and, not-of, same-event-is, is-same-event, differs, is-different, same-read-is, same-read}
 
 module _ (g : Graph) (place : Event → ℕ) where
   -- it is the event's turn at its location, and every other read of the last write there is done
-  abbrev pub Turn : Event → ℕ → Cell → (Event → Type 0) → Type 0
-  Turn e l c D = (turnOf (orderOf g l) (length (c .writes)) ≡ e) × ((x s : Event) → ReadsFrom g x s → s ≡ latest (c .writes) → place x ≡ l → x ≢ e → D x)
+  abbrev pub IsNext : Event → ℕ → Cell → (Event → Type 0) → Type 0
+  IsNext e l c D = (nextWrite (orderOf g l) (length (c .writes)) ≡ e) × ((x s : Event) → ReadsFrom g x s → s ≡ latest (c .writes) → place x ≡ l → x ≢ e → D x)
 
   -- the graph allows this thread its next access on this cell
   pub record Fit (m : Bool) (t : ℕ) (h : Thread) (c : Cell) (D : Event → Type 0) : Type 0 where
     pub live : m ≡ true
     pub reads : takes (h .local) ≡ true → ReadsFrom g (t, h .history .done) (latest (c .writes)) × (place (t, h .history .done) ≡ placeOf (h .local))
-    pub writes : given (puts (h .local) (c .value)) ≡ true → Turn (t, h .history .done) (placeOf (h .local)) c D
+    pub writes : given (puts (h .local) (c .value)) ≡ true → IsNext (t, h .history .done) (placeOf (h .local)) c D
 
   abbrev pub FitAt : State → ℕ → Type 0
-  FitAt σ t = Fit (may σ t) t (threadOf σ t) (cellOf σ (placeOf (threadOf σ t .local))) (Done σ)
+  FitAt σ t = Fit (enabled σ t) t (threadOf σ t) (cellOf σ (placeOf (threadOf σ t .local))) (Done σ)
 
   -- a read stands in one of the rows
   pub row-in : (x s : Event) → ReadsFrom g x s → x .0 < length (g .reads)
@@ -74,14 +74,14 @@ module _ (g : Graph) (place : Event → ℕ) where
         go : Dec (Done σ x) → Done σ x
         go (yes d) = d
         go (no d) =
-            let a = all-at (λ u. all (λ r. not (waits place σ l s e u r)) (rowOf g u)) (upTo 0 (length (g .reads))) (x .0) h
-            (in-upTo 0 (length (g .reads)) (x .0) (omega arith) (omega (arith, row-in x q k))) in
+            let a = all-at (λ u. all (λ r. not (waits place σ l s e u r)) (rowOf g u)) (range 0 (length (g .reads))) (x .0) h
+            (in-range 0 (length (g .reads)) (x .0) (omega arith) (omega (arith, row-in x q k))) in
             let b = all-at (λ r. not (waits place σ l s e (x .0) r)) (rowOf g (x .0)) (x .1, q) a k in
             absurd (true≢false (sym (is-waits x q i j n d) ∙ not-true (waits place σ l s e (x .0) (x .1, q)) b))
 
     is-free : Free → noneWaits g place σ l s e ≡ true
     unfolding noneWaits
-    is-free h = all-of (λ u. all (λ r. not (waits place σ l s e u r)) (rowOf g u)) (upTo 0 (length (g .reads)))
+    is-free h = all-of (λ u. all (λ r. not (waits place σ l s e u r)) (rowOf g u)) (range 0 (length (g .reads)))
         (λ u i. all-of (λ r. not (waits place σ l s e u r)) (rowOf g u) (λ r k. not-of (waits place σ l s e u r) (λ w. bad u r k (waits-is u r w))))
       where
         bad : (u : ℕ) (r : ℕ × Event) → List·Memᴰ r (rowOf g u) → Waiting u r → ⊥
@@ -109,17 +109,17 @@ module _ (g : Graph) (place : Event → ℕ) where
           rw (k, readFits) (both-and (any-of (λ r. sameRead r (e .1, latest (c .writes))) (rowOf g (e .0)) (e .1, latest (c .writes)) (x .0)
           (same-read (e .1, latest (c .writes)))) (eq-eqb (place e) (placeOf h) (x .1)))
 
-  write-is : (σ : State) (e : Event) (l : ℕ) (c : Cell) (o : Option ℕ) → writeFits g place σ e l c o ≡ true → given o ≡ true → Turn e l c (Done σ)
+  write-is : (σ : State) (e : Event) (l : ℕ) (c : Cell) (o : Option ℕ) → writeFits g place σ e l c o ≡ true → given o ≡ true → IsNext e l c (Done σ)
   unfolding writeFits given
   write-is σ e l c none f k = absurd (true≢false (sym k))
   write-is σ e l c (some x) f k =
-      let y = both (sameEvent (turnOf (orderOf g l) (length (c .writes))) e) (noneWaits g place σ l (latest (c .writes)) e) f in
-      (same-event-is (turnOf (orderOf g l) (length (c .writes))) e (y .0), free-is σ l (latest (c .writes)) e (y .1))
+      let y = both (sameEvent (nextWrite (orderOf g l) (length (c .writes))) e) (noneWaits g place σ l (latest (c .writes)) e) f in
+      (same-event-is (nextWrite (orderOf g l) (length (c .writes))) e (y .0), free-is σ l (latest (c .writes)) e (y .1))
 
-  is-write : (σ : State) (e : Event) (l : ℕ) (c : Cell) (o : Option ℕ) → (given o ≡ true → Turn e l c (Done σ)) → writeFits g place σ e l c o ≡ true
+  is-write : (σ : State) (e : Event) (l : ℕ) (c : Cell) (o : Option ℕ) → (given o ≡ true → IsNext e l c (Done σ)) → writeFits g place σ e l c o ≡ true
   unfolding writeFits given
   is-write σ e l c none f = refl
-  is-write σ e l c (some x) f = let y = f refl in both-and (is-same-event (turnOf (orderOf g l) (length (c .writes))) e (y .0)) (is-free σ l (latest (c .writes)) e (y .1))
+  is-write σ e l c (some x) f = let y = f refl in both-and (is-same-event (nextWrite (orderOf g l) (length (c .writes))) e (y .0)) (is-free σ l (latest (c .writes)) e (y .1))
 
   module _ (σ : State) (t : ℕ) where
     abbrev h : Local
@@ -132,7 +132,7 @@ module _ (g : Graph) (place : Event → ℕ) where
     unfolding fits
     fits-is f =
         let e = upcoming σ t in
-        let x = both (may σ t) (readFits g place e h c && writeFits g place σ e (placeOf h) c (puts h (c .value))) f in
+        let x = both (enabled σ t) (readFits g place e h c && writeFits g place σ e (placeOf h) c (puts h (c .value))) f in
         let y = both (readFits g place e h c) (writeFits g place σ e (placeOf h) c (puts h (c .value))) (x .1) in
         record { live = x .0; reads = read-is e h c (y .0); writes = write-is σ e (placeOf h) c (puts h (c .value)) (y .1) }
 

@@ -11,14 +11,14 @@ use lib.Seq.{drop-at}
 use Rattle.lines.specs.Frame.{Bytes}
 use Rattle.lines.specs.Text.{digits, text}
 use Rattle.lines.specs.Split.{lineLength}
-use Rattle.lines.specs.TextLines.{TextLine, split}
+use Rattle.lines.specs.TextLines.{TextLine, split, frameOf}
 use Rattle.lines.proofs.RoundTrip.{frame-digits, lineLength-text, take-text}
 use Rattle.lines.proofs.Text.{length-digits, length-text}
 use Rattle.lines.proofs.TextLines.{whole, split-at}
 use Rattle.program.specs.WellFormed.{Everywhere}
 use Rattle.program.proofs.Tests.{both}
 use Rattle.sc.specs.Text.{textOf}
-use Rattle.consistent.specs.Reading.{Frame, byteAt, isRead, known, Reading, refusal, after, parsed, frameOf, readLines}
+use Rattle.consistent.specs.Reading.{Frame, byteAt, isRead, known, Reading, refusal, after, parsed, readLines}
 use Rattle.consistent.proofs.Parsed.{passed}
 
 -- a frame's line is the first line of a text that begins with it

@@ -11,9 +11,9 @@ use lib.ListN.{length, getD}
 use Rattle.program.specs.Program.{Program, initial}
 use Rattle.program.specs.WellFormed.{WellFormed}
 use Rattle.sc.specs.Local.{takes}
-use Rattle.sc.specs.State.{Event, initialWrite, Cell, State, threadOf, cellOf, place, latest, noted, advanced, step, may, start}
+use Rattle.sc.specs.State.{Event, initialWrite, Cell, State, threadOf, cellOf, place, latest, noted, advanced, step, enabled, start}
 use Rattle.sc.specs.Graph.{Graph}
-use Rattle.sc.proofs.Steps.{may-range}
+use Rattle.sc.proofs.Steps.{enabled-range}
 use Rattle.sc.proofs.Change.{thread-cases, done-own, Change, kept, wrote, wrote-own}
 use Rattle.sc.proofs.Start.{start-writes, start-history}
 use Rattle.sc.proofs.Regular.{changes, place-in}
@@ -82,7 +82,7 @@ module _ (p : Program) (wf : WellFormed p) (g : Graph) (v : Values) (C : Canonic
   pub closed-start : Closed (start p)
   closed-start x y b d = absurd (none-done (y .0) (y .1) d)
 
-  module _ (σ : State) (F : Follows σ) (cl : Closed σ) (t : ℕ) (m : may σ t ≡ true) (ready : Ready σ (upcoming σ t)) where
+  module _ (σ : State) (F : Follows σ) (cl : Closed σ) (t : ℕ) (m : enabled σ t ≡ true) (ready : Ready σ (upcoming σ t)) where
     abbrev e : Event
     e = upcoming σ t
 
@@ -129,7 +129,7 @@ module _ (p : Program) (wf : WellFormed p) (g : Graph) (v : Values) (C : Canonic
         let i : List·Memᴰ y (rowOf g t) = subst (λ (x : Event). List·Memᴰ (n, x) (rowOf g t)) (sym (source-latest (s .0) (s .1))) (s .1) in
         parts-next (λ r. Done σ (t, r .0)) (threadOf σ t .history .reads) (rowOf g t) (F .rows t) (λ r. Done (step σ t) (t, r .0)) (λ r d. done-more σ t m (t, r .0) d) y i
         (λ d. upcoming-undone σ t d) (λ x f. descends-later (rowOf g t) y x (C .ordered t) f) (done-new σ t m)
-        (λ x f d. absurd (omega (arith, descends-later (rowOf g t) x y (C .ordered t) f, done-own σ t (may-range σ t m))))
+        (λ x f d. absurd (omega (arith, descends-later (rowOf g t) x y (C .ordered t) f, done-own σ t (enabled-range σ t m))))
 
     abbrev Order : ℕ → List Event → Type 0
     Order l ws = Parts (Done (step σ t)) ws (orderOf g l)
@@ -162,7 +162,7 @@ module _ (p : Program) (wf : WellFormed p) (g : Graph) (v : Values) (C : Canonic
     unfolding advanced
     follows-step = record {
       agrees = agrees-step p v σ (F .agrees) t m finds;
-      rows = λ u. thread-cases (λ k h. Row k (h .history .reads)) σ t (may-range σ t m) (row-own (takes (threadOf σ t .local)) refl) u (λ ne. row-other u ne);
+      rows = λ u. thread-cases (λ k h. Row k (h .history .reads)) σ t (enabled-range σ t m) (row-own (takes (threadOf σ t .local)) refl) u (λ ne. row-other u ne);
       orders = λ l. order-after l (changes σ (F .agrees .regular) t l);
     }
 

@@ -15,7 +15,7 @@ use Rattle.schedules.proofs.Order.{AtMost, at-most-not-less}
 use Rattle.schedules.proofs.Runs.{ended-none, full-allowed, allowed-full}
 use Rattle.schedules.proofs.Greedy.{GreedyLaws, greedy-least, commuting}
 use Rattle.schedules.proofs.GreedyAllowed.{greedy-allowed}
-use Rattle.sc.specs.State.{State, step, may, SC, start}
+use Rattle.sc.specs.State.{State, step, enabled, SC, start}
 use Rattle.sc.specs.Graph.{Graph, graphOf, graph, endOf, Full}
 use Rattle.sc.proofs.Lawful.{lawful, names-ascend, at-most-24}
 use Rattle.sc.proofs.Regular.{Regular, regular-step, regular-start}
@@ -38,22 +38,22 @@ module _ (p : Program) (wf : WellFormed p) (g : Graph) where
   abbrev ready : State → ℕ → Bool
   ready = fits g (locationOf p (values p g 24))
 
-  fits-may : (σ : State) (t : ℕ) → ready σ t ≡ true → may σ t ≡ true
-  fits-may σ t e = fits-is g (locationOf p (values p g 24)) σ t e .live
+  fits-enabled : (σ : State) (t : ℕ) → ready σ t ≡ true → enabled σ t ≡ true
+  fits-enabled σ t e = fits-is g (locationOf p (values p g 24)) σ t e .live
 
   greedy-laws : GreedyLaws SC ready Goal Regular
-  greedy-laws = commuting SC ready Goal Regular (λ σ t r e. regular-step σ t r (fits-may σ t e)) (λ σ t r o. final σ t (o .0) (ready σ t) refl)
+  greedy-laws = commuting SC ready Goal Regular (λ σ t r e. regular-step σ t r (fits-enabled σ t e)) (λ σ t r o. final σ t (o .0) (ready σ t) refl)
       (λ σ a b r n x y. fits-commute g (locationOf p (values p g 24)) σ a b n x y) (λ σ a b r n x y. fits-stays g (locationOf p (values p g 24)) σ a b n x y)
-      names-ascend (λ σ t r e. lawful .named σ t (fits-may σ t e))
+      names-ascend (λ σ t r e. lawful .named σ t (fits-enabled σ t e))
     where
       final : (σ : State) (t : ℕ) → ended SC σ ≡ true → (b : Bool) → ready σ t ≡ b → ready σ t ≡ false
-      final σ t o true e = absurd (true≢false (sym (fits-may σ t e) ∙ ended-none SC lawful σ t o))
+      final σ t o true e = absurd (true≢false (sym (fits-enabled σ t e) ∙ ended-none SC lawful σ t o))
       final σ t o false e = e
 
   fitting-full : (s : Schedule) (σ : State) → Fitting SC ready Goal σ s → FullFrom SC σ s × (graphOf (run SC σ s) ≡ g)
   unfolding run
   fitting-full [] σ o = o
-  fitting-full (t ∷ s) σ o = let r = fitting-full s (step σ t) (o .1) in ((fits-may σ t (o .0), r .0), r .1)
+  fitting-full (t ∷ s) σ o = let r = fitting-full s (step σ t) (o .1) in ((fits-enabled σ t (o .0), r .0), r .1)
 
   made-fitting : (s : Schedule) → MadeBy p g s → Fitting SC ready Goal (start p) s
   made-fitting s m =
@@ -73,7 +73,7 @@ module _ (p : Program) (wf : WellFormed p) (g : Graph) where
 
   walk-allowed : Allowed SC (start p) (walk p g)
   unfolding walk
-  walk-allowed = greedy-allowed SC ready fits-may 24 (start p)
+  walk-allowed = greedy-allowed SC ready fits-enabled 24 (start p)
 
   accepted-made : accepts ≡ true → MadeBy p g (walk p g)
   accepted-made e =

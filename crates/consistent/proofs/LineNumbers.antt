@@ -6,8 +6,8 @@ use mathlib.Core.Option.{Option, none, some}
 use mathlib.Core.List.{List, [], _∷_}
 use native.Mathlib.Omega.{arith}
 use lib.Dec.{eqb}
-use Rattle.lines.specs.TextLines.{TextLine, split}
-use Rattle.consistent.specs.Reading.{Frame, known, inRange, Reading, inOrder, refusal, after, fresh, Parsed, parsed, refusedAt, frameOf, readLines, readGraph}
+use Rattle.lines.specs.TextLines.{TextLine, split, frameOf}
+use Rattle.consistent.specs.Reading.{Frame, known, inRange, Reading, inOrder, refusal, after, fresh, Parsed, parsed, refusedAt, readLines, readGraph}
 
 abbrev Numbered : ℕ → ℕ → Type 0
 Numbered n k = (30 ≤ n) × (n ≤ 33) × (1 ≤ k)

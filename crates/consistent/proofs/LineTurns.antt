@@ -9,9 +9,9 @@ use borrow.Author.Tests.{ne-eqb}
 use lib.ListN.{length, take, drop, drop-of-length-le}
 use Rattle.lines.specs.Frame.{frame}
 use Rattle.lines.specs.Split.{lineLength}
-use Rattle.lines.specs.TextLines.{TextLine, split}
+use Rattle.lines.specs.TextLines.{TextLine, split, frameOf}
 use Rattle.lines.proofs.TextLines.{split-at, split-end}
-use Rattle.consistent.specs.Reading.{Frame, Reading, refusal, after, Parsed, parsed, refusedAt, frameOf, readLines}
+use Rattle.consistent.specs.Reading.{Frame, Reading, refusal, after, Parsed, parsed, refusedAt, readLines}
 
 module _ (n k : ℕ) (text : List ℕ) (at : ℕ) (r : Reading) where
   -- the lines from here on

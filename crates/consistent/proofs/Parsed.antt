@@ -11,7 +11,7 @@ use borrow.Author.Tests.{leb-true, eqb-true, ltb-true}
 use lib.Dec.{eqb, leb}
 use lib.ListN.{length, getD, set, replicate, length-set, length-replicate}
 use lib.Seq.{getD-set-same, getD-set-other}
-use Rattle.lines.specs.TextLines.{TextLine, split}
+use Rattle.lines.specs.TextLines.{TextLine, split, frameOf}
 use Rattle.program.specs.Program.{Program}
 use Rattle.program.proofs.Tests.{both}
 use Rattle.schedules.specs.Lists.{all}
@@ -21,7 +21,7 @@ use Rattle.schedules.proofs.Order.{AtMost, less-front, less-transitive}
 use Rattle.sc.specs.State.{Event}
 use Rattle.sc.specs.Graph.{Graph}
 use Rattle.consistent.specs.Consistent.{rowOf, orderOf, Descends, Distinct, Canonical}
-use Rattle.consistent.specs.Reading.{Frame, byteAt, isRead, writesIn, known, isEvent, isSource, inRange, key, Reading, allNew, inOrder, refusal, withLine, after, fresh, parsed, refusedAt, frameOf, readLines, readGraph}
+use Rattle.consistent.specs.Reading.{Frame, byteAt, isRead, writesIn, known, isEvent, isSource, inRange, key, Reading, allNew, inOrder, refusal, withLine, after, fresh, parsed, refusedAt, readLines, readGraph}
 use Rattle.consistent.proofs.Readable.{Named, Source, Readable, readable-canonical, event-is, source-is, new-is, reverse-in, distinct-reverse}
 
 -- a line that passes, passes each test

@@ -9,8 +9,8 @@ use native.Mathlib.Omega.{arith}
 use Rattle.program.specs.Program.{Program}
 use Rattle.program.specs.WellFormed.{WellFormed}
 use Rattle.sc.specs.Local.{takes}
-use Rattle.sc.specs.State.{Event, Cell, State, threadOf, cellOf, place, latest, noted, advanced, step, may, start}
-use Rattle.sc.proofs.Steps.{may-range, thread-own}
+use Rattle.sc.specs.State.{Event, Cell, State, threadOf, cellOf, place, latest, noted, advanced, step, enabled, start}
+use Rattle.sc.proofs.Steps.{enabled-range, thread-own}
 use Rattle.sc.proofs.Change.{thread-cases, Change, kept, wrote, wrote-own, writes-stay}
 use Rattle.sc.proofs.Start.{start-writes, start-history}
 use Rattle.sc.proofs.Regular.{changes, place-in}
@@ -20,10 +20,10 @@ use Rattle.consistent.proofs.Alone.{some-writes}
 use Rattle.consistent.proofs.Agreement.{Agrees, agrees-start, agrees-step, location, reads-as, writes-as}
 
 -- a step that reads notes the last write of its location
-pub read-noted : (σ : State) (t : ℕ) → may σ t ≡ true → takes (threadOf σ t .local) ≡ true →
+pub read-noted : (σ : State) (t : ℕ) → enabled σ t ≡ true → takes (threadOf σ t .local) ≡ true →
     List·Memᴰ (threadOf σ t .history .done, latest (cellOf σ (place σ t) .writes)) (threadOf (step σ t) t .history .reads)
 unfolding advanced noted
-read-noted σ t m e = rw (thread-own σ t (may-range σ t m), e) (List·Memᴰ·head refl)
+read-noted σ t m e = rw (thread-own σ t (enabled-range σ t m), e) (List·Memᴰ·head refl)
 
 module _ (p : Program) (v : Values) where
   pub record Records (σ : State) : Type 0 where
@@ -42,7 +42,7 @@ module _ (p : Program) (v : Values) where
     every-write = λ l e d. absurd (omega (arith, start-history p (e .0) .0));
   }
 
-  module _ (σ : State) (R : Records σ) (t : ℕ) (m : may σ t ≡ true) (finds : Reads p v (upcoming σ t) → v (upcoming σ t) ≡ cellOf σ (place σ t) .value) where
+  module _ (σ : State) (R : Records σ) (t : ℕ) (m : enabled σ t ≡ true) (finds : Reads p v (upcoming σ t) → v (upcoming σ t) ≡ cellOf σ (place σ t) .value) where
     abbrev e : Event
     e = upcoming σ t
 
@@ -102,7 +102,7 @@ module _ (p : Program) (v : Values) where
     unfolding advanced
     records-step = record {
       agrees = agrees-step p v σ A t m finds;
-      noted-read = λ u. thread-cases (λ k h. (r : ℕ × Event) → List·Memᴰ r (h .history .reads) → Says k r) σ t (may-range σ t m)
+      noted-read = λ u. thread-cases (λ k h. (r : ℕ × Event) → List·Memᴰ r (h .history .reads) → Says k r) σ t (enabled-range σ t m)
           (own-read (takes (threadOf σ t .local)) refl) u (λ ne. R .noted-read u);
       every-read = λ x d k. sourced x k (done-cases σ t m x d);
       noted-write = λ l x k. is-write l x k (changes σ (A .regular) t l);

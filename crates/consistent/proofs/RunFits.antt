@@ -14,24 +14,24 @@ use Rattle.schedules.specs.System.{run, ended}
 use Rattle.schedules.specs.Greedy.{Fitting}
 use Rattle.sc.specs.Local.{puts}
 use Rattle.sc.specs.State.{Event, initialWrite, State, threadOf, cellOf, place, latest, step, SC}
-use Rattle.sc.specs.Trail.{given}
+use Rattle.sc.specs.Actions.{given}
 use Rattle.sc.specs.Graph.{Graph, graphOf}
 use Rattle.sc.proofs.Change.{wrote-own}
 use Rattle.sc.proofs.Regular.{place-in}
 use Rattle.sc.proofs.Histories.{upcoming, Done}
 use Rattle.consistent.specs.Consistent.{orderOf, coherenceOf, Later, locationOf, Canonical, Makes, from-reads}
 use Rattle.consistent.proofs.RoundValues.{values}
-use Rattle.consistent.proofs.Walk.{turnOf, fits}
+use Rattle.consistent.proofs.Walk.{nextWrite, fits}
 use Rattle.consistent.proofs.Later.{later-right}
 use Rattle.consistent.proofs.Agreement.{location}
 use Rattle.consistent.proofs.Rounds.{order-suffix, step-source}
 use Rattle.consistent.proofs.OnRun.{On, on-step, records, on-ready}
-use Rattle.consistent.proofs.Fitting.{Turn, is-fits}
+use Rattle.consistent.proofs.Fitting.{IsNext, is-fits}
 
 -- the write whose turn it is stands in front of those that have come
-turn-next : (ws front w : List Event) (e : Event) → ws ≡ front ++ (e ∷ w) → turnOf ws (length w) ≡ e
-unfolding turnOf
-turn-next ws front w e q =
+next-write-is : (ws front w : List Event) (e : Event) → ws ≡ front ++ (e ∷ w) → nextWrite ws (length w) ≡ e
+unfolding nextWrite
+next-write-is ws front w e q =
     let r : reverse ws ≡ reverse w ++ (e ∷ reverse front) =
     ap reverse q ∙ reverse-append front (e ∷ w) ∙ ap (λ (l : List Event). l ++ reverse front) (reverse-cons e w) ∙ append-assoc (reverse w) (e ∷ []) (reverse front) in
     rw r (getD-at (reverse w) e (reverse front) initialWrite (length w) (length-reverse w))
@@ -68,12 +68,12 @@ module _ (p : Program) (wf : WellFormed p) (g : Graph) (C : Canonical p g) (N : 
         append-assoc front (e ∷ w) (initialWrite ∷ []) in
         subst (λ (l : List Event). Later l e (latest w)) (sym i) (later-right front (e ∷ (w ++ (initialWrite ∷ []))) e (latest w) (inl (refl, latest-behind w)))
 
-    turn : (x : Option ℕ) → puts (threadOf σ t .local) (cellOf σ (place σ t) .value) ≡ x → given x ≡ true → Turn g pl e (place σ t) (cellOf σ (place σ t)) (Done σ)
+    turn : (x : Option ℕ) → puts (threadOf σ t .local) (cellOf σ (place σ t) .value) ≡ x → given x ≡ true → IsNext g pl e (place σ t) (cellOf σ (place σ t)) (Done σ)
     unfolding given
     turn none q k = absurd (false≢true k)
     turn (some x) q k =
         let r = in-graph x q in (
-          turn-next (orderOf g (place σ t)) (r .0) w e (r .1),
+          next-write-is (orderOf g (place σ t)) (r .0) w e (r .1),
           λ y s a i j n. on-ready p wf g C N M σ t z o y
               (from-reads s a (subst (λ (l : ℕ). Later (coherenceOf g l) e s) (sym j)
               (subst (Later (coherenceOf g (place σ t)) e) (sym i) (later-latest (r .0) (r .1)))) n),

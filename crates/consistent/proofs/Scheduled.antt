@@ -13,17 +13,17 @@ use lib.ListN.{length}
 use Rattle.program.specs.Program.{Program}
 use Rattle.program.specs.WellFormed.{WellFormed, accesses}
 use Rattle.program.proofs.Tests.{both}
-use Rattle.schedules.specs.Lists.{upTo, keep}
+use Rattle.schedules.specs.Lists.{range, filter}
 use Rattle.schedules.specs.Order.{Schedule}
 use Rattle.schedules.specs.System.{run, ended, FullFrom}
-use Rattle.schedules.proofs.Lists.{in-upTo, in-keep, of-keep}
+use Rattle.schedules.proofs.Lists.{in-range, in-filter, of-filter}
 use Rattle.schedules.proofs.Runs.{ended-of}
 use Rattle.sc.specs.Local.{pending}
-use Rattle.sc.specs.State.{Event, State, threadOf, cellOf, step, may, size, SC, start}
+use Rattle.sc.specs.State.{Event, State, threadOf, cellOf, step, enabled, size, SC, start}
 use Rattle.sc.specs.Graph.{Graph, graphOf, graph}
 use Rattle.sc.proofs.Access.{next-fewer, nothing-pending}
 use Rattle.sc.proofs.Ended.{ended-all}
-use Rattle.sc.proofs.Steps.{may-pending, may-of}
+use Rattle.sc.proofs.Steps.{enabled-pending, enabled-of}
 use Rattle.sc.proofs.Lawful.{falls}
 use Rattle.sc.proofs.Regular.{Regular}
 use Rattle.sc.proofs.Histories.{upcoming, Done, upcoming-undone}
@@ -44,25 +44,25 @@ ended-idle σ r e t = nothing-pending (threadOf σ t .local) (ended-all σ r e t
 -- the pairs of these threads, thread t with f t accesses
 pairs : (ℕ → ℕ) → List ℕ → List Event
 pairs f [] = []
-pairs f (t ∷ ts) = map (λ (i : ℕ). let e : Event = (t, i) in e) (upTo 0 (f t)) ++ pairs f ts
+pairs f (t ∷ ts) = map (λ (i : ℕ). let e : Event = (t, i) in e) (range 0 (f t)) ++ pairs f ts
 
 in-pairs : (f : ℕ → ℕ) (ts : List ℕ) (t i : ℕ) → List·Memᴰ t ts → i < f t → List·Memᴰ (t, i) (pairs f ts)
 unfolding pairs
 in-pairs f [] t i m h = absurd (List·Memᴰ·not-nil m)
 in-pairs f (u ∷ ts) t i m h = ⊎-elim
-    (λ (q : t ≡ u). Memᴰ·append-left {s = map (λ (j : ℕ). let e : Event = (u, j) in e) (upTo 0 (f u))} (pairs f ts)
-    (subst (λ (k : ℕ). List·Memᴰ (t, i) (map (λ (j : ℕ). let e : Event = (k, j) in e) (upTo 0 (f k)))) q
-    (Memᴰ·map (λ (j : ℕ). let e : Event = (t, j) in e) (in-upTo 0 (f t) i (omega arith) (omega arith)))))
-    (λ (k : List·Memᴰ t ts). Memᴰ·append-right (map (λ (j : ℕ). let e : Event = (u, j) in e) (upTo 0 (f u))) (in-pairs f ts t i k h)) (List·Memᴰ·cases-cons m)
+    (λ (q : t ≡ u). Memᴰ·append-left {s = map (λ (j : ℕ). let e : Event = (u, j) in e) (range 0 (f u))} (pairs f ts)
+    (subst (λ (k : ℕ). List·Memᴰ (t, i) (map (λ (j : ℕ). let e : Event = (k, j) in e) (range 0 (f k)))) q
+    (Memᴰ·map (λ (j : ℕ). let e : Event = (t, j) in e) (in-range 0 (f t) i (omega arith) (omega arith)))))
+    (λ (k : List·Memᴰ t ts). Memᴰ·append-right (map (λ (j : ℕ). let e : Event = (u, j) in e) (range 0 (f u))) (in-pairs f ts t i k h)) (List·Memᴰ·cases-cons m)
 
 module _ (p : Program) (wf : WellFormed p) (g : Graph) (v : Values) (C : Canonical p g) (M : Makes p g v) (acyclic : Acyclic (Before p g v)) where
   events : List Event
-  events = pairs (λ t. accesses (alone p v t 0 .rest)) (upTo 0 (length (p .threads)))
+  events = pairs (λ t. accesses (alone p v t 0 .rest)) (range 0 (length (p .threads)))
 
   in-events : (e : Event) → Event-of p v e → List·Memᴰ e events
   unfolding events
-  in-events e h = in-pairs (λ t. accesses (alone p v t 0 .rest)) (upTo 0 (length (p .threads))) (e .0) (e .1)
-      (in-upTo 0 (length (p .threads)) (e .0) (omega arith) (omega (arith, event-thread p v e h)))
+  in-events e h = in-pairs (λ t. accesses (alone p v t 0 .rest)) (range 0 (length (p .threads))) (e .0) (e .1)
+      (in-range 0 (length (p .threads)) (e .0) (omega arith) (omega (arith, event-thread p v e h)))
       (omega (arith, accesses-left p v (e .0) (e .1) h, next-fewer (localAt p v e) 0 h))
 
   -- an event that is not done
@@ -78,20 +78,20 @@ module _ (p : Program) (wf : WellFormed p) (g : Graph) (v : Values) (C : Canonic
       (r .0, λ d. absurd (omega (arith, ltb-false (e .1) (threadOf σ (e .0) .history .done) (not-true (ltb (e .1) (threadOf σ (e .0) .history .done)) (r .1)))))
 
   undone : State → List Event
-  undone σ = keep (ahead σ) events
+  undone σ = filter (ahead σ) events
 
   undone-in : (σ : State) (e : Event) → Event-of p v e → (Done σ e → ⊥) → List·Memᴰ e (undone σ)
   unfolding undone
-  undone-in σ e h n = in-keep (ahead σ) events e (in-events e h) (is-ahead σ e h n)
+  undone-in σ e h n = in-filter (ahead σ) events e (in-events e h) (is-ahead σ e h n)
 
   -- all events are done: the threads have ended, and the graph is this one
   all-ended : (σ : State) → Follows p wf g v C M σ → undone σ ≡ [] → ended SC σ ≡ true
-  all-ended σ F q = ended-of SC σ (λ t. go t (may σ t) refl)
+  all-ended σ F q = ended-of SC σ (λ t. go t (enabled σ t) refl)
     where
-      go : (t : ℕ) (b : Bool) → may σ t ≡ b → may σ t ≡ false
+      go : (t : ℕ) (b : Bool) → enabled σ t ≡ b → enabled σ t ≡ false
       go t false e = e
       go t true e = absurd (List·Memᴰ·not-nil
-          (subst (List·Memᴰ (upcoming σ t)) q (undone-in σ (upcoming σ t) (ap pending (sym (F .agrees .locals t)) ∙ may-pending σ t e) (upcoming-undone σ t))))
+          (subst (List·Memᴰ (upcoming σ t)) q (undone-in σ (upcoming σ t) (ap pending (sym (F .agrees .locals t)) ∙ enabled-pending σ t e) (upcoming-undone σ t))))
 
   at-end : (σ : State) → Follows p wf g v C M σ → ended SC σ ≡ true → graphOf σ ≡ g
   at-end σ F e = same-graph σ g (F .agrees .threads ∙ sym (C .rows)) (F .agrees .regular .eight ∙ sym (C .lists))
@@ -105,7 +105,7 @@ module _ (p : Program) (wf : WellFormed p) (g : Graph) (v : Values) (C : Canonic
   module _ (σ : State) (F : Follows p wf g v C M σ) (x : Event) (k : List·Memᴰ x (undone σ)) (first : First (Before p g v) x (undone σ)) where
     fact : Event-of p v x × (Done σ x → ⊥)
     unfolding undone
-    fact = ahead-is σ x (of-keep (ahead σ) events x k .1)
+    fact = ahead-is σ x (of-filter (ahead σ) events x k .1)
 
     before-done : (y : Event) → Before p g v y x → Done σ y
     before-done y b = go (decLt (y .1) (threadOf σ (y .0) .history .done))
@@ -121,8 +121,8 @@ module _ (p : Program) (wf : WellFormed p) (g : Graph) (v : Values) (C : Canonic
         go (yes h) = absurd (upcoming-undone σ (x .0) (before-done (upcoming σ (x .0)) (program-order refl h)))
         go (no h) = let n : ¬ (x .1 < threadOf σ (x .0) .history .done) = fact .1 in omega arith
 
-    next-may : may σ (x .0) ≡ true
-    next-may = may-of σ (x .0) (omega (arith, event-thread p v x (fact .0), wf .six))
+    next-enabled : enabled σ (x .0) ≡ true
+    next-enabled = enabled-of σ (x .0) (omega (arith, event-thread p v x (fact .0), wf .six))
         (ap pending (F .agrees .locals (x .0)) ∙ subst (Event-of p v) is-next (fact .0))
 
     next-ready : Ready p wf g v C M σ (upcoming σ (x .0))
@@ -140,7 +140,7 @@ module _ (p : Program) (wf : WellFormed p) (g : Graph) (v : Values) (C : Canonic
       go (x ∷ xs) q ih =
           let r = minimal (Before p g v) (decided p g v) acyclic (undone σ) x (subst (List·Memᴰ x) (sym q) (List·Memᴰ·head refl)) in
           let t = r .0 .0 in
-          let m = next-may σ F (r .0) (r .1) (r .2) in
+          let m = next-enabled σ F (r .0) (r .1) (r .2) in
           let y = next-ready σ F (r .0) (r .1) (r .2) in
           let z = ih (step σ t) (omega (arith, falls σ t m)) (follows-step p wf g v C M σ F c t m y) (closed-step p wf g v C M σ F c t m y) in
           (t ∷ z .0, (m, z .1), z .2)

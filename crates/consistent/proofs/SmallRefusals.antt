@@ -8,11 +8,11 @@ use mathlib.Core.List.{List, [], _∷_}
 use native.Mathlib.Omega.{arith}
 use borrow.Author.Tests.{ltb-true, eqb-true}
 use lib.Dec.{eqb}
-use Rattle.lines.specs.TextLines.{TextLine, split}
+use Rattle.lines.specs.TextLines.{TextLine, split, frameOf}
 use Rattle.program.proofs.Tests.{both}
 use Rattle.schedules.specs.Order.{less}
 use Rattle.schedules.proofs.Order.{less-front, more-heads}
-use Rattle.consistent.specs.Reading.{Frame, byteAt, isRead, writesIn, known, inRange, key, Reading, allNew, inOrder, refusal, after, fresh, Parsed, parsed, refusedAt, frameOf, readLines, readGraph}
+use Rattle.consistent.specs.Reading.{Frame, byteAt, isRead, writesIn, known, inRange, key, Reading, allNew, inOrder, refusal, after, fresh, Parsed, parsed, refusedAt, readLines, readGraph}
 use Rattle.consistent.proofs.LineRanges.{read-range, write-range}
 use Rattle.consistent.proofs.Parsed.{passed, less-last}
 
@@ -28,14 +28,14 @@ data Key : List ℕ → Type 0 where
   write : (l : ℕ) → l ≤ 7 → Key (0x41 ∷ l ∷ [])
 
 -- how many lines can have passed up to this key
-unfoldable upTo : List ℕ → ℕ
-upTo [] = 0
-upTo (b ∷ []) = 0
-upTo (b ∷ l ∷ []) = 97 + l
-upTo (b ∷ t ∷ i ∷ k) = 1 + (t * 16 + i)
+unfoldable range : List ℕ → ℕ
+range [] = 0
+range (b ∷ []) = 0
+range (b ∷ l ∷ []) = 97 + l
+range (b ∷ t ∷ i ∷ k) = 1 + (t * 16 + i)
 
-up-to-104 : (k : List ℕ) → Key k → upTo k ≤ 104
-unfolding upTo
+up-to-104 : (k : List ℕ) → Key k → range k ≤ 104
+unfolding range
 up-to-104 k before-all = omega arith
 up-to-104 k (read t i a b) = omega arith
 up-to-104 k (write l a) = omega arith
@@ -49,8 +49,8 @@ less-pair t i u j a h = go (eqb t u) refl
     go false q = let k = ltb-true t u (rw (q, less) at h) in omega arith
 
 -- a later key has more before it
-climbs : (a b : List ℕ) → Key a → Key b → less a b ≡ true → upTo a < upTo b
-unfolding upTo less
+climbs : (a b : List ℕ) → Key a → Key b → less a b ≡ true → range a < range b
+unfolding range less
 climbs a b before-all before-all h = absurd (false≢true h)
 climbs a b before-all (read u j e f) h = omega arith
 climbs a b before-all (write m e) h = omega arith
@@ -80,7 +80,7 @@ module _ (n : ℕ) (few : n ≤ 6) where
   unfolding refusal
   small-number r f = small (known f) (inRange n f) (inOrder r f)
 
-  lines-within : (k : ℕ) (ls : List TextLine) (r : Reading) → Key (r .last) → k ≤ suc (upTo (r .last)) → Within (readLines n k ls r)
+  lines-within : (k : ℕ) (ls : List TextLine) (r : Reading) → Key (r .last) → k ≤ suc (range (r .last)) → Within (readLines n k ls r)
   unfolding readLines after inOrder
   lines-within k [] r y h = tt
   lines-within k (l ∷ ls) r y h = go (frameOf l) refl (λ f z i. lines-within (k + 1) ls (after f r) z i)
@@ -89,7 +89,7 @@ module _ (n : ℕ) (few : n ≤ 6) where
       place = omega (arith, up-to-104 (r .last) y)
 
       Later : Frame → Type 0
-      Later f = Key (after f r .last) → k + 1 ≤ suc (upTo (after f r .last)) → Within (readLines n (k + 1) ls (after f r))
+      Later f = Key (after f r .last) → k + 1 ≤ suc (range (after f r .last)) → Within (readLines n (k + 1) ls (after f r))
 
       by : (f : Frame) (b : Bool) → eqb (refusal n r f) 0 ≡ b → Later f → Within (cond b (readLines n (k + 1) ls (after f r)) (refusedAt (refusal n r f) k))
       by f true q later =

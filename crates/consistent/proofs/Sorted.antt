@@ -8,8 +8,8 @@ use Rattle.program.specs.Program.{Program}
 use Rattle.schedules.specs.Order.{Schedule}
 use Rattle.schedules.specs.System.{run, Allowed}
 use Rattle.sc.specs.Local.{takes}
-use Rattle.sc.specs.State.{Event, History, Cell, State, threadOf, cellOf, place, latest, noted, advanced, step, may, SC, start}
-use Rattle.sc.proofs.Steps.{may-range}
+use Rattle.sc.specs.State.{Event, History, Cell, State, threadOf, cellOf, place, latest, noted, advanced, step, enabled, SC, start}
+use Rattle.sc.proofs.Steps.{enabled-range}
 use Rattle.sc.proofs.Change.{thread-cases, Change, kept, wrote}
 use Rattle.sc.proofs.Start.{start-writes, start-history}
 use Rattle.sc.proofs.Regular.{Regular, changes, regular-step}
@@ -28,10 +28,10 @@ unfolding noted
 noted-descends true e h n d = (n, d)
 noted-descends false e h n d = d
 
-pub sorted-step : (σ : State) → Regular σ → (t : ℕ) → may σ t ≡ true → Sorted σ → Sorted (step σ t)
+pub sorted-step : (σ : State) → Regular σ → (t : ℕ) → enabled σ t ≡ true → Sorted σ → Sorted (step σ t)
 unfolding advanced
 sorted-step σ r t m T = record {
-  ordered = λ u. thread-cases (λ k h. Descends (h .history .reads)) σ t (may-range σ t m)
+  ordered = λ u. thread-cases (λ k h. Descends (h .history .reads)) σ t (enabled-range σ t m)
       (noted-descends (takes (threadOf σ t .local)) (latest (cellOf σ (place σ t) .writes)) (threadOf σ t .history) (r .numbered t) (T .ordered t)) u (λ ne. T .ordered u);
   once = λ l. go l (changes σ r t l);
 }

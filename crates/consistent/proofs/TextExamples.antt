@@ -7,13 +7,13 @@ use lib.Dec.{eqb}
 use Rattle.lines.specs.Digit.{digit, value, digitOf}
 use Rattle.lines.specs.Frame.{hexadecimal, pairs, frame}
 use Rattle.lines.specs.Text.{digits, text}
-use Rattle.lines.specs.TextLines.{prepend, before, split}
+use Rattle.lines.specs.TextLines.{prepend, before, split, frameOf}
 use Rattle.program.specs.Program.{Program}
 use Rattle.schedules.specs.Lists.{all}
 use Rattle.schedules.specs.Order.{less}
 use Rattle.sc.specs.Text.{textOf, eventsIn}
 use Rattle.consistent.specs.Same.{sameList}
-use Rattle.consistent.specs.Reading.{Frame, isRead, writesIn, known, isEvent, isSource, inRange, key, written, allNew, inOrder, refusal, withLine, after, fresh, frameOf, readLines, readGraph}
+use Rattle.consistent.specs.Reading.{Frame, isRead, writesIn, known, isEvent, isSource, inRange, key, written, allNew, inOrder, refusal, withLine, after, fresh, readLines, readGraph}
 use Rattle.consistent.specs.Answer.{Answer, consistent, inconsistent, refusing}
 use Rattle.consistent.proofs.ByWalk.{answerOf, answerTo, answerText}
 use Rattle.consistent.proofs.Examples.{judging, buffering, threadsOf}

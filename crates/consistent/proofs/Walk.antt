@@ -8,12 +8,12 @@ use mathlib.Core.List.{List, reverse}
 use lib.Dec.{eqb, ltb}
 use lib.ListN.{length, getD}
 use Rattle.program.specs.Program.{Program}
-use Rattle.schedules.specs.Lists.{any, all, upTo}
+use Rattle.schedules.specs.Lists.{any, all, range}
 use Rattle.schedules.specs.Order.{Schedule}
 use Rattle.schedules.specs.System.{ended}
 use Rattle.schedules.specs.Greedy.{greedy}
 use Rattle.sc.specs.Local.{Local, placeOf, takes, puts}
-use Rattle.sc.specs.State.{Event, initialWrite, Cell, State, threadOf, cellOf, latest, may, SC, start}
+use Rattle.sc.specs.State.{Event, initialWrite, Cell, State, threadOf, cellOf, latest, enabled, SC, start}
 use Rattle.sc.specs.Graph.{Graph, graphOf, endOf}
 use Rattle.consistent.specs.Consistent.{rowOf, orderOf, locationOf}
 use Rattle.consistent.specs.Same.{sameEvent, sameRead, sameList}
@@ -24,11 +24,11 @@ unfoldable pub waits : (Event → ℕ) → State → ℕ → Event → Event →
 waits place σ l s e u r = sameEvent (r .1) s && (eqb (place (u, r .0)) l && (not (sameEvent (u, r .0) e) && not (ltb (r .0) (threadOf σ u .history .done))))
 
 unfoldable pub noneWaits : Graph → (Event → ℕ) → State → ℕ → Event → Event → Bool
-noneWaits g place σ l s e = all (λ u. all (λ r. not (waits place σ l s e u r)) (rowOf g u)) (upTo 0 (length (g .reads)))
+noneWaits g place σ l s e = all (λ u. all (λ r. not (waits place σ l s e u r)) (rowOf g u)) (range 0 (length (g .reads)))
 
 -- the write of this list, whose last stands first, that comes when n have come; the initial write, which no thread does, when all have
-unfoldable pub turnOf : List Event → ℕ → Event
-turnOf ws n = getD (reverse ws) n initialWrite
+unfoldable pub nextWrite : List Event → ℕ → Event
+nextWrite ws n = getD (reverse ws) n initialWrite
 
 -- if the event e reads, the graph gives it the last write of this cell, and the table this location
 unfoldable pub readFits : Graph → (Event → ℕ) → Event → Local → Cell → Bool
@@ -40,7 +40,7 @@ readFits g place e h c = elim (takes h) [
 -- if it writes, it is its turn, and no other read still waits for the last write
 unfoldable pub writeFits : Graph → (Event → ℕ) → State → Event → ℕ → Cell → Option ℕ → Bool
 writeFits g place σ e l c none = true
-writeFits g place σ e l c (some x) = sameEvent (turnOf (orderOf g l) (length (c .writes))) e && noneWaits g place σ l (latest (c .writes)) e
+writeFits g place σ e l c (some x) = sameEvent (nextWrite (orderOf g l) (length (c .writes))) e && noneWaits g place σ l (latest (c .writes)) e
 
 -- thread t may step, and the graph allows its next access
 unfoldable pub fits : Graph → (Event → ℕ) → State → ℕ → Bool
@@ -49,7 +49,7 @@ fits g place σ t =
     let l = placeOf (h .local) in
     let c = cellOf σ l in
     let e : Event = (t, h .history .done) in
-    may σ t && (readFits g place e (h .local) c && writeFits g place σ e l c (puts (h .local) (c .value)))
+    enabled σ t && (readFits g place e (h .local) c && writeFits g place σ e l c (puts (h .local) (c .value)))
 
 -- a file has at most 24 accesses: 24 rounds and 24 steps are enough
 unfoldable pub walk : Program → Graph → Schedule

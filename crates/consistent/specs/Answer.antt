@@ -40,7 +40,8 @@ pub data Judgement (file text : List ℕ) (room : ℕ) : Answer → Type 0 where
   judged-yes : (p : Program) (g : Graph) (s : Schedule) → TextRead file text room p (parsed g) → Consistent p g → LeastFor p g s →
       Judgement file text room (consistent s)
   -- no: it is not consistent
-  judged-no : (p : Program) (g : Graph) → TextRead file text room p (parsed g) → (Consistent p g → ⊥) → Judgement file text room inconsistent
+  judged-no : (p : Program) (g : Graph) → TextRead file text room p (parsed g) → (Consistent p g → ⊥)
+      → Judgement file text room inconsistent
 
 -- the later content of the output
 unfoldable pub outputAfter : Answer → List ℕ → List ℕ

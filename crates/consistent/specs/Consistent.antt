@@ -13,6 +13,7 @@ use Rattle.program.specs.Program.{Program, initial}
 use Rattle.sc.specs.Local.{Local, placeOf, takes, puts, next}
 use Rattle.sc.specs.State.{Event, initialWrite, threadOf, start}
 use Rattle.sc.specs.Graph.{Graph}
+pub use Rattle.schedules.specs.Lists.{Distinct}
 
 -- the `40` lines of thread t: access number and source, the last first
 abbrev pub rowOf : Graph → ℕ → List (ℕ × Event)
@@ -44,7 +45,8 @@ unfoldable pub alone : Program → Values → ℕ → ℕ → Local
 alone p v t zero = threadOf (start p) t .local
 alone p v t (suc i) = next (alone p v t i) (v (t, i))
 
--- what the thread of an event is about to do on these values: behind its end a thread neither reads nor writes, so that all pairs may be asked
+-- what the thread of an event is about to do on these values: behind its end a thread neither reads nor writes, so that all pairs may be
+-- asked
 abbrev pub localAt : Program → Values → Event → Local
 localAt p v e = alone p v (e .0) (e .1)
 
@@ -102,12 +104,8 @@ abbrev pub Descends : List (ℕ × Event) → Type 0
 Descends [] = Unit {0}
 Descends (r ∷ rs) = ((x : ℕ × Event) → List·Memᴰ x rs → x .0 < r .0) × Descends rs
 
--- no event twice
-abbrev pub Distinct : List Event → Type 0
-Distinct [] = Unit {0}
-Distinct (e ∷ es) = (List·Memᴰ e es → ⊥) × Distinct es
-
--- what every graph text that is not refused gives: a row for each thread and a list for each of the eight locations, in order, nothing twice
+-- what every graph text that is not refused gives: a row for each thread and a list for each of the eight locations, in order, nothing
+-- twice
 pub record Canonical (p : Program) (g : Graph) : Type 0 where
   pub rows : length (g .reads) ≡ length (p .threads)
   pub lists : length (g .writes) ≡ 8

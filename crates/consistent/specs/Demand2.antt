@@ -1,6 +1,6 @@
--- DEMAND 2, the judge's promise about an accepted file, as one claim. p is the program that the file is read as; `graphFile` and `graphOutput`,
--- `Judgement` and `outputAfter` are what the contracts of the graph call and of the judge equate their answers and the later contents of their
--- outputs with.
+-- DEMAND 2, the judge's promise about an accepted file, as one claim. p is the program that the file is read as; `graphFile` and
+-- `graphOutput`, `Judgement` and `outputAfter` are what the contracts of the graph call and of the judge equate their answers and the later
+-- contents of their outputs with.
 use Prim.Native.Nat.{ℕ, _<_, _≤_}
 use mathlib.Core.Path.{_≡_}
 use mathlib.Core.Logic.{_↔_}

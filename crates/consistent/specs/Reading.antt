@@ -1,13 +1,13 @@
 -- Graph texts: the lines `40 t i u j` and `41 l t i ..` of a graph, with the refusals 30 to 33. Lines are taken in order, each by number; a
--- refusal's place is its line, from 1. A text of no lines is the graph without events. All else that is wrong with a graph is the answer no.
+-- refusal's place is its line, from 1. A text of no lines is the graph without events. All else that is wrong with a graph is the answer
+-- no.
 use Prim.Native.Nat.{ℕ, _+_, _%_}
 use mathlib.Core.Bool.{Bool, true, cond, not, _&&_, _||_}
-use mathlib.Core.Option.{Option, none, some}
+use mathlib.Core.Option.{none, some}
 use mathlib.Core.List.{List, [], _∷_, reverse}
 use lib.Dec.{eqb, ltb, leb}
 use lib.ListN.{length, getD, set, drop, replicate}
-use Rattle.lines.specs.Frame.{frame}
-use Rattle.lines.specs.TextLines.{TextLine, split}
+use Rattle.lines.specs.TextLines.{TextLine, split, frameOf}
 use Rattle.schedules.specs.Lists.{any, all}
 use Rattle.schedules.specs.Order.{less}
 use Rattle.sc.specs.State.{Event, initialWrite}
@@ -95,11 +95,7 @@ pub data Parsed : Type 0 where
   parsed : Graph → Parsed
   refusedAt : ℕ → ℕ → Parsed
 
--- refusal 30: a line that is empty, odd, without its 0a, or has another character
-unfoldable pub frameOf : TextLine → Option Frame
-frameOf l = cond (l .ended) (frame (l .bytes)) none
-
--- the lines from number k on, of a text of n threads
+-- the lines from number k on, of a text of n threads; refusal 30: a line that is empty, odd, without its 0a, or has another character
 unfoldable pub readLines : ℕ → ℕ → List TextLine → Reading → Parsed
 readLines n k [] r = parsed (r .graph)
 readLines n k (l ∷ ls) r =

@@ -6,18 +6,17 @@ use mathlib.Core.List.{List, [], _∷_}
 use mathlib.Core.Option.{some}
 use lib.ListN.{length, getD, take, drop, replicate, drop-of-length-le}
 use borrow.Author.Tests.{eq-eqb, ne-eqb, le-ltb, lt-ltb}
-use Rattle.lines.specs.Frame.{frame, pairs}
+use Rattle.lines.specs.Frame.{frame, pairs, frameLength}
 use Rattle.lines.specs.Split.{lineLength}
-use Rattle.lines.specs.TextLines.{TextLine, split}
+use Rattle.lines.specs.TextLines.{TextLine, split, frameOf}
 use Rattle.lines.proofs.Frame.{frame-bytes}
 use Rattle.lines.proofs.TextLines.{whole, split-at, split-end}
 use Rattle.decoder.specs.declared.counts.Counts.{Counts}
-use Rattle.program.specs.Decode.{Reading, fresh, threadAt, frameRefusal, frameOf, after, refused, finish, readLines, decode}
-use Rattle.decoder.specs.Compiled.{frameLength}
+use Rattle.program.specs.Decode.{Reading, fresh, threadAt, frameRefusal, after, refused, finish, readLines, decode}
 use Rattle.program.specs.WellFormed.{Everywhere, Ascending}
 use Rattle.decoder.specs.Held.{nothing, Bounded, Holds, Lined, Grouped, Taken}
 use Rattle.program.proofs.Everywhere.{everywhere-getD, everywhere-weaken}
-use Rattle.decoder.proofs.Lengths.{length-none, length-some}
+use Rattle.lines.proofs.Lengths.{length-none, length-some}
 use Rattle.program.proofs.Sound.{Alike, Sound, sound-fresh, sound-after}
 use Rattle.decoder.proofs.HeldAfter.{held-fresh}
 

@@ -1,8 +1,6 @@
 -- The laws, in the order in which they rest on each other.
 -- what the decoder's answer says of the file
 pub mod Decoded
--- the length of the frame on a line
-pub mod Lengths
 -- threads of the same code
 pub mod HeldCode
 -- members of a `02` line, by the counts

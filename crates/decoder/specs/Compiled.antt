@@ -1,11 +1,10 @@
--- The program that the decoder hands over, read as document 01's program, and its answer read as an acceptance or a refusal's number and place.
+-- The program that the decoder hands over, read as document 01's program, and its answer read as an acceptance or a refusal's number and
+-- place.
 use Prim.Native.Nat.{ℕ, zero, suc, _+_}
 use mathlib.Core.Bool.{Bool, true, false}
 use mathlib.Core.List.{List, [], _∷_}
-use mathlib.Core.Option.{none, some}
 use lib.Dec.{eqb}
-use lib.ListN.{length, getD}
-use Rattle.lines.specs.Frame.{frame}
+use lib.ListN.{getD}
 use Rattle.decoder.specs.declared.file.Compiled.{Compiled}
 use Rattle.decoder.specs.declared.file.Answer.{Answer}
 use Rattle.decoder.specs.declared.file.Verdict.{Verdict}
@@ -37,7 +36,3 @@ verdictOf (Refused n k) p = refused n k
 
 unfoldable pub answerOf : Answer → Decoded
 answerOf a = verdictOf (a .verdict) (programOf (a .program))
-
--- how many bytes a line's frame has; 0 where the line is no frame
-unfoldable pub frameLength : List ℕ → ℕ
-frameLength l = elim (frame l) [ none ↦ 0 | some f ↦ length f ]

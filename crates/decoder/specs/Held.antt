@@ -1,4 +1,5 @@
--- How the decoder's arrays and counts hold what has been read of a file. For the decoder's own functions: nothing here is needed to read `decode`.
+-- How the decoder's arrays and counts hold what has been read of a file. For the decoder's own functions: nothing here is needed to read
+-- `decode`.
 use Prim.Native.Nat.{ℕ, suc, _+_, _-_, _*_, _≤_, _<_}
 use mathlib.Core.Path.{_≡_}
 use mathlib.Core.Bool.{Bool, true, false, cond, _&&_}
@@ -43,7 +44,13 @@ openedCounts s = record { threads = s .threads + 1; lengths = s .lengths; access
 
 abbrev pub groupedCounts : List ℕ → Counts → Counts
 groupedCounts ts s =
-    record { threads = s .threads; lengths = s .lengths; accesses = s .accesses; groups = s .groups + 1; class = marked (s .groups + 1) ts (s .class) }
+    record {
+      threads = s .threads;
+      lengths = s .lengths;
+      accesses = s .accesses;
+      groups = s .groups + 1;
+      class = marked (s .groups + 1) ts (s .class);
+    }
 
 abbrev pub extendedCounts : ℕ → Counts → Counts
 extendedCounts b s = record {

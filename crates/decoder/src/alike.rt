@@ -1,7 +1,8 @@
 // Whether the members of a `02` line exist, ascend, stand in no earlier one and have the same code: refusal 8.
 use crate::counts::Counts;
 use crate::counts::is_free;
-use rows::field;
+use lines::field;
+use rows::Code;
 use rows::same_bytes;
 ghost use mathlib.Core.Path.{_≡_};
 ghost use Prim.Native.Nat.{_+_, _*_, _<_, _≤_};
@@ -11,7 +12,7 @@ ghost use Rattle.program.specs.Decode.{Reading, membersFit};
 ghost use Rattle.decoder.specs.Held.{Holds, Bounded, codeAgrees};
 
 // Whether threads t and u have the same code.
-fn same_code(code: &[u8; 1536], lengths: [usize; 6], t: usize, u: usize) -> bool
+fn same_code(code: &Code, lengths: [usize; 6], t: usize, u: usize) -> bool
     requires { ⌜ (t < 6) × (u < 6) × (getD lengths t 0 ≤ 16) ⌝ }
     ensures { λ r. ⌜ r ≡ codeAgrees (now (code .entry)) lengths t u ⌝ }
 {
@@ -23,7 +24,7 @@ fn same_code(code: &[u8; 1536], lengths: [usize; 6], t: usize, u: usize) -> bool
 }
 
 // Whether the threads that a line of n bytes declares alike may be.
-pub(crate) fn members_fit(line: &[u8], n: usize, code: &[u8; 1536], s: Counts) -> bool
+pub(crate) fn members_fit(line: &[u8], n: usize, code: &Code, s: Counts) -> bool
     requires { ⌜ Bounded s × (n ≡ length (pairs (now line))) × (2 ≤ n) ⌝ }
     ensures { λ b. ⌜ ((r : Reading) → Holds (now (code .entry)) s r → b ≡ membersFit r (drop 1 (pairs (now (line .entry))))) ⌝ }
 {

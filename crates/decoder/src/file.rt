@@ -4,16 +4,18 @@ use crate::counts::none_yet;
 use crate::refusal::refusal;
 use crate::skip::far_skip;
 use crate::taken::taken;
-use lines::Line;
+use lines::frame_length;
+use rows::CODE_BYTES;
+use rows::Code;
 ghost use mathlib.Core.Path.{_≡_};
 ghost use Prim.Native.Nat.{_+_, _<_};
 ghost use Rattle.program.specs.Decode.{Reading, Decoded, finish, decode};
-ghost use Rattle.decoder.specs.Compiled.{answerOf, frameLength};
+ghost use Rattle.decoder.specs.Compiled.{answerOf};
 ghost use Rattle.decoder.specs.Held.{Holds, Lined, Bounded, Grouped};
 
 // An accepted program: its instructions, a row of sixteen bytes each, how many each thread has, and the group of each thread (0: none).
 pub struct Compiled {
-    pub code: [u8; 1536],
+    pub code: Code,
     pub threads: usize,
     pub lengths: [usize; 6],
     pub groups: usize,
@@ -39,7 +41,7 @@ fn refused(number: u8, place: usize) -> Answer
     Answer {
         verdict: Verdict::Refused(number, place),
         program: Compiled {
-            code: [0u8; 1536],
+            code: [0u8; CODE_BYTES],
             threads: 0,
             lengths: [0usize; 6],
             groups: 0,
@@ -48,18 +50,8 @@ fn refused(number: u8, place: usize) -> Answer
     }
 }
 
-// How many bytes the line's frame has; 0 where it is no frame.
-fn frame_length(line: &[u8]) -> usize
-    ensures { λ n. ⌜ n ≡ frameLength (now (line .entry)) ⌝ }
-{
-    match lines::read(line) {
-        Line::Frame(n) => n,
-        Line::Broken => 0,
-    }
-}
-
 // After the last line.
-fn finished(code: [u8; 1536], rows: [usize; 96], s: Counts) -> Answer
+fn finished(code: Code, rows: [usize; 96], s: Counts) -> Answer
     requires { ⌜ Bounded s ⌝ }
     ensures { λ a. ⌜ ((r : Reading) → Holds code s r → Lined rows r → Grouped r → answerOf a ≡ finish r) ⌝ }
 {
@@ -91,7 +83,7 @@ pub fn decode(file: &[u8]) -> Answer
     if 4096 < file.len() {
         return refused(1, 0);
     }
-    let mut code = [0u8; 1536];
+    let mut code = [0u8; CODE_BYTES];
     let mut rows = [0usize; 96];
     let mut s = none_yet();
     let mut at = 0;

@@ -1,7 +1,9 @@
 // The number by which a line's frame is refused: 3, 4, 5, 6 or 8, and 0 where it passes.
 use crate::alike::members_fit;
 use crate::counts::Counts;
-use rows::field;
+use lines::field;
+use program::STEPS;
+use rows::Code;
 use rows::in_range;
 use rows::kind_of;
 ghost use mathlib.Core.Path.{_≡_};
@@ -52,7 +54,7 @@ fn instruction(b: usize, s: Counts) -> u8
         return 6;
     }
     if is_access(b) {
-        if 24 <= s.accesses {
+        if STEPS <= s.accesses {
             return 6;
         }
         return 0;
@@ -61,7 +63,7 @@ fn instruction(b: usize, s: Counts) -> u8
 }
 
 // For the frame of n bytes on this line, after what has been read.
-pub(crate) fn refusal(line: &[u8], n: usize, code: &[u8; 1536], s: Counts) -> u8
+pub(crate) fn refusal(line: &[u8], n: usize, code: &Code, s: Counts) -> u8
     requires { ⌜ Bounded s × (n ≡ length (pairs (now line))) ⌝ }
     ensures { λ k. ⌜ ((r : Reading) → Holds (now (code .entry)) s r → k ≡ frameRefusal r (pairs (now (line .entry)))) ⌝ }
 {

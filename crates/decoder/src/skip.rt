@@ -1,4 +1,5 @@
 // The first skip that goes beyond its thread's end: refusal 7.
+use rows::Code;
 use rows::skip_at;
 ghost use mathlib.Core.Path.{_≡_};
 ghost use Prim.Native.Nat.{ℕ, _+_, _*_, _<_, _≤_};
@@ -8,7 +9,7 @@ ghost use Rattle.program.specs.Decode.{Placed, farSkip, firstFarSkip};
 ghost use Rattle.decoder.specs.Held.{HeldThread, HeldThreads};
 
 // The line of the first such skip among the n instructions of thread t, or 0.
-fn in_thread(code: &[u8; 1536], rows: &[usize; 96], t: usize, n: usize) -> usize
+fn in_thread(code: &Code, rows: &[usize; 96], t: usize, n: usize) -> usize
     requires { ⌜ (t < 6) × (n ≤ 16) ⌝ }
     ensures { λ k. ⌜ ((xs : List Placed) → HeldThread (now (code .entry)) (now (rows .entry)) t xs → n ≡ length xs → k ≡ farSkip xs) ⌝ }
 {
@@ -25,13 +26,14 @@ fn in_thread(code: &[u8; 1536], rows: &[usize; 96], t: usize, n: usize) -> usize
 
 // The line of the first such skip, or 0.
 pub(crate) fn far_skip(
-    code: &[u8; 1536],
+    code: &Code,
     rows: &[usize; 96],
     threads: usize,
     lengths: [usize; 6],
 ) -> usize
     requires { ⌜ (threads ≤ 6) × ((t : ℕ) → getD lengths t 0 ≤ 16) ⌝ }
-    ensures { λ k. ⌜ ((cs : List (List Placed)) → HeldThreads (now (code .entry)) (now (rows .entry)) threads lengths cs → k ≡ firstFarSkip cs) ⌝ }
+    ensures { λ k. ⌜ ((cs : List (List Placed)) → HeldThreads (now (code .entry)) (now (rows .entry)) threads lengths cs
+        → k ≡ firstFarSkip cs) ⌝ }
 {
     let mut t = 0;
     while t < threads {

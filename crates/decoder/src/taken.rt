@@ -1,7 +1,8 @@
 // What has been read once a line has passed: a thread more, a group more, or an instruction more in the thread last opened.
 use crate::counts::Counts;
 use crate::refusal::is_access;
-use rows::field;
+use lines::field;
+use rows::Code;
 use rows::put_row;
 ghost use mathlib.Core.Path.{_≡_};
 ghost use Prim.Native.Nat.{_+_, _*_, _-_, _<_, _≤_};
@@ -87,7 +88,7 @@ pub(crate) fn taken(
     line: &[u8],
     n: usize,
     number: usize,
-    code: &mut [u8; 1536],
+    code: &mut Code,
     rows: &mut [usize; 96],
     s: Counts,
 ) -> Counts

@@ -1,21 +1,16 @@
 // The listing program: the list of the program file on standard input, printed on standard output.
 //
-// Proved (specs/Pieces.antt): `begin` says what is to be printed, `printed file`, and each `next` hands over the bytes that come next in it,
-// none only behind the last. So the pieces one after the other are `printed file`, also where the file is longer than the 4,097 bytes that
-// are read of it (proofs/Handed.antt). No contract of the kit can say which bytes a call of the system reads or writes: that `print` writes
-// each piece once and in order, and that `main` hands it what was read, is to be seen in the lines below.
-
-// Lines of the output.
-mod frames;
-// The output, piece by piece.
-mod pieces;
+// Proved (crate printing, specs/Pieces.antt): `begin` says what is to be printed, `printed file`, and each `next` hands over the bytes that
+// come next in it, none only behind the last. So the pieces one after the other are `printed file`, also where the file is longer than the
+// 4,097 bytes that are read of it (proofs/Handed.antt). No contract of the kit can say which bytes a call of the system reads or writes:
+// that `print` writes each piece once and in order, and that `main` hands it what was read, is to be seen in the lines below.
 
 use libc::STDERR_FILENO;
 use libc::STDIN_FILENO;
 use libc::STDOUT_FILENO;
-use pieces::begin;
-use pieces::next;
-ghost use Rattle.explorer.specs.Pieces.{Within};
+use printing::begin;
+use printing::next;
+ghost use Rattle.explorer.specs.Reading.{Within};
 
 // What came of reading.
 enum Input {
@@ -46,7 +41,7 @@ fn read_input(file: &mut [u8]) -> Input
 // Prints the list of this file, or its refusal.
 fn print(file: &[u8]) {
     let mut listing = begin(file);
-    let mut out = [0u8; 13_568];
+    let mut out = [0u8; 13_603];
     loop {
         let piece = next(listing, &mut out);
         let n = piece.length;

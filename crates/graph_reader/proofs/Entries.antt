@@ -5,7 +5,7 @@ use mathlib.Core.Logic.{_≢_, _⊎_, inl, inr}
 use mathlib.Core.List.{List}
 use native.Mathlib.Omega.{arith}
 use native.Mathlib.Decide.{ℕ-discrete}
-use lib.ListN.{length, getD, set, length-set}
+use lib.ListN.{length, getD, set, length-set, replicate, getD-replicate}
 use lib.Seq.{getD-set-same, getD-set-other}
 use Rattle.sc.specs.State.{Event}
 use Rattle.graph_reader.specs.Held.{noLine, Entry, put, Ordered}
@@ -25,6 +25,10 @@ module _ (table : List ℕ) (k a b : ℕ) where
     where
       kept : (i : ℕ) → i ≢ k * 2 → i ≢ k * 2 + 1 → getD (put table k a b) i 0 ≡ getD table i 0
       kept i p q = getD-set-other (set table (k * 2) a) (k * 2 + 1) i b 0 q ∙ getD-set-other table (k * 2) i a 0 p
+
+-- an entry of the table before anything is read
+pub unset : (j : ℕ) → j < 288 → Entry (replicate 576 254) j (254, 254)
+unset j h = (getD-replicate 576 (j * 2) 254 0 (omega arith), getD-replicate 576 (j * 2 + 1) 254 0 (omega arith))
 
 -- ---- the 24 entries of a location, one after the other
 module _ (old : List ℕ) (l : ℕ) (ws : List Event) where

@@ -22,7 +22,7 @@ use Rattle.consistent.specs.Reading.{Frame, byteAt, isRead, writesIn, known, in
 use Rattle.graph_reader.specs.Held.{noLine, lineIn, Entry, put, rankOf, Holds, emptyTable, readTable}
 use Rattle.consistent.proofs.Parsed.{passed, empty-row}
 use Rattle.graph_reader.proofs.Ranks.{read-range, rank-less}
-use Rattle.graph_reader.proofs.Entries.{entry-put, entry-kept}
+use Rattle.graph_reader.proofs.Entries.{entry-put, entry-kept, unset}
 
 -- before the first line
 pub held-fresh : (n : ℕ) → Holds n emptyTable (fresh n)
@@ -40,9 +40,6 @@ held-fresh n = record {
   later = λ l h. empty-row 8 l;
 }
   where
-    unset : (j : ℕ) → j < 288 → Entry (replicate 576 254) j (254, 254)
-    unset j h = (getD-replicate 576 (j * 2) 254 0 (omega arith), getD-replicate 576 (j * 2 + 1) 254 0 (omega arith))
-
     first : (f : Frame) (b : Bool) → isRead f ≡ b → less [] (key f) ≡ ltb 0 (rankOf f)
     first f true q = rw q (nil-less (byteAt f 0) (byteAt f 1 ∷ byteAt f 2 ∷ []) ∙ sym (lt-ltb 0 (byteAt f 1 * 16 + byteAt f 2 + 1) (omega arith)))
     first f false q = rw q (nil-less (byteAt f 0) (byteAt f 1 ∷ []) ∙ sym (lt-ltb 0 (byteAt f 1 + 97) (omega arith)))

@@ -5,12 +5,11 @@ use mathlib.Core.List.{List}
 use mathlib.Core.Option.{some}
 use native.Mathlib.Omega.{arith}
 use lib.ListN.{length, take, drop}
-use Rattle.lines.specs.Frame.{frame, pairs}
+use Rattle.lines.specs.Frame.{frame, pairs, frameLength}
 use Rattle.lines.specs.Split.{lineLength}
 use Rattle.lines.specs.TextLines.{split}
-use Rattle.lines.proofs.Split.{line-within}
-use Rattle.decoder.specs.Compiled.{frameLength}
-use Rattle.decoder.proofs.Lengths.{length-none, length-some}
+use Rattle.lines.proofs.Split.{before-end}
+use Rattle.lines.proofs.Lengths.{length-none, length-some}
 use Rattle.graph_reader.specs.declared.table.Table.{Table}
 use Rattle.graph_reader.specs.declared.text.Verdict.the-variants.{Passed, Refused}
 use Rattle.consistent.specs.Reading.{Reading, refusal, after, fresh, readLines, readGraph}
@@ -36,10 +35,6 @@ progress-start n text s e = record {
   holds = subst (λ (x : Table). Holds n x (fresh n)) (sym e) (held-fresh n);
   rest = refl;
 }
-
--- a line ends within the text, so before its end where it does not end there
-pub before-end : (text : List ℕ) (at end : ℕ) → at < length text → end ≡ at + lineLength (drop at text) → (end ≡ length text → ⊥) → end < length text
-before-end text at end h e ne = let w = line-within text at (omega arith) in omega (arith, ne)
 
 module _ (n : ℕ) (text : List ℕ) (s : Table) (at number : ℕ) (p : Progress n text s at number) where
   -- no line is left
@@ -77,7 +72,7 @@ module _ (n : ℕ) (text : List ℕ) (s : Table) (at number : ℕ) (p : Progress
           module _ (q : k ≡ 0) where
             -- it passes
             pub read-passes : n ≤ 6 → Passes n line size
-            read-passes few = let t = passed n (p .read) (pairs line) (sym r ∙ q) in record { few = few; size = framed .1; known = t .0; range = t .1 }
+            read-passes few = let t = passed n (p .read) (pairs line) (sym r ∙ q) in record { few = few; size = framed .1; known = t .0; in-range = t .1 }
 
             pub read-more : (s' : Table) → Taken n line s s' → Progress n text s' (end + 1) (number + 1)
             read-more s' t = record {

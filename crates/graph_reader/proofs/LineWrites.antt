@@ -24,22 +24,6 @@ same-order a b c d f g = go (ltb a b) (ltb c d) refl refl
     go false true p q = lt-ltb a b (g (ltb-true c d q)) ∙ sym q
     go false false p q = p ∙ sym q
 
-pub all-cons : {A : Type 0} (f : A → Bool) (x : A) (xs : List A) → all f (x ∷ xs) ≡ (f x && all f xs)
-unfolding all
-all-cons f x xs = go (f x) refl
-  where
-    go : (b : Bool) → f x ≡ b → all f (x ∷ xs) ≡ (f x && all f xs)
-    go true q = rw (q, all)
-    go false q = rw (q, all)
-
-pub any-cons : {A : Type 0} (f : A → Bool) (x : A) (xs : List A) → any f (x ∷ xs) ≡ (f x || any f xs)
-unfolding any
-any-cons f x xs = go (f x) refl
-  where
-    go : (b : Bool) → f x ≡ b → any f (x ∷ xs) ≡ (f x || any f xs)
-    go true q = rw (q, any)
-    go false q = rw (q, any)
-
 module _ (f : Frame) (k : ℕ) where
   pub event-here : k + 1 < length f → eventsIn (drop k f) ≡ (byteAt f k, byteAt f (k + 1)) ∷ eventsIn (drop (k + 2) f)
   unfolding eventsIn

@@ -7,6 +7,7 @@ use native.Mathlib.Omega.{arith}
 use borrow.Author.Tests.{eq-eqb, ne-eqb}
 use lib.Dec.{eqb}
 use lib.ListN.{length, getD, set, drop}
+use Rattle.schedules.proofs.Lists.{all-cons}
 use Rattle.program.proofs.Tests.{both}
 use Rattle.schedules.specs.Lists.{all}
 use Rattle.sc.specs.State.{Event}
@@ -14,7 +15,7 @@ use Rattle.sc.specs.Text.{eventsIn}
 use Rattle.consistent.specs.Reading.{Frame, byteAt, isEvent, allNew}
 use Rattle.graph_reader.specs.Held.{Seen, markedBy}
 use Rattle.consistent.proofs.Readable.{Named, event-is}
-use Rattle.graph_reader.proofs.LineWrites.{all-cons, event-here}
+use Rattle.graph_reader.proofs.LineWrites.{event-here}
 use Rattle.graph_reader.proofs.Marks.{new-first}
 
 module _ (f : Frame) (k t i : ℕ) (inside : k + 1 < length f) (first : t ≡ byteAt f k) (second : i ≡ byteAt f (k + 1)) where

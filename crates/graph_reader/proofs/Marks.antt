@@ -11,13 +11,12 @@ use lib.Dec.{eqb}
 use lib.ListN.{length, getD, set, length-set}
 use lib.Seq.{getD-set-same, getD-set-other}
 use Rattle.schedules.specs.Lists.{any}
-use Rattle.schedules.proofs.Lists.{any-yes, any-of}
+use Rattle.schedules.proofs.Lists.{any-yes, any-of, any-cons}
 use Rattle.sc.specs.State.{Event}
 use Rattle.consistent.specs.Same.{sameEvent}
 use Rattle.consistent.specs.Reading.{written, allNew}
 use Rattle.graph_reader.specs.Held.{Seen, markedBy}
 use Rattle.consistent.proofs.Readable.{Named, reverse-in}
-use Rattle.graph_reader.proofs.LineWrites.{any-cons}
 
 written-cons : (e : Event) (ws : List Event) (rows : List (List Event)) → written e (ws ∷ rows) ≡ (any (sameEvent e) ws || written e rows)
 unfolding written

@@ -15,7 +15,8 @@ use Rattle.graph_reader.specs.declared.table.Table.{Table}
 use Rattle.graph_reader.specs.declared.text.Verdict.{Verdict}
 use Rattle.graph_reader.specs.declared.text.Verdict.the-variants.{Passed, Refused}
 use Rattle.consistent.specs.Consistent.{rowOf, orderOf}
-use Rattle.consistent.specs.Reading.{Frame, byteAt, isRead, known, inRange, key, Reading, written, refusal, after, Parsed, parsed, refusedAt}
+use Rattle.consistent.specs.Reading.{Frame, byteAt, isRead, known, inRange, key, Reading, written, refusal, after, Parsed, parsed}
+use Rattle.consistent.specs.Reading.{refusedAt}
 
 -- what stands where a graph has no line: no event and no source
 unfoldable pub noLine : Event
@@ -34,7 +35,8 @@ Entry table k e = (getD table (k * 2) 0 ≡ e .0) × (getD table (k * 2 + 1) 0 �
 abbrev pub put : List ℕ → ℕ → ℕ → ℕ → List ℕ
 put table k a b = set (set table (k * 2) a) (k * 2 + 1) b
 
--- a table of 288 pairs and eight counts hold a graph: the source of each access, and of each location its first 24 writes and how many it has
+-- a table of 288 pairs and eight counts hold a graph: the source of each access, and of each location its first 24 writes and how many it
+-- has
 pub record Tabled (table sizes : List ℕ) (g : Graph) : Type 0 where
   pub sources : (t i : ℕ) → t < 6 → i < 16 → Entry table (t * 16 + i) (lineIn (rowOf g t) i)
   pub orders : (l k : ℕ) → l < 8 → k < 24 → Entry table (96 + (l * 24 + k)) (getD (reverse (orderOf g l)) k noLine)
@@ -92,7 +94,7 @@ pub record Passes (n : ℕ) (line : List ℕ) (m : ℕ) : Type 0 where
   pub few : n ≤ 6
   pub size : m ≡ length (pairs line)
   pub known : known (pairs line) ≡ true
-  pub range : inRange n (pairs line) ≡ true
+  pub in-range : inRange n (pairs line) ≡ true
 
 -- what a line that is not refused leaves
 abbrev pub Taken : ℕ → List ℕ → Table → Table → Type 0

@@ -1,7 +1,5 @@
 // Graph texts read into tables, or refused by 30 to 33.
 
-// The bytes of a line's frame.
-mod field;
 // What has been read of a graph text so far.
 mod table;
 // The number by which a line is refused.

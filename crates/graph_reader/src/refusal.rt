@@ -1,6 +1,6 @@
 // The number by which a line's frame is refused: 31, 32 or 33, and 0 where it passes.
-use crate::field::field;
 use crate::table::Table;
+use lines::field;
 ghost use mathlib.Core.Path.{_≡_};
 ghost use Prim.Native.Nat.{_%_, _<_, _≤_};
 ghost use mathlib.Core.Bool.{true};

@@ -1,7 +1,8 @@
 // What has been read once a line has passed: a source more, or the writes of a location.
-use crate::field::field;
 use crate::refusal::rank;
 use crate::table::Table;
+use lines::field;
+use program::STEPS;
 ghost use mathlib.Core.Path.{_≡_};
 ghost use Prim.Native.Nat.{_%_, _<_, _≤_};
 ghost use mathlib.Core.Bool.{true};
@@ -67,8 +68,8 @@ fn ordered(line: &[u8], size: usize, old: [u8; 576], l: usize) -> [u8; 576]
 {
     let mut p = old;
     let mut q = 0;
-    while q < 24 {
-        let at = (96 + (l * 24 + q)) * 2;
+    while q < STEPS {
+        let at = (96 + (l * STEPS + q)) * 2;
         let k = 2 * q + 2;
         p[at] = byte_or(line, size, k);
         p[at + 1] = byte_or(line, size, k + 1);

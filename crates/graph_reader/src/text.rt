@@ -1,9 +1,9 @@
 // A graph text to the table of its graph, or to its refusal.
-use crate::field::frame_length;
 use crate::refusal::refusal;
 use crate::table::Table;
 use crate::table::empty;
 use crate::taken::taken;
+use lines::frame_length;
 ghost use Prim.Native.Nat.{_≤_};
 ghost use Rattle.consistent.specs.Reading.{readGraph};
 ghost use Rattle.graph_reader.specs.Held.{ReadAs};

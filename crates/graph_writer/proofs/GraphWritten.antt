@@ -22,19 +22,19 @@ use Rattle.graph_writer.proofs.NotesHeld.{notes-held}
 use Rattle.graph_writer.proofs.WrittenLines.{wrote-more, wrote-whole}
 
 -- the reads' lines, then those of the locations
-pub notes-written : (trail out mid last : List ℕ) (steps a b : ℕ) → 512 ≤ length out → Wrote (readFramesIn 6 (notesAt trail steps)) out mid a → Wrote (orderFramesIn 8 (notesAt trail steps)) (midOf a (length mid - a) mid) last b →
-    (ns : List Note) → Noted trail ns → length ns ≡ steps → (a + b ≡ length (textOf (noteFrames ns))) × (putMid a (length mid - a) mid last ≡ over (textOf (noteFrames ns)) out)
+pub notes-written : (log out mid last : List ℕ) (steps a b : ℕ) → 512 ≤ length out → Wrote (readFramesIn 6 (notesAt log steps)) out mid a → Wrote (orderFramesIn 8 (notesAt log steps)) (midOf a (length mid - a) mid) last b →
+    (ns : List Note) → Noted log ns → length ns ≡ steps → (a + b ≡ length (textOf (noteFrames ns))) × (putMid a (length mid - a) mid last ≡ over (textOf (noteFrames ns)) out)
 unfolding noteFrames
-notes-written trail out mid last steps a b h v w ns held e =
-    let q : notesAt trail steps ≡ ns = ap (notesAt trail) (sym e) ∙ notes-held trail ns held in
-    let f : noteFrames ns ≡ readFramesIn 6 (notesAt trail steps) ++ orderFramesIn 8 (notesAt trail steps) = ap noteFrames (sym q) in
+notes-written log out mid last steps a b h v w ns held e =
+    let q : notesAt log steps ≡ ns = ap (notesAt log) (sym e) ∙ notes-held log ns held in
+    let f : noteFrames ns ≡ readFramesIn 6 (notesAt log steps) ++ orderFramesIn 8 (notesAt log steps) = ap noteFrames (sym q) in
     wrote-whole (noteFrames ns) out (putMid a (length mid - a) mid last) (a + b) (omega (arith, notes-400 ns (held .most))) (wrote-more _ _ (noteFrames ns) out mid last a b f v w)
 
 -- what the writer promises of the notes, said of the graph
-pub graph-written : (p : Program) → WellFormed p → (s : Schedule) → Allowed SC (start p) s → (trail out later : List ℕ) (steps n : ℕ) →
-    ((ns : List Note) → Noted trail ns → length ns ≡ steps → (n ≡ length (textOf (noteFrames ns))) × (later ≡ over (textOf (noteFrames ns)) out)) →
-    Noted trail (notes (start p) s) → length s ≡ steps → (n ≡ length (graphText (graph p s))) × (later ≡ over (graphText (graph p s)) out)
-graph-written p w s a trail out later steps n f held e =
+pub graph-written : (p : Program) → WellFormed p → (s : Schedule) → Allowed SC (start p) s → (log out later : List ℕ) (steps n : ℕ) →
+    ((ns : List Note) → Noted log ns → length ns ≡ steps → (n ≡ length (textOf (noteFrames ns))) × (later ≡ over (textOf (noteFrames ns)) out)) →
+    Noted log (notes (start p) s) → length s ≡ steps → (n ≡ length (graphText (graph p s))) × (later ≡ over (graphText (graph p s)) out)
+graph-written p w s a log out later steps n f held e =
     let r = f (notes (start p) s) held (notes-length s (start p) ∙ e) in
     let g = sym (graph-text-notes p w s a) in
     (r .0 ∙ ap length g, r .1 ∙ ap (λ (t : List ℕ). over t out) g)

@@ -12,17 +12,17 @@ use lib.Dec.{eqb}
 use lib.ListN.{length, getD, length-reverse}
 use Rattle.program.specs.Program.{Program}
 use Rattle.program.specs.WellFormed.{WellFormed}
-use Rattle.schedules.specs.Lists.{upTo}
+use Rattle.schedules.specs.Lists.{range}
 use Rattle.schedules.specs.Order.{Schedule}
 use Rattle.schedules.specs.System.{run, Allowed}
 use Rattle.sc.specs.Local.{takes, puts}
-use Rattle.sc.specs.State.{Event, Cell, State, threadOf, cellOf, place, latest, advanced, met, step, may, SC, start}
+use Rattle.sc.specs.State.{Event, Cell, State, threadOf, cellOf, place, latest, advanced, met, step, enabled, SC, start}
 use Rattle.sc.specs.Graph.{graphOf, graph, endOf}
 use Rattle.sc.specs.Text.{readFrame, readFrames, eventBytes, writeFrame, writeFrames, frames, textOf, graphText}
-use Rattle.sc.specs.Trail.{given, writes}
+use Rattle.sc.specs.Actions.{given, writes}
 use Rattle.graph_writer.specs.Notes.{Note, note, notes}
 use Rattle.graph_writer.specs.NoteText.{readIn, writeIn, readsIn, writesIn, threadFrames, orderFrame, readFramesIn, orderFramesIn, noteFrames}
-use Rattle.sc.proofs.Steps.{may-range, cell-own, cell-other, run-threads, run-cells}
+use Rattle.sc.proofs.Steps.{enabled-range, cell-own, cell-other, run-threads, run-cells}
 use Rattle.sc.proofs.Change.{thread-cases, addedRead, noted-reads, written-none}
 use Rattle.sc.proofs.Start.{start-threads, start-cells, start-writes, start-history}
 use Rattle.sc.proofs.Regular.{Regular, place-in, regular-step, regular-start}
@@ -136,9 +136,9 @@ unfolding readIn note
 note-other σ t u ne = rw (ne-eqb t u (λ e. ne (sym e)))
 
 -- a step adds the read that its note states
-pub step-reads : (σ : State) (t : ℕ) → may σ t ≡ true → (u : ℕ) → threadOf (step σ t) u .history .reads ≡ reverse (readIn u (note σ t)) ++ threadOf σ u .history .reads
+pub step-reads : (σ : State) (t : ℕ) → enabled σ t ≡ true → (u : ℕ) → threadOf (step σ t) u .history .reads ≡ reverse (readIn u (note σ t)) ++ threadOf σ u .history .reads
 unfolding advanced
-step-reads σ t m u = thread-cases (λ k h. h .history .reads ≡ reverse (readIn k (note σ t)) ++ threadOf σ k .history .reads) σ t (may-range σ t m)
+step-reads σ t m u = thread-cases (λ k h. h .history .reads ≡ reverse (readIn k (note σ t)) ++ threadOf σ k .history .reads) σ t (enabled-range σ t m)
     (noted-reads (takes (threadOf σ t .local)) (latest (cellOf σ (place σ t) .writes)) (threadOf σ t .history)
     ∙ ap (λ (l : List (ℕ × Event)). l ++ threadOf σ t .history .reads)
     (reversed-read (takes (threadOf σ t .local)) (threadOf σ t .history .done) (latest (cellOf σ (place σ t) .writes)) ∙ ap reverse (sym (note-own σ t))))
@@ -209,13 +209,13 @@ cell-notes p w s a l = first-to-last _ (cellOf (start p) l .writes) (cellOf (end
 
 -- ---- the frames: row by row and list by list; a thread that does not exist has none
 module _ (R : ℕ → List (ℕ × Event)) where
-  no-rows : (n t : ℕ) → ((u : ℕ) → t ≤ u → R u ≡ []) → flatMap (λ u. threadFrames u (R u)) (upTo t n) ≡ []
-  unfolding flatMap upTo threadFrames
+  no-rows : (n t : ℕ) → ((u : ℕ) → t ≤ u → R u ≡ []) → flatMap (λ u. threadFrames u (R u)) (range t n) ≡ []
+  unfolding flatMap range threadFrames
   no-rows zero t e = refl
   no-rows (suc n) t e = rw (e t (omega arith)) (no-rows n (suc t) (λ u h. e u (omega arith)))
 
-  rows-frames : (rows : List (List (ℕ × Event))) (n t : ℕ) → length rows ≤ n → ((k u : ℕ) → u ≡ t + k → reverse (getD rows k []) ≡ R u) → readFrames t rows ≡ flatMap (λ u. threadFrames u (R u)) (upTo t n)
-  unfolding readFrames flatMap upTo threadFrames
+  rows-frames : (rows : List (List (ℕ × Event))) (n t : ℕ) → length rows ≤ n → ((k u : ℕ) → u ≡ t + k → reverse (getD rows k []) ≡ R u) → readFrames t rows ≡ flatMap (λ u. threadFrames u (R u)) (range t n)
+  unfolding readFrames flatMap range threadFrames
   rows-frames [] n t h e = sym (no-rows n t (λ u k. sym (e (u - t) u (omega arith))))
   rows-frames (rs ∷ rows) zero t h e = absurd (omega arith)
   rows-frames (rs ∷ rows) (suc n) t h e = ap₂ (λ (a b : List (List ℕ)). a ++ b) (ap (map (readFrame t)) (e 0 t (omega arith)))
@@ -231,8 +231,8 @@ unfolding writeFrame orderFrame
 cell-frame l [] = refl
 cell-frame l (e ∷ es) = sym (order-some l (reverse (e ∷ es)) (omega (arith, length-reverse (e ∷ es))))
 
-cells-frames : (W : ℕ → List Event) (rows : List (List Event)) (n l : ℕ) → length rows ≡ n → ((k u : ℕ) → u ≡ l + k → reverse (getD rows k []) ≡ W u) → writeFrames l rows ≡ flatMap (λ u. orderFrame u (W u)) (upTo l n)
-unfolding writeFrames flatMap upTo
+cells-frames : (W : ℕ → List Event) (rows : List (List Event)) (n l : ℕ) → length rows ≡ n → ((k u : ℕ) → u ≡ l + k → reverse (getD rows k []) ≡ W u) → writeFrames l rows ≡ flatMap (λ u. orderFrame u (W u)) (range l n)
+unfolding writeFrames flatMap range
 cells-frames W [] zero l h e = refl
 cells-frames W [] (suc n) l h e = absurd (omega arith)
 cells-frames W (ws ∷ rows) zero l h e = absurd (omega arith)

@@ -11,7 +11,7 @@ use lib.Dec.{eqb}
 use lib.ListN.{length, length-append}
 use Rattle.lines.specs.Text.{text}
 use Rattle.lines.proofs.Text.{length-text}
-use Rattle.schedules.specs.Lists.{upTo}
+use Rattle.schedules.specs.Lists.{range}
 use Rattle.sc.specs.State.{Event}
 use Rattle.sc.specs.Text.{readFrame, eventBytes, textOf}
 use Rattle.sc.proofs.Frames.{bytes-length}
@@ -27,18 +27,18 @@ both-collected f g (x ∷ xs) =
 
 -- of the numbers from a on, only x gives something
 module _ {B : Type 0} (x : ℕ) (k : List B) where
-  never : (n a : ℕ) → x < a → length (flatMap (λ u. cond (eqb x u) k []) (upTo a n)) ≡ 0
-  unfolding flatMap upTo
+  never : (n a : ℕ) → x < a → length (flatMap (λ u. cond (eqb x u) k []) (range a n)) ≡ 0
+  unfolding flatMap range
   never zero a h = refl
   never (suc n) a h = rw (ne-eqb x a (λ e. omega arith)) (never n (suc a) (omega arith))
 
-  once : (n a : ℕ) → length (flatMap (λ u. cond (eqb x u) k []) (upTo a n)) ≤ length k
-  unfolding flatMap upTo
+  once : (n a : ℕ) → length (flatMap (λ u. cond (eqb x u) k []) (range a n)) ≤ length k
+  unfolding flatMap range
   once zero a = omega arith
   once (suc n) a = go (ℕ-discrete x a) (once n (suc a))
     where
-      go : Dec (x ≡ a) → length (flatMap (λ u. cond (eqb x u) k []) (upTo (suc a) n)) ≤ length k → length (cond (eqb x a) k [] ++ flatMap (λ u. cond (eqb x u) k []) (upTo (suc a) n)) ≤ length k
-      go (yes q) h = rw (eq-eqb x a q) (omega (arith, length-append k (flatMap (λ u. cond (eqb x u) k []) (upTo (suc a) n)), never n (suc a) (omega arith)))
+      go : Dec (x ≡ a) → length (flatMap (λ u. cond (eqb x u) k []) (range (suc a) n)) ≤ length k → length (cond (eqb x a) k [] ++ flatMap (λ u. cond (eqb x u) k []) (range (suc a) n)) ≤ length k
+      go (yes q) h = rw (eq-eqb x a q) (omega (arith, length-append k (flatMap (λ u. cond (eqb x u) k []) (range (suc a) n)), never n (suc a) (omega arith)))
       go (no q) h = rw (ne-eqb x a q) h
 
 one : {B : Type 0} (b : Bool) (x : B) → length (cond b (x ∷ []) []) ≤ 1
@@ -51,23 +51,23 @@ nothing B [] = refl
 nothing B (x ∷ xs) = nothing B xs
 
 -- at most one read and one write a note
-one-read : (m : Note) (n : ℕ) → length (flatMap (λ u. readIn u m) (upTo 0 n)) ≤ 1
+one-read : (m : Note) (n : ℕ) → length (flatMap (λ u. readIn u m) (range 0 n)) ≤ 1
 unfolding readIn
 one-read m n = let r : ℕ × Event = (m .number, m .source) in omega (arith, once (m .thread) (cond (m .reads) (r ∷ []) []) n 0, one (m .reads) r)
 
-all-reads : (ns : List Note) (n : ℕ) → length (flatMap (λ u. readsIn u ns) (upTo 0 n)) ≤ length ns
+all-reads : (ns : List Note) (n : ℕ) → length (flatMap (λ u. readsIn u ns) (range 0 n)) ≤ length ns
 unfolding readsIn flatMap
-all-reads [] n = omega (arith, nothing (ℕ × Event) (upTo 0 n))
-all-reads (m ∷ ns) n = omega (arith, all-reads ns n, both-collected (λ u. readIn u m) (λ u. readsIn u ns) (upTo 0 n), one-read m n)
+all-reads [] n = omega (arith, nothing (ℕ × Event) (range 0 n))
+all-reads (m ∷ ns) n = omega (arith, all-reads ns n, both-collected (λ u. readIn u m) (λ u. readsIn u ns) (range 0 n), one-read m n)
 
-one-write : (m : Note) (n : ℕ) → length (flatMap (λ u. writeIn u m) (upTo 0 n)) ≤ 1
+one-write : (m : Note) (n : ℕ) → length (flatMap (λ u. writeIn u m) (range 0 n)) ≤ 1
 unfolding writeIn
 one-write m n = let e : Event = (m .thread, m .number) in omega (arith, once (m .location) (cond (m .wrote) (e ∷ []) []) n 0, one (m .wrote) e)
 
-all-writes : (ns : List Note) (n : ℕ) → length (flatMap (λ u. writesIn u ns) (upTo 0 n)) ≤ length ns
+all-writes : (ns : List Note) (n : ℕ) → length (flatMap (λ u. writesIn u ns) (range 0 n)) ≤ length ns
 unfolding writesIn flatMap
-all-writes [] n = omega (arith, nothing Event (upTo 0 n))
-all-writes (m ∷ ns) n = omega (arith, all-writes ns n, both-collected (λ u. writeIn u m) (λ u. writesIn u ns) (upTo 0 n), one-write m n)
+all-writes [] n = omega (arith, nothing Event (range 0 n))
+all-writes (m ∷ ns) n = omega (arith, all-writes ns n, both-collected (λ u. writeIn u m) (λ u. writesIn u ns) (range 0 n), one-write m n)
 
 -- ---- how long their lines are
 text-append : (fs gs : List (List ℕ)) → length (textOf (fs ++ gs)) ≡ length (textOf fs) + length (textOf gs)
@@ -99,14 +99,14 @@ module _ (W : ℕ → List Event) where
   orders-length [] = omega arith
   orders-length (u ∷ us) = omega (arith, orders-length us, text-append (orderFrame u (W u)) (flatMap (λ v. orderFrame v (W v)) us), order-length u (W u), length-append (W u) (flatMap W us))
 
-eight : length (upTo 0 8) ≡ 8
-unfolding upTo
+eight : length (range 0 8) ≡ 8
+unfolding range
 eight = refl
 
 -- AT MOST 400 BYTES
 pub notes-400 : (ns : List Note) → length ns ≤ 24 → length (textOf (noteFrames ns)) ≤ 400
 unfolding noteFrames readFramesIn orderFramesIn
 notes-400 ns h =
-    let r = threads-length (λ u. readsIn u ns) (upTo 0 6) in
-    let w = orders-length (λ u. writesIn u ns) (upTo 0 8) in
+    let r = threads-length (λ u. readsIn u ns) (range 0 6) in
+    let w = orders-length (λ u. writesIn u ns) (range 0 8) in
     omega (arith, r, w, eight, all-reads ns 6, all-writes ns 8, text-append (readFramesIn 6 ns) (orderFramesIn 8 ns))

@@ -11,7 +11,7 @@ use lib.ListN.{length, getD, set, take, length-append, length-set}
 use Rattle.lines.specs.Text.{written}
 use Rattle.lines.specs.Over.{over}
 use Rattle.lines.proofs.Over.{over-snoc, length-over, take-over}
-use Rattle.schedules.specs.Lists.{upTo}
+use Rattle.schedules.specs.Lists.{range}
 use Rattle.sc.specs.State.{Event}
 use Rattle.sc.specs.Text.{readFrame, eventBytes}
 use Rattle.graph_writer.specs.NoteText.{readIn, writeIn, writesIn, threadFrames, orderFrame, noteAt, notesAt, Wrote}
@@ -25,45 +25,45 @@ pub unwritten : (fs : List (List ℕ)) (l : List ℕ) → fs ≡ [] → Wrote fs
 unwritten fs l e = subst (λ (gs : List (List ℕ)). Wrote gs l l 0) (sym e) (wrote-none l)
 
 -- ---- one note, for thread t: another thread's, no read, and a read
-module _ (trail : List ℕ) (k t : ℕ) where
-  pub other-thread : getD trail (k * 8) 0 ≢ t → threadFrames t (readIn t (noteAt trail k)) ≡ []
+module _ (log : List ℕ) (k t : ℕ) where
+  pub other-thread : getD log (k * 8) 0 ≢ t → threadFrames t (readIn t (noteAt log k)) ≡ []
   unfolding threadFrames readIn noteAt
-  other-thread ne = rw (ne-eqb (getD trail (k * 8) 0) t ne)
+  other-thread ne = rw (ne-eqb (getD log (k * 8) 0) t ne)
 
-  pub no-read : getD trail (k * 8) 0 ≡ t → getD trail (k * 8 + 3) 0 ≢ 1 → threadFrames t (readIn t (noteAt trail k)) ≡ []
+  pub no-read : getD log (k * 8) 0 ≡ t → getD log (k * 8 + 3) 0 ≢ 1 → threadFrames t (readIn t (noteAt log k)) ≡ []
   unfolding threadFrames readIn noteAt
-  no-read e ne = rw (eq-eqb (getD trail (k * 8) 0) t e, ne-eqb (getD trail (k * 8 + 3) 0) 1 ne)
+  no-read e ne = rw (eq-eqb (getD log (k * 8) 0) t e, ne-eqb (getD log (k * 8 + 3) 0) 1 ne)
 
-  a-read : getD trail (k * 8) 0 ≡ t → getD trail (k * 8 + 3) 0 ≡ 1 →
-      threadFrames t (readIn t (noteAt trail k)) ≡ (0x40 ∷ t ∷ getD trail (k * 8 + 1) 0 ∷ getD trail (k * 8 + 4) 0 ∷ getD trail (k * 8 + 5) 0 ∷ []) ∷ []
+  a-read : getD log (k * 8) 0 ≡ t → getD log (k * 8 + 3) 0 ≡ 1 →
+      threadFrames t (readIn t (noteAt log k)) ≡ (0x40 ∷ t ∷ getD log (k * 8 + 1) 0 ∷ getD log (k * 8 + 4) 0 ∷ getD log (k * 8 + 5) 0 ∷ []) ∷ []
   unfolding threadFrames readIn readFrame noteAt
-  a-read e r = rw (eq-eqb (getD trail (k * 8) 0) t e, eq-eqb (getD trail (k * 8 + 3) 0) 1 r)
+  a-read e r = rw (eq-eqb (getD log (k * 8) 0) t e, eq-eqb (getD log (k * 8 + 3) 0) 1 r)
 
-  pub read-line : (l xs : List ℕ) (n : ℕ) → getD trail (k * 8) 0 ≡ t → getD trail (k * 8 + 3) 0 ≡ 1 →
-      n ≡ length (written (0x40 ∷ t ∷ getD trail (k * 8 + 1) 0 ∷ getD trail (k * 8 + 4) 0 ∷ getD trail (k * 8 + 5) 0 ∷ []) (length l)) →
-      xs ≡ over (written (0x40 ∷ t ∷ getD trail (k * 8 + 1) 0 ∷ getD trail (k * 8 + 4) 0 ∷ getD trail (k * 8 + 5) 0 ∷ []) (length l)) l →
-      Wrote (threadFrames t (readIn t (noteAt trail k))) l xs n
+  pub read-line : (l xs : List ℕ) (n : ℕ) → getD log (k * 8) 0 ≡ t → getD log (k * 8 + 3) 0 ≡ 1 →
+      n ≡ length (written (0x40 ∷ t ∷ getD log (k * 8 + 1) 0 ∷ getD log (k * 8 + 4) 0 ∷ getD log (k * 8 + 5) 0 ∷ []) (length l)) →
+      xs ≡ over (written (0x40 ∷ t ∷ getD log (k * 8 + 1) 0 ∷ getD log (k * 8 + 4) 0 ∷ getD log (k * 8 + 5) 0 ∷ []) (length l)) l →
+      Wrote (threadFrames t (readIn t (noteAt log k))) l xs n
   read-line l xs n e r c w = subst (λ (fs : List (List ℕ)). Wrote fs l xs n) (sym (a-read e r)) (wrote-one _ l xs n c w)
 
 -- ---- one location: its frame, filled note by note
 abbrev pub order : List ℕ → ℕ → ℕ → List ℕ
-order trail l k = 0x41 ∷ l ∷ eventBytes (writesIn l (notesAt trail k))
+order log l k = 0x41 ∷ l ∷ eventBytes (writesIn l (notesAt log k))
 
 -- the writes of l among the first k notes stand in the frame, n bytes
-pub record Filled (trail : List ℕ) (l k : ℕ) (before frame : List ℕ) (n : ℕ) : Type 0 where
-  pub count : n ≡ length (order trail l k)
-  pub content : frame ≡ over (order trail l k) before
+pub record Filled (log : List ℕ) (l k : ℕ) (before frame : List ℕ) (n : ℕ) : Type 0 where
+  pub count : n ≡ length (order log l k)
+  pub content : frame ≡ over (order log l k) before
   pub few : n ≤ 2 + 2 * k
 
 -- its first two bytes stand there before the first note
 abbrev pub headed : ℕ → List ℕ → List ℕ
 headed l frame = set (set frame 0 0x41) 1 l
 
-pub filled-none : (trail : List ℕ) (l : ℕ) (frame : List ℕ) → length frame ≡ 64 → Filled trail l 0 (headed l frame) (headed l frame) 2
-unfolding writesIn flatMap notesAt upTo eventBytes over
-filled-none trail l [] h = absurd (omega arith)
-filled-none trail l (x ∷ []) h = absurd (omega arith)
-filled-none trail l (x ∷ y ∷ frame) h = record { count = refl; content = refl; few = omega arith }
+pub filled-none : (log : List ℕ) (l : ℕ) (frame : List ℕ) → length frame ≡ 64 → Filled log l 0 (headed l frame) (headed l frame) 2
+unfolding writesIn flatMap notesAt range eventBytes over
+filled-none log l [] h = absurd (omega arith)
+filled-none log l (x ∷ []) h = absurd (omega arith)
+filled-none log l (x ∷ y ∷ frame) h = record { count = refl; content = refl; few = omega arith }
 
 over-headed : (l : ℕ) (es frame : List ℕ) → over (0x41 ∷ l ∷ es) (headed l frame) ≡ over (0x41 ∷ l ∷ es) frame
 unfolding over
@@ -71,49 +71,49 @@ over-headed l es [] = refl
 over-headed l es (x ∷ []) = refl
 over-headed l es (x ∷ y ∷ frame) = refl
 
-pub filled-all : (trail : List ℕ) (l k steps : ℕ) (before frame : List ℕ) (n : ℕ) → k ≡ steps → steps ≤ 24 → Filled trail l k (headed l before) frame n →
-    (n ≡ length (order trail l steps)) × ((n ≤ 50) × (frame ≡ over (order trail l steps) before))
-filled-all trail l k steps before frame n e h f =
-    let q = ap (order trail l) e in (
+pub filled-all : (log : List ℕ) (l k steps : ℕ) (before frame : List ℕ) (n : ℕ) → k ≡ steps → steps ≤ 24 → Filled log l k (headed l before) frame n →
+    (n ≡ length (order log l steps)) × ((n ≤ 50) × (frame ≡ over (order log l steps) before))
+filled-all log l k steps before frame n e h f =
+    let q = ap (order log l) e in (
       f .count ∙ ap length q,
-      (omega (arith, f .few), f .content ∙ ap (λ (t : List ℕ). over t (headed l before)) q ∙ over-headed l (eventBytes (writesIn l (notesAt trail steps))) before),
+      (omega (arith, f .few), f .content ∙ ap (λ (t : List ℕ). over t (headed l before)) q ∙ over-headed l (eventBytes (writesIn l (notesAt log steps))) before),
     )
 
 -- the frame keeps its length
 pub headed-length : (l : ℕ) (frame : List ℕ) → length (headed l frame) ≡ length frame
 headed-length l frame = length-set (set frame 0 0x41) 1 l ∙ length-set frame 0 0x41
 
-pub filled-length : (trail : List ℕ) (l k : ℕ) (before frame : List ℕ) (n : ℕ) → length before ≡ 64 → k ≤ 24 → Filled trail l k before frame n → length frame ≡ 64
-filled-length trail l k before frame n h i f = ap length (f .content) ∙ length-over (order trail l k) before (omega (arith, f .count, f .few)) ∙ h
+pub filled-length : (log : List ℕ) (l k : ℕ) (before frame : List ℕ) (n : ℕ) → length before ≡ 64 → k ≤ 24 → Filled log l k before frame n → length frame ≡ 64
+filled-length log l k before frame n h i f = ap length (f .content) ∙ length-over (order log l k) before (omega (arith, f .count, f .few)) ∙ h
 
 events-append : (xs ys : List Event) → eventBytes (xs ++ ys) ≡ eventBytes xs ++ eventBytes ys
 unfolding eventBytes
 events-append [] ys = refl
 events-append (e ∷ es) ys = ap (λ (k : List ℕ). e .0 ∷ e .1 ∷ k) (events-append es ys)
 
-order-next : (trail : List ℕ) (l k : ℕ) → order trail l (k + 1) ≡ order trail l k ++ eventBytes (writeIn l (noteAt trail k))
-order-next trail l k = ap (λ (es : List ℕ). 0x41 ∷ l ∷ es) (ap eventBytes (writes-next trail l k) ∙ events-append (writesIn l (notesAt trail k)) (writeIn l (noteAt trail k)))
+order-next : (log : List ℕ) (l k : ℕ) → order log l (k + 1) ≡ order log l k ++ eventBytes (writeIn l (noteAt log k))
+order-next log l k = ap (λ (es : List ℕ). 0x41 ∷ l ∷ es) (ap eventBytes (writes-next log l k) ∙ events-append (writesIn l (notesAt log k)) (writeIn l (noteAt log k)))
 
 abbrev pub states : List ℕ → ℕ → ℕ → Bool
-states trail l k = eqb (noteAt trail k .location) l && noteAt trail k .wrote
+states log l k = eqb (noteAt log k .location) l && noteAt log k .wrote
 
-a-write : (trail : List ℕ) (l k : ℕ) (a b : Bool) → eqb (noteAt trail k .location) l ≡ a → noteAt trail k .wrote ≡ b →
-    eventBytes (writeIn l (noteAt trail k)) ≡ cond (a && b) (getD trail (k * 8) 0 ∷ getD trail (k * 8 + 1) 0 ∷ []) []
+a-write : (log : List ℕ) (l k : ℕ) (a b : Bool) → eqb (noteAt log k .location) l ≡ a → noteAt log k .wrote ≡ b →
+    eventBytes (writeIn l (noteAt log k)) ≡ cond (a && b) (getD log (k * 8) 0 ∷ getD log (k * 8 + 1) 0 ∷ []) []
 unfolding writeIn eventBytes noteAt
-a-write trail l k true true e f = rw (e, f)
-a-write trail l k true false e f = rw (e, f)
-a-write trail l k false b e f = rw e
+a-write log l k true true e f = rw (e, f)
+a-write log l k true false e f = rw (e, f)
+a-write log l k false b e f = rw e
 
-written-note : (trail : List ℕ) (l k : ℕ) (b : Bool) → b ≡ states trail l k → eventBytes (writeIn l (noteAt trail k)) ≡ cond b (getD trail (k * 8) 0 ∷ getD trail (k * 8 + 1) 0 ∷ []) []
-written-note trail l k b e = a-write trail l k _ _ refl refl ∙ ap (λ (c : Bool). cond c (getD trail (k * 8) 0 ∷ getD trail (k * 8 + 1) 0 ∷ []) []) (sym e)
+written-note : (log : List ℕ) (l k : ℕ) (b : Bool) → b ≡ states log l k → eventBytes (writeIn l (noteAt log k)) ≡ cond b (getD log (k * 8) 0 ∷ getD log (k * 8 + 1) 0 ∷ []) []
+written-note log l k b e = a-write log l k _ _ refl refl ∙ ap (λ (c : Bool). cond c (getD log (k * 8) 0 ∷ getD log (k * 8 + 1) 0 ∷ []) []) (sym e)
 
-pub filled-more : (trail : List ℕ) (l k : ℕ) (before frame later : List ℕ) (n m : ℕ) (b : Bool) → length before ≡ 64 → k < 24 → b ≡ states trail l k → Filled trail l k before frame n → b ≡ true →
-    later ≡ set (set frame n (getD trail (k * 8) 0)) (n + 1) (getD trail (k * 8 + 1) 0) → m ≡ n + 2 → Filled trail l (k + 1) before later m
-filled-more trail l k before frame later n m b h i e f w p j =
-    let x = getD trail (k * 8) 0 in
-    let y = getD trail (k * 8 + 1) 0 in
-    let t = order trail l k in
-    let q : order trail l (k + 1) ≡ t ++ (x ∷ y ∷ []) = order-next trail l k ∙ ap (λ (z : List ℕ). t ++ z) (written-note trail l k b e ∙ ap (λ (c : Bool). cond c (x ∷ y ∷ []) []) w) in
+pub filled-more : (log : List ℕ) (l k : ℕ) (before frame later : List ℕ) (n m : ℕ) (b : Bool) → length before ≡ 64 → k < 24 → b ≡ states log l k → Filled log l k before frame n → b ≡ true →
+    later ≡ set (set frame n (getD log (k * 8) 0)) (n + 1) (getD log (k * 8 + 1) 0) → m ≡ n + 2 → Filled log l (k + 1) before later m
+filled-more log l k before frame later n m b h i e f w p j =
+    let x = getD log (k * 8) 0 in
+    let y = getD log (k * 8 + 1) 0 in
+    let t = order log l k in
+    let q : order log l (k + 1) ≡ t ++ (x ∷ y ∷ []) = order-next log l k ∙ ap (λ (z : List ℕ). t ++ z) (written-note log l k b e ∙ ap (λ (c : Bool). cond c (x ∷ y ∷ []) []) w) in
     record {
       count = omega (arith, f .count, ap length q, length-append t (x ∷ y ∷ []));
       content = p ∙ ap (λ (z : List ℕ). set (set z n x) (n + 1) y) (f .content)
@@ -123,11 +123,11 @@ filled-more trail l k before frame later n m b h i e f w p j =
       few = omega (arith, f .few);
     }
 
-pub filled-same : (trail : List ℕ) (l k : ℕ) (before frame later : List ℕ) (n m : ℕ) (b : Bool) → b ≡ states trail l k → Filled trail l k before frame n → b ≡ false →
-    later ≡ frame → m ≡ n → Filled trail l (k + 1) before later m
-filled-same trail l k before frame later n m b e f w p j =
-    let t = order trail l k in
-    let q : order trail l (k + 1) ≡ t = order-next trail l k ∙ ap (λ (z : List ℕ). t ++ z) (written-note trail l k b e ∙ ap (λ (c : Bool). cond c (getD trail (k * 8) 0 ∷ getD trail (k * 8 + 1) 0 ∷ []) []) w) ∙ append-nil t in
+pub filled-same : (log : List ℕ) (l k : ℕ) (before frame later : List ℕ) (n m : ℕ) (b : Bool) → b ≡ states log l k → Filled log l k before frame n → b ≡ false →
+    later ≡ frame → m ≡ n → Filled log l (k + 1) before later m
+filled-same log l k before frame later n m b e f w p j =
+    let t = order log l k in
+    let q : order log l (k + 1) ≡ t = order-next log l k ∙ ap (λ (z : List ℕ). t ++ z) (written-note log l k b e ∙ ap (λ (c : Bool). cond c (getD log (k * 8) 0 ∷ getD log (k * 8 + 1) 0 ∷ []) []) w) ∙ append-nil t in
     record {
       count = j ∙ f .count ∙ ap length (sym q);
       content = p ∙ f .content ∙ ap (λ (z : List ℕ). over z before) (sym q);

@@ -8,7 +8,7 @@ use lib.Dec.{eqb}
 use lib.ListN.{length, getD}
 use Rattle.lines.specs.Text.{written}
 use Rattle.lines.specs.Over.{over}
-use Rattle.schedules.specs.Lists.{upTo}
+use Rattle.schedules.specs.Lists.{range}
 use Rattle.sc.specs.State.{Event}
 use Rattle.sc.specs.Text.{readFrame, eventBytes}
 use Rattle.graph_writer.specs.Notes.{Note}
@@ -40,10 +40,10 @@ orderFrame l (e ∷ es) = (0x41 ∷ l ∷ eventBytes (e ∷ es)) ∷ []
 
 -- the frames of the first so many threads, and of the first so many locations
 unfoldable pub readFramesIn : ℕ → List Note → List (List ℕ)
-readFramesIn t ns = flatMap (λ u. threadFrames u (readsIn u ns)) (upTo 0 t)
+readFramesIn t ns = flatMap (λ u. threadFrames u (readsIn u ns)) (range 0 t)
 
 unfoldable pub orderFramesIn : ℕ → List Note → List (List ℕ)
-orderFramesIn l ns = flatMap (λ k. orderFrame k (writesIn k ns)) (upTo 0 l)
+orderFramesIn l ns = flatMap (λ k. orderFrame k (writesIn k ns)) (range 0 l)
 
 -- the frames of the graph: six threads, eight locations
 unfoldable pub noteFrames : List Note → List (List ℕ)
@@ -52,18 +52,18 @@ noteFrames ns = readFramesIn 6 ns ++ orderFramesIn 8 ns
 -- ---- the writer's functions
 -- the note that stands in place k of the array
 unfoldable pub noteAt : List ℕ → ℕ → Note
-noteAt trail k = record {
-  thread = getD trail (k * 8) 0;
-  number = getD trail (k * 8 + 1) 0;
-  location = getD trail (k * 8 + 2) 0;
-  reads = eqb (getD trail (k * 8 + 3) 0) 1;
-  source = (getD trail (k * 8 + 4) 0, getD trail (k * 8 + 5) 0);
-  wrote = eqb (getD trail (k * 8 + 6) 0) 1;
+noteAt log k = record {
+  thread = getD log (k * 8) 0;
+  number = getD log (k * 8 + 1) 0;
+  location = getD log (k * 8 + 2) 0;
+  reads = eqb (getD log (k * 8 + 3) 0) 1;
+  source = (getD log (k * 8 + 4) 0, getD log (k * 8 + 5) 0);
+  wrote = eqb (getD log (k * 8 + 6) 0) 1;
 }
 
 -- the first n of them
 unfoldable pub notesAt : List ℕ → ℕ → List Note
-notesAt trail n = map (noteAt trail) (upTo 0 n)
+notesAt log n = map (noteAt log) (range 0 n)
 
 -- what is written of these frames where there is room for so many bytes: line after line, each if it still fits
 unfoldable pub writtenLines : List (List ℕ) → ℕ → List ℕ

@@ -3,11 +3,13 @@ use Prim.Native.Nat.{ℕ, _+_, _*_, _<_, _≤_}
 use mathlib.Core.Path.{_≡_}
 use mathlib.Core.Bool.{Bool, false, cond}
 use mathlib.Core.List.{List, [], _∷_}
+use lib.Dec.{ltb}
 use lib.ListN.{length, getD}
+use lib.Seq.{sets}
 use Rattle.schedules.specs.Order.{Schedule}
 use Rattle.sc.specs.Local.{takes}
 use Rattle.sc.specs.State.{Event, State, threadOf, cellOf, place, latest, step}
-use Rattle.sc.specs.Trail.{writes}
+use Rattle.sc.specs.Actions.{writes}
 
 -- a step's thread and its access's number, its location, whether it reads and the last write of that location, and whether it writes
 pub record Note : Type 0 where
@@ -51,7 +53,11 @@ unfoldable pub noNote : Note
 noNote = record { thread = 0; number = 0; location = 0; reads = false; source = (0, 0); wrote = false }
 
 -- the array holds these notes, at most 24, one after the other, eight bytes each
-pub record Noted (trail : List ℕ) (ns : List Note) : Type 0 where
-  pub size : length trail ≡ 192
+pub record Noted (log : List ℕ) (ns : List Note) : Type 0 where
+  pub size : length log ≡ 192
   pub most : length ns ≤ 24
-  pub bytes : (k j : ℕ) → k < length ns → j < 8 → getD trail (k * 8 + j) 0 ≡ getD (noteBytes (getD ns k noNote)) j 0
+  pub bytes : (k j : ℕ) → k < length ns → j < 8 → getD log (k * 8 + j) 0 ≡ getD (noteBytes (getD ns k noNote)) j 0
+
+-- the array with these bytes, one after the other, from byte 8 k on: place k, if it is one of its 24
+unfoldable pub putNote : List ℕ → ℕ → List ℕ → List ℕ
+putNote log k bytes = cond (ltb k 24) (sets log (k * 8) bytes) log

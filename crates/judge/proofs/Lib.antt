@@ -1,8 +1,5 @@
 -- The laws, in the order in which they rest on each other.
--- the walk's code: reads that wait, and whether a step fits, by the tables
-pub mod EntriesWait
-pub mod AllowedSteps
-pub mod WalkChoice
+-- the walk's code: the table of the graph made, and the walk's turns
 pub mod MadeTables
 pub mod WalkTurns
 -- the call: the tables compared, the answer way by way

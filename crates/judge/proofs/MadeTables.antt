@@ -14,14 +14,15 @@ use lib.Seq.{getD-set-same, getD-set-other}
 use Rattle.sc.specs.Local.{takes, puts}
 use Rattle.sc.specs.State.{Event, Thread, Cell, State, noted, advanced, threadOf, cellOf, latest, place, step}
 use Rattle.sc.specs.Graph.{graphOf}
-use Rattle.sc.specs.Trail.{given, writes}
+use Rattle.sc.specs.Actions.{given, writes}
 use Rattle.graph_writer.specs.Notes.{note, noteBytes}
 use Rattle.sc.proofs.Steps.{thread-own, thread-other, cell-other}
 use Rattle.sc.proofs.Change.{Change, kept, wrote, change, wrote-own}
 use Rattle.sc.proofs.Rows.{row-at, order-at}
 use Rattle.consistent.specs.Consistent.{rowOf}
 use Rattle.graph_reader.specs.Held.{noLine, lineIn, Entry, put, Tabled}
-use Rattle.judge.specs.HeldWalk.{NoteOf, sourceAdded, eventAdded, countAdded}
+use Rattle.allowed.specs.HeldWalk.{NoteOf}
+use Rattle.judge.specs.MadeTable.{sourceAdded, eventAdded, countAdded}
 use Rattle.graph_reader.proofs.Entries.{length-put, entry-put, entry-kept}
 
 -- one write more stands behind the others

@@ -12,19 +12,19 @@ use lib.Dec.{eqb}
 use lib.ListN.{length, getD, set, replicate, getD-replicate, length-append}
 use lib.Seq.{getD-set-same, getD-set-other, getD-append-seam}
 use Rattle.program.specs.Program.{Program}
-use Rattle.schedules.specs.Lists.{first, upTo}
+use Rattle.schedules.specs.Lists.{find, range}
 use Rattle.schedules.specs.Order.{Schedule}
 use Rattle.schedules.specs.System.{run, Allowed}
 use Rattle.schedules.specs.Greedy.{greedy}
 use Rattle.schedules.proofs.Runs.{run-snoc, allowed-join}
-use Rattle.schedules.proofs.Lists.{upTo-ascends}
-use Rattle.schedules.proofs.Greedy.{FirstIs, found-at, nowhere, first-is}
+use Rattle.schedules.proofs.Lists.{range-ascends}
+use Rattle.schedules.proofs.Greedy.{FindIs, found-at, nowhere, find-is}
 use Rattle.machine.specs.declared.state.Machine.{Machine}
 use Rattle.machine.specs.declared.stepping.Stepped.{Stepped}
-use Rattle.sc.specs.State.{Event, State, step, may, SC, start}
+use Rattle.sc.specs.State.{Event, State, step, enabled, SC, start}
 use Rattle.sc.specs.Graph.{Graph, graphOf}
 use Rattle.machine.specs.Held.{Holds, HoldsStep}
-use Rattle.sc.proofs.Steps.{may-range, may-small}
+use Rattle.sc.proofs.Steps.{enabled-range, enabled-small}
 use Rattle.sc.proofs.Start.{start-writes, start-history}
 use Rattle.sc.proofs.Regular.{Regular}
 use Rattle.sc.proofs.Rows.{row-at, order-at}
@@ -32,24 +32,26 @@ use Rattle.consistent.specs.Consistent.{locationOf}
 use Rattle.consistent.proofs.RoundValues.{values}
 use Rattle.consistent.proofs.Walk.{fits, walk}
 use Rattle.graph_reader.specs.Held.{noLine, lineIn, Entry, Tabled}
-use Rattle.judge.specs.HeldWalk.{Ranged, Walking, threadOr, nextOf, sourceAdded, eventAdded, countAdded}
-use Rattle.judge.specs.HeldYes.{Given, Walked}
+use Rattle.allowed.specs.HeldWalk.{Ranged, Given, Walking, threadOr, nextOf}
+use Rattle.judge.specs.MadeTable.{sourceAdded, eventAdded, countAdded}
+use Rattle.judge.specs.HeldYes.{Walked}
+use Rattle.graph_reader.proofs.Entries.{unset}
 use Rattle.judge.proofs.MadeTables.{made-step}
-use Rattle.judge.proofs.WalkChoice.{walk-regular, walk-near, walk-ranged, walk-ready}
+use Rattle.allowed.proofs.WalkChoice.{walk-regular, walk-near, walk-ranged, walk-ready}
 
 -- a thread that fits may step
-fits-steps : (g : Graph) (pl : Event → ℕ) (σ : State) (t : ℕ) → fits g pl σ t ≡ true → may σ t ≡ true
+fits-steps : (g : Graph) (pl : Event → ℕ) (σ : State) (t : ℕ) → fits g pl σ t ≡ true → enabled σ t ≡ true
 unfolding fits
-fits-steps g pl σ t h = go (may σ t) refl
+fits-steps g pl σ t h = go (enabled σ t) refl
   where
-    go : (b : Bool) → may σ t ≡ b → may σ t ≡ true
+    go : (b : Bool) → enabled σ t ≡ b → enabled σ t ≡ true
     go true q = q
     go false q = absurd (true≢false (sym h ∙ rw q))
 
-first-fits : (f : ℕ → Bool) (t : ℕ) → first f (upTo 0 6) ≡ some t → f t ≡ true
-first-fits f t e = go (first f (upTo 0 6)) (first-is f (upTo 0 6) (upTo-ascends 0 6)) e
+first-fits : (f : ℕ → Bool) (t : ℕ) → find f (range 0 6) ≡ some t → f t ≡ true
+first-fits f t e = go (find f (range 0 6)) (find-is f (range 0 6) (range-ascends 0 6)) e
   where
-    go : (o : Option ℕ) → FirstIs f (upTo 0 6) o → o ≡ some t → f t ≡ true
+    go : (o : Option ℕ) → FindIs f (range 0 6) o → o ≡ some t → f t ≡ true
     go (some u) (found-at {t = v} m q low) z = subst (λ (x : ℕ). f x ≡ true) (let k : v ≡ t = cc in k) q
     go none (nowhere low) z = absurd (let n : _≡_ {A = ℕ} 0 1 = cc in omega arith)
 
@@ -90,9 +92,6 @@ walk-start code lengths p g m schedule H = record {
   };
   rest = refl;
 }
-  where
-    unset : (j : ℕ) → j < 288 → Entry (replicate 576 254) j (254, 254)
-    unset j h = (getD-replicate 576 (j * 2) 254 0 (omega arith), getD-replicate 576 (j * 2 + 1) 254 0 (omega arith))
 
 module _ (code lengths : List ℕ) (n : ℕ) (pairs table : List ℕ) (p : Program) (g : Graph) (X : Given code lengths n pairs table p g)
     (m : Machine) (made counts schedule : List ℕ) (k : ℕ) (G : Progress code lengths p g m made counts schedule k) where
@@ -101,12 +100,7 @@ module _ (code lengths : List ℕ) (n : ℕ) (pairs table : List ℕ) (p : Progr
 
   pub walk-on : Walking code lengths n pairs table p g m counts (G .so-far)
   walk-on = record {
-    loaded = X .loaded;
-    text = X .text;
-    read = X .read;
-    sizes = X .sizes;
-    tabled = X .tabled;
-    places = X .places;
+    given = X;
     allowed = G .allowed;
     holds = G .holds;
     made = λ l a. G .tabled .counts l a ∙ ap length (order-at (run SC (start p) s) l);
@@ -151,12 +145,12 @@ module _ (code lengths : List ℕ) (n : ℕ) (pairs table : List ℕ) (p : Progr
       chosen-is : nextOf p g (G .so-far) ≡ some t
       chosen-is = sym choice ∙ rw (lt-ltb t 6 (omega (arith, other)))
 
-      pub walk-may : may (run SC (start p) (G .so-far)) t ≡ true
-      walk-may = fits-steps g (locationOf p (values p g 24)) (run SC (start p) s) t (first-fits (fits g (locationOf p (values p g 24)) (run SC (start p) s)) t chosen-is)
+      pub walk-enabled : enabled (run SC (start p) (G .so-far)) t ≡ true
+      walk-enabled = fits-steps g (locationOf p (values p g 24)) (run SC (start p) s) t (first-fits (fits g (locationOf p (values p g 24)) (run SC (start p) s)) t chosen-is)
 
       module _ (r : Stepped) (S : HoldsStep code lengths (run SC (start p) (G .so-far)) t r) where
         pub walk-note : Ranged (r .note)
-        walk-note = walk-ranged code lengths n pairs table p g m counts s walk-on t walk-may (r .note) (S .noted)
+        walk-note = walk-ranged code lengths n pairs table p g m counts s walk-on t walk-enabled (r .note) (S .noted)
 
         pub walk-more : (made' counts' : List ℕ) → made' ≡ eventAdded (sourceAdded made (r .note)) counts (r .note) → counts' ≡ countAdded counts (r .note)
             → length made ≡ 576 → length counts ≡ 8 → length schedule ≡ 24 → ((l : ℕ) → getD counts l 0 < 24) → Progress code lengths p g (r .machine) made' counts' (set schedule k t) (k + 1)
@@ -165,7 +159,7 @@ module _ (code lengths : List ℕ) (n : ℕ) (pairs table : List ℕ) (p : Progr
           size = length-append s (t ∷ []) ∙ ap (λ (x : ℕ). x + 1) (G .size);
           most = omega arith;
           kept = λ j h. kept-more j h (ℕ-discrete j k);
-          allowed = allowed-join SC (start p) s (t ∷ []) (G .allowed) (walk-may, tt);
+          allowed = allowed-join SC (start p) s (t ∷ []) (G .allowed) (walk-enabled, tt);
           holds = subst (Holds code lengths (r .machine)) (sym behind) (S .holds);
           tabled = subst (λ (x : State). Tabled made' counts' (graphOf x)) (sym behind) made-more;
           rest = G .rest ∙ ap (λ (x : Schedule). s ++ x) (go-on ∙ somebody) ∙ sym (append-assoc s (t ∷ []) _)
@@ -188,12 +182,12 @@ module _ (code lengths : List ℕ) (n : ℕ) (pairs table : List ℕ) (p : Progr
 
             made-more : Tabled made' counts' (graphOf (step (run SC (start p) s) t))
             made-more =
-                let y = walk-ready code lengths n pairs table p g m counts s walk-on t walk-may in
-                let z = G .holds .threads t (may-small (run SC (start p) s) t walk-may) .done in
+                let y = walk-ready code lengths n pairs table p g m counts s walk-on t walk-enabled in
+                let z = G .holds .threads t (enabled-small (run SC (start p) s) t walk-enabled) .done in
                 subst (λ (x : List ℕ). Tabled x counts' (graphOf (step (run SC (start p) s) t))) (sym em)
                 (subst (λ (x : List ℕ). Tabled (eventAdded (sourceAdded made (r .note)) counts (r .note)) x (graphOf (step (run SC (start p) s) t))) (sym ec)
-                (made-step made counts (run SC (start p) s) t (G .tabled) sm sc (may-range (run SC (start p) s) t walk-may) (may-small (run SC (start p) s) t walk-may) (regular .eight)
-                (walk-near code lengths n pairs table p g m counts s walk-on t walk-may) (omega (arith, y .left, y .sixteen, y .bounded)) room (r .note) (S .noted)))
+                (made-step made counts (run SC (start p) s) t (G .tabled) sm sc (enabled-range (run SC (start p) s) t walk-enabled) (enabled-small (run SC (start p) s) t walk-enabled) (regular .eight)
+                (walk-near code lengths n pairs table p g m counts s walk-on t walk-enabled) (omega (arith, y .left, y .sixteen, y .bounded)) room (r .note) (S .noted)))
 
 -- numbers that the loop keeps
 pub few-more : (counts counts' b : List ℕ) (k : ℕ) → length counts ≡ 8 → Ranged b → counts' ≡ countAdded counts b → ((l : ℕ) → getD counts l 0 ≤ k) → (l : ℕ) → getD counts' l 0 ≤ k + 1

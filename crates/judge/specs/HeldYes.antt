@@ -1,5 +1,5 @@
 -- What the walk leaves, and the judge's answer as the code hands it over. For the judge's own functions.
-use Prim.Native.Nat.{ℕ, _+_, _*_, _<_, _≤_}
+use Prim.Native.Nat.{ℕ, _<_, _≤_}
 use mathlib.Core.Path.{_≡_}
 use mathlib.Core.Bool.{Bool, true, false}
 use mathlib.Core.Option.{Option, none, some}
@@ -10,22 +10,10 @@ use Rattle.schedules.specs.Order.{Schedule}
 use Rattle.schedules.specs.System.{Allowed}
 use Rattle.sc.specs.State.{SC, start}
 use Rattle.sc.specs.Graph.{Graph, graphOf, endOf}
-use Rattle.machine.specs.Held.{Holds, Loaded}
+use Rattle.machine.specs.Held.{Holds}
 use Rattle.judge.specs.declared.walking.Walk.{Walk}
-use Rattle.consistent.specs.Consistent.{locationOf}
-use Rattle.consistent.proofs.RoundValues.{values}
 use Rattle.consistent.proofs.Walk.{walk}
-use Rattle.consistent.specs.Reading.{parsed, readGraph}
 use Rattle.graph_reader.specs.Held.{Tabled}
-
--- the program, and the graph that was read, stand in their tables
-pub record Given (code lengths : List ℕ) (n : ℕ) (pairs table : List ℕ) (p : Program) (g : Graph) : Type 0 where
-  pub loaded : Loaded code lengths n p
-  pub text : List ℕ
-  pub read : readGraph n text ≡ parsed g
-  pub sizes : List ℕ
-  pub tabled : Tabled pairs sizes g
-  pub places : (t i : ℕ) → t < n → i < 16 → getD table (t * 16 + i) 0 ≡ locationOf p (values p g 24) (t, i)
 
 -- the walk, and the state and the graph behind it
 pub record Walked (code lengths : List ℕ) (p : Program) (g : Graph) (r : Walk) : Type 0 where

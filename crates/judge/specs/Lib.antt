@@ -1,7 +1,7 @@
 -- What a reader of this crate must believe, in reading order.
 -- the answer as the call hands it over
 pub mod Call
--- what the walk goes by
-pub mod HeldWalk
+-- the table of the graph that the walk makes
+pub mod MadeTable
 -- what the walk leaves
 pub mod HeldYes

@@ -2,6 +2,7 @@
 use crate::judging::judged;
 use graph_reader::Verdict;
 use graph_reader::read_graph;
+use program::STEPS;
 ghost use mathlib.Core.Path.{_≡_};
 ghost use Prim.Native.Nat.{_≤_};
 ghost use lib.ListN.{length, take};
@@ -18,7 +19,7 @@ pub enum Outcome {
 }
 
 // The first bytes of the schedule, so many, into the front of the output.
-fn put(out: &mut [u8], schedule: [u8; 24], steps: usize)
+fn put(out: &mut [u8], schedule: [u8; STEPS], steps: usize)
     requires { ⌜ (steps ≤ 24) × (24 ≤ length (now out)) ⌝ }
     ensures { λ r. ⌜ now (out .exit) ≡ over (take steps schedule) (now (out .entry)) ⌝ }
 {
@@ -39,7 +40,7 @@ pub fn judge(file: &[u8], text: &[u8], out: &mut [u8]) -> Outcome
     match v {
         decoder::Verdict::Refused(number, place) => Outcome::Refused(number, place),
         decoder::Verdict::Accepted => {
-            if out.len() < 24 {
+            if out.len() < STEPS {
                 return Outcome::Refused(22, 0);
             }
             let c = a.program;

@@ -3,7 +3,9 @@ use crate::comparing::same_counts;
 use crate::comparing::same_pairs;
 use crate::walking::walked;
 use machine::ended_all;
+use program::STEPS;
 use rounds::places;
+use rows::Code;
 ghost use mathlib.Core.Path.{_≡_};
 ghost use mathlib.Core.Bool.{false};
 ghost use mathlib.Core.List.{List};
@@ -19,7 +21,7 @@ ghost use Rattle.judge.specs.HeldYes.{JudgedAs};
 // Whether the answer is yes, and then the schedule in the first bytes, so many.
 pub struct Finding {
     pub yes: bool,
-    pub schedule: [u8; 24],
+    pub schedule: [u8; STEPS],
     pub steps: usize,
 }
 
@@ -29,21 +31,23 @@ fn denied() -> Finding
 {
     Finding {
         yes: false,
-        schedule: [0u8; 24],
+        schedule: [0u8; STEPS],
         steps: 0,
     }
 }
 
 // Judges the graph in this table for the program in these rows.
 pub(crate) fn judged(
-    code: &[u8; 1536],
+    code: &Code,
     lengths: &[usize; 6],
     threads: usize,
     pairs: [u8; 576],
     counts: [usize; 8],
 ) -> Finding
-    requires { ⌜ ((p : Program) × (text : List ℕ) × (g : Graph) × Loaded (now code) (now lengths) threads p × (readGraph threads text ≡ parsed g) × Tabled pairs counts g) ⌝ }
-    ensures { λ r. ⌜ ((p : Program) (text : List ℕ) (g : Graph) → Loaded (now (code .entry)) (now (lengths .entry)) threads p → readGraph threads text ≡ parsed g → Tabled pairs counts g → JudgedAs (r .yes) (r .schedule) (r .steps) (judge p g)) ⌝ }
+    requires { ⌜ ((p : Program) × (text : List ℕ) × (g : Graph) × Loaded (now code) (now lengths) threads p
+        × (readGraph threads text ≡ parsed g) × Tabled pairs counts g) ⌝ }
+    ensures { λ r. ⌜ ((p : Program) (text : List ℕ) (g : Graph) → Loaded (now (code .entry)) (now (lengths .entry)) threads p
+        → readGraph threads text ≡ parsed g → Tabled pairs counts g → JudgedAs (r .yes) (r .schedule) (r .steps) (judge p g)) ⌝ }
 {
     let table = places(code, lengths, threads, pairs);
     let w = walked(code, lengths, threads, pairs, table);

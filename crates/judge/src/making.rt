@@ -1,9 +1,11 @@
 // The table of the graph that the walk has made so far.
-use rounds::wide;
+use lines::wide;
+use program::STEPS;
 ghost use mathlib.Core.Path.{_≡_};
 ghost use Prim.Native.Nat.{ℕ, _<_};
 ghost use lib.ListN.{getD};
-ghost use Rattle.judge.specs.HeldWalk.{Ranged, sourceAdded, eventAdded, countAdded};
+ghost use Rattle.allowed.specs.HeldWalk.{Ranged};
+ghost use Rattle.judge.specs.MadeTable.{sourceAdded, eventAdded, countAdded};
 
 // As in the table of a text: sources and writes, and how many writes each location has.
 pub struct Made {
@@ -39,7 +41,7 @@ pub(crate) fn with_event(pairs: [u8; 576], counts: [usize; 8], note: [u8; 8]) ->
     }
     let l = wide(note[2]);
     let c = counts[l];
-    let at = (96 + (l * 24 + c)) * 2;
+    let at = (96 + (l * STEPS + c)) * 2;
     let mut p = pairs;
     let mut n = counts;
     p[at] = note[0];

@@ -1,17 +1,20 @@
 // The walk: always the least thread whose next access the graph allows, at most 24 steps.
-use crate::choosing::chosen;
 use crate::making::with_event;
 use crate::making::with_source;
+use allowed::chosen;
 use machine::Machine;
 use machine::started;
 use machine::step;
+use program::STEPS;
+use rows::Code;
 ghost use Rattle.program.specs.Program.{Program};
 ghost use Rattle.sc.specs.Graph.{Graph};
-ghost use Rattle.judge.specs.HeldYes.{Given, Walked};
+ghost use Rattle.allowed.specs.HeldWalk.{Given};
+ghost use Rattle.judge.specs.HeldYes.{Walked};
 
 // The steps, how many they are, the machine behind them, and the table of the graph that they made.
 pub struct Walk {
-    pub schedule: [u8; 24],
+    pub schedule: [u8; STEPS],
     pub steps: usize,
     pub machine: Machine,
     pub pairs: [u8; 576],
@@ -20,21 +23,22 @@ pub struct Walk {
 
 // Walks by the table of a graph and the places of its accesses.
 pub(crate) fn walked(
-    code: &[u8; 1536],
+    code: &Code,
     lengths: &[usize; 6],
     threads: usize,
     pairs: [u8; 576],
     places: [u8; 96],
 ) -> Walk
     requires { ⌜ ((p : Program) × (g : Graph) × Given (now code) (now lengths) threads pairs places p g) ⌝ }
-    ensures { λ r. ⌜ ((p : Program) (g : Graph) → Given (now (code .entry)) (now (lengths .entry)) threads pairs places p g → Walked (now (code .entry)) (now (lengths .entry)) p g r) ⌝ }
+    ensures { λ r. ⌜ ((p : Program) (g : Graph) → Given (now (code .entry)) (now (lengths .entry)) threads pairs places p g
+        → Walked (now (code .entry)) (now (lengths .entry)) p g r) ⌝ }
 {
-    let mut schedule = [0u8; 24];
+    let mut schedule = [0u8; STEPS];
     let mut made = [254u8; 576];
     let mut counts = [0usize; 8];
     let mut m = started(code, lengths, threads);
     let mut k = 0;
-    while k < 24 {
+    while k < STEPS {
         let t = chosen(code, lengths, threads, pairs, places, m, counts);
         if t == 6 {
             return Walk {

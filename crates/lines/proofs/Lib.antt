@@ -3,6 +3,8 @@
 pub mod RoundTrip
 -- when a line is a frame, and what the reader answers
 pub mod Frame
+-- the length of the frame on a line
+pub mod Lengths
 -- the bytes that a line's characters spell
 pub mod Pairs
 -- a frame's line: its length, and what is written of it by the room there is

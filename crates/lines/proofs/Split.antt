@@ -79,3 +79,7 @@ lineLength-append (x ∷ l) r e = go (eqb x 10) refl (lineLength-append l r) e
         → lineLength (x ∷ (l ++ (10 ∷ r))) ≡ suc (length l)
     go true p ih q = let n : 0 ≡ suc (length l) = rw (p, lineLength) at q in absurd (omega arith)
     go false p ih q = let n : suc (lineLength l) ≡ suc (length l) = rw (p, lineLength) at q in rw (p, lineLength) (ap suc (ih (omega arith)))
+
+-- a line that does not end the text ends inside of it
+pub before-end : (text : List ℕ) (at end : ℕ) → at < length text → end ≡ at + lineLength (drop at text) → (end ≡ length text → ⊥) → end < length text
+before-end text at end h e ne = let w = line-within text at (omega arith) in omega (arith, ne)

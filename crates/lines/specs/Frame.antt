@@ -30,6 +30,10 @@ frame (x ∷ l) = elim (hexadecimal (x ∷ l)) [ true ↦ some (pairs (x ∷ l))
 unfoldable pub lineOf : List ℕ → Line
 lineOf l = elim (frame l) [ none ↦ Broken | some f ↦ Frame (length f) ]
 
+-- how many bytes a line's frame has; 0 where the line is no frame
+unfoldable pub frameLength : List ℕ → ℕ
+frameLength l = elim (frame l) [ none ↦ 0 | some f ↦ length f ]
+
 -- every number of the list is a byte
 abbrev pub Bytes : List ℕ → Type 0
 Bytes [] = Unit {0}

@@ -8,7 +8,12 @@ mod reader;
 mod splitter;
 // A frame's line, written into a lent buffer.
 mod writer;
+// Bytes as larger numbers, those of a line's frame and how many they are.
+mod fields;
 
+pub use fields::field;
+pub use fields::frame_length;
+pub use fields::wide;
 pub use reader::Line;
 pub use reader::byte_at;
 pub use reader::read;

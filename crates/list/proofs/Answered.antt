@@ -11,17 +11,17 @@ use borrow.Author.Tests.{ltb-false}
 use Rattle.lines.specs.Over.{over}
 use Rattle.program.specs.Program.{Program}
 use Rattle.program.specs.WellFormed.{WellFormed}
-use Rattle.schedules.specs.Lists.{first}
+use Rattle.schedules.specs.Lists.{find}
 use Rattle.schedules.specs.Order.{Schedule}
-use Rattle.schedules.specs.Calls.{Answer, found, nomore, refused, offer, turn, content, short}
-use Rattle.schedules.proofs.Offered.{offer-in, turn-short, turn-none, turn-some, content-found}
+use Rattle.schedules.specs.Calls.{Answer, found, nomore, refused, offer, answerTo, content, short}
+use Rattle.schedules.proofs.Offered.{offer-in, answer-short, answer-none, answer-some, content-found}
 use Rattle.sc.specs.Replay.{Replayed, whole, replay}
 use Rattle.sc.specs.Replay as Replay
 use Rattle.sc.proofs.SmallRefusals.{replay-within}
 use Rattle.sc.proofs.SmallRefusals as Schedules
 use Rattle.list.specs.ListOf.{listOf}
 use Rattle.list.specs.Answers.{startOf, continued, continueOf, failing, Violation, fails-first, none-fails, refused-by, violationBy, violationContent, violationOf}
-use Rattle.schedules.proofs.FirstIn.{first-in}
+use Rattle.schedules.proofs.FirstIn.{find-in}
 use Rattle.list.proofs.TheList.{list-ascends}
 
 -- a member of the list that fits the output; else a small refusal, or none
@@ -36,21 +36,21 @@ ViolationWithin p out none-fails = Unit {0}
 ViolationWithin p out (refused-by n k) = (n ≤ 22) × (k ≤ 24)
 
 module _ (p : Program) (out : List ℕ) where
-  turn-within : (b : Bool) → short 24 out ≡ b → (l o : Option Schedule) → offer (listOf p) l ≡ o → Within p out (turn b o)
-  turn-within true e l o q = subst (Within p out) (sym (turn-short o)) (omega arith, omega arith)
-  turn-within false e l none q = subst (Within p out) (sym turn-none) tt
-  turn-within false e l (some s) q = subst (Within p out) (sym (turn-some s)) (offer-in (listOf p) l s q, ltb-false (length out) 24 e)
+  answer-within : (b : Bool) → short 24 out ≡ b → (l o : Option Schedule) → offer (listOf p) l ≡ o → Within p out (answerTo b o)
+  answer-within true e l o q = subst (Within p out) (sym (answer-short o)) (omega arith, omega arith)
+  answer-within false e l none q = subst (Within p out) (sym answer-none) tt
+  answer-within false e l (some s) q = subst (Within p out) (sym (answer-some s)) (offer-in (listOf p) l s q, ltb-false (length out) 24 e)
 
   pub start-within : Within p out (startOf p out .0)
   unfolding startOf
-  start-within = turn-within (short 24 out) refl none (offer (listOf p) none) refl
+  start-within = answer-within (short 24 out) refl none (offer (listOf p) none) refl
 
   pub continue-within : WellFormed p → (s : Schedule) → Within p out (continueOf p s out .0)
   unfolding continueOf continued
   continue-within w s = go (short 24 out) refl
     where
       by : short 24 out ≡ false → (r : Replayed) → Schedules.Within p s r → Within p out (continued r (offer (listOf p) (some s)))
-      by e (whole σ) h = turn-within false e (some s) (offer (listOf p) (some s)) refl
+      by e (whole σ) h = answer-within false e (some s) (offer (listOf p) (some s)) refl
       by e (Replay.refused n k) h = (omega (arith, h .0), h .1)
 
       go : (b : Bool) → short 24 out ≡ b → Within p out (elim b [ true ↦ refused 22 0 | false ↦ continued (replay p s) (offer (listOf p) (some s)) ])
@@ -59,12 +59,12 @@ module _ (p : Program) (out : List ℕ) where
 
   pub violation-within : ViolationWithin p out (violationOf p out .0)
   unfolding violationOf violationBy
-  violation-within = go (short 24 out) refl (first (failing p) (listOf p)) refl
+  violation-within = go (short 24 out) refl (find (failing p) (listOf p)) refl
     where
-      go : (b : Bool) → short 24 out ≡ b → (o : Option Schedule) → first (failing p) (listOf p) ≡ o → ViolationWithin p out (violationBy b o)
+      go : (b : Bool) → short 24 out ≡ b → (o : Option Schedule) → find (failing p) (listOf p) ≡ o → ViolationWithin p out (violationBy b o)
       go true e o q = (omega arith, omega arith)
       go false e none q = tt
-      go false e (some s) q = (first-in (failing p) (listOf p) (list-ascends p) s q .0, ltb-false (length out) 24 e)
+      go false e (some s) q = (find-in (failing p) (listOf p) (list-ascends p) s q .0, ltb-false (length out) 24 e)
 
 -- s was answered: it is listed, there is room for it, and it stands over the front of the output behind the call
 abbrev pub Stands : Program → List ℕ → Schedule → List ℕ → Type 0

@@ -9,10 +9,10 @@ use native.Mathlib.Omega.{arith}
 use lib.ListN.{length}
 use Rattle.program.specs.Program.{Program}
 use Rattle.program.specs.WellFormed.{WellFormed}
-use Rattle.schedules.specs.Lists.{keep, first}
+use Rattle.schedules.specs.Lists.{filter, find}
 use Rattle.schedules.specs.Order.{Schedule}
 use Rattle.schedules.specs.Calls.{Answer, refused, offer, short, result, called}
-use Rattle.schedules.proofs.Kept.{keep-length}
+use Rattle.schedules.proofs.Kept.{filter-length}
 use Rattle.model.specs.Model as Model
 use Rattle.model.specs.Alike as Alike
 use Rattle.model.specs.Answers as Answers
@@ -61,7 +61,7 @@ module _ (p : Program) where
   -- violation
   pub violation-same : (out : List ℕ) → Answers.violationOf sc p out ≡ violationOf p out
   unfolding Answers.violationOf violationOf failing
-  violation-same out = ap (λ (l : List Schedule). let v = violationBy (short 24 out) (first (λ s. fails (endOf p s)) l) in let r : Violation × List ℕ = (v, violationContent v out) in r) list-same
+  violation-same out = ap (λ (l : List Schedule). let v = violationBy (short 24 out) (find (λ s. fails (endOf p s)) l) in let r : Violation × List ℕ = (v, violationContent v out) in r) list-same
 
 -- count: the list is short enough that nothing wraps
 small-rest : (n : ℕ) → n < 2 ^ 64 → n % 2 ^ 64 ≡ n
@@ -73,9 +73,9 @@ list-fits p w = omega (arith, list-length p w, fits-64-bits)
 pub count-same : (p : Program) → WellFormed p → Answers.countOf sc p ≡ countOf p
 unfolding Answers.countOf countOf failing
 count-same p w =
-    ap (λ (l : List Schedule). let c : Counts = record { listed = length l % 2 ^ 64; failed = length (keep (λ s. fails (endOf p s)) l) % 2 ^ 64 } in c) (list-same p)
+    ap (λ (l : List Schedule). let c : Counts = record { listed = length l % 2 ^ 64; failed = length (filter (λ s. fails (endOf p s)) l) % 2 ^ 64 } in c) (list-same p)
     ∙ ap₂ (λ (i j : ℕ). let c : Counts = record { listed = i; failed = j } in c) (small-rest (length (listOf p)) all-fit)
-    (small-rest (length (keep (λ s. fails (endOf p s)) (listOf p))) (omega (arith, all-fit, keep-length (λ s. fails (endOf p s)) (listOf p))))
+    (small-rest (length (filter (λ s. fails (endOf p s)) (listOf p))) (omega (arith, all-fit, filter-length (λ s. fails (endOf p s)) (listOf p))))
   where
     all-fit : length (listOf p) < 2 ^ 64
     all-fit = omega (arith, list-fits p w)

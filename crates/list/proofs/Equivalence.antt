@@ -6,7 +6,7 @@ use Rattle.program.specs.WellFormed.{WellFormed}
 use Rattle.schedules.specs.Order.{Schedule}
 use Rattle.model.proofs.Alike as Model
 use Rattle.sc.specs.Graph.{graph}
-use Rattle.sc.specs.Exchange.{Turns}
+use Rattle.sc.specs.Exchange.{Renames}
 use Rattle.list.specs.Alike.{Exchange, Alike}
 use Rattle.sc_model.specs.Sequential.{sc}
 use Rattle.sc_model.proofs.Laws.{sc-laws}
@@ -26,5 +26,5 @@ module _ (p : Program) (w : WellFormed p) where
   alike-graph a b e = Model.alike-graph sc sc-laws p (w, refl) a b e
 
   -- what an exchange makes of a graph is one graph
-  pub exchanged-once : (π : ℕ → ℕ) → Exchange p π → (a b c : Schedule) → Turns π (graph p a) (graph p b) → Turns π (graph p a) (graph p c) → graph p b ≡ graph p c
-  exchanged-once π x a b c e f = sc-laws .program p (w, refl) .turned-once π x a b c e f
+  pub exchanged-once : (π : ℕ → ℕ) → Exchange p π → (a b c : Schedule) → Renames π (graph p a) (graph p b) → Renames π (graph p a) (graph p c) → graph p b ≡ graph p c
+  exchanged-once π x a b c e f = sc-laws .program p (w, refl) .renamed-once π x a b c e f

@@ -8,19 +8,11 @@ pub mod Late
 -- R2 is sound
 pub mod Swapped
 pub mod Twins
--- R3 is sound
-pub mod Asleep
--- all three together
-pub mod Cuts
--- a run without late steps is its own least order
-pub mod NormalForm
--- the test at a full schedule is exact
-pub mod Unbeaten
--- the list is document 01's, and the search walks it
+-- the list is document 01's
 pub mod TheList
 -- it is the list of sequential consistency as a memory model, and so are the calls' answers
 pub mod AsModel
 -- what the calls can answer: members of the list, and small refusals
 pub mod Answered
--- for the code: the list walked by the search
+-- for the code: the list walked by pieces
 pub mod Walk

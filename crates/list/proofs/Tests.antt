@@ -1,7 +1,7 @@
 -- What the executable test says: `alike` is Alike.
-use mathlib.Core.Path.{_≡_, refl}
+use mathlib.Core.Path.{_≡_}
 use mathlib.Core.Logic.{_↔_}
-use mathlib.Core.Bool.{Bool, true, false, _||_}
+use mathlib.Core.Bool.{true}
 use Rattle.program.specs.Program.{Program}
 use Rattle.schedules.specs.Order.{Schedule}
 use Rattle.model.specs.Alike as ModelAlike
@@ -12,16 +12,8 @@ use Rattle.list.specs.ListOf.{alikeBy, alike}
 use Rattle.sc_model.specs.Sequential.{sc}
 use Rattle.sc_model.proofs.Laws.{sc-laws}
 unfoldable pub use Rattle.model.proofs.Permitted.{tabled}
-pub use Rattle.model.proofs.Permitted.{together-true, true-together, permitted-exchange, exchange-permitted, permitted-none}
-pub use Rattle.sc_model.proofs.Turned.{turns-true, true-turns}
-
--- one of two tests
-pub or-left : (a b : Bool) → a ≡ true → (a || b) ≡ true
-or-left a b e = rw e
-
-pub or-right : (a b : Bool) → b ≡ true → (a || b) ≡ true
-or-right true b e = refl
-or-right false b e = e
+pub use Rattle.model.proofs.Permitted.{or-left, or-right, together-true, true-together, permitted-exchange, exchange-permitted, permitted-none}
+pub use Rattle.sc_model.proofs.Turned.{renames-true, true-renames}
 
 -- THE TEST OF BEING ALIKE
 pub alike-exact : (p : Program) (a b : Schedule) → (alike p a b ≡ true) ↔ Alike p a b

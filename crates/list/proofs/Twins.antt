@@ -30,7 +30,7 @@ use Rattle.sc.proofs.Start.{start-threads}
 use Rattle.sc.proofs.Regular.{regular-start, regular-run}
 use Rattle.sc.proofs.Histories.{rest-code}
 use Rattle.sc.proofs.Exchange.{moves-full}
-use Rattle.sc.proofs.ExchangedTrail.{moved-cons}
+use Rattle.sc.proofs.ExchangedActions.{moved-cons}
 use Rattle.sc.proofs.ProgramGraphs.{graph-moved-end}
 use Rattle.consistent.specs.Same.{sameRead, sameList}
 use Rattle.consistent.proofs.Tests.{same-read-is, same-list-is}

@@ -3,9 +3,9 @@
 pub mod Alike
 -- the list, executable
 pub mod ListOf
--- what the search gives up, and the test at a full schedule
+-- what the rules of the search look at
 pub mod Rules
 -- what the four calls answer
 pub mod Answers
--- the search by these rules
+-- what is walked
 pub mod Search

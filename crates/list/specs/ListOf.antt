@@ -1,5 +1,5 @@
--- The list, executable: all full schedules in order, of which those stay to which no earlier one is alike. Exchanges are tried one after the
--- other, among the permutations of six that move each thread only within its `02` line.
+-- The list, executable: all full schedules in order, of which those stay to which no earlier one is alike. Exchanges are tried one after
+-- the other, among the permutations of six that move each thread only within its `02` line.
 use Prim.Native.Nat.{ℕ}
 use mathlib.Core.Bool.{Bool}
 use mathlib.Core.List.{List}
@@ -11,11 +11,11 @@ use Rattle.schedules.specs.Permutations.{moved}
 use Rattle.sc.specs.State.{SC, start}
 use Rattle.sc.specs.Graph.{Graph, graph}
 unfoldable pub use Rattle.model.specs.Exchange.{together, permits, permitted}
-unfoldable pub use Rattle.sc_model.specs.Turned.{turns}
+unfoldable pub use Rattle.sc_model.specs.Turned.{renames}
 
 -- whether some of these permutations does
 unfoldable pub alikeBy : List (List ℕ) → Graph → Graph → Bool
-alikeBy πs g h = any (λ π. turns (moved π) g h) πs
+alikeBy πs g h = any (λ π. renames (moved π) g h) πs
 
 -- whether two schedules are alike
 unfoldable pub alike : Program → Schedule → Schedule → Bool

@@ -7,16 +7,16 @@ use Rattle.program.specs.Decode.{Decoded, accepted, refused, decode}
 use Rattle.listing.specs.declared.counting.CountAnswer.the-variants.{Counted, Refused}
 use Rattle.list.specs.Answers.{countOf}
 use Rattle.listing.specs.OnFile.{countOn, countFile}
-use Rattle.listing.specs.CountWord.{countSaid}
+use Rattle.listing.specs.CountWord.{countAnswerOf}
 
 module _ (file : List ℕ) where
   -- the file is refused
-  pub count-refused : (n k : ℕ) → decode file ≡ refused n k → Refused n k ≡ countSaid (countFile file)
-  unfolding countOn countSaid
-  count-refused n k e = ap (λ (d : Decoded). countSaid (countOn d)) (sym e)
+  pub count-refused : (n k : ℕ) → decode file ≡ refused n k → Refused n k ≡ countAnswerOf (countFile file)
+  unfolding countOn countAnswerOf
+  count-refused n k e = ap (λ (d : Decoded). countAnswerOf (countOn d)) (sym e)
 
   -- it is accepted
   pub count-answered : (p : Program) → decode file ≡ accepted p → (listed failed : ℕ) → (listed ≡ countOf p .listed) × (failed ≡ countOf p .failed)
-      → Counted listed failed ≡ countSaid (countFile file)
-  unfolding countOn countSaid
-  count-answered p e listed failed c = rw (c .0, c .1) (ap (λ (d : Decoded). countSaid (countOn d)) (sym e))
+      → Counted listed failed ≡ countAnswerOf (countFile file)
+  unfolding countOn countAnswerOf
+  count-answered p e listed failed c = rw (c .0, c .1) (ap (λ (d : Decoded). countAnswerOf (countOn d)) (sym e))

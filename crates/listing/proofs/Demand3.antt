@@ -9,12 +9,13 @@ use Rattle.program.specs.Program.{Program}
 use Rattle.program.specs.Decode.{Decoded, accepted, decode}
 use Rattle.program.specs.Decode as File
 use Rattle.program.proofs.AcceptedWellFormed.{accepted-well-formed}
-use Rattle.schedules.specs.Lists.{keep}
+use Rattle.schedules.specs.Lists.{filter}
 use Rattle.schedules.specs.Order.{Schedule}
 use Rattle.schedules.specs.Calls.{Result, last}
 use Rattle.model.specs.Alike as Alike
 use Rattle.model.specs.OnFile as OnFile
 use Rattle.model.specs.Demand3 as Model
+use Rattle.model.proofs.Demand3.{same-answer}
 use Rattle.sc.specs.Graph.{graph}
 use Rattle.list.specs.ListOf.{alikeBy, listOf}
 use Rattle.list.specs.Answers.{failing, countOf}
@@ -41,10 +42,6 @@ unfolding violationOn OnFile.violationOn
 violation-is (accepted p) out = sym (violation-same p out)
 violation-is (File.refused n k) out = refl
 
--- what holds of an equal answer
-same-answer : {A : Type 0} {a b x : A} {Q : Type 0} → a ≡ b → (b ≡ x) ↔ Q → (a ≡ x) ↔ Q
-same-answer e h = ((λ i. h .0 (sym e ∙ i)), λ q. e ∙ h .1 q)
-
 module _ (file : List ℕ) where
   start-file : (out : List ℕ) → startOn (decode file) out ≡ OnFile.startFile sc file out
   start-file out = start-is (decode file) out ∙ ap (λ (d : Decoded). OnFile.startOn sc d out) (sym (sc-admits (decode file)))
@@ -67,7 +64,7 @@ module _ (file : List ℕ) where
   called-is (out ∷ outs) o (r ∷ rs) d = (d .0 ∙ call-is o out, called-is outs (last o (r .0)) rs (d .1))
 
 module _ (file : List ℕ) (p : Program) (e : decode file ≡ accepted p) where
-  same-count : countOn (decode file) ≡ counted (record { listed = length (listOf p); failed = length (keep (failing p) (listOf p)) })
+  same-count : countOn (decode file) ≡ counted (record { listed = length (listOf p); failed = length (filter (failing p) (listOf p)) })
   unfolding countOn countOf
   same-count = ap countOn e
 

@@ -10,11 +10,11 @@ use Rattle.program.specs.Program.{Program}
 use Rattle.program.specs.WellFormed.{WellFormed}
 use Rattle.program.specs.Decode.{Decoded, accepted, decode}
 use Rattle.program.specs.Decode as File
-use Rattle.schedules.specs.Lists.{keep, first, headOf}
+use Rattle.schedules.specs.Lists.{filter, find, headOf}
 use Rattle.schedules.specs.Order.{Schedule}
-use Rattle.schedules.specs.Calls.{Answer, found, nomore, refused, turn, short, content, Result}
+use Rattle.schedules.specs.Calls.{Answer, found, nomore, refused, answerTo, short, content, Result}
 use Rattle.schedules.specs.Found.{after}
-use Rattle.schedules.proofs.First.{head-cons, head-keep}
+use Rattle.schedules.proofs.First.{head-cons, head-filter}
 use Rattle.schedules.proofs.After.{after-none, offer-after}
 use Rattle.schedules.proofs.Offered as Offered
 use Rattle.schedules.proofs.Offered.{content-found, content-nomore, content-refused}
@@ -25,43 +25,46 @@ use Rattle.replay.specs.declared.replaying.Verdict.the-variants.{Whole, Refused
 use Rattle.listing.specs.declared.calling.ListAnswer.{ListAnswer}
 use Rattle.list.specs.Answers.{startOf, continued, continueOf, failing, Violation, refused-by, violationBy, violationContent, violationOf}
 use Rattle.listing.specs.OnFile.{startOn, startFile, continueOn, continueFile, violationOn, violationFile}
-use Rattle.listing.specs.Said.{said, violationSaid}
+use Rattle.listing.specs.AnswerOf.{listAnswerOf, violationAnswerOf}
 use Rattle.list.specs.ListOf.{listOf}
 use Rattle.list.specs.Search.{sought}
-use Rattle.walker.specs.Bounds.{boundAt}
+use Rattle.walker.specs.declared.cursor.Cursor.{Cursor}
 use Rattle.walker.specs.Rows.{rowOf, Shown}
-use Rattle.listing.proofs.FirstRow.{row-steps, row-count, sought-24, First, first-some}
+use Rattle.walker.specs.Cursor.{remaining}
+use Rattle.walker.proofs.RowsRead.{row-steps, row-steps-count}
+use Rattle.walker.proofs.CursorLaws.{remaining-24}
+use Rattle.listing.proofs.FirstRow.{First, first-some}
 
 -- an answer is said, and the output is what it leaves
 abbrev pub Says : ListAnswer → List ℕ → Answer → List ℕ → Type 0
-Says r out' a out = (r ≡ said a) × (out' ≡ content a out)
+Says r out' a out = (r ≡ listAnswerOf a) × (out' ≡ content a out)
 
 -- ---- the first one
 module _ (out : List ℕ) (o : Option Schedule) where
-  pub turn-short : length out < 24 → turn (short 24 out) o ≡ refused 22 0
-  turn-short h = ap (λ (b : Bool). turn b o) (lt-ltb (length out) 24 h) ∙ Offered.turn-short o
+  pub answer-short : length out < 24 → answerTo (short 24 out) o ≡ refused 22 0
+  answer-short h = ap (λ (b : Bool). answerTo b o) (lt-ltb (length out) 24 h) ∙ Offered.answer-short o
 
-  pub turn-none : 24 ≤ length out → o ≡ none → turn (short 24 out) o ≡ nomore
-  turn-none h e = ap₂ turn (le-ltb (length out) 24 h) e ∙ Offered.turn-none
+  pub answer-none : 24 ≤ length out → o ≡ none → answerTo (short 24 out) o ≡ nomore
+  answer-none h e = ap₂ answerTo (le-ltb (length out) 24 h) e ∙ Offered.answer-none
 
-  pub turn-some : (s : Schedule) → 24 ≤ length out → o ≡ some s → turn (short 24 out) o ≡ found s
-  turn-some s h e = ap₂ turn (le-ltb (length out) 24 h) e ∙ Offered.turn-some s
+  pub answer-some : (s : Schedule) → 24 ≤ length out → o ≡ some s → answerTo (short 24 out) o ≡ found s
+  answer-some s h e = ap₂ answerTo (le-ltb (length out) 24 h) e ∙ Offered.answer-some s
 
 -- what is read off the row of the first of a list
-module _ (p : Program) (held row : List ℕ) (rows : ℕ) (size : length held ≡ 26) (only : Bool) (o : Option Schedule) (w : WellFormed p)
-    (nonzero : (rows ≡ 0) → ⊥) (shown : Shown p (take (length held / 26) (after o (sought only p))) held row rows) where
-  abbrev here : First p held row rows size (after o (sought only p))
-  here = first-some p held row rows size (after o (sought only p)) nonzero shown
+module _ (p : Program) (held row : List ℕ) (rows : ℕ) (size : length held ≡ 26) (failures : Bool) (c : Cursor) (w : WellFormed p)
+    (nonzero : (rows ≡ 0) → ⊥) (shown : Shown p (take (length held / 26) (remaining p failures c)) held row rows) where
+  abbrev here : First p held row rows size (remaining p failures c)
+  here = first-some p held row rows size (remaining p failures c) nonzero shown
 
   pub first-24 : length (here .schedule) ≤ 24
-  first-24 = sought-24 p w only o (here .schedule) (subst (λ (l : List Schedule). List·Memᴰ (here .schedule) l) (sym (here .is)) (List·Memᴰ·head refl))
+  first-24 = remaining-24 p failures c w (here .schedule) (subst (λ (l : List Schedule). List·Memᴰ (here .schedule) l) (sym (here .is)) (List·Memᴰ·head refl))
 
-  pub first-head : headOf (after o (sought only p)) ≡ some (here .schedule)
+  pub first-head : headOf (remaining p failures c) ≡ some (here .schedule)
   first-head = ap headOf (here .is) ∙ head-cons (here .schedule) (here .rest)
 
   pub first-length : (n : ℕ) → n ≡ getD row 0 0 → n ≡ length (here .schedule)
   unfolding rowOf
-  first-length n e = e ∙ ap (λ (b : List ℕ). getD b 0 0) (here .bytes) ∙ row-count (here .schedule) (failing p (here .schedule))
+  first-length n e = e ∙ ap (λ (b : List ℕ). getD b 0 0) (here .bytes) ∙ row-steps-count (here .schedule) (failing p (here .schedule))
 
   pub first-steps : (n : ℕ) → n ≡ getD row 0 0 → take n (drop 2 row) ≡ here .schedule
   unfolding rowOf
@@ -79,21 +82,21 @@ module _ (file out : List ℕ) where
   unfolding startOn
   start-refused-out n k e = ap (λ (d : Decoded). startOn d out .1) e ∙ content-refused n k out
 
-  module _ (p : Program) (b : List ℕ) where
-    start-turn : turn (short 24 out) (headOf (after (boundAt false b 0) (sought false p))) ≡ startOf p out .0
-    unfolding startOf boundAt sought
-    start-turn = ap (turn (short 24 out)) (offer-after none (listOf p))
+  module _ (p : Program) (l : List Schedule) (is : l ≡ sought false p) where
+    start-answer : answerTo (short 24 out) (headOf l) ≡ startOf p out .0
+    unfolding startOf sought
+    start-answer = ap (answerTo (short 24 out)) (ap headOf (is ∙ sym (after-none (listOf p))) ∙ offer-after none (listOf p))
 
     start-on : decode file ≡ accepted p → startOf p out .0 ≡ startFile file out .0
     unfolding startOn
     start-on e = ap (λ (d : Decoded). startOn d out .0) (sym e)
 
-    pub start-answered : decode file ≡ accepted p → turn (short 24 out) (headOf (after (boundAt false b 0) (sought false p))) ≡ startFile file out .0
-    start-answered e = start-turn ∙ start-on e
+    pub start-answered : decode file ≡ accepted p → answerTo (short 24 out) (headOf l) ≡ startFile file out .0
+    start-answered e = start-answer ∙ start-on e
 
-    pub start-output : decode file ≡ accepted p → content (turn (short 24 out) (headOf (after (boundAt false b 0) (sought false p)))) out ≡ startFile file out .1
+    pub start-output : decode file ≡ accepted p → content (answerTo (short 24 out) (headOf l)) out ≡ startFile file out .1
     unfolding startOn startOf
-    start-output e = ap (λ (a : Answer). content a out) start-turn ∙ ap (λ (d : Decoded). startOn d out .1) (sym e)
+    start-output e = ap (λ (a : Answer). content a out) start-answer ∙ ap (λ (d : Decoded). startOn d out .1) (sym e)
 
 -- a refusal changes no byte of the output
 unchanged : (n k : ℕ) (out : List ℕ) → _≡_ {A = Result} (refused n k, content (refused n k) out) (refused n k, out)
@@ -111,16 +114,15 @@ module _ (p : Program) (s : Schedule) (out : List ℕ) where
     unfolding continueOf continued
     continue-refused n k e = rw (le-ltb (length out) 24 wide, verdict-refused code lengths p s r held n k e) (unchanged n k out)
 
-    abbrev next : Answer
-    next = turn (short 24 out) (headOf (after (boundAt true s 0) (sought false p)))
+    module _ (l : List Schedule) (is : l ≡ after (some s) (sought false p)) where
+      pub continue-whole : r .verdict ≡ Whole → answerTo (short 24 out) (headOf l) ≡ continueOf p s out .0
+      unfolding continueOf continued sought
+      continue-whole e =
+          rw (le-ltb (length out) 24 wide, verdict-whole code lengths p s r held e) (ap (answerTo false) (ap headOf is ∙ offer-after (some s) (listOf p)))
 
-    pub continue-whole : r .verdict ≡ Whole → (turn (short 24 out) (headOf (after (boundAt true s 0) (sought false p)))) ≡ continueOf p s out .0
-    unfolding continueOf continued boundAt sought
-    continue-whole e = rw (le-ltb (length out) 24 wide, verdict-whole code lengths p s r held e) (ap (turn false) (offer-after (some s) (listOf p)))
-
-    pub continue-output : r .verdict ≡ Whole → content (turn (short 24 out) (headOf (after (boundAt true s 0) (sought false p)))) out ≡ continueOf p s out .1
-    unfolding continueOf
-    continue-output e = ap (λ (a : Answer). content a out) (continue-whole e)
+      pub continue-output : r .verdict ≡ Whole → content (answerTo (short 24 out) (headOf l)) out ≡ continueOf p s out .1
+      unfolding continueOf
+      continue-output e = ap (λ (a : Answer). content a out) (continue-whole e)
 
 -- on a file
 module _ (file s out : List ℕ) where
@@ -133,40 +135,40 @@ module _ (file s out : List ℕ) where
   continue-file-refused n k e = ap (λ (d : Decoded). continueOn d s out) e ∙ unchanged n k out
 
 -- ---- violation
-same-said : (b : Bool) (o : Option Schedule) → said (turn b o) ≡ violationSaid (violationBy b o)
-unfolding said violationSaid violationBy
-same-said true o = ap said (Offered.turn-short o)
-same-said false none = ap said Offered.turn-none
-same-said false (some s) = ap said (Offered.turn-some s)
+same-said : (b : Bool) (o : Option Schedule) → listAnswerOf (answerTo b o) ≡ violationAnswerOf (violationBy b o)
+unfolding listAnswerOf violationAnswerOf violationBy
+same-said true o = ap listAnswerOf (Offered.answer-short o)
+same-said false none = ap listAnswerOf Offered.answer-none
+same-said false (some s) = ap listAnswerOf (Offered.answer-some s)
 
-same-content : (b : Bool) (o : Option Schedule) (out : List ℕ) → content (turn b o) out ≡ violationContent (violationBy b o) out
+same-content : (b : Bool) (o : Option Schedule) (out : List ℕ) → content (answerTo b o) out ≡ violationContent (violationBy b o) out
 unfolding violationContent violationBy
-same-content true o out = ap (λ (a : Answer). content a out) (Offered.turn-short o) ∙ content-refused 22 0 out
-same-content false none out = ap (λ (a : Answer). content a out) Offered.turn-none ∙ content-nomore out
-same-content false (some s) out = ap (λ (a : Answer). content a out) (Offered.turn-some s) ∙ content-found s out
+same-content true o out = ap (λ (a : Answer). content a out) (Offered.answer-short o) ∙ content-refused 22 0 out
+same-content false none out = ap (λ (a : Answer). content a out) Offered.answer-none ∙ content-nomore out
+same-content false (some s) out = ap (λ (a : Answer). content a out) (Offered.answer-some s) ∙ content-found s out
 
-module _ (file out b : List ℕ) where
+module _ (file out : List ℕ) where
   pub violation-refused : (n k : ℕ) → decode file ≡ File.refused n k → violationFile file out ≡ (refused-by n k, out)
   unfolding violationOn violationContent
   violation-refused n k e = ap (λ (d : Decoded). violationOn d out) e
 
-  module _ (p : Program) (e : decode file ≡ accepted p) where
-    sought-first : headOf (after (boundAt false b 0) (sought true p)) ≡ first (failing p) (listOf p)
-    unfolding boundAt sought
-    sought-first = ap headOf (after-none (keep (failing p) (listOf p))) ∙ head-keep (failing p) (listOf p)
+  module _ (p : Program) (e : decode file ≡ accepted p) (l : List Schedule) (is : l ≡ sought true p) where
+    sought-first : headOf l ≡ find (failing p) (listOf p)
+    unfolding sought
+    sought-first = ap headOf is ∙ head-filter (failing p) (listOf p)
 
     violation-on : violationOf p out ≡ violationFile file out
     unfolding violationOn
     violation-on = ap (λ (d : Decoded). violationOn d out) (sym e)
 
-    pub violation-said : said (turn (short 24 out) (headOf (after (boundAt false b 0) (sought true p)))) ≡ violationSaid (violationFile file out .0)
+    pub violation-answer : listAnswerOf (answerTo (short 24 out) (headOf l)) ≡ violationAnswerOf (violationFile file out .0)
     unfolding violationOf
-    violation-said =
-        same-said (short 24 out) (headOf (after (boundAt false b 0) (sought true p)))
-        ∙ ap (λ (o : Option Schedule). violationSaid (violationBy (short 24 out) o)) sought-first ∙ ap (λ (r : Violation × List ℕ). violationSaid (r .0)) violation-on
+    violation-answer =
+        same-said (short 24 out) (headOf l)
+        ∙ ap (λ (o : Option Schedule). violationAnswerOf (violationBy (short 24 out) o)) sought-first ∙ ap (λ (r : Violation × List ℕ). violationAnswerOf (r .0)) violation-on
 
-    pub violation-output : content (turn (short 24 out) (headOf (after (boundAt false b 0) (sought true p)))) out ≡ violationFile file out .1
+    pub violation-output : content (answerTo (short 24 out) (headOf l)) out ≡ violationFile file out .1
     unfolding violationOf
     violation-output =
-        same-content (short 24 out) (headOf (after (boundAt false b 0) (sought true p))) out
+        same-content (short 24 out) (headOf l) out
         ∙ ap (λ (o : Option Schedule). violationContent (violationBy (short 24 out) o) out) sought-first ∙ ap (λ (r : Violation × List ℕ). r .1) violation-on

@@ -1,48 +1,21 @@
--- The first row behind a bound, read back as the schedule that it holds.
+-- The first row of a page, read back as the schedule that it holds.
 use Prim.Native.Nat.{ℕ, _+_, _/_, _<_, _≤_}
 use mathlib.Core.Path.{_≡_, refl, sym, ap, subst, _∙_}
 use mathlib.Core.Logic.{_≢_}
-use mathlib.Core.Bool.{Bool, true, false}
-use mathlib.Core.List.{List, [], _∷_, append-nil, flatMap, List·Memᴰ}
-use mathlib.Core.Option.{Option, none}
+use mathlib.Core.List.{List, [], _∷_, append-nil, flatMap}
+use mathlib.Core.Option.{none}
 use native.Mathlib.Omega.{arith}
 use lib.ListN.{length, getD, set, take, drop, length-drop}
 use lib.Seq.{getD-drop}
 use Rattle.lines.specs.Over.{over}
 use Rattle.lines.proofs.Over.{over-whole, over-more}
 use Rattle.program.specs.Program.{Program}
-use Rattle.program.specs.WellFormed.{WellFormed}
-use Rattle.rows.proofs.Tabulate.{take-tabulate, tabulate-getD}
 use Rattle.schedules.specs.Lists.{headOf}
 use Rattle.schedules.specs.Order.{Schedule}
-use Rattle.schedules.specs.Found.{after}
-use Rattle.schedules.proofs.Lists.{of-keep}
-use Rattle.schedules.proofs.After.{of-after, head-nil}
-use Rattle.sc.proofs.Lawful.{at-most-24}
+use Rattle.schedules.proofs.After.{head-nil}
 use Rattle.list.specs.Answers.{failing}
-use Rattle.list.specs.ListOf.{listOf}
-use Rattle.list.specs.Search.{sought}
 use Rattle.walker.specs.Rows.{rowBytes, rowOf, rowsOf, Shown}
-use Rattle.list.proofs.TheList.{list-exact}
 use Rattle.walker.proofs.RowBytes.{row-length}
-
--- a row holds its schedule behind two bytes, of which the first is its length
-pub row-steps : (s : Schedule) (f : Bool) → length s ≤ 24 → take (length s) (drop 2 (rowBytes s f)) ≡ s
-unfolding rowBytes
-row-steps s f h = take-tabulate (λ k. getD s k 0) 24 (length s) h ∙ tabulate-getD s 0
-
-pub row-count : (s : Schedule) (f : Bool) → getD (rowBytes s f) 0 0 ≡ length s
-unfolding rowBytes
-row-count s f = refl
-
--- a listed schedule has at most 24 steps
-of-sought : (only : Bool) (p : Program) (s : Schedule) → List·Memᴰ s (sought only p) → List·Memᴰ s (listOf p)
-unfolding sought
-of-sought true p s m = of-keep (failing p) (listOf p) s m .0
-of-sought false p s m = m
-
-pub sought-24 : (p : Program) → WellFormed p → (only : Bool) (o : Option Schedule) (s : Schedule) → List·Memᴰ s (after o (sought only p)) → length s ≤ 24
-sought-24 p w only o s m = at-most-24 p w s (list-exact p s .0 (of-sought only p s (of-after o (sought only p) s m)) .0)
 
 -- a buffer of one row
 module _ (p : Program) (held row : List ℕ) (n : ℕ) (size : length held ≡ 26) where

@@ -3,7 +3,7 @@
 pub mod Standing
 -- demand 3 holds
 pub mod Demand3
--- the first row behind a bound, read back
+-- the first row of a page, read back
 pub mod FirstRow
 -- the calls that give a schedule, way by way
 pub mod FileCalls

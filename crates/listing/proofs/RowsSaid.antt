@@ -1,25 +1,39 @@
 -- The calls by rows, way by way.
-use Prim.Native.Nat.{ℕ}
-use mathlib.Core.Path.{_≡_, sym, ap, _∙_}
+use Prim.Native.Nat.{ℕ, _/_}
+use mathlib.Core.Path.{_≡_, sym, ap, subst, _∙_}
+use mathlib.Core.Bool.{false}
 use mathlib.Core.List.{List}
 use mathlib.Core.Option.{Option}
+use lib.ListN.{length, take}
 use Rattle.program.specs.Program.{Program}
 use Rattle.program.specs.Decode.{Decoded, accepted, refused, decode}
 use Rattle.schedules.specs.Order.{Schedule}
+use Rattle.schedules.specs.Found.{after}
+use Rattle.list.specs.Search.{sought}
 use Rattle.listing.specs.declared.row_calls.RowsAnswer.{RowsAnswer}
 use Rattle.listing.specs.declared.row_calls.RowsAnswer.the-variants.{Written, Refused}
+use Rattle.walker.specs.declared.cursor.Cursor.{Cursor}
+use Rattle.walker.specs.declared.paging.Page.{Page}
 use Rattle.walker.specs.Rows.{Shown}
-use Rattle.listing.specs.RowsCall.{fitting, rowsSaid, rowsOutput}
+use Rattle.walker.specs.Cursor.{remaining, Paged}
+use Rattle.listing.specs.RowsCall.{fitting, rowsAnswerOf, rowsOutput}
 
 module _ (file out : List ℕ) (o : Option Schedule) where
-  pub rows-refused : (n k : ℕ) → decode file ≡ refused n k → (Refused n k ≡ rowsSaid (decode file) o out) × (out ≡ rowsOutput (decode file) o out)
-  unfolding rowsSaid rowsOutput
-  rows-refused n k e = (ap (λ (d : Decoded). rowsSaid d o out) (sym e), ap (λ (d : Decoded). rowsOutput d o out) (sym e))
+  pub rows-refused : (n k : ℕ) → decode file ≡ refused n k → (Refused n k ≡ rowsAnswerOf (decode file) o out) × (out ≡ rowsOutput (decode file) o out)
+  unfolding rowsAnswerOf rowsOutput
+  rows-refused n k e = (ap (λ (d : Decoded). rowsAnswerOf d o out) (sym e), ap (λ (d : Decoded). rowsOutput d o out) (sym e))
 
-  pub rows-written : (p : Program) (later : List ℕ) (r : ℕ) → decode file ≡ accepted p → Shown p (fitting p o out) out later r
-      → (Written r ≡ rowsSaid (decode file) o out) × (later ≡ rowsOutput (decode file) o out)
-  unfolding rowsSaid rowsOutput
+  rows-written : (p : Program) (later : List ℕ) (r : ℕ) → decode file ≡ accepted p → Shown p (fitting p o out) out later r
+      → (Written r ≡ rowsAnswerOf (decode file) o out) × (later ≡ rowsOutput (decode file) o out)
+  unfolding rowsAnswerOf rowsOutput
   rows-written p later r e s = (
-    ap {B = RowsAnswer} (λ n. Written n) (s .counted) ∙ ap (λ (d : Decoded). rowsSaid d o out) (sym e),
+    ap {B = RowsAnswer} (λ n. Written n) (s .counted) ∙ ap (λ (d : Decoded). rowsAnswerOf d o out) (sym e),
     s .text ∙ ap (λ (d : Decoded). rowsOutput d o out) (sym e),
   )
+
+  -- a page of what a cursor behind the bound has yet to come
+  pub rows-paged : (p : Program) (c : Cursor) (later : List ℕ) (r : Page) → decode file ≡ accepted p → remaining p false c ≡ after o (sought false p)
+      → Paged p false c out later r → (Written (r .rows) ≡ rowsAnswerOf (decode file) o out) × (later ≡ rowsOutput (decode file) o out)
+  unfolding fitting sought
+  rows-paged p c later r e is page =
+      rows-written p later (r .rows) e (subst (λ (l : List Schedule). Shown p (take (length out / 26) l) out later (r .rows)) is (page .shown))

@@ -3,6 +3,6 @@ use Rattle.listing.specs.declared.counting.CountAnswer.{CountAnswer}
 use Rattle.listing.specs.declared.counting.CountAnswer.the-variants.{Counted, Refused}
 use Rattle.listing.specs.OnFile.{Count, counted, refused-count}
 
-unfoldable pub countSaid : Count → CountAnswer
-countSaid (counted c) = Counted (c .listed) (c .failed)
-countSaid (refused-count n k) = Refused n k
+unfoldable pub countAnswerOf : Count → CountAnswer
+countAnswerOf (counted c) = Counted (c .listed) (c .failed)
+countAnswerOf (refused-count n k) = Refused n k

@@ -6,7 +6,7 @@ pub mod Demand3
 -- what the listing program prints
 pub mod Printed
 -- the answers as the code gives them
-pub mod Said
+pub mod AnswerOf
 -- count's answer as the code gives it
 pub mod CountWord
 -- listed schedules by rows, on a program file

@@ -1,5 +1,5 @@
--- The four calls on a program file, read as a program or refused. A file that is refused refuses the call with the program's number and place,
--- before all else, and no byte of an output changes; on an accepted one the call answers as on its program.
+-- The four calls on a program file, read as a program or refused. A file that is refused refuses the call with the program's number and
+-- place, before all else, and no byte of an output changes; on an accepted one the call answers as on its program.
 use Prim.Native.Nat.{ℕ}
 use mathlib.Core.List.{List}
 use Rattle.program.specs.Decode.{Decoded, accepted, decode}

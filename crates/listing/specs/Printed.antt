@@ -1,5 +1,5 @@
--- What the listing program prints of a file: a line `50 f s s ..` for each listed schedule, where f is 01 if it fails, then `51` with the two
--- counts, eight bytes each; of a file that is refused only `52`, the number in one byte and the place in two.
+-- What the listing program prints of a file: a line `50 f s s ..` for each listed schedule, where f is 01 if it fails, then `51` with the
+-- two counts, eight bytes each; of a file that is refused only `52`, the number in one byte and the place in two.
 use Prim.Native.Nat.{ℕ, zero, suc, _/_, _%_, _^_}
 use mathlib.Core.Bool.{Bool, true, false}
 use mathlib.Core.List.{List, [], _∷_, _++_, map}

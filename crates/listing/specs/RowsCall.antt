@@ -1,5 +1,5 @@
--- What the calls that give many listed schedules at a time say of a program file: as many rows as the output has room for stand in front of it; or
--- the file is refused, and no byte changes.
+-- What the calls that give many listed schedules at a time say of a program file: as many rows as the output has room for stand in front of
+-- it; or the file is refused, and no byte changes.
 use Prim.Native.Nat.{ℕ, _/_}
 use mathlib.Core.List.{List}
 use mathlib.Core.Option.{Option}
@@ -19,9 +19,9 @@ unfoldable pub fitting : Program → Option Schedule → List ℕ → List Sched
 fitting p o out = take (length out / 26) (after o (listOf p))
 
 -- so many rows, or the refusal
-unfoldable pub rowsSaid : Decoded → Option Schedule → List ℕ → RowsAnswer
-rowsSaid (accepted p) o out = Written (length (fitting p o out))
-rowsSaid (refused n k) o out = Refused n k
+unfoldable pub rowsAnswerOf : Decoded → Option Schedule → List ℕ → RowsAnswer
+rowsAnswerOf (accepted p) o out = Written (length (fitting p o out))
+rowsAnswerOf (refused n k) o out = Refused n k
 
 -- the output behind that
 unfoldable pub rowsOutput : Decoded → Option Schedule → List ℕ → List ℕ

@@ -1,7 +1,9 @@
 // How many schedules are listed, and how many of these fail.
-use accesses::wide;
 use decoder::Compiled;
-use walker::listed_rows;
+use walker::ROW;
+use walker::beginning;
+use walker::is_end;
+use walker::next_page;
 ghost use mathlib.Core.Path.{_≡_};
 ghost use mathlib.Core.List.{List};
 ghost use Prim.Native.Nat.{ℕ, _≤_};
@@ -9,12 +11,12 @@ ghost use lib.ListN.{length};
 ghost use Rattle.program.specs.Program.{Program};
 ghost use Rattle.program.specs.WellFormed.{WellFormed};
 ghost use Rattle.decoder.specs.Compiled.{programOf};
-ghost use Rattle.schedules.specs.Lists.{keep};
+ghost use Rattle.schedules.specs.Lists.{filter};
 ghost use Rattle.schedules.specs.Order.{Schedule};
 ghost use Rattle.list.specs.Answers.{failing, countOf};
 ghost use Rattle.walker.specs.Rows.{Shown};
 ghost use Rattle.listing.specs.OnFile.{countFile};
-ghost use Rattle.listing.specs.CountWord.{countSaid};
+ghost use Rattle.listing.specs.CountWord.{countAnswerOf};
 
 pub struct Tally {
     pub listed: usize,
@@ -31,12 +33,13 @@ pub enum CountAnswer {
 // How many of these rows are of schedules that fail.
 fn failing_in(rows: &[u8; 1664], n: usize) -> usize
     requires { ⌜ n ≤ 64 ⌝ }
-    ensures { λ r. ⌜ ((p : Program) (ss : List Schedule) (held : List ℕ) → Shown p ss held (now (rows .entry)) n → r ≡ length (keep (failing p) ss)) ⌝ }
+    ensures { λ r. ⌜ ((p : Program) (ss : List Schedule) (held : List ℕ) → Shown p ss held (now (rows .entry)) n
+        → r ≡ length (filter (failing p) ss)) ⌝ }
 {
     let mut failing = 0;
     let mut k = 0;
     while k < n {
-        if rows[k * 26 + 1] == 1 {
+        if rows[k * ROW + 1] == 1 {
             failing += 1;
         }
         k += 1;
@@ -44,29 +47,21 @@ fn failing_in(rows: &[u8; 1664], n: usize) -> usize
     failing
 }
 
-// Of an accepted program: 64 rows at a time, each time behind the last row of the time before.
+// Of an accepted program: 64 rows at a time.
 fn counts(program: Compiled) -> Tally
     requires { ⌜ WellFormed (programOf program) ⌝ }
     ensures { λ r. ⌜ (r .listed ≡ countOf (programOf program) .listed) × (r .failing ≡ countOf (programOf program) .failed) ⌝ }
 {
-    let none = [0u8; 1];
     let mut rows = [0u8; 1664];
-    let mut n = listed_rows(program, false, &none, false, &mut rows);
+    let mut cursor = beginning();
     let mut listed = 0;
     let mut failing = 0;
-    while 0 < n {
+    while !is_end(cursor) {
+        let page = next_page(program, cursor, false, &mut rows);
+        let n = page.rows;
         listed += n;
         failing += failing_in(&rows, n);
-        let before = rows;
-        let at = (n - 1) * 26;
-        let length = wide(before[at]);
-        n = listed_rows(
-            program,
-            false,
-            &before[at + 2..at + 2 + length],
-            true,
-            &mut rows,
-        );
+        cursor = page.cursor;
     }
     Tally {
         listed: listed,
@@ -76,7 +71,7 @@ fn counts(program: Compiled) -> Tally
 
 // Of a program file, which may be refused.
 pub fn count(file: &[u8]) -> CountAnswer
-    ensures { λ r. ⌜ r ≡ countSaid (countFile (now (file .entry))) ⌝ }
+    ensures { λ r. ⌜ r ≡ countAnswerOf (countFile (now (file .entry))) ⌝ }
 {
     let a = decoder::decode(file);
     let v = a.verdict;

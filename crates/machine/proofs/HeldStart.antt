@@ -19,12 +19,12 @@ use Rattle.accesses.specs.declared.thread.ThreadState.{ThreadState}
 use Rattle.machine.specs.declared.state.LastWrite.{LastWrite}
 use Rattle.sc.specs.Local.{Local, settle, begin}
 use Rattle.sc.specs.State.{Thread, noThread, threadOf, latest, initialWrite, opened, start}
-use Rattle.accesses.specs.Turns.{localOf}
+use Rattle.accesses.specs.CarriedOut.{localOf}
 use Rattle.machine.specs.Held.{idle, unwritten, eventOf, HoldsAt, Holds, Loaded}
 use Rattle.sc.proofs.Access.{begin-law}
 use Rattle.sc.proofs.Steps.{missing}
 use Rattle.sc.proofs.Start.{start-threads, start-cells, start-thread, start-value, start-writes}
-use Rattle.accesses.proofs.HeldTurns.{length-code, code-end}
+use Rattle.accesses.proofs.HeldSettling.{length-code, code-end}
 use Rattle.machine.proofs.HeldStep.{settled-pending}
 
 -- the rows of an accepted program

@@ -19,15 +19,17 @@ use Rattle.accesses.specs.declared.thread.ThreadState.{ThreadState}
 use Rattle.machine.specs.declared.state.LastWrite.{LastWrite}
 use Rattle.machine.specs.declared.state.Machine.{Machine}
 use Rattle.machine.specs.declared.stepping.After.{After}
-use Rattle.machine.specs.declared.stepping.Effect.{Effect}
+use Rattle.machine.specs.declared.stepping.Moved.{Moved}
 use Rattle.sc.specs.Local.{Local, settle, firstTakes, firstPuts, firstNext, pending, takes, puts, next}
-use Rattle.sc.specs.State.{Thread, Cell, State, threadOf, cellOf, place, latest, advanced, step, may}
-use Rattle.sc.specs.Trail.{writes}
+use Rattle.sc.specs.State.{Thread, Cell, State, threadOf, cellOf, place, latest, advanced, step, enabled}
+use Rattle.sc.specs.Actions.{writes}
 use Rattle.graph_writer.specs.Notes.{note, noteBytes}
-use Rattle.accesses.specs.Turns.{accessOf, localOf}
-use Rattle.machine.specs.Held.{idle, unwritten, threadAt, lastAt, eventOf, HoldsThread, Holds, HoldsStep, threadBehind, lastBehind, behind, whole}
+use Rattle.graph_writer.proofs.NoteGraph.{noted-location, noted-wrote}
+use Rattle.graph_writer.proofs.NotesHeld.{byte-location, byte-wrote}
+use Rattle.accesses.specs.CarriedOut.{accessOf, localOf}
+use Rattle.machine.specs.Held.{idle, unwritten, threadAt, lastAt, eventOf, HoldsThread, Holds, HoldsStep, HoldsMoved, threadAfter, whole}
 use Rattle.sc.proofs.Access.{Settled, settle-law}
-use Rattle.sc.proofs.Steps.{may-small, may-range, cell-other, step-threads, step-cells}
+use Rattle.sc.proofs.Steps.{enabled-small, enabled-range, cell-other, step-threads, step-cells}
 use Rattle.sc.proofs.Change.{thread-cases, noted-done, wrote-own, Change, kept, wrote, change}
 use Rattle.accesses.proofs.HeldAccess.{Meets}
 use Rattle.machine.proofs.HeldNext.{next-rest, next-meets, next-place, next-value, next-wrote}
@@ -38,7 +40,7 @@ settled-pending h c k (inl e) q l = absurd (omega (arith, ap length (sym q ∙ e
 settled-pending h c k (inr p) q l = p
 
 -- thread t of the machine m, at its next access: x the instruction, a what it does, k the thread behind it
-module _ (code lengths : List ℕ) (m : Machine) (σ : State) (t : ℕ) (held : Holds code lengths m σ) (ok : may σ t ≡ true) (near : place σ t < 8)
+module _ (code lengths : List ℕ) (m : Machine) (σ : State) (t : ℕ) (held : Holds code lengths m σ) (ok : enabled σ t ≡ true) (near : place σ t < 8)
     (x : Instruction) (a : Access) (k : ThreadState)
     (left : threadAt m t .at < getD lengths t 0)
     (ex : x ≡ instructionAt code (t * 16 + threadAt m t .at)) (ea : a ≡ accessOf x (threadAt m t .registers) (m .memory))
@@ -54,7 +56,7 @@ module _ (code lengths : List ℕ) (m : Machine) (σ : State) (t : ℕ) (held : 
   is = drop (threadAt m t .at + 1) c
 
   own : HoldsThread c (threadAt m t) h
-  own = held .threads t (may-small σ t ok)
+  own = held .threads t (enabled-small σ t ok)
 
   rest : h .local .rest ≡ x ∷ is
   rest = next-rest code lengths m σ t held ok x a ex ea
@@ -96,20 +98,20 @@ module _ (code lengths : List ℕ) (m : Machine) (σ : State) (t : ℕ) (held : 
   -- ---- the whole, in a machine that has this thread in its place
   module _ (m' : Machine) (et : m' .threads ≡ set (m .threads) t k) where
     thread-same : threadAt m' t ≡ k
-    thread-same = ap (λ (l : List ThreadState). getD l t idle) et ∙ getD-set-same (m .threads) t k idle (omega (arith, may-small σ t ok, held .sizes .0))
+    thread-same = ap (λ (l : List ThreadState). getD l t idle) et ∙ getD-set-same (m .threads) t k idle (omega (arith, enabled-small σ t ok, held .sizes .0))
 
     thread-else : (u : ℕ) → u ≢ t → threadAt m' u ≡ threadAt m u
     thread-else u ne = ap (λ (l : List ThreadState). getD l u idle) et ∙ getD-set-other (m .threads) t u k idle ne
 
     threads-behind : (u : ℕ) → u < 6 → HoldsThread (threadCode code u (getD lengths u 0)) (threadAt m' u) (threadOf (step σ t) u)
     threads-behind u b =
-        thread-cases (λ (u : ℕ) (g : Thread). HoldsThread (threadCode code u (getD lengths u 0)) (threadAt m' u) g) σ t (may-range σ t ok)
+        thread-cases (λ (u : ℕ) (g : Thread). HoldsThread (threadCode code u (getD lengths u 0)) (threadAt m' u) g) σ t (enabled-range σ t ok)
         (subst (λ (j : ThreadState). HoldsThread c j (advanced h (cellOf σ (place σ t)))) (sym thread-same) thread-behind) u
         (λ ne. subst (λ (j : ThreadState). HoldsThread (threadCode code u (getD lengths u 0)) j (threadOf σ u)) (sym (thread-else u ne)) (held .threads u b))
 
     registers-all : (u : ℕ) → u < length (step σ t .threads) → threadOf (step σ t) u .local .registers ≡ threadAt m' u .registers
     registers-all u b =
-        thread-cases (λ (u : ℕ) (g : Thread). g .local .registers ≡ threadAt m' u .registers) σ t (may-range σ t ok)
+        thread-cases (λ (u : ℕ) (g : Thread). g .local .registers ≡ threadAt m' u .registers) σ t (enabled-range σ t ok)
         (registers-behind ∙ ap (λ (j : ThreadState). j .registers) (sym thread-same)) u
         (λ ne. held .registers u (omega (arith, step-threads σ t)) ∙ ap (λ (j : ThreadState). j .registers) (sym (thread-else u ne)))
 
@@ -196,96 +198,84 @@ pub record Acted (code lengths : List ℕ) (thread : ThreadState) (memory : List
   pub later : thread .at + 1 ≤ k .at
   pub counted : k .done ≡ thread .done + 1
 
--- a location's last write behind it
-abbrev pub lastOf : ℕ → ThreadState → LastWrite → Access → LastWrite
-lastOf t thread e a = cond (eqb (a .writes) 1) (record { thread = t; number = thread .done }) e
-
--- what it changes; the code names a location l by its remainder
-abbrev pub effectOf : ℕ → ThreadState → List ℕ → List LastWrite → Access → ThreadState → ℕ → Effect
-effectOf t thread memory last a k l = record {
+-- what it gives back; the code names a location l by its remainder
+abbrev pub afterOf : Access → ThreadState → List ℕ → ℕ → After
+afterOf a k memory l = record {
   registers = k .registers;
   at = k .at;
+  place = l % 8;
+  memory = set memory (l % 8) (cond (eqb (a .writes) 1) (a .value) (getD memory (l % 8) 0));
   done = k .done;
   failed = k .failed;
-  place = l % 8;
-  value = cond (eqb (a .writes) 1) (a .value) (getD memory (l % 8) 0);
-  thread = lastOf t thread (getD last (l % 8) unwritten) a .thread;
-  number = lastOf t thread (getD last (l % 8) unwritten) a .number;
-  note = t ∷ thread .done ∷ a .location ∷ a .reads ∷ getD last (l % 8) unwritten .thread ∷ getD last (l % 8) unwritten .number ∷ a .writes ∷ 0 ∷ [];
+  location = a .location;
+  reads = a .reads;
+  writes = a .writes;
 }
 
-module _ (code lengths : List ℕ) (m : Machine) (σ : State) (t : ℕ) (held : Holds code lengths m σ) (ok : may σ t ≡ true) (near : place σ t < 8)
+module _ (code lengths : List ℕ) (m : Machine) (σ : State) (t : ℕ) (held : Holds code lengths m σ) (ok : enabled σ t ≡ true) (near : place σ t < 8)
     (a : Access) (k : ThreadState) (l : ℕ) (el : l ≡ a .location) (acts : Acted code lengths (threadAt m t) (m .memory) t a k) where
   abbrev x : Instruction
   x = instructionAt code (t * 16 + threadAt m t .at)
 
-  abbrev effect : Effect
-  effect = effectOf t (threadAt m t) (m .memory) (m .last) a k l
+  abbrev after : After
+  after = afterOf a k (m .memory) l
 
   own-location : l % 8 ≡ a .location
   own-location =
       let q = at-place code lengths m σ t held ok near x a k (acts .left) refl (acts .access) (acts .local) (acts .later) (acts .counted) in
       ap (λ (v : ℕ). v % 8) el ∙ mod-eq-of-lt (omega (arith, q, near))
 
-  holds-behind : Holds code lengths (behind m t effect .machine) (step σ t)
+  holds-behind : Holds code lengths (whole m t t after .machine) (step σ t)
   holds-behind = go (eqb (a .writes) 1) refl
     where
       entry : Bool → LastWrite
-      entry b =
-          let e : LastWrite = cond b (record { thread = t; number = threadAt m t .done }) (getD (m .last) (l % 8) unwritten) in
-          record { thread = e .thread; number = e .number }
+      entry b = cond b (record { thread = t; number = threadAt m t .done }) (lastAt m (l % 8))
 
-      go : (b : Bool) → eqb (a .writes) 1 ≡ b → Holds code lengths (behind m t effect .machine) (step σ t)
+      go : (b : Bool) → eqb (a .writes) 1 ≡ b → Holds code lengths (whole m t t after .machine) (step σ t)
       go true q =
-          holds-written code lengths m σ t held ok near x a (threadBehind effect) (acts .left) refl (acts .access) (acts .local) (acts .later) (acts .counted)
-          (behind m t effect .machine) refl (l % 8) own-location (eqb-true (a .writes) 1 q)
+          holds-written code lengths m σ t held ok near x a (threadAfter after) (acts .left) refl (acts .access) (acts .local) (acts .later) (acts .counted)
+          (whole m t t after .machine) refl (l % 8) own-location (eqb-true (a .writes) 1 q)
           (ap (λ (b : Bool). set (m .memory) (l % 8) (cond b (a .value) (getD (m .memory) (l % 8) 0))) q)
           (ap (λ (b : Bool). set (m .last) (l % 8) (entry b)) q)
       go false q =
-          holds-still code lengths m σ t held ok near x a (threadBehind effect) (acts .left) refl (acts .access) (acts .local) (acts .later) (acts .counted)
-          (behind m t effect .machine) refl (λ e. true≢false (sym (eq-eqb (a .writes) 1 e) ∙ q))
+          holds-still code lengths m σ t held ok near x a (threadAfter after) (acts .left) refl (acts .access) (acts .local) (acts .later) (acts .counted)
+          (whole m t t after .machine) refl (λ e. true≢false (sym (eq-eqb (a .writes) 1 e) ∙ q))
           (ap (λ (b : Bool). set (m .memory) (l % 8) (cond b (a .value) (getD (m .memory) (l % 8) 0))) q ∙ set-getD (m .memory) (l % 8) 0)
           (ap (λ (b : Bool). set (m .last) (l % 8) (entry b)) q ∙ set-getD (m .last) (l % 8) unwritten)
 
-  pub holds-effect : HoldsStep code lengths σ t (behind m t effect)
-  holds-effect = record {
+  pub holds-after : HoldsStep code lengths σ t (whole m t t after)
+  holds-after = record {
     holds = holds-behind;
     noted = note-behind code lengths m σ t held ok near x a k (acts .left) refl (acts .access) (acts .local) (acts .later) (acts .counted) (lastAt m (l % 8)) (ap (lastAt m) own-location);
   }
 
--- the code has the thread, the memory and the last writes by themselves, and the thread's number as u
-pub effect-holds : (code lengths : List ℕ) (m : Machine) (σ : State) (t u : ℕ) (thread : ThreadState) (memory : List ℕ) (last : List LastWrite) (a : Access) (k : ThreadState) (l : ℕ)
+-- the code has the thread and the memory by themselves, and the thread's number as u
+pub after-holds : (code lengths : List ℕ) (m : Machine) (σ : State) (t u : ℕ) (thread : ThreadState) (memory : List ℕ) (a : Access) (k : ThreadState) (l : ℕ)
     → u ≡ t → l ≡ a .location → Acted code lengths thread memory u a k
-    → threadAt m t ≡ thread → m .memory ≡ memory → m .last ≡ last → Holds code lengths m σ → may σ t ≡ true → place σ t < 8 → HoldsStep code lengths σ t (behind m t (effectOf t thread memory last a k l))
-effect-holds code lengths m σ t u thread memory last a k l eu el acts et em es held ok near =
-    subst (λ (v : ℕ). P v thread memory last) (sym eu)
-    (subst (λ (h : ThreadState). P t h memory last) et
-    (subst (λ (v : List ℕ). P t (threadAt m t) v last) em
-    (subst (P t (threadAt m t) (m .memory)) es (holds-effect code lengths m σ t held ok near a k l el)))) acts
+    → threadAt m t ≡ thread → m .memory ≡ memory → Holds code lengths m σ → enabled σ t ≡ true → place σ t < 8 → HoldsStep code lengths σ t (whole m t t (afterOf a k memory l))
+after-holds code lengths m σ t u thread memory a k l eu el acts et em held ok near =
+    subst (λ (v : ℕ). P v thread memory) (sym eu)
+    (subst (λ (h : ThreadState). P t h memory) et
+    (subst (P t (threadAt m t)) em (holds-after code lengths m σ t held ok near a k l el))) acts
   where
-    P : ℕ → ThreadState → List ℕ → List LastWrite → Type 0
-    P v h n w = Acted code lengths h n v a k → HoldsStep code lengths σ t (behind m t (effectOf t h n w a k l))
-
--- what a step changes, stored in the machine that it was found in
-pub stored-step : (code lengths : List ℕ) (m : Machine) (t u : ℕ) (e : Effect) → u ≡ t
-    → ((n : Machine) (τ : State) → threadAt n t ≡ threadAt m u → n .memory ≡ m .memory → n .last ≡ m .last → Holds code lengths n τ → may τ t ≡ true → place τ t < 8 → HoldsStep code lengths τ t (behind n t e))
-    → (τ : State) → Holds code lengths m τ → may τ t ≡ true → place τ t < 8 → HoldsStep code lengths τ t (behind m u e)
-stored-step code lengths m t u e eu acts τ held ok near =
-    subst (λ (v : ℕ). HoldsStep code lengths τ t (behind m v e)) (sym eu) (acts m τ (ap (threadAt m) (sym eu)) refl refl held ok near)
-
--- given back whole: memory and the last writes with the step's place changed
-abbrev pub afterOf : Effect → List ℕ → List LastWrite → After
-afterOf e memory last = record { thread = threadBehind e; memory = set memory (e .place) (e .value); last = set last (e .place) (lastBehind e); note = e .note }
-
-pub whole-step : (code lengths : List ℕ) (m : Machine) (σ : State) (t : ℕ) (e : Effect) (memory : List ℕ) (last : List LastWrite)
-    → m .memory ≡ memory → m .last ≡ last → HoldsStep code lengths σ t (behind m t e) → HoldsStep code lengths σ t (whole m t (afterOf e memory last))
-whole-step code lengths m σ t e memory last em es held =
-    subst (λ (v : List ℕ). HoldsStep code lengths σ t (whole m t (afterOf e v last))) em
-    (subst (λ (w : List LastWrite). HoldsStep code lengths σ t (whole m t (afterOf e (m .memory) w))) es held)
+    P : ℕ → ThreadState → List ℕ → Type 0
+    P v h n = Acted code lengths h n v a k → HoldsStep code lengths σ t (whole m t t (afterOf a k n l))
 
 -- put back into the machine that it was taken from
 pub stored-whole : (code lengths : List ℕ) (m : Machine) (t u : ℕ) (a : After) → u ≡ t
-    → ((n : Machine) (τ : State) → threadAt n t ≡ threadAt m u → n .memory ≡ m .memory → n .last ≡ m .last → Holds code lengths n τ → may τ t ≡ true → place τ t < 8 → HoldsStep code lengths τ t (whole n t a))
-    → (τ : State) → Holds code lengths m τ → may τ t ≡ true → place τ t < 8 → HoldsStep code lengths τ t (whole m u a)
+    → ((n : Machine) (τ : State) → threadAt n t ≡ threadAt m u → n .memory ≡ m .memory → Holds code lengths n τ → enabled τ t ≡ true → place τ t < 8 → HoldsStep code lengths τ t (whole n t t a))
+    → (τ : State) → Holds code lengths m τ → enabled τ t ≡ true → place τ t < 8 → HoldsStep code lengths τ t (whole m u t a)
 stored-whole code lengths m t u a eu acts τ held ok near =
-    subst (λ (v : ℕ). HoldsStep code lengths τ t (whole m v a)) (sym eu) (acts m τ (ap (threadAt m) (sym eu)) refl refl held ok near)
+    subst (λ (v : ℕ). HoldsStep code lengths τ t (whole m v t a)) (sym eu) (acts m τ (ap (threadAt m) (sym eu)) refl held ok near)
+
+-- to one who keeps no last writes and no note
+abbrev pub movedOf : After → Moved
+movedOf a = record { thread = threadAfter a; memory = a .memory; location = a .location; wrote = eqb (a .writes) 1 }
+
+pub moved-holds : (code lengths : List ℕ) (m : Machine) (σ : State) (t : ℕ) (a : After) → HoldsStep code lengths σ t (whole m t t a) → HoldsMoved code lengths m σ t (movedOf a)
+moved-holds code lengths m σ t a s = record {
+  last = whole m t t a .machine .last;
+  holds = s .holds;
+  location = ap (λ (bs : List ℕ). getD bs 2 0) (s .noted) ∙ byte-location (note σ t) ∙ noted-location σ t;
+  wrote = ap (λ (bs : List ℕ). eqb (getD bs 6 0) 1) (s .noted) ∙ byte-wrote (note σ t) ∙ noted-wrote σ t;
+}

@@ -1,8 +1,9 @@
 -- How the machine's arrays hold a state of the specification. What each thread read is not in them: it stands in the notes.
 use Prim.Native.Nat.{ℕ, _<_, _≤_}
 use mathlib.Core.Path.{_≡_}
-use mathlib.Core.Bool.{true, false}
-use mathlib.Core.List.{List, []}
+use mathlib.Core.Bool.{true, false, cond}
+use mathlib.Core.List.{List, [], _∷_}
+use lib.Dec.{eqb}
 use lib.ListN.{length, getD, set, drop}
 use Rattle.program.specs.declared.instruction.Instruction.{Instruction}
 use Rattle.program.specs.Program.{Program}
@@ -12,10 +13,11 @@ use Rattle.accesses.specs.declared.thread.ThreadState.{ThreadState}
 use Rattle.machine.specs.declared.state.LastWrite.{LastWrite}
 use Rattle.machine.specs.declared.state.Machine.{Machine}
 use Rattle.machine.specs.declared.stepping.After.{After}
-use Rattle.machine.specs.declared.stepping.Effect.{Effect}
+use Rattle.machine.specs.declared.stepping.Moved.{Moved}
 use Rattle.machine.specs.declared.stepping.Stepped.{Stepped}
 use Rattle.sc.specs.Local.{pending}
-use Rattle.sc.specs.State.{Event, Thread, State, threadOf, cellOf, latest, step}
+use Rattle.sc.specs.State.{Event, Thread, State, threadOf, cellOf, latest, place, step}
+use Rattle.sc.specs.Actions.{writes}
 use Rattle.graph_writer.specs.Notes.{note, noteBytes}
 
 -- what an array of threads, and one of last writes, reads as behind its end
@@ -57,7 +59,8 @@ pub record Holds (code lengths : List ℕ) (m : Machine) (σ : State) : Type 0 w
 -- a thread's own part of that
 abbrev pub HoldsAt : List ℕ → List ℕ → ThreadState → State → ℕ → Type 0
 HoldsAt code lengths k σ t =
-    HoldsThread (threadCode code t (getD lengths t 0)) k (threadOf σ t) × (t < length (σ .threads) → threadOf σ t .local .registers ≡ k .registers)
+    HoldsThread (threadCode code t (getD lengths t 0)) k (threadOf σ t)
+    × (t < length (σ .threads) → threadOf σ t .local .registers ≡ k .registers)
 
 -- the threads of this well-formed program stand in these rows
 pub record Loaded (code lengths : List ℕ) (threads : ℕ) (p : Program) : Type 0 where
@@ -80,20 +83,31 @@ pub record HoldsStep (code lengths : List ℕ) (σ : State) (t : ℕ) (r : Stepp
   pub holds : Holds code lengths (r .machine) (step σ t)
   pub noted : r .note ≡ noteBytes (note σ t)
 
--- the thread and the last write that a step leaves
-abbrev pub threadBehind : Effect → ThreadState
-threadBehind e = record { registers = e .registers; at = e .at; done = e .done; failed = e .failed }
+-- what it leaves to one who keeps no last writes of the machine m: the next state with some last writes, the step's location, and whether
+-- it wrote
+pub record HoldsMoved (code lengths : List ℕ) (m : Machine) (σ : State) (t : ℕ) (a : Moved) : Type 0 where
+  pub last : List LastWrite
+  pub holds : Holds code lengths (record { threads = set (m .threads) t (a .thread); memory = a .memory; last = last }) (step σ t)
+  pub location : a .location ≡ place σ t
+  pub wrote : a .wrote ≡ writes σ t
 
-abbrev pub lastBehind : Effect → LastWrite
-lastBehind e = record { thread = e .thread; number = e .number }
+-- the thread that a step leaves where it gives registers and memory back whole; the last write of its place, where e was; and its note
+abbrev pub threadAfter : After → ThreadState
+threadAfter a = record { registers = a .registers; at = a .at; done = a .done; failed = a .failed }
 
--- the machine behind a step of thread t that changes so much, and the step's note
-abbrev pub behind : Machine → ℕ → Effect → Stepped
-behind m t e = record {
-  machine = record { threads = set (m .threads) t (threadBehind e); memory = set (m .memory) (e .place) (e .value); last = set (m .last) (e .place) (lastBehind e) };
-  note = e .note;
+abbrev pub lastAfter : ℕ → ℕ → LastWrite → After → LastWrite
+lastAfter t number e a = cond (eqb (a .writes) 1) (record { thread = t; number = number }) e
+
+abbrev pub noteAfter : ℕ → ℕ → LastWrite → After → List ℕ
+noteAfter t number e a = t ∷ number ∷ a .location ∷ a .reads ∷ e .thread ∷ e .number ∷ a .writes ∷ 0 ∷ []
+
+-- the machine with these behind a step of thread t, which is the u-th of the array
+abbrev pub whole : Machine → ℕ → ℕ → After → Stepped
+whole m u t a = record {
+  machine = record {
+    threads = set (m .threads) u (threadAfter a);
+    memory = a .memory;
+    last = set (m .last) (a .place) (lastAfter t (threadAt m u .done) (lastAt m (a .place)) a);
+  };
+  note = noteAfter t (threadAt m u .done) (lastAt m (a .place)) a;
 }
-
--- the same machine, of which the step gave back its thread, memory and the last writes whole
-abbrev pub whole : Machine → ℕ → After → Stepped
-whole m t a = record { machine = record { threads = set (m .threads) t (a .thread); memory = a .memory; last = a .last }; note = a .note }

@@ -1,15 +1,11 @@
-// What may be asked of a state: whether a thread may step, whether all have ended, whether an assertion failed.
+// What may be asked of a machine: whether a thread may step, whether all have ended, whether an assertion failed.
 use crate::state::Machine;
 ghost use mathlib.Core.Path.{_≡_};
-ghost use mathlib.Core.List.{List};
-ghost use Prim.Native.Nat.{ℕ};
-ghost use Rattle.schedules.specs.System.{ended};
-ghost use Rattle.sc.specs.State.{State, SC, may, fails};
-ghost use Rattle.machine.specs.Held.{Holds};
+ghost use Rattle.machine.specs.Asked.{enabledBy, endedBy, failsBy};
 
 // Whether t names a thread that has not ended. Each thread is named by a constant, so that a caller's machine is read where it lies.
-pub fn may(lengths: &[usize; 6], m: Machine, t: u8) -> bool
-    ensures { λ r. ⌜ ((code : List ℕ) (σ : State) → Holds code (now (lengths .entry)) m σ → r ≡ may σ t) ⌝ }
+pub fn enabled(lengths: &[usize; 6], m: Machine, t: u8) -> bool
+    ensures { λ r. ⌜ r ≡ enabledBy (now (lengths .entry)) m t ⌝ }
 {
     if t < 1 {
         let k = m.threads[0];
@@ -40,7 +36,7 @@ pub fn may(lengths: &[usize; 6], m: Machine, t: u8) -> bool
 
 // Whether no thread may step any more.
 pub fn ended_all(lengths: &[usize; 6], m: Machine) -> bool
-    ensures { λ r. ⌜ ((code : List ℕ) (σ : State) → Holds code (now (lengths .entry)) m σ → r ≡ ended SC σ) ⌝ }
+    ensures { λ r. ⌜ r ≡ endedBy (now (lengths .entry)) m ⌝ }
 {
     let mut t = 0;
     while t < 6 {
@@ -55,7 +51,7 @@ pub fn ended_all(lengths: &[usize; 6], m: Machine) -> bool
 
 // Whether some assertion failed.
 pub fn fails(m: Machine) -> bool
-    ensures { λ r. ⌜ ((code lengths : List ℕ) (σ : State) → Holds code lengths m σ → r ≡ fails σ) ⌝ }
+    ensures { λ r. ⌜ r ≡ failsBy m ⌝ }
 {
     let mut t = 0;
     while t < 6 {

@@ -8,21 +8,17 @@ mod stepping;
 mod starting;
 // What may be asked of a state.
 mod asking;
-// What the code left to a thread could still do.
-mod ahead_of;
 
-pub use ahead_of::NextAccess;
-pub use ahead_of::could_meet;
-pub use ahead_of::next_access;
+pub use asking::enabled;
 pub use asking::ended_all;
 pub use asking::fails;
-pub use asking::may;
 pub use starting::started;
 pub use state::LastWrite;
 pub use state::Machine;
 pub use stepping::After;
-pub use stepping::Effect;
+pub use stepping::Moved;
 pub use stepping::Stepped;
-pub use stepping::acted;
 pub use stepping::after_step;
+pub use stepping::last_behind;
+pub use stepping::lean_step;
 pub use stepping::step;

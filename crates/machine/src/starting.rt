@@ -3,6 +3,7 @@ use crate::state::LastWrite;
 use crate::state::Machine;
 use accesses::ThreadState;
 use accesses::settle;
+use rows::Code;
 ghost use Prim.Native.Nat.{_<_, _≤_};
 ghost use lib.ListN.{getD};
 ghost use Rattle.program.specs.Program.{Program};
@@ -10,9 +11,10 @@ ghost use Rattle.sc.specs.State.{start};
 ghost use Rattle.machine.specs.Held.{Loaded, HoldsAt, Holds};
 
 // Thread t before its first step; one that does not exist stands at its end.
-fn opened(code: &[u8; 1536], lengths: &[usize; 6], threads: usize, t: usize) -> ThreadState
+fn opened(code: &Code, lengths: &[usize; 6], threads: usize, t: usize) -> ThreadState
     requires { ⌜ (t < 6) × (t < threads → getD (now lengths) t 0 ≤ 16) ⌝ }
-    ensures { λ r. ⌜ ((p : Program) → Loaded (now (code .entry)) (now (lengths .entry)) threads p → HoldsAt (now (code .entry)) (now (lengths .entry)) r (start p) t) ⌝ }
+    ensures { λ r. ⌜ ((p : Program) → Loaded (now (code .entry)) (now (lengths .entry)) threads p
+        → HoldsAt (now (code .entry)) (now (lengths .entry)) r (start p) t) ⌝ }
 {
     let n = lengths[t];
     if t < threads {
@@ -27,9 +29,10 @@ fn opened(code: &[u8; 1536], lengths: &[usize; 6], threads: usize, t: usize) -> 
 }
 
 // The state of the program in these rows.
-pub fn started(code: &[u8; 1536], lengths: &[usize; 6], threads: usize) -> Machine
+pub fn started(code: &Code, lengths: &[usize; 6], threads: usize) -> Machine
     requires { ⌜ ((p : Program) × Loaded (now code) (now lengths) threads p) ⌝ }
-    ensures { λ m. ⌜ ((p : Program) → Loaded (now (code .entry)) (now (lengths .entry)) threads p → Holds (now (code .entry)) (now (lengths .entry)) m (start p)) ⌝ }
+    ensures { λ m. ⌜ ((p : Program) → Loaded (now (code .entry)) (now (lengths .entry)) threads p
+        → Holds (now (code .entry)) (now (lengths .entry)) m (start p)) ⌝ }
 {
     let mut all = [ThreadState {
         registers: [0u32; 4],

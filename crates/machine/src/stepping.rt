@@ -4,34 +4,37 @@ use crate::state::Machine;
 use accesses::ThreadState;
 use accesses::accessed_at;
 use accesses::settled;
-use accesses::wide;
+use lines::wide;
+use rows::Code;
 ghost use mathlib.Core.Path.{_≡_};
 ghost use mathlib.Core.Bool.{true, cond};
 ghost use Prim.Native.Nat.{_<_};
 ghost use lib.Dec.{eqb};
-ghost use Rattle.sc.specs.State.{State, place, may};
-ghost use Rattle.machine.specs.Held.{threadAt, Holds, ReadyThread, Ready, HoldsStep, behind, whole};
+ghost use lib.ListN.{set};
+ghost use Rattle.sc.specs.State.{State, place, enabled};
+ghost use Rattle.machine.specs.Held.{threadAt, Holds, ReadyThread, Ready, HoldsStep, HoldsMoved, whole};
 
-// What a step changes: its thread, and at its place the value and the last write, as they are behind it; and the step's note. Single bytes that
-// are stored together behind the step stand apart here, so that no processor reads two stores as one load.
-pub struct Effect {
+// What a step gives back: its thread's registers and memory whole, and the rest of its thread; its place, and whether it reads and writes
+// (1 or 0). The last writes are its caller's: one of them is read and stored where they lie.
+pub struct After {
     pub registers: [u32; 4],
     pub at: usize,
     pub place: usize,
-    pub note: [u8; 8],
-    pub value: u32,
+    pub memory: [u32; 8],
     pub done: u8,
-    pub thread: u8,
     pub failed: bool,
-    pub number: u8,
+    pub location: u8,
+    pub reads: u8,
+    pub writes: u8,
 }
 
-// What a step gives back whole: its thread with the registers, memory, the last writes; and the step's note.
-pub struct After {
+// What a step gives back to one who keeps no last writes: its thread with the registers, and memory, whole; its location, and whether it
+// wrote.
+pub struct Moved {
     pub thread: ThreadState,
     pub memory: [u32; 8],
-    pub last: [LastWrite; 8],
-    pub note: [u8; 8],
+    pub location: u8,
+    pub wrote: bool,
 }
 
 // The machine behind a step, and the step's note.
@@ -51,7 +54,7 @@ fn value_behind(writes: u8, v: u32, x: u32) -> u32
 }
 
 // The last write of a place behind thread t's access `number`, which wrote (1) or did not (0), where e was.
-fn last_behind(writes: u8, t: u8, number: u8, e: LastWrite) -> LastWrite
+pub fn last_behind(writes: u8, t: u8, number: u8, e: LastWrite) -> LastWrite
     ensures { λ r. ⌜ r ≡ cond (eqb writes 1) (record { thread = t; number = number }) e ⌝ }
 {
     if writes == 1 {
@@ -63,43 +66,130 @@ fn last_behind(writes: u8, t: u8, number: u8, e: LastWrite) -> LastWrite
     e
 }
 
-// What a step of thread t changes where the thread stands so, with this memory and these last writes. A search that has its own copy of the
-// machine stores these few values there: no machine is passed.
-pub fn acted(
-    code: &[u8; 1536],
+// v where j is i, else x.
+fn value_or(j: u32, i: u32, v: u32, x: u32) -> u32
+    ensures { λ r. ⌜ r ≡ cond (eqb j i) v x ⌝ }
+{
+    if j == i {
+        return v;
+    }
+    x
+}
+
+// Memory with v at k; unchanged where there is no such location. Each value is chosen by a comparison, so that memory moves in wide
+// registers and no store of one value waits in front of a load of many.
+fn with_value(memory: [u32; 8], k: usize, v: u32) -> [u32; 8]
+    ensures { λ r. ⌜ r ≡ set memory k v ⌝ }
+{
+    if 8 <= k {
+        return memory;
+    }
+    let j = k as u32;
+    let mut values = memory;
+    let mut i = 0u32;
+    while i < 8 {
+        let n = i as usize;
+        values[n] = value_or(j, i, v, memory[n]);
+        i += 1;
+    }
+    values
+}
+
+// A step of thread t where the thread stands so: its registers and memory are taken by value and given back whole.
+pub fn after_step(
+    code: &Code,
     lengths: &[usize; 6],
     thread: ThreadState,
     memory: [u32; 8],
-    last: [LastWrite; 8],
     t: u8,
-) -> Effect
+) -> After
     requires { ⌜ ReadyThread (now lengths) thread t ⌝ }
-    ensures within { λ e. ⌜ e .place < 8 ⌝ }
-    ensures step { λ e. ⌜ ((m : Machine) (σ : State) → threadAt m t ≡ thread → m .memory ≡ memory → m .last ≡ last → Holds (now (code .entry)) (now (lengths .entry)) m σ → may σ t ≡ true → place σ t < 8 → HoldsStep (now (code .entry)) (now (lengths .entry)) σ t (behind m t e)) ⌝ }
+    ensures within { λ a. ⌜ a .place < 8 ⌝ }
+    ensures step { λ a. ⌜ ((m : Machine) (σ : State) → threadAt m t ≡ thread → m .memory ≡ memory
+        → Holds (now (code .entry)) (now (lengths .entry)) m σ → enabled σ t ≡ true → place σ t < 8
+        → HoldsStep (now (code .entry)) (now (lengths .entry)) σ t (whole m t t a)) ⌝ }
 {
     let u = wide(t);
     let at = thread.at;
-    let done = thread.done;
     let registers = thread.registers;
     let a = accessed_at(code, u * 16 + at, registers, memory);
     let rs = a.registers;
-    let k = settled(code, u, lengths[u], at + 1, rs, done + 1);
+    let k = settled(code, u, lengths[u], at + 1, rs, thread.done + 1);
     let ks = k.registers;
     let l = wide(a.location) % 8;
-    let e = last[l];
-    let w = last_behind(a.writes, t, done, e);
-    Effect {
+    let values = with_value(memory, l, value_behind(a.writes, a.value, memory[l]));
+    After {
         registers: ks,
         at: k.at,
+        place: l,
+        memory: values,
         done: k.done,
         failed: k.failed,
-        place: l,
-        value: value_behind(a.writes, a.value, memory[l]),
-        thread: w.thread,
-        number: w.number,
+        location: a.location,
+        reads: a.reads,
+        writes: a.writes,
+    }
+}
+
+// The same for one who keeps no last writes and no note.
+pub fn lean_step(
+    code: &Code,
+    lengths: &[usize; 6],
+    thread: ThreadState,
+    memory: [u32; 8],
+    t: u8,
+) -> Moved
+    requires { ⌜ ReadyThread (now lengths) thread t ⌝ }
+    ensures { λ a. ⌜ ((m : Machine) (σ : State) → threadAt m t ≡ thread → m .memory ≡ memory
+        → Holds (now (code .entry)) (now (lengths .entry)) m σ → enabled σ t ≡ true → place σ t < 8
+        → HoldsMoved (now (code .entry)) (now (lengths .entry)) m σ t a) ⌝ }
+{
+    let a = after_step(code, lengths, thread, memory, t);
+    let registers = a.registers;
+    let values = a.memory;
+    Moved {
+        thread: ThreadState {
+            registers: registers,
+            at: a.at,
+            done: a.done,
+            failed: a.failed,
+        },
+        memory: values,
+        location: a.location,
+        wrote: a.writes == 1,
+    }
+}
+
+// A step of thread t, which has not ended.
+pub fn step(code: &Code, lengths: &[usize; 6], m: Machine, t: u8) -> Stepped
+    requires { ⌜ Ready (now lengths) m t ⌝ }
+    ensures { λ r. ⌜ ((σ : State) → Holds (now (code .entry)) (now (lengths .entry)) m σ → enabled σ t ≡ true → place σ t < 8
+        → HoldsStep (now (code .entry)) (now (lengths .entry)) σ t r) ⌝ }
+{
+    let mut n = m;
+    let u = wide(t);
+    let thread = n.threads[u];
+    let memory = n.memory;
+    let number = thread.done;
+    let a = after_step(code, lengths, thread, memory, t);
+    let rs = a.registers;
+    n.threads[u] = ThreadState {
+        registers: rs,
+        at: a.at,
+        done: a.done,
+        failed: a.failed,
+    };
+    let values = a.memory;
+    n.memory = values;
+    let l = a.place;
+    let e = n.last[l];
+    let w = last_behind(a.writes, t, number, e);
+    n.last[l] = w;
+    Stepped {
+        machine: n,
         note: [
             t,
-            done,
+            number,
             a.location,
             a.reads,
             e.thread,
@@ -107,67 +197,5 @@ pub fn acted(
             a.writes,
             0,
         ],
-    }
-}
-
-// A step of thread t where the thread stands so: its registers, memory and the last writes are taken by value and given back whole.
-pub fn after_step(
-    code: &[u8; 1536],
-    lengths: &[usize; 6],
-    thread: ThreadState,
-    memory: [u32; 8],
-    last: [LastWrite; 8],
-    t: u8,
-) -> After
-    requires { ⌜ ReadyThread (now lengths) thread t ⌝ }
-    ensures { λ a. ⌜ ((m : Machine) (σ : State) → threadAt m t ≡ thread → m .memory ≡ memory → m .last ≡ last → Holds (now (code .entry)) (now (lengths .entry)) m σ → may σ t ≡ true → place σ t < 8 → HoldsStep (now (code .entry)) (now (lengths .entry)) σ t (whole m t a)) ⌝ }
-{
-    let e = acted(code, lengths, thread, memory, last, t);
-    let rs = e.registers;
-    let l = e.place;
-    let mut values = memory;
-    values[l] = e.value;
-    let mut writes = last;
-    writes[l] = LastWrite {
-        thread: e.thread,
-        number: e.number,
-    };
-    let note = e.note;
-    After {
-        thread: ThreadState {
-            registers: rs,
-            at: e.at,
-            done: e.done,
-            failed: e.failed,
-        },
-        memory: values,
-        last: writes,
-        note: note,
-    }
-}
-
-// A step of thread t, which has not ended.
-pub fn step(code: &[u8; 1536], lengths: &[usize; 6], m: Machine, t: u8) -> Stepped
-    requires { ⌜ Ready (now lengths) m t ⌝ }
-    ensures { λ r. ⌜ ((σ : State) → Holds (now (code .entry)) (now (lengths .entry)) m σ → may σ t ≡ true → place σ t < 8 → HoldsStep (now (code .entry)) (now (lengths .entry)) σ t r) ⌝ }
-{
-    let u = wide(t);
-    let mut threads = m.threads;
-    let thread = threads[u];
-    let memory = m.memory;
-    let last = m.last;
-    let a = after_step(code, lengths, thread, memory, last, t);
-    let k = a.thread;
-    threads[u] = k;
-    let values = a.memory;
-    let writes = a.last;
-    let note = a.note;
-    Stepped {
-        machine: Machine {
-            threads: threads,
-            memory: values,
-            last: writes,
-        },
-        note: note,
     }
 }

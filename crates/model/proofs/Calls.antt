@@ -11,14 +11,14 @@ use lib.ListN.{length}
 use Rattle.lines.specs.Over.{over}
 use Rattle.program.specs.Program.{Program}
 use Rattle.program.specs.Decode.{Decoded, accepted, decode}
-use Rattle.schedules.specs.Lists.{first}
+use Rattle.schedules.specs.Lists.{find}
 use Rattle.schedules.specs.Order.{Schedule, less}
 use Rattle.schedules.specs.System.{System, FullFrom}
-use Rattle.schedules.specs.Calls.{Answer, found, nomore, offer, turn, short, Result, result, called, last, Dialogue, due}
+use Rattle.schedules.specs.Calls.{Answer, found, nomore, offer, answerTo, short, Result, result, called, last, Dialogue, due}
 use Rattle.schedules.proofs.Calls.{called-found, called-nomore, dialogue-answers}
-use Rattle.schedules.proofs.Offered.{offer-in, offer-next, turn-short, last-turn}
-use Rattle.schedules.proofs.First.{first-none, next-first}
-use Rattle.schedules.proofs.FirstIn.{FirstIn, first-in, in-first, none-first}
+use Rattle.schedules.proofs.Offered.{offer-in, offer-next, answer-short, last-turn}
+use Rattle.schedules.proofs.First.{find-none, next-find}
+use Rattle.schedules.proofs.FirstIn.{FirstIn, find-in, in-find, none-find}
 use Rattle.model.specs.Model.{Model, Full}
 use Rattle.model.specs.Laws.{Laws}
 use Rattle.model.specs.Alike.{listOf}
@@ -34,8 +34,8 @@ full-goes M [] k σ f = rw (f, refusesFrom)
 full-goes M (b ∷ s) k σ f = let e = f .0 in rw (e, refusesFrom) (full-goes M s (suc k) (M .step σ b) (f .1))
 
 -- what is offered after s is the first member after it
-offer-first : (l : List Schedule) (s : Schedule) → offer l (some s) ≡ first (less s) l
-offer-first l s = offer-next l s ∙ next-first s l
+offer-first : (l : List Schedule) (s : Schedule) → offer l (some s) ≡ find (less s) l
+offer-first l s = offer-next l s ∙ next-find s l
 
 module _ (need : ℕ) (l : List Schedule) (o : Option Schedule) (out : List ℕ) (h : need ≤ length out) where
   found-only : (s : Schedule) → called need l o out ≡ (found s, over s out) → offer l o ≡ some s
@@ -61,8 +61,8 @@ module _ (M : Model) (p : Program) where
       given : refusesFrom (M .system) 0 (M .start p) s ≡ none
       given = full-goes (M .system) s 0 (M .start p) f
 
-      go : (b : Bool) → short (M .need) out ≡ b → continueOf M p s out ≡ result (turn (short (M .need) out) (offer (listOf M p) (some s))) out
-      go true e = let k = turn-short (offer (listOf M p) (some s)) in ap (λ (a : Answer). result a out) (rw (e, k))
+      go : (b : Bool) → short (M .need) out ≡ b → continueOf M p s out ≡ result (answerTo (short (M .need) out) (offer (listOf M p) (some s))) out
+      go true e = let k = answer-short (offer (listOf M p) (some s)) in ap (λ (a : Answer). result a out) (rw (e, k))
       go false e = ap (λ (a : Answer). result a out) (rw (e, given))
 
   -- nothing answered yet, or a full schedule
@@ -102,12 +102,12 @@ module _ (M : Model) (L : Laws M) (file : List ℕ) (p : Program) (e : admit M (
   -- a continue from a full schedule, with enough room: the least listed one after it, or no more
   pub continue-least : (s : Schedule) → Full M p s → (out : List ℕ) → M .need ≤ length out → (r : Schedule) → (continueFile M file s out ≡ (found r, over r out)) ↔ FirstIn (less s) (listOf M p) r
   continue-least s f out h r = (
-    (λ i. first-in (less s) (listOf M p) (list-ascends M L p) r (sym (offer-first (listOf M p) s) ∙ found-only (M .need) (listOf M p) (some s) out h r (sym (continue-file s f out) ∙ i))),
-    λ k. continue-file s f out ∙ called-found (M .need) (listOf M p) (some s) out r h (offer-first (listOf M p) s ∙ in-first (less s) (listOf M p) (list-ascends M L p) r k),
+    (λ i. find-in (less s) (listOf M p) (list-ascends M L p) r (sym (offer-first (listOf M p) s) ∙ found-only (M .need) (listOf M p) (some s) out h r (sym (continue-file s f out) ∙ i))),
+    λ k. continue-file s f out ∙ called-found (M .need) (listOf M p) (some s) out r h (offer-first (listOf M p) s ∙ in-find (less s) (listOf M p) (list-ascends M L p) r k),
   )
 
   pub continue-none : (s : Schedule) → Full M p s → (out : List ℕ) → M .need ≤ length out → (continueFile M file s out ≡ (nomore, out)) ↔ ((r : Schedule) → List·Memᴰ r (listOf M p) → less s r ≡ false)
   continue-none s f out h = (
-    (λ i. none-first (less s) (listOf M p) (sym (offer-first (listOf M p) s) ∙ nomore-only (M .need) (listOf M p) (some s) out h (sym (continue-file s f out) ∙ i))),
-    λ k. continue-file s f out ∙ called-nomore (M .need) (listOf M p) (some s) out h (offer-first (listOf M p) s ∙ first-none (less s) (listOf M p) k),
+    (λ i. none-find (less s) (listOf M p) (sym (offer-first (listOf M p) s) ∙ nomore-only (M .need) (listOf M p) (some s) out h (sym (continue-file s f out) ∙ i))),
+    λ k. continue-file s f out ∙ called-nomore (M .need) (listOf M p) (some s) out h (offer-first (listOf M p) s ∙ find-none (less s) (listOf M p) k),
   )

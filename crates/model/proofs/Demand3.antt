@@ -10,7 +10,7 @@ use Rattle.program.specs.Program.{Program}
 use Rattle.program.specs.Decode.{Decoded, accepted, decode}
 use Rattle.program.specs.Decode as File
 use Rattle.program.proofs.AcceptedWellFormed.{accepted-well-formed}
-use Rattle.schedules.specs.Lists.{keep}
+use Rattle.schedules.specs.Lists.{filter}
 use Rattle.schedules.proofs.Calls.{due-at}
 use Rattle.model.specs.Model.{Model, failing}
 use Rattle.model.specs.Laws.{Admitted, Laws}
@@ -37,14 +37,14 @@ admitted M (accepted q) p e = go (M .away q) refl
     go (some r) i = absurd (let k : File.refused (r .0) (r .1) ≡ accepted p = sym (ap (unless q) i) ∙ e in let z : _≡_ {A = ℕ} 0 1 = cc in omega arith)
 
 -- what holds of an equal answer
-same-answer : {A : Type 0} {a b x : A} {Q : Type 0} → a ≡ b → (b ≡ x) ↔ Q → (a ≡ x) ↔ Q
+pub same-answer : {A : Type 0} {a b x : A} {Q : Type 0} → a ≡ b → (b ≡ x) ↔ Q → (a ≡ x) ↔ Q
 same-answer e h = ((λ i. h .0 (sym e ∙ i)), λ q. e ∙ h .1 q)
 
 module _ (M : Model) (L : Laws M) (file : List ℕ) (p : Program) (e : admit M (decode file) ≡ accepted p) where
   pub listed-program : Admitted M p
   listed-program = let r = admitted M (decode file) p e in (accepted-well-formed file p (r .0), r .1)
 
-  same-count : countFile M file ≡ counted (record { listed = length (listOf M p) % 2 ^ 64; failed = length (keep (failing M p) (listOf M p)) % 2 ^ 64 })
+  same-count : countFile M file ≡ counted (record { listed = length (listOf M p) % 2 ^ 64; failed = length (filter (failing M p) (listOf M p)) % 2 ^ 64 })
   unfolding countOn countOf
   same-count = ap (countOn M) e
 

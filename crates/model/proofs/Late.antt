@@ -13,7 +13,7 @@ use Rattle.schedules.specs.Orders.{trace, nextOf, clear}
 use Rattle.schedules.proofs.Order.{less-heads, less-behind}
 use Rattle.schedules.proofs.Runs.{run-append, full-join, full-split}
 use Rattle.schedules.proofs.Orders as Schedules
-use Rattle.model.specs.Model.{Model, endOf, Full, trail}
+use Rattle.model.specs.Model.{Model, endOf, Full, actions}
 use Rattle.model.specs.Laws.{Admitted, StepLaws, Laws}
 use Rattle.model.specs.Alike.{Smaller}
 use Rattle.model.specs.Late.{late}

@@ -39,19 +39,19 @@ module _ {D : Type 0} (who : D → ℕ) (dependent : D → D → Bool) where
       go false i false j false k true m = rw (i, j, k, m, late)
       go false i false j false k false m = rw (i, j, k, m, late)
 
-closed : (z : Bool) → (z && false) ≡ false
-closed true = refl
-closed false = refl
+pub and-false : (b : Bool) → (b && false) ≡ false
+and-false true = refl
+and-false false = refl
 
 -- what is asked only where two tests fail
 gated : (x y b d : Bool) → (b ≡ false → d ≡ false → x ≡ y) → (x && (not b && not d)) ≡ (y && (not b && not d))
-gated x y true d h = closed x ∙ sym (closed y)
-gated x y false true h = closed x ∙ sym (closed y)
+gated x y true d h = and-false x ∙ sym (and-false y)
+gated x y false true h = and-false x ∙ sym (and-false y)
 gated x y false false h = ap (λ (z : Bool). z && true) (h refl refl)
 
 module _ (M : Model) (L : StepLaws M) where
   -- ONE STEP
-  pub late-set-step : (σ : M .system .State) (acts : List (M .Action)) (set : ℕ → Bool) (b : ℕ) → M .system .may σ b ≡ true → LateSet M σ acts set →
+  pub late-set-step : (σ : M .system .State) (acts : List (M .Action)) (set : ℕ → Bool) (b : ℕ) → M .system .enabled σ b ≡ true → LateSet M σ acts set →
       LateSet M (M .system .step σ b) (M .act σ b ∷ acts) (lateBehind M σ b set)
   unfolding lateBehind
   late-set-step σ acts set b m h c n =

@@ -41,7 +41,7 @@ word-below set i (suc n) = go (set i) (word-below set (suc i) n)
 
 module _ (M : Model) (L : StepLaws M) where
   -- ONE STEP, BY WORDS
-  pub late-word-step : (σ : M .system .State) (acts : List (M .Action)) (w b : ℕ) → M .system .may σ b ≡ true → LateSet M σ acts (λ c. bit c w) →
+  pub late-word-step : (σ : M .system .State) (acts : List (M .Action)) (w b : ℕ) → M .system .enabled σ b ≡ true → LateSet M σ acts (λ c. bit c w) →
       LateSet M (M .system .step σ b) (M .act σ b ∷ acts) (λ c. bit c (lateWord M σ b w))
   unfolding lateWord
   late-word-step σ acts w b m h c n =

@@ -30,7 +30,7 @@ pub mod LateWord
 -- R2 is sound
 pub mod Twins
 -- the test at a full schedule is exact
-pub mod Unbeaten
+pub mod Representative
 -- what the search finds, for every sound rule
 pub mod Search
 -- a list of calls walks the list

@@ -11,7 +11,7 @@ use Rattle.schedules.specs.System.{run, Allowed, FullFrom}
 use Rattle.schedules.specs.Orders.{trace}
 use Rattle.schedules.proofs.Order.{AtMost, at-most-not-less}
 use Rattle.schedules.proofs.Runs.{full-allowed}
-use Rattle.model.specs.Model.{Model, endOf, Full, graph, trail}
+use Rattle.model.specs.Model.{Model, endOf, Full, graph, actions}
 use Rattle.model.specs.Laws.{Admitted, StepLaws, Laws}
 use Rattle.model.specs.Late.{late, Timely}
 use Rattle.model.specs.LateSet.{taken}
@@ -22,31 +22,31 @@ use Rattle.model.proofs.Late.{late-now}
 
 module _ (M : Model) (L : StepLaws M) where
   -- the bytes of a run's actions are its schedule
-  pub trail-bytes : (s : Schedule) (σ : M .system .State) → map (M .who) (trace (M .system) (M .act) σ s) ≡ s
+  pub actions-bytes : (s : Schedule) (σ : M .system .State) → map (M .who) (trace (M .system) (M .act) σ s) ≡ s
   unfolding trace
-  trail-bytes [] σ = refl
-  trail-bytes (b ∷ s) σ = ap₂ (λ (x : ℕ) (xs : Schedule). x ∷ xs) (L .by σ b) (trail-bytes s (M .system .step σ b))
+  actions-bytes [] σ = refl
+  actions-bytes (b ∷ s) σ = ap₂ (λ (x : ℕ) (xs : Schedule). x ∷ xs) (L .by σ b) (actions-bytes s (M .system .step σ b))
 
-  trail-named : (s : Schedule) (σ : M .system .State) → Allowed (M .system) σ s → (d : M .Action) → List·Memᴰ d (trace (M .system) (M .act) σ s) → List·Memᴰ (M .who d) (M .system .names)
+  actions-named : (s : Schedule) (σ : M .system .State) → Allowed (M .system) σ s → (d : M .Action) → List·Memᴰ d (trace (M .system) (M .act) σ s) → List·Memᴰ (M .who d) (M .system .names)
   unfolding trace
-  trail-named [] σ r d m = absurd (List·Memᴰ·not-nil m)
-  trail-named (b ∷ s) σ r d m = ⊎-elim
+  actions-named [] σ r d m = absurd (List·Memᴰ·not-nil m)
+  actions-named (b ∷ s) σ r d m = ⊎-elim
       (λ (e : d ≡ M .act σ b). subst (λ (x : ℕ). List·Memᴰ x (M .system .names)) (sym (ap (M .who) e ∙ L .by σ b)) (L .lawful .named σ b (r .0)))
-      (λ (k : List·Memᴰ d (trace (M .system) (M .act) (M .system .step σ b) s)). trail-named s (M .system .step σ b) (r .1) d k) (List·Memᴰ·cases-cons m)
+      (λ (k : List·Memᴰ d (trace (M .system) (M .act) (M .system .step σ b) s)). actions-named s (M .system .step σ b) (r .1) d k) (List·Memᴰ·cases-cons m)
 
   -- a run on time is the least order of its own steps
   pub timely-own : (s : Schedule) (σ : M .system .State) → Allowed (M .system) σ s → Timely (M .who) (M .dependent) (trace (M .system) (M .act) σ s) →
       leastOf M L (trace (M .system) (M .act) σ s) ≡ s
-  timely-own s σ r on = timely-least (M .who) (M .dependent) (M .system .names) (L .ascend) (trace (M .system) (M .act) σ s) on (trail-named s σ r) ∙ trail-bytes s σ
+  timely-own s σ r on = timely-least (M .who) (M .dependent) (M .system .names) (L .ascend) (trace (M .system) (M .act) σ s) on (actions-named s σ r) ∙ actions-bytes s σ
 
 module _ (M : Model) (L : Laws M) (p : Program) (a : Admitted M p) where
-  pub on-time-least : (w : Schedule) → Full M p w → Timely (M .who) (M .dependent) (trail M p w) ↔ ((r : Schedule) → Full M p r → graph M p r ≡ graph M p w → AtMost w r)
+  pub on-time-least : (w : Schedule) → Full M p w → Timely (M .who) (M .dependent) (actions M p w) ↔ ((r : Schedule) → Full M p r → graph M p r ≡ graph M p w → AtMost w r)
   on-time-least w f = (
     (λ on r fr e. subst (λ (s : Schedule). AtMost s r) (timely-own M (L .steps) w (M .start p) (full-allowed (M .system) (M .start p) w f .0) on) (least-with-graph M L p a w f .2 r fr e)),
     λ least u d z e. on-time least u d z e (late (M .who) (M .dependent) (reverse u) d) refl,
   )
     where
-      on-time : ((r : Schedule) → Full M p r → graph M p r ≡ graph M p w → AtMost w r) → (u : List (M .Action)) (d : M .Action) (z : List (M .Action)) → trail M p w ≡ u ++ (d ∷ z) →
+      on-time : ((r : Schedule) → Full M p r → graph M p r ≡ graph M p w → AtMost w r) → (u : List (M .Action)) (d : M .Action) (z : List (M .Action)) → actions M p w ≡ u ++ (d ∷ z) →
           (b : Bool) → late (M .who) (M .dependent) (reverse u) d ≡ b → late (M .who) (M .dependent) (reverse u) d ≡ false
       on-time least u d z e false q = q
       on-time least u d z e true q =

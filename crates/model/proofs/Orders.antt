@@ -12,12 +12,12 @@ use Rattle.schedules.specs.Orders.{trace, leastOrder, OrderOf}
 use Rattle.schedules.proofs.Order.{AtMost}
 use Rattle.schedules.proofs.Front.{Commute}
 use Rattle.schedules.proofs.Orders as Schedules
-use Rattle.model.specs.Model.{Model, endOf, Full, graph, trail}
+use Rattle.model.specs.Model.{Model, endOf, Full, graph, actions}
 use Rattle.model.specs.Laws.{Admitted, StepLaws, Laws}
 
 module _ (M : Model) (L : StepLaws M) where
   -- a step that need not stay behind the one before it: both can be turned round, and do what they did
-  pub turned-round : (σ : M .system .State) (a b : ℕ) → a ≢ b → M .system .may σ a ≡ true → M .system .may (M .system .step σ a) b ≡ true →
+  pub turned-round : (σ : M .system .State) (a b : ℕ) → a ≢ b → M .system .enabled σ a ≡ true → M .system .enabled (M .system .step σ a) b ≡ true →
       M .dependent (M .act σ a) (M .act (M .system .step σ a) b) ≡ false →
       Commute (M .system) σ a b × (M .act (M .system .step σ a) b ≡ M .act σ b) × (M .act (M .system .step σ b) a ≡ M .act σ a)
   turned-round σ a b ne m n d = let k = L .waits σ a b ne m n d in (L .swap σ a b ne m n d, k .0, k .1)
@@ -43,8 +43,8 @@ module _ (M : Model) (L : Laws M) (p : Program) (a : Admitted M p) where
 
   -- THE LEAST SCHEDULE with the graph of w is the least order of its steps
   pub least-with-graph : (w : Schedule) → Full M p w →
-      Full M p (leastOf M (L .steps) (trail M p w)) × (endOf M p (leastOf M (L .steps) (trail M p w)) ≡ endOf M p w) ×
-      ((r : Schedule) → Full M p r → graph M p r ≡ graph M p w → AtMost (leastOf M (L .steps) (trail M p w)) r)
+      Full M p (leastOf M (L .steps) (actions M p w)) × (endOf M p (leastOf M (L .steps) (actions M p w)) ≡ endOf M p w) ×
+      ((r : Schedule) → Full M p r → graph M p r ≡ graph M p w → AtMost (leastOf M (L .steps) (actions M p w)) r)
   least-with-graph w f =
       let o = order-least M (L .steps) (M .start p) w f in
       (o .0, o .1, λ r fr e. o .2 r (L .program p a .same-graph r w fr f e))

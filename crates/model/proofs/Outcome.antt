@@ -24,7 +24,7 @@ module _ (M : Model) (L : Laws M) (p : Program) (a : Admitted M p) where
   alike-ends r s fr fs l =
       let π = l .0 in
       let e = exchanged M L p a π (l .1) r fr in
-      let g = L .program p a .turned-once π (l .1) r s (movedSchedule M π r) (l .2) (exchanged-graph M L p a π (l .1) r fr) in
+      let g = L .program p a .renamed-once π (l .1) r s (movedSchedule M π r) (l .2) (exchanged-graph M L p a π (l .1) r fr) in
       subst (M .Moves π (endOf M p r)) (sym (same-end M L p a s (movedSchedule M π r) fs (e .0) g)) (e .1)
 
   -- ALIKE ONES FAIL ALIKE and leave the same memory

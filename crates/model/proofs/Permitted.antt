@@ -11,20 +11,20 @@ use lib.ListN.{length, getD, length-map, List·getD-map, List·getD-eq-default}
 use borrow.Author.Tests.{eqb-true, eq-eqb}
 use Rattle.program.specs.Program.{Program}
 use Rattle.program.proofs.Tests.{both, either}
-use Rattle.schedules.specs.Lists.{upTo, any}
+use Rattle.schedules.specs.Lists.{range, any}
 use Rattle.schedules.specs.Permutations.{permutations, moved}
 use Rattle.schedules.specs.Permutations as Lists6
-use Rattle.schedules.proofs.Lists.{in-upTo, of-upTo, any-yes, any-of, all-at, all-of, in-keep, of-keep}
+use Rattle.schedules.proofs.Lists.{in-range, of-range, any-yes, any-of, all-at, all-of, in-filter, of-filter}
 use Rattle.schedules.proofs.Permutations.{permutations-complete}
 use Rattle.schedules.proofs.Group.{getD-any, distinct-map, moved-same, identity-moved, identity-member, member-permutation, inverse-left, inverse-right, moved-below, moved-above}
 use Rattle.model.specs.Exchange.{Permutation, Together, Exchange, together, permits, permitted}
 use Rattle.model.proofs.Exchanges.{injective, only-identity}
 
 -- one of two tests
-or-left : (a b : Bool) → a ≡ true → (a || b) ≡ true
+pub or-left : (a b : Bool) → a ≡ true → (a || b) ≡ true
 or-left a b e = rw e
 
-or-right : (a b : Bool) → b ≡ true → (a || b) ≡ true
+pub or-right : (a b : Bool) → b ≡ true → (a || b) ≡ true
 or-right true b e = refl
 or-right false b e = e
 
@@ -60,47 +60,47 @@ permitted-exchange p π m = (
 )
   where
     k : List·Memᴰ π permutations × (permits (p .groups) π ≡ true)
-    k = of-keep (permits (p .groups)) permutations π m
+    k = of-filter (permits (p .groups)) permutations π m
 
     split : (t : ℕ) → (eqb (moved π t) t ≡ true) ⊎ (together (p .groups) t (moved π t) ≡ true) → (moved π t ≡ t) ⊎ Together p t (moved π t)
     split t (inl e) = inl (eqb-true (moved π t) t e)
     split t (inr e) = inr (together-true p t (moved π t) e)
 
     at : (t : ℕ) → Dec (t < 6) → (moved π t ≡ t) ⊎ Together p t (moved π t)
-    at t (yes h) = split t (either (eqb (moved π t) t) (together (p .groups) t (moved π t)) (all-at (stayTest p π) (upTo 0 6) t (k .1) (in-upTo 0 6 t (omega arith) h)))
+    at t (yes h) = split t (either (eqb (moved π t) t) (together (p .groups) t (moved π t)) (all-at (stayTest p π) (range 0 6) t (k .1) (in-range 0 6 t (omega arith) h)))
     at t (no h) = inl (moved-above π (k .0) t (omega arith))
 
 -- every permutation of six as a list
 unfoldable pub tabled : (ℕ → ℕ) → List ℕ
-tabled π = map π (upTo 0 6)
+tabled π = map π (range 0 6)
 
-six : length (upTo 0 6) ≡ 6
-six = member-permutation (upTo 0 6) identity-member .six
+six : length (range 0 6) ≡ 6
+six = member-permutation (range 0 6) identity-member .six
 
 tabled-moved : (π : ℕ → ℕ) → Permutation π → (t : ℕ) → moved (tabled π) t ≡ π t
 unfolding tabled
 tabled-moved π q t = go (decLt t 6)
   where
-    size : length (map π (upTo 0 6)) ≡ 6
-    size = length-map (upTo 0 6) π ∙ six
+    size : length (map π (range 0 6)) ≡ 6
+    size = length-map (range 0 6) π ∙ six
 
-    go : Dec (t < 6) → getD (map π (upTo 0 6)) t t ≡ π t
-    go (yes h) = getD-any (map π (upTo 0 6)) t t (π t) (omega (arith, size)) ∙ List·getD-map π (upTo 0 6) t t ∙ ap π (identity-moved t)
-    go (no h) = List·getD-eq-default (map π (upTo 0 6)) t {n = t} (omega (arith, size)) ∙ sym (q .stays t (omega arith))
+    go : Dec (t < 6) → getD (map π (range 0 6)) t t ≡ π t
+    go (yes h) = getD-any (map π (range 0 6)) t t (π t) (omega (arith, size)) ∙ List·getD-map π (range 0 6) t t ∙ ap π (identity-moved t)
+    go (no h) = List·getD-eq-default (map π (range 0 6)) t {n = t} (omega (arith, size)) ∙ sym (q .stays t (omega arith))
 
 tabled-member : (π : ℕ → ℕ) → Permutation π → List·Memᴰ (tabled π) permutations
 unfolding tabled
-tabled-member π q = permutations-complete (map π (upTo 0 6)) (record {
-  six = length-map (upTo 0 6) π ∙ six;
-  below = λ x m. let r = Memᴰ·of-map π (upTo 0 6) m in subst (λ (z : ℕ). z < 6) (r .2) (q .below (r .0) (of-upTo 0 6 (r .0) (r .1) .1));
-  distinct = distinct-map π (injective π q) (upTo 0 6) (member-permutation (upTo 0 6) identity-member .distinct);
+tabled-member π q = permutations-complete (map π (range 0 6)) (record {
+  six = length-map (range 0 6) π ∙ six;
+  below = λ x m. let r = Memᴰ·of-map π (range 0 6) m in subst (λ (z : ℕ). z < 6) (r .2) (q .below (r .0) (of-range 0 6 (r .0) (r .1) .1));
+  distinct = distinct-map π (injective π q) (range 0 6) (member-permutation (range 0 6) identity-member .distinct);
 })
 
 -- every permitted exchange is a member
 pub exchange-permitted : (p : Program) (π : ℕ → ℕ) → Exchange p π → List·Memᴰ (tabled π) (permitted p) × (moved (tabled π) ≡ π)
 unfolding permitted permits
 exchange-permitted p π x = (
-  in-keep (permits (p .groups)) permutations (tabled π) (tabled-member π (x .0)) (all-of (stayTest p (tabled π)) (upTo 0 6) (λ t m. subst (λ (u : ℕ). (eqb u t || together (p .groups) t u) ≡ true) (sym (tabled-moved π (x .0) t)) (at t (x .1 t)))),
+  in-filter (permits (p .groups)) permutations (tabled π) (tabled-member π (x .0)) (all-of (stayTest p (tabled π)) (range 0 6) (λ t m. subst (λ (u : ℕ). (eqb u t || together (p .groups) t u) ≡ true) (sym (tabled-moved π (x .0) t)) (at t (x .1 t)))),
   fun-ext (tabled-moved π (x .0)),
 )
   where
@@ -109,9 +109,9 @@ exchange-permitted p π x = (
     at t (inr k) = or-right (eqb (π t) t) _ (true-together p t (π t) k)
 
 -- with no `02` line only the identity is permitted
-pub permitted-none : (p : Program) → p .groups ≡ [] → (π : List ℕ) → List·Memᴰ π (permitted p) → π ≡ upTo 0 6
+pub permitted-none : (p : Program) → p .groups ≡ [] → (π : List ℕ) → List·Memᴰ π (permitted p) → π ≡ range 0 6
 unfolding permitted
 permitted-none p e π m =
-    let k = of-keep (permits (p .groups)) permutations π m in
+    let k = of-filter (permits (p .groups)) permutations π m in
     let x = permitted-exchange p π m in
-    moved-same π (upTo 0 6) (member-permutation π (k .0) .six ∙ sym six) (λ t. only-identity p (moved π) e (x .1) t ∙ sym (identity-moved t))
+    moved-same π (range 0 6) (member-permutation π (k .0) .six ∙ sym six) (λ t. only-identity p (moved π) e (x .1) t ∙ sym (identity-moved t))

@@ -11,11 +11,11 @@ use native.Mathlib.Decide.{ℕ-discrete}
 use lib.Dec.{eqb, ltb}
 use lib.ListN.{length, length-append}
 use borrow.Author.Tests.{ne-eqb, lt-ltb}
-use Rattle.schedules.specs.Lists.{first, Ascends}
+use Rattle.schedules.specs.Lists.{find, Ascends}
 use Rattle.schedules.specs.Order.{Schedule}
 use Rattle.schedules.specs.Orders.{nextOf, clear, ready, leastOrder}
 use Rattle.schedules.proofs.Order.{Compared, below, same, above, compared}
-use Rattle.schedules.proofs.Greedy.{FirstIs, found-at, nowhere, first-is}
+use Rattle.schedules.proofs.Greedy.{FindIs, found-at, nowhere, find-is}
 use Rattle.schedules.proofs.Remaining.{next-nil, next-same, next-other, next-who, clear-same, clear-other, ready-at, at-ready}
 use Rattle.schedules.proofs.LeastOrder.{least-nil, least-cons}
 use Rattle.schedules.proofs.SameFound.{split-last}
@@ -102,10 +102,10 @@ module _ {D : Type 0} (who : D → ℕ) (dependent : D → D → Bool) where
           absurd (false≢true (sym o ∙ ap (λ (x : List D). late who dependent x b) (reverse-cons a u) ∙ late-longer (reverse u) (a ∷ []) b q))
 
   module _ (names : List ℕ) (asc : Ascends ltb names) where
-    goes-first : (a : D) (rest : List D) → Timely who dependent (a ∷ rest) → List·Memᴰ (who a) names → first (ready who dependent (a ∷ rest)) names ≡ some (who a)
-    goes-first a rest on here = go (first (ready who dependent (a ∷ rest)) names) (first-is (ready who dependent (a ∷ rest)) names asc)
+    goes-first : (a : D) (rest : List D) → Timely who dependent (a ∷ rest) → List·Memᴰ (who a) names → find (ready who dependent (a ∷ rest)) names ≡ some (who a)
+    goes-first a rest on here = go (find (ready who dependent (a ∷ rest)) names) (find-is (ready who dependent (a ∷ rest)) names asc)
       where
-        go : (o : Option ℕ) → FirstIs (ready who dependent (a ∷ rest)) names o → o ≡ some (who a)
+        go : (o : Option ℕ) → FindIs (ready who dependent (a ∷ rest)) names o → o ≡ some (who a)
         go o (found-at {t = t} m e low) = at (compared t (who a))
           where
             at : Compared t (who a) → some t ≡ some (who a)

@@ -11,11 +11,11 @@ use lib.ListN.{length}
 use borrow.Author.Tests.{lt-ltb, le-ltb, ltb-true}
 use Rattle.lines.specs.Over.{over}
 use Rattle.program.specs.Program.{Program}
-use Rattle.schedules.specs.Lists.{first}
+use Rattle.schedules.specs.Lists.{find}
 use Rattle.schedules.specs.Order.{Schedule}
 use Rattle.schedules.specs.Calls.{short}
-use Rattle.schedules.proofs.First.{first-none}
-use Rattle.schedules.proofs.FirstIn.{FirstIn, first-in, in-first, none-first}
+use Rattle.schedules.proofs.First.{find-none}
+use Rattle.schedules.proofs.FirstIn.{FirstIn, find-in, in-find, none-find}
 use Rattle.model.specs.Model.{Model, failing}
 use Rattle.model.specs.Laws.{Laws}
 use Rattle.model.specs.Alike.{listOf}
@@ -30,7 +30,7 @@ not-refused (some s) k = let z : _≡_ {A = ℕ} 0 1 = cc in omega arith
 
 module _ (M : Model) (p : Program) (out : List ℕ) where
   abbrev firstFailing : Option Schedule
-  firstFailing = first (failing M p) (listOf M p)
+  firstFailing = find (failing M p) (listOf M p)
 
   -- what violation answers, by the test and the first that fails
   by-test : (b : Bool) (o : Option Schedule) → short (M .need) out ≡ b → firstFailing ≡ o → violationOf M p out ≡ (violationBy b o, violationContent (violationBy b o) out)
@@ -52,8 +52,8 @@ module _ (M : Model) (p : Program) (out : List ℕ) where
     pub violation-first : (s : Schedule) → (violationOf M p out ≡ (fails-first s, over s out)) ↔ FirstIn (failing M p) (listOf M p) s
     unfolding violationBy violationContent
     violation-first s = (
-      (λ e. first-in (failing M p) (listOf M p) (list-ascends M L p) s (go e firstFailing refl)),
-      λ k. by-test false (some s) long (in-first (failing M p) (listOf M p) (list-ascends M L p) s k),
+      (λ e. find-in (failing M p) (listOf M p) (list-ascends M L p) s (go e firstFailing refl)),
+      λ k. by-test false (some s) long (in-find (failing M p) (listOf M p) (list-ascends M L p) s k),
     )
       where
         go : violationOf M p out ≡ (fails-first s, over s out) → (o : Option Schedule) → firstFailing ≡ o → firstFailing ≡ some s
@@ -63,8 +63,8 @@ module _ (M : Model) (p : Program) (out : List ℕ) where
     pub violation-none : (violationOf M p out ≡ (none-fails, out)) ↔ ((s : Schedule) → List·Memᴰ s (listOf M p) → failing M p s ≡ false)
     unfolding violationBy violationContent
     violation-none = (
-      (λ e. none-first (failing M p) (listOf M p) (go e firstFailing refl)),
-      λ k. by-test false none long (first-none (failing M p) (listOf M p) k),
+      (λ e. none-find (failing M p) (listOf M p) (go e firstFailing refl)),
+      λ k. by-test false none long (find-none (failing M p) (listOf M p) k),
     )
       where
         go : violationOf M p out ≡ (none-fails, out) → (o : Option Schedule) → firstFailing ≡ o → firstFailing ≡ none

@@ -15,7 +15,7 @@ use Rattle.model.specs.Model.{Model, Full, graph}
 
 module _ (M : Model) (p : Program) where
   abbrev pub Alike : Schedule → Schedule → Type 0
-  Alike a b = (π : ℕ → ℕ) × Exchange p π × M .Turns π (graph M p a) (graph M p b)
+  Alike a b = (π : ℕ → ℕ) × Exchange p π × M .Renames π (graph M p a) (graph M p b)
 
   -- a smaller full schedule that is alike
   abbrev pub Smaller : Schedule → Type 0
@@ -26,7 +26,7 @@ module _ (M : Model) (p : Program) where
 
 -- whether one of these permutations turns the first graph into the second
 unfoldable pub alikeBy : (M : Model) → List (List ℕ) → M .Graph → M .Graph → Bool
-alikeBy M πs g h = any (λ π. M .turns (moved π) g h) πs
+alikeBy M πs g h = any (λ π. M .renames (moved π) g h) πs
 
 -- whether two schedules are alike
 unfoldable pub alike : (M : Model) → Program → Schedule → Schedule → Bool

@@ -8,10 +8,10 @@ use mathlib.Core.List.{List, [], _∷_}
 use lib.ListN.{length}
 use Rattle.lines.specs.Over.{over}
 use Rattle.program.specs.Program.{Program}
-use Rattle.schedules.specs.Lists.{keep, first}
+use Rattle.schedules.specs.Lists.{filter, find}
 use Rattle.schedules.specs.Order.{Schedule}
 use Rattle.schedules.specs.System.{System, ended}
-use Rattle.schedules.specs.Calls.{Answer, refused, offer, turn, short, Result, result, called}
+use Rattle.schedules.specs.Calls.{Answer, refused, offer, answerTo, short, Result, result, called}
 use Rattle.model.specs.Model.{Model, failing}
 use Rattle.model.specs.Alike.{listOf}
 
@@ -23,11 +23,11 @@ startOf M p out = called (M .need) (listOf M p) none out
 -- full
 unfoldable pub refusesFrom : (M : System) → ℕ → M .State → Schedule → Option (ℕ × ℕ)
 refusesFrom M k σ [] = elim (ended M σ) [ true ↦ none | false ↦ some (21, k) ]
-refusesFrom M k σ (b ∷ s) = elim (M .may σ b) [ true ↦ refusesFrom M (suc k) (M .step σ b) s | false ↦ some (20, k) ]
+refusesFrom M k σ (b ∷ s) = elim (M .enabled σ b) [ true ↦ refusesFrom M (suc k) (M .step σ b) s | false ↦ some (20, k) ]
 
 -- what continue says, by what refuses its schedule and what the list offers after it
 unfoldable pub continued : Option (ℕ × ℕ) → Option Schedule → Answer
-continued none o = turn false o
+continued none o = answerTo false o
 continued (some r) o = refused (r .0) (r .1)
 
 -- continue, from any full schedule, listed or not: the least listed one after it, or no more, exactly when none is
@@ -44,7 +44,7 @@ pub record Counts : Type 0 where
 
 -- count, modulo 2^64; it has no output, so nothing refuses it here
 unfoldable pub countOf : (M : Model) → Program → Counts
-countOf M p = record { listed = length (listOf M p) % 2 ^ 64; failed = length (keep (failing M p) (listOf M p)) % 2 ^ 64 }
+countOf M p = record { listed = length (listOf M p) % 2 ^ 64; failed = length (filter (failing M p) (listOf M p)) % 2 ^ 64 }
 
 -- what violation says
 pub data Violation : Type 0 where
@@ -66,4 +66,4 @@ violationContent (refused-by n k) out = out
 
 -- violation: the first listed that fails, or none
 unfoldable pub violationOf : (M : Model) → Program → List ℕ → Violation × List ℕ
-violationOf M p out = let v = violationBy (short (M .need) out) (first (failing M p) (listOf M p)) in (v, violationContent v out)
+violationOf M p out = let v = violationBy (short (M .need) out) (find (failing M p) (listOf M p)) in (v, violationContent v out)

@@ -10,9 +10,9 @@ use mathlib.Core.List.{List, [], _∷_, _++_, List·Memᴰ}
 use lib.ListN.{length}
 use Rattle.lines.specs.Over.{over}
 use Rattle.program.specs.Program.{Program}
-use Rattle.schedules.specs.Lists.{keep, Ascends}
+use Rattle.schedules.specs.Lists.{filter, Ascends}
 use Rattle.schedules.specs.Order.{Schedule, less}
-use Rattle.schedules.specs.Calls.{found, nomore, turn, short, Result, result, called, last, due, served, member}
+use Rattle.schedules.specs.Calls.{found, nomore, answerTo, short, Result, result, called, last, due, served, member}
 use Rattle.model.specs.Model.{Model, endOf, Runs, Full, failing}
 use Rattle.model.specs.Alike.{Alike, Listed, listOf}
 use Rattle.model.specs.Answers.{fails-first, none-fails, refused-by}
@@ -58,7 +58,7 @@ pub record Demand3 (M : Model) (file : List ℕ) (p : Program) : Type 0 where
   pub answer-at : (before : List (List ℕ)) (out : List ℕ) (after : List (List ℕ)) (rs : List Result) →
       Called M file none (before ++ (out ∷ after)) rs →
       (rest : List Result) × (rs ≡ due (M .need) (listOf M p) before
-      ++ (result (turn (short (M .need) out) (member (listOf M p) (served (M .need) before))) out ∷ rest))
+      ++ (result (answerTo (short (M .need) out) (member (listOf M p) (served (M .need) before))) out ∷ rest))
   -- A CONTINUE from any full schedule, listed or not, answers as it would in such a list
   pub continues : (s : Schedule) → Full M p s → (out : List ℕ) → continueFile M file s out ≡ called (M .need) (listOf M p) (some s) out
   -- with an output that is not too short: the least listed one after it, written in front of the output's old rest
@@ -70,7 +70,7 @@ pub record Demand3 (M : Model) (file : List ℕ) (p : Program) : Type 0 where
       (continueFile M file s out ≡ (nomore, out)) ↔ ((r : Schedule) → InList M p r → less s r ≡ false)
   -- COUNT: the list's length, and the number of its members that fail, modulo 2^64
   pub counts : countFile M file ≡
-      counted (record { listed = length (listOf M p) % 2 ^ 64; failed = length (keep (failing M p) (listOf M p)) % 2 ^ 64 })
+      counted (record { listed = length (listOf M p) % 2 ^ 64; failed = length (filter (failing M p) (listOf M p)) % 2 ^ 64 })
   -- VIOLATION, with an output that is not too short: the first member that fails, written in front of the output's old rest
   pub violation-first : (out : List ℕ) → M .need ≤ length out → (s : Schedule) → (violationFile M file out ≡ (fails-first s, over s out)) ↔
       (InList M p s × (failing M p s ≡ true) × ((r : Schedule) → InList M p r → less r s ≡ true → failing M p r ≡ false))

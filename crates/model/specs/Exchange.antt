@@ -8,7 +8,7 @@ use mathlib.Core.Bool.{Bool, _&&_, _||_}
 use mathlib.Core.List.{List, List·Memᴰ}
 use lib.Dec.{eqb}
 use Rattle.program.specs.Program.{Program}
-use Rattle.schedules.specs.Lists.{upTo, any, all, keep}
+use Rattle.schedules.specs.Lists.{range, any, all, filter}
 use Rattle.schedules.specs.Permutations.{permutations, moved}
 
 -- π permutes the numbers below six and leaves the others
@@ -37,8 +37,8 @@ together groups t u = any (λ g. any (eqb t) g && any (eqb u) g) groups
 
 -- whether each thread stays or moves within its line
 unfoldable pub permits : List (List ℕ) → List ℕ → Bool
-permits groups π = all (λ t. eqb (moved π t) t || together groups t (moved π t)) (upTo 0 6)
+permits groups π = all (λ t. eqb (moved π t) t || together groups t (moved π t)) (range 0 6)
 
 -- the permitted permutations, ascending
 unfoldable pub permitted : Program → List (List ℕ)
-permitted p = keep (permits (p .groups)) permutations
+permitted p = filter (permits (p .groups)) permutations

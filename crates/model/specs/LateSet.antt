@@ -7,7 +7,7 @@ use mathlib.Core.List.{List, [], _∷_, reverse}
 use lib.Dec.{eqb, ltb}
 use Rattle.program.specs.Program.{Program}
 use Rattle.schedules.specs.Order.{Schedule}
-use Rattle.model.specs.Model.{Model, trail}
+use Rattle.model.specs.Model.{Model, actions}
 use Rattle.model.specs.Late.{late}
 
 module _ (M : Model) where
@@ -22,11 +22,11 @@ module _ (M : Model) where
 
   -- among the bytes that may step in σ the set has exactly those whose next step comes late behind these actions, given latest first
   abbrev pub LateSet : M .system .State → List (M .Action) → (ℕ → Bool) → Type 0
-  LateSet σ taken set = (c : ℕ) → M .system .may σ c ≡ true → set c ≡ late (M .who) (M .dependent) taken (M .act σ c)
+  LateSet σ taken set = (c : ℕ) → M .system .enabled σ c ≡ true → set c ≡ late (M .who) (M .dependent) taken (M .act σ c)
 
   -- the actions of a prefix, latest first
   abbrev pub taken : Program → Schedule → List (M .Action)
-  taken p v = reverse (trail M p v)
+  taken p v = reverse (actions M p v)
 
   -- behind a prefix; before the first step no byte is late
   unfoldable pub lateSet : Program → Schedule → ℕ → Bool

@@ -14,7 +14,7 @@ use Rattle.schedules.specs.Order.{Schedule}
 use Rattle.schedules.specs.System.{Lawful, ended}
 use Rattle.schedules.specs.Orders.{OrderOf}
 use Rattle.model.specs.Exchange.{Permutation, Exchange}
-use Rattle.model.specs.Model.{Model, endOf, Runs, Full, graph, failing, trail}
+use Rattle.model.specs.Model.{Model, endOf, Runs, Full, graph, failing, actions}
 
 -- the programs that the model lists
 abbrev pub Admitted : Model → Program → Type 0
@@ -26,30 +26,30 @@ pub record StepLaws (M : Model) : Type 0 where
   pub lawful : Lawful (M .system)
   pub ascend : Ascends ltb (M .system .names)
   pub named : 0 < length (M .system .names)
-  pub below : (σ : M .system .State) (b : ℕ) → M .system .may σ b ≡ true → b < M .top
+  pub below : (σ : M .system .State) (b : ℕ) → M .system .enabled σ b ≡ true → b < M .top
   -- an action notes its byte
   pub by : (σ : M .system .State) (b : ℕ) → M .who (M .act σ b) ≡ b
   -- SWAP: a step that need not stay behind the one before it could have been taken first, with the same state behind both
-  pub swap : (σ : M .system .State) (a b : ℕ) → a ≢ b → M .system .may σ a ≡ true → M .system .may (M .system .step σ a) b ≡ true →
+  pub swap : (σ : M .system .State) (a b : ℕ) → a ≢ b → M .system .enabled σ a ≡ true → M .system .enabled (M .system .step σ a) b ≡ true →
       M .dependent (M .act σ a) (M .act (M .system .step σ a) b) ≡ false →
-      (M .system .may σ b ≡ true) × (M .system .may (M .system .step σ b) a ≡ true)
+      (M .system .enabled σ b ≡ true) × (M .system .enabled (M .system .step σ b) a ≡ true)
       × (M .system .step (M .system .step σ a) b ≡ M .system .step (M .system .step σ b) a)
   -- and both do then what they do now: the later step's action did not change while it waited
-  pub waits : (σ : M .system .State) (a b : ℕ) → a ≢ b → M .system .may σ a ≡ true → M .system .may (M .system .step σ a) b ≡ true →
+  pub waits : (σ : M .system .State) (a b : ℕ) → a ≢ b → M .system .enabled σ a ≡ true → M .system .enabled (M .system .step σ a) b ≡ true →
       M .dependent (M .act σ a) (M .act (M .system .step σ a) b) ≡ false →
       (M .act (M .system .step σ a) b ≡ M .act σ b) × (M .act (M .system .step σ b) a ≡ M .act σ a)
   -- THE TEST of exchanged graphs is exact, and exchanging no threads leaves a graph
-  pub turns-exact : (π : ℕ → ℕ) (g h : M .Graph) → (M .turns π g h ≡ true) ↔ M .Turns π g h
-  pub turns-none : (g : M .Graph) → M .Turns (λ t. t) g g
+  pub renames-exact : (π : ℕ → ℕ) (g h : M .Graph) → (M .renames π g h ≡ true) ↔ M .Renames π g h
+  pub renames-none : (g : M .Graph) → M .Renames (λ t. t) g g
 
 -- EXCHANGE: in exchanged states exchanged bytes may step, do exchanged actions and lead to exchanged states; the graph is exchanged, the
 -- outcome stays
 pub record ExchangeLaws (M : Model) (π : ℕ → ℕ) (σ τ : M .system .State) : Type 0 where
-  pub may : (b : ℕ) → M .system .may σ b ≡ true → M .system .may τ (M .movedByte π b) ≡ true
-  pub step : (b : ℕ) → M .system .may σ b ≡ true → M .Moves π (M .system .step σ b) (M .system .step τ (M .movedByte π b))
-  pub act : (b : ℕ) → M .system .may σ b ≡ true → M .act τ (M .movedByte π b) ≡ M .movedAction π (M .act σ b)
+  pub enabled : (b : ℕ) → M .system .enabled σ b ≡ true → M .system .enabled τ (M .movedByte π b) ≡ true
+  pub step : (b : ℕ) → M .system .enabled σ b ≡ true → M .Moves π (M .system .step σ b) (M .system .step τ (M .movedByte π b))
+  pub act : (b : ℕ) → M .system .enabled σ b ≡ true → M .act τ (M .movedByte π b) ≡ M .movedAction π (M .act σ b)
   pub ends : ended (M .system) σ ≡ true → ended (M .system) τ ≡ true
-  pub graph : M .Turns π (M .graphOf σ) (M .graphOf τ)
+  pub graph : M .Renames π (M .graphOf σ) (M .graphOf τ)
   pub fails : M .fails τ ≡ M .fails σ
   pub memory : M .memoryOf τ ≡ M .memoryOf σ
 
@@ -61,17 +61,17 @@ pub record ProgramLaws (M : Model) (p : Program) : Type 0 where
   -- its start is unchanged by every permitted exchange
   pub start : (π : ℕ → ℕ) → Exchange p π → M .Moves π (M .start p) (M .start p)
   -- exchanging back, one exchange behind another; and what an exchange makes of a graph is one graph
-  pub turns-back : (π : ℕ → ℕ) (x : Exchange p π) (a b : Schedule) → M .Turns π (graph M p a) (graph M p b) →
-      M .Turns (x .0 .inverse) (graph M p b) (graph M p a)
-  pub turns-both : (ρ π : ℕ → ℕ) → Exchange p ρ → Exchange p π → (a b c : Schedule) → M .Turns π (graph M p a) (graph M p b) →
-      M .Turns ρ (graph M p b) (graph M p c) → M .Turns (λ t. ρ (π t)) (graph M p a) (graph M p c)
-  pub turned-once : (π : ℕ → ℕ) → Exchange p π → (a b c : Schedule) → M .Turns π (graph M p a) (graph M p b) →
-      M .Turns π (graph M p a) (graph M p c) → graph M p b ≡ graph M p c
+  pub renames-back : (π : ℕ → ℕ) (x : Exchange p π) (a b : Schedule) → M .Renames π (graph M p a) (graph M p b) →
+      M .Renames (x .0 .inverse) (graph M p b) (graph M p a)
+  pub renames-both : (ρ π : ℕ → ℕ) → Exchange p ρ → Exchange p π → (a b c : Schedule) → M .Renames π (graph M p a) (graph M p b) →
+      M .Renames ρ (graph M p b) (graph M p c) → M .Renames (λ t. ρ (π t)) (graph M p a) (graph M p c)
+  pub renamed-once : (π : ℕ → ℕ) → Exchange p π → (a b c : Schedule) → M .Renames π (graph M p a) (graph M p b) →
+      M .Renames π (graph M p a) (graph M p c) → graph M p b ≡ graph M p c
   -- ONE GRAPH, THE SAME STEPS: a full schedule with the graph of w is an order of w's steps in which dependent ones keep theirs
   pub same-graph : (v w : Schedule) → Full M p v → Full M p w → graph M p v ≡ graph M p w →
-      OrderOf (M .who) (M .dependent) (M .system .names) (trail M p w) v
+      OrderOf (M .who) (M .dependent) (M .system .names) (actions M p w) v
   -- a failed assertion stays failed
-  pub stays-failed : (s : Schedule) (b : ℕ) → Runs M p s → M .system .may (endOf M p s) b ≡ true → failing M p s ≡ true →
+  pub stays-failed : (s : Schedule) (b : ℕ) → Runs M p s → M .system .enabled (endOf M p s) b ≡ true → failing M p s ≡ true →
       M .fails (M .system .step (endOf M p s) b) ≡ true
 
 pub record Laws (M : Model) : Type 0 where

@@ -29,9 +29,9 @@ pub record Model : Type 1 where
   pub movedByte : (ℕ → ℕ) → ℕ → ℕ
   pub movedAction : (ℕ → ℕ) → Action → Action
   pub Moves : (ℕ → ℕ) → system .State → system .State → Type 0
-  pub Turns : (ℕ → ℕ) → Graph → Graph → Type 0
+  pub Renames : (ℕ → ℕ) → Graph → Graph → Type 0
   -- the test of the last
-  pub turns : (ℕ → ℕ) → Graph → Graph → Bool
+  pub renames : (ℕ → ℕ) → Graph → Graph → Bool
   -- THE OUTCOME: whether an assertion failed so far, and what memory holds
   pub fails : system .State → Bool
   pub memoryOf : system .State → List ℕ
@@ -63,8 +63,8 @@ module _ (M : Model) (p : Program) where
   failing s = M .fails (endOf s)
 
   -- what its steps did, in order
-  abbrev pub trail : Schedule → List (M .Action)
-  trail s = trace (M .system) (M .act) (M .start p) s
+  abbrev pub actions : Schedule → List (M .Action)
+  actions s = trace (M .system) (M .act) (M .start p) s
 
 -- a schedule with its threads exchanged
 abbrev pub movedSchedule : (M : Model) → (ℕ → ℕ) → Schedule → Schedule

@@ -7,13 +7,13 @@ use mathlib.Core.Bool.{Bool, true, false, not}
 use mathlib.Core.Option.{Option}
 use mathlib.Core.List.{List, [], _∷_, _++_, map}
 use Rattle.program.specs.Program.{Program}
-use Rattle.schedules.specs.Lists.{both, keep, all}
+use Rattle.schedules.specs.Lists.{both, filter, all}
 use Rattle.schedules.specs.Order.{Schedule, less}
 use Rattle.schedules.specs.Orders.{leastOrder}
 use Rattle.schedules.specs.Permutations.{moved}
 use Rattle.schedules.specs.Found.{foundFrom}
 use Rattle.model.specs.Exchange.{permitted}
-use Rattle.model.specs.Model.{Model, endOf, Full, failing, trail}
+use Rattle.model.specs.Model.{Model, endOf, Full, failing, actions}
 use Rattle.model.specs.Alike.{Smaller, listOf}
 use Rattle.model.specs.Late.{late}
 use Rattle.model.specs.LateSet.{taken, lateSet}
@@ -40,8 +40,8 @@ module _ (M : Model) where
   leastBy π acts = leastOrder (M .who) (M .dependent) (M .system .names) (map (M .movedAction (moved π)) acts)
 
   -- the test at a full schedule: no permitted exchange has a smaller least schedule
-  unfoldable pub unbeaten : Program → Schedule → Bool
-  unbeaten p w = all (λ π. not (less (leastBy π (trail M p w)) w)) (permitted p)
+  unfoldable pub representative : Program → Schedule → Bool
+  representative p w = all (λ π. not (less (leastBy π (actions M p w)) w)) (permitted p)
 
   -- all that is found above the bound by this rule and this test
   unfoldable pub found : Program → Rule → (Schedule → Bool) → Option Schedule → List Schedule
@@ -55,4 +55,4 @@ module _ (M : Model) where
   -- the list that is walked: the listed schedules, or those of them that fail
   unfoldable pub sought : Bool → Program → List Schedule
   sought false p = listOf M p
-  sought true p = keep (failing M p) (listOf M p)
+  sought true p = filter (failing M p) (listOf M p)

@@ -2,7 +2,7 @@
 use Prim.Native.Nat.{ℕ, zero, suc, _+_, _*_, _/_, _%_, _^_, _<_, _≤_}
 use mathlib.Core.Path.{_≡_, refl, sym, ap, _∙_}
 use mathlib.Core.Bool.{Bool, true, false, cond, true≢false, false≢true}
-use mathlib.Core.List.{List}
+use mathlib.Core.List.{List, [], _∷_}
 use native.Mathlib.Omega.{arith}
 use native.Mathlib.Nat.{div-one, div-eq-of-lt, pow-le-pow-right}
 use lib.Dec.{eqb, ltb}
@@ -41,6 +41,16 @@ eight-on (suc (suc (suc (suc (suc zero))))) a b c d e f g h = absurd (f refl)
 eight-on (suc (suc (suc (suc (suc (suc zero)))))) a b c d e f g h = absurd (g refl)
 eight-on (suc (suc (suc (suc (suc (suc (suc zero))))))) a b c d e f g h = absurd (h refl)
 eight-on (suc (suc (suc (suc (suc (suc (suc (suc k)))))))) a b c d e f g h = omega arith
+
+-- ---- a thread's bit, out of a table
+pub power-six : (t : ℕ) → t < 6 → (getD (1 ∷ 2 ∷ 4 ∷ 8 ∷ 16 ∷ 32 ∷ []) t 0 ≡ 2 ^ t) × (getD (1 ∷ 2 ∷ 4 ∷ 8 ∷ 16 ∷ 32 ∷ []) t 0 ≤ 32)
+power-six zero h = (refl, omega arith)
+power-six (suc zero) h = (refl, omega arith)
+power-six (suc (suc zero)) h = (refl, omega arith)
+power-six (suc (suc (suc zero))) h = (refl, omega arith)
+power-six (suc (suc (suc (suc zero)))) h = (refl, omega arith)
+power-six (suc (suc (suc (suc (suc zero))))) h = (refl, omega arith)
+power-six (suc (suc (suc (suc (suc (suc t)))))) h = absurd (omega arith)
 
 -- ---- six of them
 pub six-bits : (f : ℕ → Bool) (b0 b1 b2 b3 b4 b5 : Bool) (a0 a1 a2 a3 a4 a5 : ℕ)

@@ -9,15 +9,15 @@ use lib.Dec.{eqb, ltb}
 use lib.ListN.{getD}
 use borrow.Author.Tests.{eq-eqb, ne-eqb}
 use Rattle.rows.specs.Rows.{instructionAt}
-use Rattle.accesses.specs.Turns.{accessOf}
+use Rattle.accesses.specs.CarriedOut.{accessOf}
 use Rattle.accesses.specs.declared.thread.ThreadState.{ThreadState}
-use Rattle.sc.specs.State.{State, place, may}
-use Rattle.sc.specs.Trail.{Action, action, writes, conflict}
+use Rattle.sc.specs.State.{State, place, enabled}
+use Rattle.sc.specs.Actions.{Action, action, writes, conflict}
 use Rattle.sc.proofs.FreeSteps.{action-location, action-wrote}
 use Rattle.graph_writer.proofs.NotesHeld.{flag}
 use Rattle.machine.specs.Held.{threadAt, Holds}
 use Rattle.machine.specs.declared.state.Machine.{Machine}
-use Rattle.machine.proofs.HeldAsking.{held-may, held-ended}
+use Rattle.machine.proofs.HeldAsking.{held-enabled, held-ended}
 use Rattle.machine.proofs.HeldNext.{next-place, next-wrote}
 use Rattle.survivors.specs.Sets.{has}
 use Rattle.survivors.specs.LateSet.{lateNow}
@@ -37,7 +37,7 @@ module _ (code lengths : List ℕ) (m : Machine) (σ : State) (held : Holds code
   -- the thread that stepped
   pub late-own : a .thread ≡ u → false ≡ lateNow σ s a u
   unfolding lateNow
-  late-own e = let q = eq-eqb (a .thread) u e in sym (rw q (and-false (may σ u)))
+  late-own e = let q = eq-eqb (a .thread) u e in sym (rw q (and-false (enabled σ u)))
 
   -- one that has ended
   pub late-ended : (k : ThreadState) → threadAt m u ≡ k → getD lengths u 0 ≤ k .at → false ≡ lateNow σ s a u
@@ -50,7 +50,7 @@ module _ (code lengths : List ℕ) (m : Machine) (σ : State) (held : Holds code
   -- one that is greater and was not late
   pub late-behind : (ltb u (a .thread) || has s u) ≡ false → false ≡ lateNow σ s a u
   unfolding lateNow
-  late-behind e = sym (rw e (ap (λ (b : Bool). may σ u && (not (eqb (a .thread) u) && b)) (and-false (not (conflict a (action σ u)))) ∙ ap (λ (b : Bool). may σ u && b) (and-false (not (eqb (a .thread) u))) ∙ and-false (may σ u)))
+  late-behind e = sym (rw e (ap (λ (b : Bool). enabled σ u && (not (eqb (a .thread) u) && b)) (and-false (not (conflict a (action σ u)))) ∙ ap (λ (b : Bool). enabled σ u && b) (and-false (not (eqb (a .thread) u))) ∙ and-false (enabled σ u)))
 
   -- any other: its next access decides
   pub late-unless : (k : ThreadState) (memory : List ℕ) → threadAt m u ≡ k → m .memory ≡ memory → k .at < getD lengths u 0 → a .thread ≢ u → (ltb u (a .thread) || has s u) ≡ true
@@ -59,7 +59,7 @@ module _ (code lengths : List ℕ) (m : Machine) (σ : State) (held : Holds code
   unfolding lateNow
   late-unless k memory ek em l n q row er b eb =
       let i = ap (λ (x : ThreadState). x .at) ek in
-      let ok = held-may code lengths m σ held u h (omega (arith, i, l)) in
+      let ok = held-enabled code lengths m σ held u h (omega (arith, i, l)) in
       let x = instructionAt code (u * 16 + threadAt m u .at) in
       let w = accessOf x (threadAt m u .registers) (m .memory) in
       let c : conflict (record { thread = 0; location = a .location; wrote = a .wrote }) (accessingAt code (u * 16 + threadAt m u .at) (threadAt m u .registers) (m .memory)) ≡ conflict a (action σ u) =

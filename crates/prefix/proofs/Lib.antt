@@ -7,5 +7,7 @@ pub mod RowAccess
 pub mod LateNow
 -- threads of one class stand in one line
 pub mod ClassGroups
+-- the set of the threads that have not ended
+pub mod LiveSet
 -- a prefix: its start, a step more, who may step
 pub mod ReachedStep

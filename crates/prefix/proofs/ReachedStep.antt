@@ -1,77 +1,102 @@
 -- A prefix as the search holds it: how it starts, how a step leads on, and who may step behind it.
-use Prim.Native.Nat.{ℕ, _+_, _%_, _<_, _≤_}
+use Prim.Native.Nat.{ℕ, _+_, _-_, _%_, _^_, _<_, _≤_}
 use mathlib.Core.Path.{_≡_, refl, sym, ap, ap₂, subst, _∙_}
-use mathlib.Core.Bool.{Bool, true, cond}
+use mathlib.Core.Logic.{_≢_}
+use mathlib.Core.Bool.{Bool, true, false, cond, true≢false}
 use mathlib.Core.List.{List, [], _∷_, _++_}
 use native.Mathlib.Omega.{arith}
+use native.Mathlib.Decide.{decLt}
 use native.Mathlib.Nat.{mod-eq-of-lt}
 use native.Mathlib.Numerals.{add-one}
-use lib.Dec.{eqb}
+use lib.Dec.{ltb}
 use lib.ListN.{length, getD, set, take, length-append}
-use lib.Seq.{take-suc-set}
+use lib.Seq.{take-suc-set, getD-set-same}
 use Rattle.program.specs.Program.{Program}
+use Rattle.accesses.specs.declared.thread.ThreadState.{ThreadState}
 use Rattle.schedules.specs.Order.{Schedule}
-use Rattle.schedules.specs.System.{run, Allowed}
-use Rattle.schedules.proofs.Runs.{run-nil, run-snoc, allowed-join, allowed-length}
-use Rattle.sc.specs.State.{State, place, step, may, SC, start}
+use Rattle.schedules.specs.System.{run, ended, Allowed}
+use Rattle.schedules.proofs.Runs.{run-nil, run-snoc, allowed-join, allowed-length, ended-of, not-ended}
+use Rattle.sc.specs.State.{State, place, step, enabled, SC, start}
 use Rattle.sc.specs.Graph.{endOf}
-use Rattle.sc.specs.Trail.{Action, action, writes}
-use Rattle.graph_writer.specs.Notes.{note, noteBytes}
-use Rattle.graph_writer.proofs.NoteGraph.{noted-location, noted-wrote}
-use Rattle.graph_writer.proofs.NotesHeld.{byte-location, byte-wrote}
-use Rattle.machine.specs.Held.{threadAt, Holds, Loaded, Ready}
+use Rattle.sc.specs.Actions.{Action, action, writes}
+use Rattle.machine.specs.Held.{idle, threadAt, Holds, Loaded, ReadyThread, HoldsMoved}
+use Rattle.machine.specs.declared.state.LastWrite.{LastWrite}
 use Rattle.machine.specs.declared.state.Machine.{Machine}
-use Rattle.sc.proofs.Steps.{may-small, may-range, run-threads}
+use Rattle.machine.specs.declared.stepping.Moved.{Moved}
+use Rattle.sc.proofs.Steps.{enabled-small, enabled-range, run-threads}
 use Rattle.sc.proofs.Start.{start-threads}
 use Rattle.sc.proofs.Lawful.{lawful, start-24}
 use Rattle.sc.proofs.Regular.{place-in, regular-run, regular-start}
 use Rattle.sc.proofs.FreeSteps.{action-thread, action-location, action-wrote}
 use Rattle.machine.proofs.HeldStart.{threads-held, short-held}
-use Rattle.machine.proofs.HeldAsking.{held-may, held-ended, ready-held}
+use Rattle.machine.proofs.HeldAsking.{enabled-none, held-enabled, enabled-held, ready-held}
 use Rattle.machine.proofs.HeldNext.{held-left}
+use Rattle.survivors.specs.Sets.{has, setOf}
 use Rattle.survivors.specs.LateSet.{lateBehind, lateSet}
 use Rattle.survivors.specs.ReadWords.{Words, wordBehind, stampsBehind, wordsBehind, noWords, wordsOf}
+use Rattle.survivors.proofs.Sets.{has-none, set-has, set-none}
 use Rattle.survivors.proofs.LateSet.{late-start, late-more}
 use Rattle.survivors.proofs.TwinWords.{words-start, words-more}
 use Rattle.prefix.specs.ClassGroups.{Lined}
-use Rattle.prefix.specs.Reached.{Reached}
-use Rattle.prefix.specs.Steps.{Short, Carried}
+use Rattle.prefix.specs.Reached.{machineOf, Reached}
 use Rattle.prefix.specs.declared.place.Place.{Place}
 use Rattle.prefix.proofs.Bits.{stamp-stored}
+use Rattle.prefix.proofs.LiveSet.{set-at-least, live-more}
+
+-- a thread that has not ended has at most sixteen instructions
+abbrev pub Short : List ℕ → List ThreadState → Type 0
+Short lengths ts = (u : ℕ) → u < 6 → getD ts u idle .at < getD lengths u 0 → getD lengths u 0 ≤ 16
+
+-- the place r behind x and a step of thread t that gave back a
+pub record Carried (code lengths : List ℕ) (x : Place) (t : ℕ) (a : Moved) (r : Place) : Type 0 where
+  pub threads : r .threads ≡ set (x .threads) t (a .thread)
+  pub memory : r .memory ≡ a .memory
+  pub schedule : r .schedule ≡ set (x .schedule) (x .steps) t
+  pub steps : r .steps ≡ x .steps + 1
+  pub late : (m : Machine) (σ : State) → m .threads ≡ set (x .threads) t (a .thread) → m .memory ≡ a .memory → Holds code lengths m σ
+      → r .late ≡ lateBehind σ (x .late) (record { thread = t; location = a .location; wrote = a .wrote })
+  pub live : r .live ≡ cond (ltb (a .thread .at) (getD lengths t 0)) (x .live) (x .live - 2 ^ t)
+  pub stamps : r .stamps ≡ set (x .stamps) (a .location % 8) (cond (a .wrote) (x .steps + 1) (getD (x .stamps) (a .location % 8) 0))
+  pub words : r .words ≡ set (x .words) t (wordBehind t (getD (x .words) t 0) (getD (x .stamps) (a .location % 8) 0) (a .wrote))
 
 -- the parts of an action
 same-parts : (a b : Action) → a .thread ≡ b .thread → a .location ≡ b .location → a .wrote ≡ b .wrote → a ≡ b
 same-parts a b e f g = λ i. record { thread = e i; location = f i; wrote = g i }
 
 -- ---- before the first step
-pub reached-start : (code lengths class : List ℕ) (threads groups : ℕ) (m : Machine) (schedule : List ℕ) (p : Program)
-    → Loaded code lengths threads p → Lined class groups p → Holds code lengths m (start p)
+pub reached-start : (code lengths class : List ℕ) (threads groups : ℕ) (m : Machine) (schedule : List ℕ) (live : ℕ) (p : Program)
+    → Loaded code lengths threads p → Lined class groups p → Holds code lengths m (start p) → live ≡ setOf (enabled (start p)) 6
     → Reached code lengths class threads groups
-    (record { machine = m; schedule = schedule; steps = 0; late = 0; stamps = 0 ∷ 0 ∷ 0 ∷ 0 ∷ 0 ∷ 0 ∷ 0 ∷ 0 ∷ []; words = 0 ∷ 0 ∷ 0 ∷ 0 ∷ 0 ∷ 0 ∷ [] }) p []
+    (record { threads = m .threads; memory = m .memory; words = 0 ∷ 0 ∷ 0 ∷ 0 ∷ 0 ∷ 0 ∷ []; schedule = schedule; stamps = 0 ∷ 0 ∷ 0 ∷ 0 ∷ 0 ∷ 0 ∷ 0 ∷ 0 ∷ []; steps = 0; late = 0; live = live }) p []
 unfolding noWords
-reached-start code lengths class threads groups m schedule p loaded lines held = record {
+reached-start code lengths class threads groups m schedule live p loaded lines held all = record {
   loaded = loaded;
   lines = lines;
   allowed = tt;
+  last = m .last;
   holds = subst (Holds code lengths m) (sym (run-nil SC (start p))) held;
   counted = refl;
   schedule = refl;
   late = sym (late-start p);
+  live = all ∙ ap (λ (σ : State). setOf (enabled σ) 6) (sym (run-nil SC (start p)));
   stamps = ap (λ (w : Words). w .stamps) (sym (words-start p));
   words = ap (λ (w : Words). w .words) (sym (words-start p));
 }
 
 -- ---- who may step
 -- a thread that has not ended exists, so it has at most sixteen instructions
-pub held-short : (code lengths : List ℕ) (threads : ℕ) (p : Program) → Loaded code lengths threads p → (v : Schedule) (m : Machine) → Holds code lengths m (endOf p v) → Short lengths m
+pub held-short : (code lengths : List ℕ) (threads : ℕ) (p : Program) → Loaded code lengths threads p → (v : Schedule) (m : Machine) → Holds code lengths m (endOf p v) → Short lengths (m .threads)
 held-short code lengths threads p loaded v m held u h l =
-    let ok = held-may code lengths m (endOf p v) held u h l in
+    let ok = held-enabled code lengths m (endOf p v) held u h l in
     short-held code lengths threads p loaded u
-    (omega (arith, may-range (endOf p v) u ok, run-threads v (start p), start-threads p, threads-held code lengths threads p loaded))
+    (omega (arith, enabled-range (endOf p v) u ok, run-threads v (start p), start-threads p, threads-held code lengths threads p loaded))
 
 module _ (code lengths class : List ℕ) (threads groups : ℕ) (x : Place) (p : Program) (v : Schedule) (at : Reached code lengths class threads groups x p v) where
   abbrev σ : State
   σ = endOf p v
+
+  abbrev own : Machine
+  own = machineOf x (at .last)
 
   -- there are at most 24 steps
   pub reached-most : x .steps ≤ 24
@@ -83,14 +108,38 @@ module _ (code lengths class : List ℕ) (threads groups : ℕ) (x : Place) (p :
       let r = regular-run v (start p) (regular-start p (at .loaded .wellFormed)) (at .allowed) in
       omega (arith, place-in σ r t, r .eight)
 
-  pub reached-short : Short lengths (x .machine)
-  reached-short = held-short code lengths threads p (at .loaded) v (x .machine) (at .holds)
+  pub reached-short : Short lengths (x .threads)
+  reached-short = held-short code lengths threads p (at .loaded) v own (at .holds)
 
-  module _ (t : ℕ) (ok : may (endOf p v) t ≡ true) where
-    pub reached-ready : Ready lengths (x .machine) t
-    reached-ready =
-        ready-held code lengths (x .machine) σ (at .holds) t
-        (reached-short t (may-small σ t ok) (held-left code lengths (x .machine) σ t (at .holds) ok)) ok
+  -- the set of those that have not ended tells who may step, and whether all have ended
+  pub reached-live : (t : ℕ) → t < 6 → has (x .live) t ≡ enabled (endOf p v) t
+  reached-live t h = ap (λ (s : ℕ). has s t) (at .live) ∙ set-has (enabled σ) 6 t h
+
+  pub reached-ended : x .live ≡ 0 → ended SC (endOf p v) ≡ true
+  reached-ended e = ended-of SC σ (λ t. go t (decLt t 6))
+    where
+      go : (t : ℕ) → Dec (t < 6) → enabled (endOf p v) t ≡ false
+      go t (yes h) = sym (reached-live t h) ∙ ap (λ (s : ℕ). has s t) e ∙ has-none t
+      go t (no h) = enabled-none σ t (omega (arith, h))
+
+  pub reached-going : x .live ≢ 0 → ended SC (endOf p v) ≡ false
+  reached-going ne = go (ended SC (endOf p v)) refl
+    where
+      none : ended SC (endOf p v) ≡ true → (t : ℕ) (b : Bool) → enabled (endOf p v) t ≡ b → enabled (endOf p v) t ≡ false
+      none e t true q = absurd (true≢false (sym e ∙ not-ended SC lawful (endOf p v) t q))
+      none e t false q = q
+
+      go : (b : Bool) → ended SC (endOf p v) ≡ b → ended SC (endOf p v) ≡ false
+      go true e = absurd (ne (at .live ∙ set-none (enabled (endOf p v)) 6 (λ t h. none e t (enabled (endOf p v) t) refl)))
+      go false e = e
+
+  module _ (t : ℕ) (ok : enabled (endOf p v) t ≡ true) where
+    pub reached-ready : ReadyThread lengths (getD (x .threads) t idle) t
+    reached-ready = ready-held code lengths own σ (at .holds) t (reached-short t (enabled-small σ t ok) (held-left code lengths own σ t (at .holds) ok)) ok
+
+    -- its bit is in the set
+    pub reached-bit : 2 ^ t ≤ x .live
+    reached-bit = omega (arith, at .live, set-at-least (enabled σ) 6 t (enabled-small σ t ok) ok)
 
     more-allowed : Allowed SC (start p) (v ++ (t ∷ []))
     more-allowed = allowed-join SC (start p) v (t ∷ []) (at .allowed) (ok, tt)
@@ -101,58 +150,74 @@ module _ (code lengths class : List ℕ) (threads groups : ℕ) (x : Place) (p :
         let n = allowed-length SC lawful (start p) (v ++ (t ∷ [])) more-allowed in
         omega (arith, n, length-append v (t ∷ []), at .counted, start-24 p (at .loaded .wellFormed))
 
-    -- ---- behind its step, which led to the machine m, with this note
-    module _ (m : Machine) (bytes : List ℕ) (held : Holds code lengths m (step (endOf p v) t)) (noted : bytes ≡ noteBytes (note (endOf p v) t)) where
-      next-held : Holds code lengths m (endOf p (v ++ (t ∷ [])))
-      next-held = subst (Holds code lengths m) (sym (run-snoc SC (start p) v t)) held
+    -- its step, as the code asks for it by the number u
+    pub moved-by : (u : ℕ) → u ≡ t → (a : Moved)
+        → ((m : Machine) (τ : State) → threadAt m t ≡ getD (x .threads) u idle → m .memory ≡ x .memory → Holds code lengths m τ → enabled τ t ≡ true → place τ t < 8 → HoldsMoved code lengths m τ t a)
+        → HoldsMoved code lengths (machineOf x (at .last)) (endOf p v) t a
+    moved-by u eu a acts = acts own σ (ap (λ (i : ℕ). getD (x .threads) i idle) (sym eu)) refl (at .holds) ok (reached-place t)
 
-      pub next-short : Short lengths m
-      next-short = held-short code lengths threads p (at .loaded) (v ++ (t ∷ [])) m next-held
+    -- ---- behind its step, which gave back a
+    module _ (a : Moved) (moved : HoldsMoved code lengths (machineOf x (at .last)) (endOf p v) t a) where
+      abbrev next : Machine
+      next = record { threads = set (x .threads) t (a .thread); memory = a .memory; last = moved .last }
 
-      there : getD bytes 2 0 ≡ place σ t
-      there = ap (λ (bs : List ℕ). getD bs 2 0) noted ∙ byte-location (note σ t) ∙ noted-location σ t
+      next-held : Holds code lengths (record { threads = set (x .threads) t (a .thread); memory = a .memory; last = moved .last }) (endOf p (v ++ (t ∷ [])))
+      next-held = subst (Holds code lengths next) (sym (run-snoc SC (start p) v t)) (moved .holds)
 
-      wrote : eqb (getD bytes 6 0) 1 ≡ writes σ t
-      wrote = ap (λ (bs : List ℕ). eqb (getD bs 6 0) 1) noted ∙ byte-wrote (note σ t) ∙ noted-wrote σ t
+      pub next-short : Short lengths (set (x .threads) t (a .thread))
+      next-short = held-short code lengths threads p (at .loaded) (v ++ (t ∷ [])) next next-held
 
-      near : getD bytes 2 0 % 8 ≡ place σ t
-      near = ap (λ (l : ℕ). l % 8) there ∙ mod-eq-of-lt (reached-place t)
+      near : a .location % 8 ≡ place σ t
+      near = ap (λ (l : ℕ). l % 8) (moved .location) ∙ mod-eq-of-lt (reached-place t)
 
-      did : record { thread = t; location = getD bytes 2 0; wrote = eqb (getD bytes 6 0) 1 } ≡ action σ t
-      did = same-parts (record { thread = t; location = getD bytes 2 0; wrote = eqb (getD bytes 6 0) 1 }) (action σ t) (sym (action-thread σ t)) (there ∙ sym (action-location σ t)) (wrote ∙ sym (action-wrote σ t))
+      did : record { thread = t; location = a .location; wrote = a .wrote } ≡ action σ t
+      did = same-parts (record { thread = t; location = a .location; wrote = a .wrote }) (action σ t) (sym (action-thread σ t)) (moved .location ∙ sym (action-location σ t)) (moved .wrote ∙ sym (action-wrote σ t))
 
       count : x .steps + 1 ≡ length v + 1
       count = omega (arith, at .counted)
 
-      pub reached-next : (r : Place) → length (x .schedule) ≡ 24 → Carried code lengths x m t (getD bytes 2 0) (eqb (getD bytes 6 0) 1) r → Reached code lengths class threads groups r p (v ++ (t ∷ []))
+      -- whether its thread goes on
+      goes : ltb (a .thread .at) (getD lengths t 0) ≡ enabled (step σ t) t
+      goes =
+          let six = enabled-small σ t ok in
+          ap (λ (k : ThreadState). ltb (k .at) (getD lengths t 0)) (sym (getD-set-same (x .threads) t (a .thread) idle (omega (arith, six, at .holds .sizes .0))))
+          ∙ enabled-held code lengths next (step σ t) (moved .holds) t six
+
+      pub reached-next : (r : Place) → length (x .schedule) ≡ 24 → Carried code lengths x t a r → Reached code lengths class threads groups r p (v ++ (t ∷ []))
       unfolding wordsBehind
       reached-next r size c = record {
         loaded = at .loaded;
         lines = at .lines;
         allowed = more-allowed;
-        holds = subst (λ (n : Machine). Holds code lengths n (endOf p (v ++ (t ∷ [])))) (sym (c .machine)) next-held;
+        last = moved .last;
+        holds =
+            subst (λ (ts : List ThreadState). Holds code lengths (record { threads = ts; memory = r .memory; last = moved .last }) (endOf p (v ++ (t ∷ [])))) (sym (c .threads))
+            (subst (λ (vs : List ℕ). Holds code lengths (record { threads = set (x .threads) t (a .thread); memory = vs; last = moved .last }) (endOf p (v ++ (t ∷ [])))) (sym (c .memory)) next-held);
         counted = omega (arith, length-append v (t ∷ []), at .counted, c .steps);
         schedule =
             ap₂ (λ (n : ℕ) (l : List ℕ). take n l) (c .steps ∙ add-one (x .steps)) (c .schedule)
             ∙ take-suc-set (x .schedule) (x .steps) t (omega (arith, size, reached-room)) ∙ ap (λ (l : List ℕ). l ++ (t ∷ [])) (at .schedule);
         late =
-            c .late (step σ t) held ∙ ap₂ (λ (s : ℕ) (a : Action). lateBehind (step σ t) s a) (at .late) did ∙ sym (late-more p v t);
+            c .late next (step σ t) refl refl (moved .holds) ∙ ap₂ (λ (s : ℕ) (a : Action). lateBehind (step σ t) s a) (at .late) did ∙ sym (late-more p v t);
+        live =
+            c .live ∙ ap₂ (λ (b : Bool) (s : ℕ). cond b s (s - 2 ^ t)) goes (at .live) ∙ sym (live-more σ t ok)
+            ∙ ap (λ (τ : State). setOf (enabled τ) 6) (sym (run-snoc SC (start p) v t));
         stamps =
             c .stamps
-            ∙ ap₂ (λ (l : ℕ) (w : Bool). set (x .stamps) l (cond w (x .steps + 1) (getD (x .stamps) l 0))) near wrote
+            ∙ ap₂ (λ (l : ℕ) (w : Bool). set (x .stamps) l (cond w (x .steps + 1) (getD (x .stamps) l 0))) near (moved .wrote)
             ∙ ap₂ (λ (s : List ℕ) (n : ℕ). set s (place σ t) (cond (writes σ t) n (getD s (place σ t) 0))) (at .stamps) count
             ∙ stamp-stored (wordsOf p v .stamps) (place σ t) (length v + 1) (writes σ t)
             ∙ ap (λ (w : Words). w .stamps) (sym (words-more p v t));
         words =
             c .words
-            ∙ ap₂ (λ (l : ℕ) (w : Bool). set (x .words) t (wordBehind t (getD (x .words) t 0) (getD (x .stamps) l 0) w)) near wrote
+            ∙ ap₂ (λ (l : ℕ) (w : Bool). set (x .words) t (wordBehind t (getD (x .words) t 0) (getD (x .stamps) l 0) w)) near (moved .wrote)
             ∙ ap₂ (λ (s z : List ℕ). set z t (wordBehind t (getD z t 0) (getD s (place σ t) 0) (writes σ t))) (at .stamps) (at .words)
             ∙ ap (λ (w : Words). w .words) (sym (words-more p v t));
       }
 
-  -- a machine in which t has an instruction left, whatever prefix led to it
-  pub may-again : (t : ℕ) → t < 6 → threadAt (x .machine) t .at < getD lengths t 0 → may (endOf p v) t ≡ true
-  may-again t h l = held-may code lengths (x .machine) σ (at .holds) t h l
+  -- a place at which t has an instruction left, whatever prefix led to it
+  pub enabled-again : (t : ℕ) → t < 6 → getD (x .threads) t idle .at < getD lengths t 0 → enabled (endOf p v) t ≡ true
+  enabled-again t h l = held-enabled code lengths own σ (at .holds) t h l
 
-  pub may-left : (t : ℕ) → may (endOf p v) t ≡ true → threadAt (x .machine) t .at < getD lengths t 0
-  may-left t ok = held-left code lengths (x .machine) σ t (at .holds) ok
+  pub enabled-left : (t : ℕ) → enabled (endOf p v) t ≡ true → getD (x .threads) t idle .at < getD lengths t 0
+  enabled-left t ok = held-left code lengths own σ t (at .holds) ok

@@ -2,103 +2,81 @@
 use Prim.Native.Nat.{ℕ, _+_, _*_, _<_}
 use mathlib.Core.Path.{_≡_, refl, sym, ap, _∙_}
 use mathlib.Core.Logic.{_≢_}
-use mathlib.Core.Bool.{Bool, true, false, cond}
+use mathlib.Core.Bool.{Bool, true, false}
 use mathlib.Core.List.{List, [], _∷_}
 use native.Mathlib.Decide.{ℕ-discrete}
 use lib.Dec.{eqb}
-use lib.ListN.{getD, set}
+use lib.ListN.{getD}
 use Rattle.program.specs.declared.instruction.Instruction.{Instruction}
-use Rattle.program.specs.declared.instruction.Instruction.the-variants.{Store, Load, FetchAdd, CompareSwap, Assign, AddAssign, SkipUnless, Assert}
+use Rattle.program.specs.declared.instruction.Instruction.the-variants.{Memory, Alone}
 use Rattle.rows.specs.Rows.{instructionAt}
 use Rattle.rows.proofs.Rows.{row-store, row-load, row-fetch-add, row-compare-swap, row-no-access}
 use Rattle.accesses.specs.declared.accessing.Access.{Access}
-use Rattle.accesses.specs.Turns.{accessing, accessOf}
-use Rattle.sc.specs.Local.{eval, firstPlace}
-use Rattle.sc.specs.Trail.{Action, conflict}
-use Rattle.sc.specs.Ahead.{firstMayPut}
+use Rattle.accesses.specs.CarriedOut.{accessOf}
+use Rattle.sc.specs.Local.{accessPlace, firstPlace}
+use Rattle.sc.specs.Actions.{Action, conflict}
+use Rattle.sc.specs.Ahead.{accessMayPut, firstMayPut}
 use Rattle.sc.proofs.Trails.{conflict-elsewhere, conflict-written, conflict-read}
 use Rattle.prefix.specs.Steps.{accessingAt}
 
 module _ (code : List ℕ) (k : ℕ) (h : k < 96) where
   pub place-store : getD code (k * 16) 0 ≡ 0x10 → getD code (k * 16 + 1) 0 ≡ firstPlace (instructionAt code k ∷ [])
-  unfolding firstPlace
+  unfolding firstPlace accessPlace
   place-store e = rw (row-store code k h e)
 
   pub place-load : getD code (k * 16) 0 ≡ 0x11 → getD code (k * 16 + 2) 0 ≡ firstPlace (instructionAt code k ∷ [])
-  unfolding firstPlace
+  unfolding firstPlace accessPlace
   place-load e = rw (row-load code k h e)
 
   pub place-fetch-add : getD code (k * 16) 0 ≡ 0x12 → getD code (k * 16 + 2) 0 ≡ firstPlace (instructionAt code k ∷ [])
-  unfolding firstPlace
+  unfolding firstPlace accessPlace
   place-fetch-add e = rw (row-fetch-add code k h e)
 
   pub place-compare-swap : getD code (k * 16) 0 ≡ 0x13 → getD code (k * 16 + 2) 0 ≡ firstPlace (instructionAt code k ∷ [])
-  unfolding firstPlace
+  unfolding firstPlace accessPlace
   place-compare-swap e = rw (row-compare-swap code k h e)
 
   pub writer-store : getD code (k * 16) 0 ≡ 0x10 → true ≡ firstMayPut (instructionAt code k ∷ [])
-  unfolding firstMayPut
+  unfolding firstMayPut accessMayPut
   writer-store e = rw (row-store code k h e)
 
   pub writer-fetch-add : getD code (k * 16) 0 ≡ 0x12 → true ≡ firstMayPut (instructionAt code k ∷ [])
-  unfolding firstMayPut
+  unfolding firstMayPut accessMayPut
   writer-fetch-add e = rw (row-fetch-add code k h e)
 
   pub writer-compare-swap : getD code (k * 16) 0 ≡ 0x13 → true ≡ firstMayPut (instructionAt code k ∷ [])
-  unfolding firstMayPut
+  unfolding firstMayPut accessMayPut
   writer-compare-swap e = rw (row-compare-swap code k h e)
 
   module _ (n10 : getD code (k * 16) 0 ≡ 0x10 → ⊥) (n12 : getD code (k * 16) 0 ≡ 0x12 → ⊥) (n13 : getD code (k * 16) 0 ≡ 0x13 → ⊥) where
     pub place-none : (getD code (k * 16) 0 ≡ 0x11 → ⊥) → 0 ≡ firstPlace (instructionAt code k ∷ [])
     unfolding firstPlace
-    place-none n11 = row-no-access code k h (λ i. 0 ≡ firstPlace (i ∷ [])) n10 n11 n12 n13 (λ r p. refl) (λ r p. refl) (λ r p n. refl) (λ r p. refl)
+    place-none n11 = row-no-access code k h (λ i. 0 ≡ firstPlace (i ∷ [])) n10 n11 n12 n13 (λ o. refl)
 
     pub writer-none : false ≡ firstMayPut (instructionAt code k ∷ [])
-    unfolding firstMayPut
+    unfolding firstMayPut accessMayPut
     writer-none = go (ℕ-discrete (getD code (k * 16) 0) 0x11)
       where
         go : Dec (getD code (k * 16) 0 ≡ 0x11) → false ≡ firstMayPut (instructionAt code k ∷ [])
         go (yes e) = rw (row-load code k h e)
-        go (no n11) = row-no-access code k h (λ i. false ≡ firstMayPut (i ∷ [])) n10 n11 n12 n13 (λ r p. refl) (λ r p. refl) (λ r p n. refl) (λ r p. refl)
+        go (no n11) = row-no-access code k h (λ i. false ≡ firstMayPut (i ∷ [])) n10 n11 n12 n13 (λ o. refl)
 
 -- the code that is left begins with the row's instruction
 pub place-first : (x : Instruction) (is : List Instruction) → firstPlace (x ∷ is) ≡ firstPlace (x ∷ [])
 unfolding firstPlace
-place-first (Store l p) is = refl
-place-first (Load r l) is = refl
-place-first (FetchAdd r l p) is = refl
-place-first (CompareSwap r l e v) is = refl
-place-first (Assign r p) is = refl
-place-first (AddAssign r p) is = refl
-place-first (SkipUnless r p n) is = refl
-place-first (Assert r p) is = refl
+place-first (Memory a) is = refl
+place-first (Alone o) is = refl
 
 pub writer-first : (x : Instruction) (is : List Instruction) → firstMayPut (x ∷ is) ≡ firstMayPut (x ∷ [])
 unfolding firstMayPut
-writer-first (Store l p) is = refl
-writer-first (Load r l) is = refl
-writer-first (FetchAdd r l p) is = refl
-writer-first (CompareSwap r l e v) is = refl
-writer-first (Assign r p) is = refl
-writer-first (AddAssign r p) is = refl
-writer-first (SkipUnless r p n) is = refl
-writer-first (Assert r p) is = refl
+writer-first (Memory a) is = refl
+writer-first (Alone o) is = refl
 
 -- an access goes where its instruction says
 access-place : (x : Instruction) (rs m : List ℕ) → accessOf x rs m .location ≡ firstPlace (x ∷ [])
 unfolding firstPlace
-access-place (Store l p) rs m = refl
-access-place (Load r l) rs m = refl
-access-place (FetchAdd r l p) rs m = refl
-access-place (CompareSwap r l e v) rs m = go (eqb (getD m l 0) (eval rs e))
-  where
-    go : (b : Bool) → cond b (accessing l 1 (set rs r (getD m l 0)) 1 (eval rs v)) (accessing l 1 (set rs r (getD m l 0)) 0 0) .location ≡ l
-    go true = refl
-    go false = refl
-access-place (Assign r p) rs m = refl
-access-place (AddAssign r p) rs m = refl
-access-place (SkipUnless r p n) rs m = refl
-access-place (Assert r p) rs m = refl
+access-place (Memory a) rs m = refl
+access-place (Alone o) rs m = refl
 
 -- ---- whether it conflicts with an access at l that wrote (w) or not
 module _ (code : List ℕ) (row : ℕ) (rs m : List ℕ) (l : ℕ) (w : Bool) (k : ℕ) (ek : k ≡ firstPlace (instructionAt code row ∷ [])) where

@@ -6,8 +6,10 @@ mod place;
 mod sets;
 // What the access in a row does, as far as others have to wait for it.
 mod waiting;
-// The late set behind a step.
+// Who is late behind a step.
 mod lateness;
+// The threads that have not ended.
+mod running;
 // The word of a thread's reads behind a step.
 mod reading;
 // The classes of the threads.
@@ -22,6 +24,5 @@ pub use lateness::Step;
 pub use place::Place;
 pub use sets::addend;
 pub use sets::is_in;
-pub use sets::is_late;
 pub use waiting::is_writer;
 pub use waiting::location_at;

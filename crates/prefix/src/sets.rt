@@ -1,7 +1,17 @@
 // Sets of small numbers, a bit for each. The bits are named by constants, so that each test is a shift.
 ghost use mathlib.Core.Path.{_≡_};
-ghost use Prim.Native.Nat.{_≤_};
+ghost use Prim.Native.Nat.{_^_, _<_, _≤_};
 ghost use Rattle.survivors.specs.Sets.{has, addend};
+
+const POWERS: [u8; 6] = [1, 2, 4, 8, 16, 32];
+
+// The bit of thread t.
+pub(crate) fn power(t: u8) -> u8
+    requires { ⌜ t < 6 ⌝ }
+    ensures { λ r. ⌜ (r ≡ 2 ^ t) × (r ≤ 32) ⌝ }
+{
+    POWERS[t as usize]
+}
 
 // Whether k is in the set.
 pub fn is_in(set: u8, k: u8) -> bool
@@ -32,13 +42,6 @@ pub fn is_in(set: u8, k: u8) -> bool
         return set / 128 % 2 == 1;
     }
     false
-}
-
-// Whether thread t is late.
-pub fn is_late(late: u8, t: u8) -> bool
-    ensures { λ r. ⌜ r ≡ has late t ⌝ }
-{
-    is_in(late, t)
 }
 
 // k, or nothing.

@@ -1,16 +1,17 @@
 // What the access in a row does, as far as others have to wait for it: read off the row's bytes.
 use accesses::accessed_at;
+use rows::Code;
 ghost use mathlib.Core.Path.{_≡_};
 ghost use mathlib.Core.List.{[], _∷_};
 ghost use Prim.Native.Nat.{_<_};
 ghost use Rattle.rows.specs.Rows.{instructionAt};
 ghost use Rattle.sc.specs.Local.{firstPlace};
-ghost use Rattle.sc.specs.Trail.{conflict};
+ghost use Rattle.sc.specs.Actions.{conflict};
 ghost use Rattle.sc.specs.Ahead.{firstMayPut};
 ghost use Rattle.prefix.specs.Steps.{accessingAt};
 
 // The location of the access in a row; 0 where there is none.
-pub fn location_at(code: &[u8; 1536], row: usize) -> u8
+pub fn location_at(code: &Code, row: usize) -> u8
     requires { ⌜ row < 96 ⌝ }
     ensures { λ r. ⌜ r ≡ firstPlace (instructionAt (now (code .entry)) row ∷ []) ⌝ }
 {
@@ -32,7 +33,7 @@ pub fn location_at(code: &[u8; 1536], row: usize) -> u8
 }
 
 // Whether it could write.
-pub fn is_writer(code: &[u8; 1536], row: usize) -> bool
+pub fn is_writer(code: &Code, row: usize) -> bool
     requires { ⌜ row < 96 ⌝ }
     ensures { λ r. ⌜ r ≡ firstMayPut (instructionAt (now (code .entry)) row ∷ []) ⌝ }
 {
@@ -51,7 +52,7 @@ pub fn is_writer(code: &[u8; 1536], row: usize) -> bool
 
 // Whether the access in a row, with these registers and this memory, conflicts with one at l that wrote or not.
 pub(crate) fn conflicts_at(
-    code: &[u8; 1536],
+    code: &Code,
     row: usize,
     registers: [u32; 4],
     memory: [u32; 8],

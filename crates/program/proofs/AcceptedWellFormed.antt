@@ -9,10 +9,10 @@ use lib.ListN.{length}
 use lib.Dec.{eqb, ltb}
 use borrow.Author.Tests.{eqb-true, eqb-false}
 use Rattle.lines.specs.Frame.{frame, Bytes}
-use Rattle.lines.specs.TextLines.{TextLine, split}
+use Rattle.lines.specs.TextLines.{TextLine, split, frameOf}
 use Rattle.program.specs.Program.{Program}
 use Rattle.program.specs.Frames.{Frame}
-use Rattle.program.specs.Decode.{Reading, fresh, frameRefusal, frameOf, after, firstFarSkip, programIn, Decoded, accepted, refused, finish, readLines, decode}
+use Rattle.program.specs.Decode.{Reading, fresh, frameRefusal, after, firstFarSkip, programIn, Decoded, accepted, refused, finish, readLines, decode}
 use Rattle.program.specs.WellFormed.{WellFormed}
 use Rattle.lines.proofs.Frame.{frame-bytes}
 use Rattle.program.proofs.SoundProgram.{sound-well-formed}

@@ -1,19 +1,18 @@
 -- A frame of a known kind that neither opens a thread nor declares threads alike is one of the eight instructions:
 -- `by-code` proves of its first byte what is proved of each of the eight.
-use Prim.Native.Nat.{ℕ, _+_, _≤_}
+use Prim.Native.Nat.{ℕ, _+_}
 use native.Mathlib.Omega.{arith}
 use mathlib.Core.Path.{_≡_, refl}
 use mathlib.Core.Bool.{Bool, true, false, cond, _&&_, _||_, or-true, false≢true}
 use mathlib.Core.List.{List, [], _∷_, List·Memᴰ, List·Memᴰ·head, List·Memᴰ·tail}
-use lib.ListN.{length}
 use lib.Dec.{eqb, leb}
 use borrow.Author.Tests.{eqb-true, ne-eqb}
 use Rattle.program.specs.declared.instruction.Instruction.{Instruction}
 use Rattle.program.specs.declared.kind.Kind.{Kind}
-use Rattle.program.specs.Kinds.{row, kinds, find, kindOf}
-use Rattle.program.specs.Frames.{Frame, byte, kind, known, opens, declares, isAccess, skipOf, operand, build, instruction}
+use Rattle.program.specs.Kinds.{row, kinds, lookup, kindOf}
+use Rattle.program.specs.Frames.{Frame, byte, kind, known, opens, declares, isAccess, skipOf, operand, buildOwn, build, instruction}
 use Rattle.program.specs.Decode.{among}
-use Rattle.program.specs.WellFormed.{Everywhere, accesses, SkipsInside}
+use Rattle.program.specs.WellFormed.{Everywhere, accesses, mostSkipped}
 use Rattle.program.proofs.Tests.{second}
 use Rattle.program.proofs.KindTable.{everyRow, kind-rule, kind-byte, known-range, known-one}
 use Rattle.program.proofs.Everywhere.{everywhere-at}
@@ -80,17 +79,16 @@ instructionAt f b =
 
 -- an access counts as one, every other instruction as none
 pub accesses-cons : (f : Frame) → IsInstruction f → (is : List Instruction) → accesses (instruction f ∷ is) ≡ cond (isAccess f) 1 0 + accesses is
-unfolding instruction instructionAt kind isAccess codes build accesses kindOf find kinds
+unfolding instruction instructionAt kind isAccess codes buildOwn build accesses kindOf lookup kinds
 accesses-cons f i is =
     by-code f i
     (λ b. accesses (instructionAt f b ∷ is) ≡ cond (leb 0x10 b && leb b 0x13) 1 0 + accesses is)
     (omega arith, (omega arith, (omega arith, (omega arith, (omega arith, (omega arith, (omega arith, (omega arith, tt))))))))
 
--- a skip that the rest of the thread holds
-pub skips-cons : (f : Frame) → IsInstruction f → (is : List Instruction) → skipOf f ≤ length is → SkipsInside is → SkipsInside (instruction f ∷ is)
-unfolding instruction instructionAt kind skipOf codes build kindOf find kinds
-skips-cons f i is h s =
+-- an instruction may skip as many as its frame says
+pub most-skipped : (f : Frame) → IsInstruction f → mostSkipped (instruction f) ≡ skipOf f
+unfolding instruction instructionAt kind skipOf codes buildOwn build kindOf lookup kinds
+most-skipped f i =
     by-code f i
-    (λ b. cond (eqb (kindOf b .skip) 0) 0 (byte f (kindOf b .skip)) ≤ length is → SkipsInside (instructionAt f b ∷ is))
-    (λ z. s, (λ z. s, (λ z. s, (λ z. s, (λ z. s, (λ z. s, (λ z. (z, s), (λ z. s, tt))))))))
-    h
+    (λ b. mostSkipped (instructionAt f b) ≡ cond (eqb (kindOf b .skip) 0) 0 (byte f (kindOf b .skip)))
+    (refl, (refl, (refl, (refl, (refl, (refl, (refl, (refl, tt))))))))

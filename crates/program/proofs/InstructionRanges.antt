@@ -8,8 +8,8 @@ use borrow.Author.Tests.{eqb-true, leb-true, ltb-true, ne-eqb}
 use Rattle.lines.specs.Frame.{Bytes}
 use Rattle.program.specs.declared.instruction.Operand.the-variants.{Constant, Register}
 use Rattle.program.specs.declared.kind.Kind.{Kind}
-use Rattle.program.specs.Kinds.{kinds, find, kindOf}
-use Rattle.program.specs.Frames.{Frame, byte, word, kind, registerFits, locationFits, skipFits, operandFits, inRange, operand, build, instruction}
+use Rattle.program.specs.Kinds.{kinds, lookup, kindOf}
+use Rattle.program.specs.Frames.{Frame, byte, word, kind, registerFits, locationFits, skipFits, operandFits, inRange, operand, buildOwn, build, instruction}
 use Rattle.program.specs.WellFormed.{InRange, OperandInRange}
 use Rattle.program.proofs.Tests.{both, second}
 use Rattle.program.proofs.InstructionFrames.{IsInstruction, codes, by-code, instructionAt}
@@ -61,7 +61,7 @@ fits f h e =
     }
 
 pub instruction-in-range : (f : Frame) → IsInstruction f → Bytes f → inRange f ≡ true → InRange (instruction f)
-unfolding instruction instructionAt kind codes build kindOf find kinds
+unfolding instruction instructionAt kind codes buildOwn build kindOf lookup kinds
 instruction-in-range f i h e =
     by-code f i
     (λ b. Fits f (kindOf b) → InRange (instructionAt f b)) (
@@ -77,7 +77,7 @@ instruction-in-range f i h e =
               (
                 λ z. (z .register refl, z .first refl),
                 (
-                  λ z. (z .register refl, z .first refl, z .skip refl .0, z .skip refl .1),
+                  λ z. ((z .register refl, z .first refl), z .skip refl .0, z .skip refl .1),
                   (
                     λ z. (z .register refl, z .first refl),
                     tt,

@@ -10,7 +10,7 @@ use lib.ListN.{length}
 use lib.Dec.{eqb, leb}
 use borrow.Author.Tests.{eqb-true, leb-true}
 use Rattle.program.specs.declared.kind.Kind.{Kind}
-use Rattle.program.specs.Kinds.{row, kinds, find, kindOf}
+use Rattle.program.specs.Kinds.{row, kinds, lookup, kindOf}
 use Rattle.program.specs.Frames.{Frame, byte, kind, known, declares}
 use Rattle.program.proofs.Tests.{both, either, second}
 
@@ -19,14 +19,14 @@ unfoldable pub everyRow : (Kind → Bool) → List Kind → Bool
 everyRow test [] = true
 everyRow test (k ∷ ks) = test k && everyRow test ks
 
-find-rule : (test : Kind → Bool) (b : ℕ) (ks : List Kind) → everyRow test ks ≡ true → test (row b 1 0 0 0 0 0 0) ≡ true → test (find ks b) ≡ true
-unfolding everyRow find
+find-rule : (test : Kind → Bool) (b : ℕ) (ks : List Kind) → everyRow test ks ≡ true → test (row b 1 0 0 0 0 0 0) ≡ true → test (lookup ks b) ≡ true
+unfolding everyRow lookup
 find-rule test b [] h u = u
 find-rule test b (k ∷ ks) h u =
     let parts = both (test k) (everyRow test ks) h in
     go (eqb b (k .byte)) (parts .0) (find-rule test b ks (parts .1) u)
   where
-    go : (t : Bool) → test k ≡ true → test (find ks b) ≡ true → test (cond t k (find ks b)) ≡ true
+    go : (t : Bool) → test k ≡ true → test (lookup ks b) ≡ true → test (cond t k (lookup ks b)) ≡ true
     go true here later = here
     go false here later = later
 
@@ -35,12 +35,12 @@ unfolding kindOf
 kind-rule test b h u = find-rule test b kinds h u
 
 -- a row is found under its own byte
-find-byte : (b : ℕ) (ks : List Kind) → find ks b .byte ≡ b
-unfolding find
+find-byte : (b : ℕ) (ks : List Kind) → lookup ks b .byte ≡ b
+unfolding lookup
 find-byte b [] = refl
 find-byte b (k ∷ ks) = go (eqb b (k .byte)) refl (find-byte b ks)
   where
-    go : (t : Bool) → eqb b (k .byte) ≡ t → find ks b .byte ≡ b → cond t k (find ks b) .byte ≡ b
+    go : (t : Bool) → eqb b (k .byte) ≡ t → lookup ks b .byte ≡ b → cond t k (lookup ks b) .byte ≡ b
     go true e i = sym (eqb-true b (k .byte) e)
     go false e i = i
 

@@ -8,9 +8,9 @@ use mathlib.Core.Option.{Option, none, some}
 use lib.ListN.{length, set, drop}
 use lib.Dec.{eqb, ltb}
 use borrow.Author.Tests.{ltb-false}
-use Rattle.lines.specs.TextLines.{TextLine, prepend, before, split}
+use Rattle.lines.specs.TextLines.{TextLine, prepend, before, split, frameOf}
 use Rattle.program.specs.Frames.{Frame, known, inRange, opens, declares, skipOf}
-use Rattle.program.specs.Decode.{Placed, Reading, fresh, threadAt, lastThread, inPlace, withinLimits, alikeFits, frameRefusal, frameOf, after, farSkip, firstFarSkip, programIn, Decoded, accepted, refused, finish, readLines, decode}
+use Rattle.program.specs.Decode.{Placed, Reading, fresh, threadAt, lastThread, inPlace, withinLimits, alikeFits, frameRefusal, after, farSkip, firstFarSkip, programIn, Decoded, accepted, refused, finish, readLines, decode}
 use Rattle.program.specs.WellFormed.{Everywhere}
 use Rattle.program.proofs.Everywhere.{everywhere-getD, everywhere-append, everywhere-set}
 

@@ -5,7 +5,7 @@ use mathlib.Core.Bool.{Bool, true, false, _||_, or-false}
 use lib.Dec.{eqb}
 use borrow.Author.Tests.{ne-eqb}
 use Rattle.program.specs.declared.kind.Kind.{Kind}
-use Rattle.program.specs.Kinds.{kinds, find, kindOf}
+use Rattle.program.specs.Kinds.{kinds, lookup, kindOf}
 use Rattle.program.specs.Frames.{Frame, byte, kind, skipOf}
 use Rattle.program.proofs.KindTable.{everyRow, kind-rule, kind-byte}
 
@@ -21,5 +21,5 @@ no-skip f h =
     rw z
 
 pub one-skip : (f : Frame) → byte f 0 ≡ 0x22 → skipOf f ≡ byte f 7
-unfolding skipOf kind kindOf find kinds
+unfolding skipOf kind kindOf lookup kinds
 one-skip f e = rw e

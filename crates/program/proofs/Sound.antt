@@ -8,7 +8,7 @@ use lib.ListN.{length, getD, set, drop, length-append, length-drop, length-set}
 use lib.Dec.{eqb, ltb}
 use borrow.Author.Tests.{eqb-true, ltb-true, ne-eqb}
 use Rattle.lines.specs.Frame.{Bytes}
-use Rattle.program.specs.Kinds.{kinds, find, kindOf}
+use Rattle.program.specs.Kinds.{kinds, lookup, kindOf}
 use Rattle.program.specs.Frames.{Frame, byte, kind, known, inRange, opens, declares, isAccess}
 use Rattle.program.specs.Decode.{Placed, Reading, fresh, threadAt, lastThread, inPlace, allAccessesIn, withinLimits, memberFits, membersFit, alikeFits, frameRefusal, after}
 use Rattle.program.specs.WellFormed.{Everywhere, Ascending, Apart}
@@ -101,12 +101,12 @@ sound-open r f s p o d =
 
 sound-declare : (r : Reading) (f : Frame) → Sound r → Passes r f → declares f ≡ true
     → Sound (record { threads = r .threads; groups = r .groups ++ (drop 1 f ∷ []) })
-unfolding alikeFits threadAt declares kind kindOf find kinds
+unfolding alikeFits threadAt declares kind kindOf lookup kinds
 sound-declare r f s p d =
     let fits : membersFit r (drop 1 f) ≡ true = second (not (declares f)) _ (p .alike) (ap not d) in
     let m = members r (drop 1 f) fits in
     let e = eqb-true (byte f 0) 2 d in
-    let range = rw e at (known-range f (p .is-known)) in
+    let in-range = rw e at (known-range f (p .is-known)) in
     let n = length-drop 1 f in
     let one : Alike (r .threads) (drop 1 f) = record {
       two = omega arith;

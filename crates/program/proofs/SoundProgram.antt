@@ -13,7 +13,7 @@ use Rattle.program.specs.Frames.{skipOf, instruction}
 use Rattle.program.specs.Decode.{Placed, Reading, farSkip, firstFarSkip, programIn}
 use Rattle.program.specs.WellFormed.{Everywhere, InRange, SkipsInside, Group, WellFormed}
 use Rattle.program.proofs.Everywhere.{everywhere-weaken, everywhere-map}
-use Rattle.program.proofs.InstructionFrames.{IsInstruction, skips-cons}
+use Rattle.program.proofs.InstructionFrames.{IsInstruction, most-skipped}
 use Rattle.program.proofs.InstructionRanges.{instruction-in-range}
 use Rattle.program.proofs.AccessCounts.{all-accesses-same}
 use Rattle.program.proofs.GroupLines.{framesOf}
@@ -36,7 +36,7 @@ skips-inside (x ∷ xs) g e = go (ltb (length xs) (skipOf (x .code))) refl (λ k
         let k : farSkip xs ≡ 0 = rw (q, farSkip) at e in
         let n = length-map xs (λ x. instruction (x .code)) in
         let fits : skipOf (x .code) ≤ length xs = ltb-false (length xs) (skipOf (x .code)) q in
-        skips-cons (x .code) (g .0 .is-instruction) (instructionsOf xs) (omega arith) (later k)
+        (omega (arith, most-skipped (x .code) (g .0 .is-instruction)), later k)
 
 all-skips-inside : (cs : List (List Placed)) → Everywhere (Everywhere Good) cs → firstFarSkip cs ≡ 0 → Everywhere SkipsInside (map instructionsOf cs)
 unfolding firstFarSkip

@@ -1,13 +1,12 @@
--- Program files: document 01's "Program file" with its refusals 1 to 9.
--- 1 comes first; then the lines in order, each by 2, 3, 4, 5, 6, 8; then 9; then 7 at the earliest line. A file that gets none of these is an accepted program.
+-- Program files: document 01's "Program file" with its refusals 1 to 9. 1 comes first; then the lines in order, each by 2, 3, 4, 5, 6, 8;
+-- then 9; then 7 at the earliest line. A file that gets none of these is an accepted program.
 use Prim.Native.Nat.{ℕ, _+_, _-_}
 use mathlib.Core.Bool.{Bool, true, false, cond, not, _&&_, _||_}
 use mathlib.Core.List.{List, [], _∷_, _++_, map}
-use mathlib.Core.Option.{Option, none, some}
+use mathlib.Core.Option.{none, some}
 use lib.ListN.{length, getD, set, drop}
 use lib.Dec.{eqb, ltb}
-use Rattle.lines.specs.Frame.{frame}
-use Rattle.lines.specs.TextLines.{TextLine, split}
+use Rattle.lines.specs.TextLines.{TextLine, split, frameOf}
 use Rattle.program.specs.Program.{Program}
 use Rattle.program.specs.Frames.{Frame, known, inRange, opens, declares, isAccess, skipOf, instruction}
 
@@ -99,10 +98,6 @@ frameRefusal r f =
     (cond (not (alikeFits r f)) 8
     0))))
 
--- refusal 2: a line that is empty, odd, without its 0a, or has another character
-unfoldable pub frameOf : TextLine → Option Frame
-frameOf l = cond (l .ended) (frame (l .bytes)) none
-
 -- what has been read once a frame has passed: a thread more, a group more, or an instruction more in the thread last opened
 unfoldable pub after : ℕ → Frame → Reading → Reading
 after n f r =
@@ -137,7 +132,7 @@ finish r =
     (cond (eqb (firstFarSkip (r .threads)) 0) (accepted (programIn r))
     (refused 7 (firstFarSkip (r .threads))))
 
--- the lines from number n on
+-- the lines from number n on; refusal 2: a line that is empty, odd, without its 0a, or has another character
 unfoldable pub readLines : ℕ → List TextLine → Reading → Decoded
 readLines n [] r = finish r
 readLines n (l ∷ ls) r =

@@ -6,8 +6,14 @@ use lib.ListN.{length, getD}
 use lib.Dec.{eqb, ltb, leb}
 use Rattle.program.specs.declared.instruction.Operand.{Operand}
 use Rattle.program.specs.declared.instruction.Operand.the-variants.{Constant, Register}
+use Rattle.program.specs.declared.instruction.Access.the-variants.{Store, Load, FetchAdd, CompareSwap}
+use Rattle.program.specs.declared.instruction.Comparison.{Comparison}
+use Rattle.program.specs.declared.instruction.Comparison.the-variants.{Equal}
+use Rattle.program.specs.declared.instruction.Test.{Test}
+use Rattle.program.specs.declared.instruction.Own.{Own}
+use Rattle.program.specs.declared.instruction.Own.the-variants.{Assign, AddAssign, SkipUnless, Assert}
 use Rattle.program.specs.declared.instruction.Instruction.{Instruction}
-use Rattle.program.specs.declared.instruction.Instruction.the-variants.{Store, Load, FetchAdd, CompareSwap, Assign, AddAssign, SkipUnless, Assert}
+use Rattle.program.specs.declared.instruction.Instruction.the-variants.{Memory, Alone}
 use Rattle.program.specs.declared.kind.Kind.{Kind}
 use Rattle.program.specs.Kinds.{kindOf}
 
@@ -29,7 +35,8 @@ kind f = kindOf (byte f 0)
 unfoldable pub known : Frame → Bool
 known f = leb (kind f .least) (length f) && leb (length f) (kind f .most)
 
--- refusal 4: r below 4, l below 8, n from 1 to 15, an operand 00 and a constant, or 01 and a register below 4; a field that the kind lacks is in range
+-- refusal 4: r below 4, l below 8, n from 1 to 15, an operand 00 and a constant, or 01 and a register below 4; a field that the kind lacks
+-- is in range
 unfoldable pub registerFits : Frame → ℕ → Bool
 registerFits f i = eqb i 0 || ltb (byte f i) 4
 
@@ -66,17 +73,25 @@ skipOf f = cond (eqb (kind f .skip) 0) 0 (byte f (kind f .skip))
 unfoldable pub operand : Frame → ℕ → Operand
 operand f i = cond (eqb (byte f i) 1) (Register (word f (i + 1))) (Constant (word f (i + 1)))
 
+-- r compared with p
+abbrev pub test : Comparison → ℕ → Operand → Test
+test c r p = record { comparison = c; register = r; operand = p }
+
 -- the instruction of a first byte with these fields
+unfoldable pub buildOwn : ℕ → ℕ → Operand → ℕ → Own
+buildOwn b r p n =
+    cond (eqb b 0x20) (Assign r p)
+    (cond (eqb b 0x21) (AddAssign r p)
+    (cond (eqb b 0x22) (SkipUnless (test Equal r p) n)
+    (Assert (test Equal r p))))
+
 unfoldable pub build : ℕ → ℕ → ℕ → Operand → Operand → ℕ → Instruction
 build b r l p q n =
-    cond (eqb b 0x10) (Store l p)
-    (cond (eqb b 0x11) (Load r l)
-    (cond (eqb b 0x12) (FetchAdd r l p)
-    (cond (eqb b 0x13) (CompareSwap r l p q)
-    (cond (eqb b 0x20) (Assign r p)
-    (cond (eqb b 0x21) (AddAssign r p)
-    (cond (eqb b 0x22) (SkipUnless r p n)
-    (Assert r p)))))))
+    cond (eqb b 0x10) (Memory (Store l p))
+    (cond (eqb b 0x11) (Memory (Load r l))
+    (cond (eqb b 0x12) (Memory (FetchAdd r l p))
+    (cond (eqb b 0x13) (Memory (CompareSwap r l p q))
+    (Alone (buildOwn b r p n)))))
 
 unfoldable pub instruction : Frame → Instruction
 instruction f =

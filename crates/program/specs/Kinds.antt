@@ -26,9 +26,9 @@ kinds =
     ∷ []
 
 -- the row of the table with this first byte; for an unknown byte a row that no length fits
-unfoldable pub find : List Kind → ℕ → Kind
-find [] b = row b 1 0 0 0 0 0 0
-find (k ∷ ks) b = cond (eqb b (k .byte)) k (find ks b)
+unfoldable pub lookup : List Kind → ℕ → Kind
+lookup [] b = row b 1 0 0 0 0 0 0
+lookup (k ∷ ks) b = cond (eqb b (k .byte)) k (lookup ks b)
 
 unfoldable pub kindOf : ℕ → Kind
-kindOf b = find kinds b
+kindOf b = lookup kinds b

@@ -5,8 +5,13 @@ use mathlib.Core.List.{List, [], _∷_, List·Memᴰ}
 use lib.ListN.{length}
 use Rattle.program.specs.declared.instruction.Operand.{Operand}
 use Rattle.program.specs.declared.instruction.Operand.the-variants.{Constant, Register}
+use Rattle.program.specs.declared.instruction.Access.{Access}
+use Rattle.program.specs.declared.instruction.Access.the-variants.{Store, Load, FetchAdd, CompareSwap}
+use Rattle.program.specs.declared.instruction.Test.{Test}
+use Rattle.program.specs.declared.instruction.Own.{Own}
+use Rattle.program.specs.declared.instruction.Own.the-variants.{Assign, AddAssign, SkipUnless, Assert}
 use Rattle.program.specs.declared.instruction.Instruction.{Instruction}
-use Rattle.program.specs.declared.instruction.Instruction.the-variants.{Store, Load, FetchAdd, CompareSwap, Assign, AddAssign, SkipUnless, Assert}
+use Rattle.program.specs.declared.instruction.Instruction.the-variants.{Memory, Alone}
 use Rattle.program.specs.Program.{Program, codeOf}
 
 -- P holds of every member
@@ -20,44 +25,48 @@ OperandInRange (Constant v) = v < 2 ^ 32
 OperandInRange (Register k) = k < 4
 
 -- registers below 4, locations below 8, a skip of 1 to 15, operands in range
+abbrev pub AccessInRange : Access → Type 0
+AccessInRange (Store l p) = (l < 8) × OperandInRange p
+AccessInRange (Load r l) = (r < 4) × (l < 8)
+AccessInRange (FetchAdd r l p) = (r < 4) × (l < 8) × OperandInRange p
+AccessInRange (CompareSwap r l e v) = (r < 4) × (l < 8) × OperandInRange e × OperandInRange v
+
+abbrev pub TestInRange : Test → Type 0
+TestInRange t = (t .register < 4) × OperandInRange (t .operand)
+
+abbrev pub OwnInRange : Own → Type 0
+OwnInRange (Assign r p) = (r < 4) × OperandInRange p
+OwnInRange (AddAssign r p) = (r < 4) × OperandInRange p
+OwnInRange (SkipUnless t n) = TestInRange t × (1 ≤ n) × (n ≤ 15)
+OwnInRange (Assert t) = TestInRange t
+
 abbrev pub InRange : Instruction → Type 0
-InRange (Store l p) = (l < 8) × OperandInRange p
-InRange (Load r l) = (r < 4) × (l < 8)
-InRange (FetchAdd r l p) = (r < 4) × (l < 8) × OperandInRange p
-InRange (CompareSwap r l e v) = (r < 4) × (l < 8) × OperandInRange e × OperandInRange v
-InRange (Assign r p) = (r < 4) × OperandInRange p
-InRange (AddAssign r p) = (r < 4) × OperandInRange p
-InRange (SkipUnless r p n) = (r < 4) × OperandInRange p × (1 ≤ n) × (n ≤ 15)
-InRange (Assert r p) = (r < 4) × OperandInRange p
+InRange (Memory a) = AccessInRange a
+InRange (Alone o) = OwnInRange o
 
 -- how many of these instructions are accesses
 unfoldable pub accesses : List Instruction → ℕ
 accesses [] = 0
-accesses (Store l p ∷ is) = suc (accesses is)
-accesses (Load r l ∷ is) = suc (accesses is)
-accesses (FetchAdd r l p ∷ is) = suc (accesses is)
-accesses (CompareSwap r l e v ∷ is) = suc (accesses is)
-accesses (Assign r p ∷ is) = accesses is
-accesses (AddAssign r p ∷ is) = accesses is
-accesses (SkipUnless r p n ∷ is) = accesses is
-accesses (Assert r p ∷ is) = accesses is
+accesses (Memory a ∷ is) = suc (accesses is)
+accesses (Alone o ∷ is) = accesses is
 
 -- the accesses of all threads
 unfoldable pub allAccesses : List (List Instruction) → ℕ
 allAccesses [] = 0
 allAccesses (c ∷ cs) = accesses c + allAccesses cs
 
+-- how many instructions an instruction may skip
+abbrev pub mostSkipped : Instruction → ℕ
+mostSkipped (Memory a) = 0
+mostSkipped (Alone (Assign r p)) = 0
+mostSkipped (Alone (AddAssign r p)) = 0
+mostSkipped (Alone (SkipUnless t n)) = n
+mostSkipped (Alone (Assert t)) = 0
+
 -- each skip ends within the thread or just behind its last instruction
 abbrev pub SkipsInside : List Instruction → Type 0
 SkipsInside [] = Unit {0}
-SkipsInside (SkipUnless r p n ∷ is) = (n ≤ length is) × SkipsInside is
-SkipsInside (Store l p ∷ is) = SkipsInside is
-SkipsInside (Load r l ∷ is) = SkipsInside is
-SkipsInside (FetchAdd r l p ∷ is) = SkipsInside is
-SkipsInside (CompareSwap r l e v ∷ is) = SkipsInside is
-SkipsInside (Assign r p ∷ is) = SkipsInside is
-SkipsInside (AddAssign r p ∷ is) = SkipsInside is
-SkipsInside (Assert r p ∷ is) = SkipsInside is
+SkipsInside (i ∷ is) = (mostSkipped i ≤ length is) × SkipsInside is
 
 -- each number is below all that follow it
 abbrev pub Ascending : List ℕ → Type 0

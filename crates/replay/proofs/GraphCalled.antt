@@ -25,8 +25,8 @@ use Rattle.sc.specs.Text.{graphText, textOf}
 use Rattle.sc.specs.Replay.{replay}
 use Rattle.graph_writer.specs.Notes.{Note, notes, Noted}
 use Rattle.graph_writer.specs.NoteText.{noteFrames}
-use Rattle.sc.specs.GraphCall.{GraphSaid, texted, refusing, texting, graphAnswer, graphOn, graphFile, graphOutput}
-use Rattle.replay.specs.GraphWord.{saidOf}
+use Rattle.sc.specs.GraphCall.{GraphResult, texted, refusing, texting, graphAnswer, graphOn, graphFile, graphOutput}
+use Rattle.replay.specs.GraphWord.{graphAnswerOf}
 use Rattle.replay.specs.Carried.{HoldsRun}
 use Rattle.graph_writer.proofs.NoteGraph.{notes-length}
 use Rattle.replay.proofs.Verdicts.{verdict-whole, verdict-refused}
@@ -64,14 +64,14 @@ module _ (code lengths : List ℕ) (p : Program) (s : Schedule) (r : Run) (held 
 
     -- the text stands in front of the output
     pub graph-answered : WellFormed p → (out later : List ℕ) (n : ℕ)
-        → ((ns : List Note) → Noted (r .trail) ns → length ns ≡ r .steps → (n ≡ length (textOf (noteFrames ns))) × (later ≡ over (textOf (noteFrames ns)) out))
-        → (Written n ≡ saidOf (graphAnswer p s room)) × (later ≡ graphOutput (graphAnswer p s room) out)
-    unfolding saidOf graphOutput
+        → ((ns : List Note) → Noted (r .log) ns → length ns ≡ r .steps → (n ≡ length (textOf (noteFrames ns))) × (later ≡ over (textOf (noteFrames ns)) out))
+        → (Written n ≡ graphAnswerOf (graphAnswer p s room)) × (later ≡ graphOutput (graphAnswer p s room) out)
+    unfolding graphAnswerOf graphOutput
     graph-answered w out later n f =
         let allowed : Allowed SC (start p) s = subst (Allowed SC (start p)) (held .all whole) (held .allowed) in
-        let noted : Noted (r .trail) (notes (start p) s) = subst (λ (z : Schedule). Noted (r .trail) (notes (start p) z)) (held .all whole) (held .noted) in
-        let g = graph-written p w s allowed (r .trail) out later (r .steps) n f noted graph-steps in
-        (ap Written (g .0) ∙ ap saidOf (sym graph-whole), g .1 ∙ ap (λ (a : GraphSaid). graphOutput a out) (sym graph-whole))
+        let noted : Noted (r .log) (notes (start p) s) = subst (λ (z : Schedule). Noted (r .log) (notes (start p) z)) (held .all whole) (held .noted) in
+        let g = graph-written p w s allowed (r .log) out later (r .steps) n f noted graph-steps in
+        (ap Written (g .0) ∙ ap graphAnswerOf (sym graph-whole), g .1 ∙ ap (λ (a : GraphResult). graphOutput a out) (sym graph-whole))
 
 -- ---- of a program file
 module _ (a : Answer) (file : List ℕ) (s : Schedule) (room : ℕ) (e : answerOf a ≡ decode file) where

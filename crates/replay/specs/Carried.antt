@@ -19,13 +19,13 @@ unfoldable pub verdictOf : Verdict → State → Replayed
 verdictOf Whole σ = whole σ
 verdictOf (Refused n k) σ = refused n k
 
--- what carrying out a schedule leaves: the steps that were made, each of which might be and stands in the run's own schedule, the state behind
--- them, their notes, and the answer
+-- what carrying out a schedule leaves: the steps that were made, each of which might be and stands in the run's own schedule, the state
+-- behind them, their notes, and the answer
 pub record HoldsRun (code lengths : List ℕ) (p : Program) (s : Schedule) (r : Run) : Type 0 where
   pub counted : r .steps ≤ length s
   pub schedule : take (r .steps) (r .schedule) ≡ take (r .steps) s
   pub allowed : Allowed SC (start p) (take (r .steps) s)
   pub holds : Holds code lengths (r .machine) (run SC (start p) (take (r .steps) s))
-  pub noted : Noted (r .trail) (notes (start p) (take (r .steps) s))
+  pub noted : Noted (r .log) (notes (start p) (take (r .steps) s))
   pub answer : verdictOf (r .verdict) (run SC (start p) (take (r .steps) s)) ≡ replay p s
   pub all : r .verdict ≡ Whole → take (r .steps) s ≡ s

@@ -2,8 +2,8 @@
 use lib.ListN.{length}
 use Rattle.replay.specs.declared.graph_call.GraphAnswer.{GraphAnswer}
 use Rattle.replay.specs.declared.graph_call.GraphAnswer.the-variants.{Written, Refused}
-use Rattle.sc.specs.GraphCall.{GraphSaid, texted, refusing}
+use Rattle.sc.specs.GraphCall.{GraphResult, texted, refusing}
 
-unfoldable pub saidOf : GraphSaid → GraphAnswer
-saidOf (texted t) = Written (length t)
-saidOf (refusing n k) = Refused n k
+unfoldable pub graphAnswerOf : GraphResult → GraphAnswer
+graphAnswerOf (texted t) = Written (length t)
+graphAnswerOf (refusing n k) = Refused n k

@@ -8,7 +8,7 @@ ghost use lib.ListN.{length};
 ghost use Rattle.program.specs.WellFormed.{WellFormed};
 ghost use Rattle.decoder.specs.Compiled.{programOf};
 ghost use Rattle.sc.specs.GraphCall.{graphAnswer, graphFile, graphOutput};
-ghost use Rattle.replay.specs.GraphWord.{saidOf};
+ghost use Rattle.replay.specs.GraphWord.{graphAnswerOf};
 
 pub enum GraphAnswer {
     // A text of so many bytes stands in front of the output.
@@ -20,8 +20,9 @@ pub enum GraphAnswer {
 // Of an accepted program.
 fn graph_of(p: Compiled, schedule: &[u8], out: &mut [u8]) -> GraphAnswer
     requires { ⌜ WellFormed (programOf p) ⌝ }
-    ensures answer { λ r. ⌜ r ≡ saidOf (graphAnswer (programOf p) (now (schedule .entry)) (length (now (out .entry)))) ⌝ }
-    ensures output { λ r. ⌜ now (out .exit) ≡ graphOutput (graphAnswer (programOf p) (now (schedule .entry)) (length (now (out .entry)))) (now (out .entry)) ⌝ }
+    ensures answer { λ r. ⌜ r ≡ graphAnswerOf (graphAnswer (programOf p) (now (schedule .entry)) (length (now (out .entry)))) ⌝ }
+    ensures output { λ r. ⌜ now (out .exit) ≡ graphOutput (graphAnswer (programOf p) (now (schedule .entry)) (length (now (out .entry))))
+        (now (out .entry)) ⌝ }
 {
     if out.len() < 512 {
         return GraphAnswer::Refused(22, 0);
@@ -33,17 +34,18 @@ fn graph_of(p: Compiled, schedule: &[u8], out: &mut [u8]) -> GraphAnswer
     match v {
         Verdict::Refused(n, k) => GraphAnswer::Refused(n, k),
         Verdict::Whole => {
-            let trail = r.trail;
+            let log = r.log;
             let steps = r.steps;
-            GraphAnswer::Written(write_graph(out, &trail, steps))
+            GraphAnswer::Written(write_graph(out, &log, steps))
         }
     }
 }
 
 // Of a program file: its refusals come first, then 22 for an output shorter than 512 bytes, then 20 and 21 of the schedule.
 pub fn graph(file: &[u8], schedule: &[u8], out: &mut [u8]) -> GraphAnswer
-    ensures answer { λ r. ⌜ r ≡ saidOf (graphFile (now (file .entry)) (now (schedule .entry)) (length (now (out .entry)))) ⌝ }
-    ensures output { λ r. ⌜ now (out .exit) ≡ graphOutput (graphFile (now (file .entry)) (now (schedule .entry)) (length (now (out .entry)))) (now (out .entry)) ⌝ }
+    ensures answer { λ r. ⌜ r ≡ graphAnswerOf (graphFile (now (file .entry)) (now (schedule .entry)) (length (now (out .entry)))) ⌝ }
+    ensures output { λ r. ⌜ now (out .exit) ≡ graphOutput (graphFile (now (file .entry)) (now (schedule .entry))
+        (length (now (out .entry)))) (now (out .entry)) ⌝ }
 {
     let a = decoder::decode(file);
     let v = a.verdict;

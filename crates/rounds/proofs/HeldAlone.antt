@@ -12,14 +12,14 @@ use Rattle.machine.specs.declared.stepping.Stepped.{Stepped}
 use Rattle.program.specs.declared.instruction.Instruction.{Instruction}
 use Rattle.rows.specs.Rows.{threadCode}
 use Rattle.sc.specs.Local.{Local, placeOf, puts, next, firstPlace, firstPuts, firstNext}
-use Rattle.sc.specs.State.{Thread, Cell, State, freshCell, threadOf, cellOf, latest, initialWrite, place, step, may, met, advanced}
-use Rattle.sc.specs.Trail.{given, writes}
+use Rattle.sc.specs.State.{Thread, Cell, State, freshCell, threadOf, cellOf, latest, initialWrite, place, step, enabled, met, advanced}
+use Rattle.sc.specs.Actions.{given, writes}
 use Rattle.graph_writer.specs.Notes.{note, noteBytes}
 use Rattle.machine.specs.Held.{unwritten, threadAt, eventOf, Holds, HoldsStep}
-use Rattle.sc.proofs.Steps.{may-same, may-range, thread-own, cell-own}
+use Rattle.sc.proofs.Steps.{enabled-same, enabled-range, thread-own, cell-own}
 use Rattle.sc.proofs.Change.{written-some}
-use Rattle.accesses.proofs.HeldTurns.{code-end}
-use Rattle.machine.proofs.HeldAsking.{may-held}
+use Rattle.accesses.proofs.HeldSettling.{code-end}
+use Rattle.machine.proofs.HeldAsking.{enabled-held}
 use Rattle.consistent.proofs.RoundValues.{orZero}
 use Rattle.rounds.specs.HeldRounds.{faced, facedMachine, MetAlone}
 
@@ -64,7 +64,7 @@ module _ (code lengths : List ℕ) (m : Machine) (σ : State) (x : ℕ) (H : Hol
   faced-eight = refl
 
   -- it has ended
-  pub met-ended : (t : ℕ) → t < 6 → may τ t ≡ false → MetAlone code lengths σ t x (record { machine = m; place = 0; left = 0 })
+  pub met-ended : (t : ℕ) → t < 6 → enabled τ t ≡ false → MetAlone code lengths σ t x (record { machine = m; place = 0; left = 0 })
   unfolding next placeOf puts orZero firstNext firstPlace firstPuts
   met-ended t h e =
       let none-left : threadOf σ t .local .rest ≡ [] = H .threads t h .rest ∙ over in
@@ -76,14 +76,14 @@ module _ (code lengths : List ℕ) (m : Machine) (σ : State) (x : ℕ) (H : Hol
         left = sym (ap (λ (is : List Instruction). orZero (firstPuts (threadOf σ t .local .registers) is x)) none-left);
       }
     where
-      stays : may σ t ≡ false
-      stays = sym (may-same τ σ t (faced-thread t)) ∙ e
+      stays : enabled σ t ≡ false
+      stays = sym (enabled-same τ σ t (faced-thread t)) ∙ e
 
       over : drop (threadAt m t .at) (threadCode code t (getD lengths t 0)) ≡ []
-      over = code-end code t (getD lengths t 0) (threadAt m t .at) (ltb-false (threadAt m t .at) (getD lengths t 0) (may-held code lengths m σ H t h ∙ stays))
+      over = code-end code t (getD lengths t 0) (threadAt m t .at) (ltb-false (threadAt m t .at) (getD lengths t 0) (enabled-held code lengths m σ H t h ∙ stays))
 
   -- it has an access, and the machine makes it
-  module _ (t : ℕ) (near : place σ t < 8) (ok : may τ t ≡ true) where
+  module _ (t : ℕ) (near : place σ t < 8) (ok : enabled τ t ≡ true) where
     pub faced-near : place τ t < 8
     faced-near = omega (arith, faced-place t)
 
@@ -95,7 +95,7 @@ module _ (code lengths : List ℕ) (m : Machine) (σ : State) (x : ℕ) (H : Hol
 
     behind : threadOf (step τ t) t .local ≡ next h x
     unfolding advanced
-    behind = ap (λ (k : Thread). k .local) (thread-own τ t (may-range τ t ok)) ∙ ap₂ (λ (k : Thread) (y : ℕ). next (k .local) y) (faced-thread t) found
+    behind = ap (λ (k : Thread). k .local) (thread-own τ t (enabled-range τ t ok)) ∙ ap₂ (λ (k : Thread) (y : ℕ). next (k .local) y) (faced-thread t) found
 
     writes-is : writes τ t ≡ given (puts h x)
     unfolding writes

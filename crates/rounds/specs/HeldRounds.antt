@@ -1,4 +1,5 @@
--- How the judge's arrays hold a thread that runs by itself, and a round. For the judge's own functions: nothing here is needed to read `judge`.
+-- How the judge's arrays hold a thread that runs by itself, and a round. For the judge's own functions: nothing here is needed to read
+-- `judge`.
 use Prim.Native.Nat.{ℕ, _+_, _*_, _<_}
 use mathlib.Core.Path.{_≡_}
 use mathlib.Core.Bool.{cond}

@@ -1,8 +1,10 @@
 // A thread by itself: its next access on finding a given value, whatever memory holds.
+use lines::wide;
 use machine::LastWrite;
 use machine::Machine;
-use machine::may;
+use machine::enabled;
 use machine::step;
+use rows::Code;
 ghost use mathlib.Core.Path.{_≡_};
 ghost use Prim.Native.Nat.{_<_, _≤_};
 ghost use lib.ListN.{getD};
@@ -32,20 +34,14 @@ fn facing(m: Machine, x: u32) -> Machine
     }
 }
 
-// A byte as a larger number.
-pub fn wide(x: u8) -> usize
-    ensures { λ r. ⌜ r ≡ x ⌝ }
-{
-    x as usize
-}
-
 // Thread t's next access, which finds x.
-pub(crate) fn met(code: &[u8; 1536], lengths: &[usize; 6], m: Machine, t: u8, x: u32) -> Lone
+pub(crate) fn met(code: &Code, lengths: &[usize; 6], m: Machine, t: u8, x: u32) -> Lone
     requires { ⌜ (t < 6) × (getD (now lengths) t 0 ≤ 16) × ((σ : State) × Holds (now code) (now lengths) m σ) ⌝ }
-    ensures { λ r. ⌜ ((σ : State) → Holds (now (code .entry)) (now (lengths .entry)) m σ → place σ t < 8 → MetAlone (now (code .entry)) (now (lengths .entry)) σ t x r) ⌝ }
+    ensures { λ r. ⌜ ((σ : State) → Holds (now (code .entry)) (now (lengths .entry)) m σ → place σ t < 8
+        → MetAlone (now (code .entry)) (now (lengths .entry)) σ t x r) ⌝ }
 {
     let n = facing(m, x);
-    if !may(lengths, n, t) {
+    if !enabled(lengths, n, t) {
         return Lone {
             machine: m,
             place: 0,

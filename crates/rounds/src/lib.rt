@@ -5,5 +5,4 @@ mod by_itself;
 // The rounds.
 mod valuing;
 
-pub use by_itself::wide;
 pub use valuing::places;

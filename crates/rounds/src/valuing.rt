@@ -1,8 +1,10 @@
 // The rounds: every thread by itself on the values known so far, then each read gets what its source left.
 use crate::by_itself::met;
-use crate::by_itself::wide;
+use lines::wide;
 use machine::Machine;
 use machine::started;
+use program::STEPS;
+use rows::Code;
 ghost use mathlib.Core.Path.{_≡_};
 ghost use mathlib.Core.Bool.{cond};
 ghost use Prim.Native.Nat.{ℕ, _+_, _*_, _%_, _<_};
@@ -35,9 +37,10 @@ fn standing(start: Machine, m: Machine, k: usize) -> Machine
 }
 
 // Every thread by itself on these values.
-fn in_round(code: &[u8; 1536], lengths: &[usize; 6], threads: usize, values: [u32; 96]) -> Round
+fn in_round(code: &Code, lengths: &[usize; 6], threads: usize, values: [u32; 96]) -> Round
     requires { ⌜ ((p : Program) × Loaded (now code) (now lengths) threads p) ⌝ }
-    ensures { λ r. ⌜ ((p : Program) → Loaded (now (code .entry)) (now (lengths .entry)) threads p → RoundHeld threads p values (r .places) (r .left)) ⌝ }
+    ensures { λ r. ⌜ ((p : Program) → Loaded (now (code .entry)) (now (lengths .entry)) threads p
+        → RoundHeld threads p values (r .places) (r .left)) ⌝ }
 {
     let start = started(code, lengths, threads);
     let mut places = [0u8; 96];
@@ -88,13 +91,15 @@ fn next_values(pairs: [u8; 576], left: [u32; 96]) -> [u32; 96]
 }
 
 // Where each access goes on the values of the last round.
-pub fn places(code: &[u8; 1536], lengths: &[usize; 6], threads: usize, pairs: [u8; 576]) -> [u8; 96]
+pub fn places(code: &Code, lengths: &[usize; 6], threads: usize, pairs: [u8; 576]) -> [u8; 96]
     requires { ⌜ ((p : Program) × Loaded (now code) (now lengths) threads p) ⌝ }
-    ensures { λ r. ⌜ ((p : Program) (text counts : List ℕ) (g : Graph) → Loaded (now (code .entry)) (now (lengths .entry)) threads p → readGraph threads text ≡ parsed g → Tabled pairs counts g → (t i : ℕ) → t < threads → i < 16 → getD r (t * 16 + i) 0 ≡ locationOf p (values p g 24) (t, i)) ⌝ }
+    ensures { λ r. ⌜ ((p : Program) (text counts : List ℕ) (g : Graph) → Loaded (now (code .entry)) (now (lengths .entry)) threads p
+        → readGraph threads text ≡ parsed g → Tabled pairs counts g → (t i : ℕ) → t < threads → i < 16
+        → getD r (t * 16 + i) 0 ≡ locationOf p (values p g 24) (t, i)) ⌝ }
 {
     let mut vs = [0u32; 96];
     let mut k = 0usize;
-    while k < 24 {
+    while k < STEPS {
         let r = in_round(code, lengths, threads, vs);
         let left = r.left;
         vs = next_values(pairs, left);

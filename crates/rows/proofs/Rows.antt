@@ -2,7 +2,6 @@
 use Prim.Native.Nat.{ℕ, _+_, _*_, _<_}
 use native.Mathlib.Nat.{add-zero}
 use native.Mathlib.Omega.{arith}
-use native.Mathlib.Decide.{ℕ-discrete}
 use mathlib.Core.Path.{_≡_, _∙_, refl, sym, ap, subst}
 use mathlib.Core.Bool.{Bool, true, false}
 use mathlib.Core.List.{List}
@@ -10,11 +9,14 @@ use borrow.Author.Tests.{ne-eqb, lt-ltb}
 use lib.Dec.{eqb, lit<}
 use lib.ListN.{getD, drop}
 use lib.Seq.{getD-take, getD-drop}
-use Rattle.program.specs.declared.instruction.Operand.{Operand}
+use Rattle.program.specs.declared.instruction.Access.the-variants.{Store, Load, FetchAdd, CompareSwap}
+use Rattle.program.specs.declared.instruction.Comparison.the-variants.{Equal}
+use Rattle.program.specs.declared.instruction.Own.{Own}
+use Rattle.program.specs.declared.instruction.Own.the-variants.{Assign, AddAssign, SkipUnless, Assert}
 use Rattle.program.specs.declared.instruction.Instruction.{Instruction}
-use Rattle.program.specs.declared.instruction.Instruction.the-variants.{Store, Load, FetchAdd, CompareSwap, Assign, AddAssign, SkipUnless, Assert}
-use Rattle.program.specs.Kinds.{kindOf, find, kinds}
-use Rattle.program.specs.Frames.{Frame, byte, word, kind, operand, build, instruction}
+use Rattle.program.specs.declared.instruction.Instruction.the-variants.{Memory, Alone}
+use Rattle.program.specs.Kinds.{kindOf, lookup, kinds}
+use Rattle.program.specs.Frames.{Frame, byte, word, kind, operand, test, buildOwn, build, instruction}
 use Rattle.rows.specs.Rows.{rowAt, instructionAt}
 
 pub row-byte : (code : List ℕ) (k j : ℕ) → j < 16 → byte (rowAt code k) j ≡ getD code (k * 16 + j) 0
@@ -37,50 +39,50 @@ row-word code k j h =
 -- the instruction of a frame that is none of the eight kinds
 pub other-kind : (f : Frame) → (byte f 0 ≡ 0x10 → ⊥) → (byte f 0 ≡ 0x11 → ⊥) → (byte f 0 ≡ 0x12 → ⊥) → (byte f 0 ≡ 0x13 → ⊥)
     → (byte f 0 ≡ 0x20 → ⊥) → (byte f 0 ≡ 0x21 → ⊥) → (byte f 0 ≡ 0x22 → ⊥) → (byte f 0 ≡ 0x23 → ⊥)
-    → instruction f ≡ Assert (byte f 0) (operand f 0)
-unfolding instruction build kind kindOf find kinds
+    → instruction f ≡ Alone (Assert (test Equal (byte f 0) (operand f 0)))
+unfolding instruction buildOwn build kind kindOf lookup kinds
 other-kind f h10 h11 h12 h13 h20 h21 h22 h23 = go (eqb (byte f 0) 1) (eqb (byte f 0) 2) refl refl where
-  go : (x y : Bool) → eqb (byte f 0) 1 ≡ x → eqb (byte f 0) 2 ≡ y → instruction f ≡ Assert (byte f 0) (operand f 0)
+  go : (x y : Bool) → eqb (byte f 0) 1 ≡ x → eqb (byte f 0) 2 ≡ y → instruction f ≡ Alone (Assert (test Equal (byte f 0) (operand f 0)))
   go true y e d = rw (e, ne-eqb _ _ h10, ne-eqb _ _ h11, ne-eqb _ _ h12, ne-eqb _ _ h13, ne-eqb _ _ h20, ne-eqb _ _ h21, ne-eqb _ _ h22)
   go false true e d = rw (e, d, ne-eqb _ _ h10, ne-eqb _ _ h11, ne-eqb _ _ h12, ne-eqb _ _ h13, ne-eqb _ _ h20, ne-eqb _ _ h21, ne-eqb _ _ h22)
   go false false e d = rw (e, d, ne-eqb _ _ h10, ne-eqb _ _ h11, ne-eqb _ _ h12, ne-eqb _ _ h13, ne-eqb _ _ h20, ne-eqb _ _ h21, ne-eqb _ _ h22, ne-eqb _ _ h23)
 
 -- the instruction in one of the 96 rows, by its first byte
 module _ (code : List ℕ) (k : ℕ) (h : k < 96) where
-  pub row-store : getD code (k * 16) 0 ≡ 0x10 → instructionAt code k ≡ Store (getD code (k * 16 + 1) 0) (operand (rowAt code k) 2)
-  unfolding instructionAt instruction build kind kindOf find kinds
+  pub row-store : getD code (k * 16) 0 ≡ 0x10 → instructionAt code k ≡ Memory (Store (getD code (k * 16 + 1) 0) (operand (rowAt code k) 2))
+  unfolding instructionAt instruction buildOwn build kind kindOf lookup kinds
   row-store e = rw (lt-ltb _ _ h, row-first code k ∙ e, row-byte code k 1 (lit< tt))
 
-  pub row-load : getD code (k * 16) 0 ≡ 0x11 → instructionAt code k ≡ Load (getD code (k * 16 + 1) 0) (getD code (k * 16 + 2) 0)
-  unfolding instructionAt instruction build kind kindOf find kinds
+  pub row-load : getD code (k * 16) 0 ≡ 0x11 → instructionAt code k ≡ Memory (Load (getD code (k * 16 + 1) 0) (getD code (k * 16 + 2) 0))
+  unfolding instructionAt instruction buildOwn build kind kindOf lookup kinds
   row-load e = rw (lt-ltb _ _ h, row-first code k ∙ e, row-byte code k 1 (lit< tt), row-byte code k 2 (lit< tt))
 
-  pub row-fetch-add : getD code (k * 16) 0 ≡ 0x12 → instructionAt code k ≡ FetchAdd (getD code (k * 16 + 1) 0) (getD code (k * 16 + 2) 0) (operand (rowAt code k) 3)
-  unfolding instructionAt instruction build kind kindOf find kinds
+  pub row-fetch-add : getD code (k * 16) 0 ≡ 0x12 → instructionAt code k ≡ Memory (FetchAdd (getD code (k * 16 + 1) 0) (getD code (k * 16 + 2) 0) (operand (rowAt code k) 3))
+  unfolding instructionAt instruction buildOwn build kind kindOf lookup kinds
   row-fetch-add e = rw (lt-ltb _ _ h, row-first code k ∙ e, row-byte code k 1 (lit< tt), row-byte code k 2 (lit< tt))
 
-  pub row-compare-swap : getD code (k * 16) 0 ≡ 0x13 → instructionAt code k ≡ CompareSwap (getD code (k * 16 + 1) 0) (getD code (k * 16 + 2) 0) (operand (rowAt code k) 3) (operand (rowAt code k) 8)
-  unfolding instructionAt instruction build kind kindOf find kinds
+  pub row-compare-swap : getD code (k * 16) 0 ≡ 0x13 → instructionAt code k ≡ Memory (CompareSwap (getD code (k * 16 + 1) 0) (getD code (k * 16 + 2) 0) (operand (rowAt code k) 3) (operand (rowAt code k) 8))
+  unfolding instructionAt instruction buildOwn build kind kindOf lookup kinds
   row-compare-swap e = rw (lt-ltb _ _ h, row-first code k ∙ e, row-byte code k 1 (lit< tt), row-byte code k 2 (lit< tt))
 
-  pub row-assign : getD code (k * 16) 0 ≡ 0x20 → instructionAt code k ≡ Assign (getD code (k * 16 + 1) 0) (operand (rowAt code k) 2)
-  unfolding instructionAt instruction build kind kindOf find kinds
+  pub row-assign : getD code (k * 16) 0 ≡ 0x20 → instructionAt code k ≡ Alone (Assign (getD code (k * 16 + 1) 0) (operand (rowAt code k) 2))
+  unfolding instructionAt instruction buildOwn build kind kindOf lookup kinds
   row-assign e = rw (lt-ltb _ _ h, row-first code k ∙ e, row-byte code k 1 (lit< tt))
 
-  pub row-add-assign : getD code (k * 16) 0 ≡ 0x21 → instructionAt code k ≡ AddAssign (getD code (k * 16 + 1) 0) (operand (rowAt code k) 2)
-  unfolding instructionAt instruction build kind kindOf find kinds
+  pub row-add-assign : getD code (k * 16) 0 ≡ 0x21 → instructionAt code k ≡ Alone (AddAssign (getD code (k * 16 + 1) 0) (operand (rowAt code k) 2))
+  unfolding instructionAt instruction buildOwn build kind kindOf lookup kinds
   row-add-assign e = rw (lt-ltb _ _ h, row-first code k ∙ e, row-byte code k 1 (lit< tt))
 
-  pub row-skip : getD code (k * 16) 0 ≡ 0x22 → instructionAt code k ≡ SkipUnless (getD code (k * 16 + 1) 0) (operand (rowAt code k) 2) (getD code (k * 16 + 7) 0)
-  unfolding instructionAt instruction build kind kindOf find kinds
+  pub row-skip : getD code (k * 16) 0 ≡ 0x22 → instructionAt code k ≡ Alone (SkipUnless (test Equal (getD code (k * 16 + 1) 0) (operand (rowAt code k) 2)) (getD code (k * 16 + 7) 0))
+  unfolding instructionAt instruction buildOwn build kind kindOf lookup kinds
   row-skip e = rw (lt-ltb _ _ h, row-first code k ∙ e, row-byte code k 1 (lit< tt), row-byte code k 7 (lit< tt))
 
-  pub row-assert : getD code (k * 16) 0 ≡ 0x23 → instructionAt code k ≡ Assert (getD code (k * 16 + 1) 0) (operand (rowAt code k) 2)
-  unfolding instructionAt instruction build kind kindOf find kinds
+  pub row-assert : getD code (k * 16) 0 ≡ 0x23 → instructionAt code k ≡ Alone (Assert (test Equal (getD code (k * 16 + 1) 0) (operand (rowAt code k) 2)))
+  unfolding instructionAt instruction buildOwn build kind kindOf lookup kinds
   row-assert e = rw (lt-ltb _ _ h, row-first code k ∙ e, row-byte code k 1 (lit< tt))
 
   pub row-other : (getD code (k * 16) 0 ≡ 0x10 → ⊥) → (getD code (k * 16) 0 ≡ 0x11 → ⊥) → (getD code (k * 16) 0 ≡ 0x12 → ⊥) → (getD code (k * 16) 0 ≡ 0x13 → ⊥) → (getD code (k * 16) 0 ≡ 0x20 → ⊥) → (getD code (k * 16) 0 ≡ 0x21 → ⊥) → (getD code (k * 16) 0 ≡ 0x22 → ⊥) → (getD code (k * 16) 0 ≡ 0x23 → ⊥)
-      → instructionAt code k ≡ Assert (getD code (k * 16) 0) (operand (rowAt code k) 0)
+      → instructionAt code k ≡ Alone (Assert (test Equal (getD code (k * 16) 0) (operand (rowAt code k) 0)))
   unfolding instructionAt
   row-other h10 h11 h12 h13 h20 h21 h22 h23 =
       let first : (b : ℕ) → (getD code (k * 16) 0 ≡ b → ⊥) → byte (rowAt code k) 0 ≡ b → ⊥ = λ b n e. n (sym (row-first code k) ∙ e) in
@@ -88,15 +90,11 @@ module _ (code : List ℕ) (k : ℕ) (h : k < 96) where
 
   -- a row that is no access
   pub row-no-access : (P : Instruction → Type 0) → (getD code (k * 16) 0 ≡ 0x10 → ⊥) → (getD code (k * 16) 0 ≡ 0x11 → ⊥) → (getD code (k * 16) 0 ≡ 0x12 → ⊥) → (getD code (k * 16) 0 ≡ 0x13 → ⊥)
-      → ((r : ℕ) (p : Operand) → P (Assign r p)) → ((r : ℕ) (p : Operand) → P (AddAssign r p)) → ((r : ℕ) (p : Operand) (n : ℕ) → P (SkipUnless r p n)) → ((r : ℕ) (p : Operand) → P (Assert r p)) → P (instructionAt code k)
-  row-no-access P h10 h11 h12 h13 assign add skip assert = go (ℕ-discrete b 0x20) (ℕ-discrete b 0x21) (ℕ-discrete b 0x22) (ℕ-discrete b 0x23)
-    where
-      b : ℕ
-      b = getD code (k * 16) 0
-
-      go : Dec (b ≡ 0x20) → Dec (b ≡ 0x21) → Dec (b ≡ 0x22) → Dec (b ≡ 0x23) → P (instructionAt code k)
-      go (yes e) _ _ _ = subst P (sym (row-assign e)) (assign _ _)
-      go (no h20) (yes e) _ _ = subst P (sym (row-add-assign e)) (add _ _)
-      go (no h20) (no h21) (yes e) _ = subst P (sym (row-skip e)) (skip _ _ _)
-      go (no h20) (no h21) (no h22) (yes e) = subst P (sym (row-assert e)) (assert _ _)
-      go (no h20) (no h21) (no h22) (no h23) = subst P (sym (row-other h10 h11 h12 h13 h20 h21 h22 h23)) (assert _ _)
+      → ((o : Own) → P (Alone o)) → P (instructionAt code k)
+  unfolding instructionAt instruction build
+  row-no-access P h10 h11 h12 h13 own =
+      let f : Frame = rowAt code k in
+      let first : (b : ℕ) → (getD code (k * 16) 0 ≡ b → ⊥) → byte (rowAt code k) 0 ≡ b → ⊥ = λ b n e. n (sym (row-first code k) ∙ e) in
+      let e : instructionAt code k ≡ Alone (buildOwn (byte f 0) (byte f (kind f .register)) (operand f (kind f .first)) (byte f (kind f .skip))) =
+      rw (lt-ltb _ _ h, ne-eqb _ _ (first 0x10 h10), ne-eqb _ _ (first 0x11 h11), ne-eqb _ _ (first 0x12 h12), ne-eqb _ _ (first 0x13 h13)) in
+      subst P (sym e) (own _)

@@ -1,29 +1,16 @@
 // The fields of a frame, read off its line, and whether they are in range.
+use lines::field;
 use program::Kind;
 ghost use mathlib.Core.Path.{_≡_};
 ghost use Prim.Native.Nat.{_+_, _*_, _<_};
 ghost use Rattle.lines.specs.Frame.{pairs};
-ghost use Rattle.program.specs.Frames.{byte, word, kind, inRange, registerFits, locationFits, skipFits, operandFits};
-
-// A byte as a larger number.
-pub(crate) fn wide(x: u8) -> usize
-    ensures { λ r. ⌜ r ≡ x ⌝ }
-{
-    x as usize
-}
+ghost use Rattle.program.specs.Frames.{word, kind, inRange, registerFits, locationFits, skipFits, operandFits};
 
 // Four bytes as one number, most significant first.
 pub(crate) fn join(a: u8, b: u8, c: u8, d: u8) -> u32
     ensures { λ r. ⌜ r ≡ ((a * 256 + b) * 256 + c) * 256 + d ⌝ }
 {
     (((a as u32) * 256 + (b as u32)) * 256 + (c as u32)) * 256 + (d as u32)
-}
-
-// The byte at a position of the line's frame.
-pub fn field(line: &[u8], at: usize) -> usize
-    ensures { λ r. ⌜ r ≡ byte (pairs (now (line .entry))) at ⌝ }
-{
-    wide(lines::byte_at(line, at))
 }
 
 fn register_fits(line: &[u8], at: usize) -> bool

@@ -7,10 +7,10 @@ mod fields;
 // The instructions that a program keeps, a row of sixteen bytes each.
 mod row;
 
-pub use fields::field;
 pub use fields::in_range;
 pub use kinds::kind_of;
-pub use row::instruction_at;
+pub use row::CODE_BYTES;
+pub use row::Code;
 pub use row::operand_at;
 pub use row::put_row;
 pub use row::same_bytes;

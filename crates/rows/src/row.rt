@@ -1,17 +1,22 @@
 // The instructions that a program keeps: each frame padded with zeros to sixteen bytes, thread t's instruction i in row 16 t + i.
 use crate::fields::join;
-use program::Instruction;
+use lines::wide;
 use program::Operand;
 ghost use mathlib.Core.Path.{_≡_};
 ghost use Prim.Native.Nat.{_+_, _*_, _<_, _≤_};
 ghost use lib.ListN.{length};
 ghost use Rattle.lines.specs.Frame.{pairs};
 ghost use Rattle.program.specs.Frames.{operand, skipOf};
-ghost use Rattle.rows.specs.Rows.{rowAt, instructionAt};
+ghost use Rattle.rows.specs.Rows.{rowAt};
 ghost use Rattle.rows.specs.Bytes.{agree, Written};
 
+// The bytes of a program's code: 96 rows of sixteen.
+pub const CODE_BYTES: usize = 1536;
+
+pub type Code = [u8; CODE_BYTES];
+
 // The operand in row `row` at position `j`.
-pub fn operand_at(code: &[u8; 1536], row: usize, j: usize) -> Operand
+pub fn operand_at(code: &Code, row: usize, j: usize) -> Operand
     requires { ⌜ (row < 96) × (j < 12) ⌝ }
     ensures { λ r. ⌜ r ≡ operand (rowAt (now (code .entry)) row) j ⌝ }
 {
@@ -23,58 +28,20 @@ pub fn operand_at(code: &[u8; 1536], row: usize, j: usize) -> Operand
     Operand::Constant(v)
 }
 
-// The instruction in row `row`.
-pub fn instruction_at(code: &[u8; 1536], row: usize) -> Instruction
-    ensures { λ r. ⌜ r ≡ instructionAt (now (code .entry)) row ⌝ }
-{
-    if 96 <= row {
-        return Instruction::Assert(0, Operand::Constant(0));
-    }
-    let at = row * 16;
-    let b = code[at];
-    let r = code[at + 1];
-    if b == 0x10 {
-        return Instruction::Store(r, operand_at(code, row, 2));
-    }
-    let l = code[at + 2];
-    if b == 0x11 {
-        return Instruction::Load(r, l);
-    }
-    if b == 0x12 {
-        return Instruction::FetchAdd(r, l, operand_at(code, row, 3));
-    }
-    if b == 0x13 {
-        return Instruction::CompareSwap(r, l, operand_at(code, row, 3), operand_at(code, row, 8));
-    }
-    if b == 0x20 {
-        return Instruction::Assign(r, operand_at(code, row, 2));
-    }
-    if b == 0x21 {
-        return Instruction::AddAssign(r, operand_at(code, row, 2));
-    }
-    if b == 0x22 {
-        return Instruction::SkipUnless(r, operand_at(code, row, 2), code[at + 7]);
-    }
-    if b == 0x23 {
-        return Instruction::Assert(r, operand_at(code, row, 2));
-    }
-    Instruction::Assert(b, operand_at(code, row, 0))
-}
-
 // How many instructions the one in row `row` may skip.
-pub fn skip_at(code: &[u8; 1536], row: usize) -> usize
+pub fn skip_at(code: &Code, row: usize) -> usize
     requires { ⌜ row < 96 ⌝ }
     ensures { λ r. ⌜ r ≡ skipOf (rowAt (now (code .entry)) row) ⌝ }
 {
     let at = row * 16;
     if code[at] == 0x22 {
-        return crate::fields::wide(code[at + 7]);
+        return wide(code[at + 7]);
     }
     0
 }
 
 // Whether the n bytes from a on and those from b on are the same.
-pub fn same_bytes(code: &[u8; 1536], a: usize, b: usize, n: usize) -> bool
+pub fn same_bytes(code: &Code, a: usize, b: usize, n: usize) -> bool
     requires { ⌜ (a + n ≤ 1536) × (b + n ≤ 1536) ⌝ }
     ensures { λ r. ⌜ r ≡ agree (now (code .entry)) a b n ⌝ }
 {
@@ -89,7 +56,7 @@ pub fn same_bytes(code: &[u8; 1536], a: usize, b: usize, n: usize) -> bool
 }
 
 // Puts the n bytes of the line's frame into row `row`.
-pub fn put_row(code: &mut [u8; 1536], row: usize, line: &[u8], n: usize)
+pub fn put_row(code: &mut Code, row: usize, line: &[u8], n: usize)
     requires { ⌜ (row < 96) × (n ≤ 16) × (length (now code) ≡ 1536) ⌝ }
     ensures { λ r. ⌜ Written (now (code .entry)) (row * 16) (pairs (now (line .entry))) n (now (code .exit)) ⌝ }
 {

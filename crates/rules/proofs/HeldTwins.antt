@@ -8,9 +8,9 @@ use native.Mathlib.Decide.{ℕ-discrete}
 use lib.Dec.{eqb}
 use lib.ListN.{getD}
 use Rattle.program.specs.Program.{Program}
-use Rattle.schedules.specs.Lists.{upTo, any}
+use Rattle.schedules.specs.Lists.{range, any}
 use Rattle.schedules.specs.Order.{Schedule}
-use Rattle.schedules.proofs.Lists.{in-upTo, of-upTo, any-yes, any-of}
+use Rattle.schedules.proofs.Lists.{in-range, of-range, any-yes, any-of}
 use Rattle.sc.specs.Graph.{endOf}
 use Rattle.list.specs.ListOf.{together}
 use Rattle.list.specs.Rules.{twin}
@@ -21,20 +21,12 @@ use Rattle.prefix.specs.declared.place.Place.{Place}
 use Rattle.prefix.proofs.ClassGroups.{together-known, alone-known}
 
 -- none of those below n passes
-pub none-below : (f : ℕ → Bool) (n : ℕ) → ((u : ℕ) → u < n → f u ≡ false) → any f (upTo 0 n) ≡ false
-none-below f n none = go (any f (upTo 0 n)) refl
+pub none-below : (f : ℕ → Bool) (n : ℕ) → ((u : ℕ) → u < n → f u ≡ false) → any f (range 0 n) ≡ false
+none-below f n none = go (any f (range 0 n)) refl
   where
-    go : (b : Bool) → any f (upTo 0 n) ≡ b → any f (upTo 0 n) ≡ false
-    go true e = let r = any-yes f (upTo 0 n) e in let i = of-upTo 0 n (r .0) (r .1) .1 in absurd (true≢false (sym (r .2) ∙ none (r .0) (omega arith)))
+    go : (b : Bool) → any f (range 0 n) ≡ b → any f (range 0 n) ≡ false
+    go true e = let r = any-yes f (range 0 n) e in let i = of-range 0 n (r .0) (r .1) .1 in absurd (true≢false (sym (r .2) ∙ none (r .0) (omega arith)))
     go false e = e
-
--- what holds below t and at t holds below t + 1
-pub one-more : (P : ℕ → Type 0) (t : ℕ) → ((u : ℕ) → u < t → P u) → P t → (u : ℕ) → u < t + 1 → P u
-one-more P t before own u b = go (ℕ-discrete u t)
-  where
-    go : Dec (u ≡ t) → P u
-    go (yes q) = subst P (sym q) own
-    go (no q) = before u (omega (arith, q))
 
 module _ (code lengths class : List ℕ) (threads groups : ℕ) (x : Place) (p : Program) (v : Schedule) (r : Reached code lengths class threads groups x p v) (t : ℕ) (h : t < 6) where
   -- R2, AS THE CODE TESTS IT
@@ -48,7 +40,7 @@ module _ (code lengths class : List ℕ) (threads groups : ℕ) (x : Place) (p :
       ∙ twin-by-word p (r .loaded .wellFormed) v (r .allowed) u t (λ q. omega (arith, q)) (omega arith) h
 
   -- one without a class has no twin
-  pub alone-held : getD class t 0 ≡ 0 → any (twin p (endOf p v) t) (upTo 0 t) ≡ false
+  pub alone-held : getD class t 0 ≡ 0 → any (twin p (endOf p v) t) (range 0 t) ≡ false
   unfolding twin
   alone-held e = none-below (twin p (endOf p v) t) t (λ u i. let q = ap (λ (g : List (List ℕ)). together g u t) (r .lines .same) ∙ alone-known class groups u t e in rw q)
 
@@ -60,8 +52,8 @@ module _ (code lengths class : List ℕ) (threads groups : ℕ) (x : Place) (p :
     tested : (u : ℕ) → u < own → test own u ≡ twin p (endOf p v) t u
     tested u i = ap (λ (o : ℕ). test o u) e ∙ twin-held (λ q. some (ap (λ (o : ℕ). getD class o 0) e ∙ q)) u (omega arith)
 
-    pub twins-none : ((u : ℕ) → u < own → test own u ≡ false) → false ≡ any (twin p (endOf p v) t) (upTo 0 t)
+    pub twins-none : ((u : ℕ) → u < own → test own u ≡ false) → false ≡ any (twin p (endOf p v) t) (range 0 t)
     twins-none none = sym (none-below (twin p (endOf p v) t) t (λ u i. let j : u < own = omega arith in sym (tested u j) ∙ none u j))
 
-    pub twins-some : (u : ℕ) → u < own → test own u ≡ true → true ≡ any (twin p (endOf p v) t) (upTo 0 t)
-    twins-some u i q = sym (any-of (twin p (endOf p v) t) (upTo 0 t) u (in-upTo 0 t u (omega arith) (omega arith)) (sym (tested u i) ∙ q))
+    pub twins-some : (u : ℕ) → u < own → test own u ≡ true → true ≡ any (twin p (endOf p v) t) (range 0 t)
+    twins-some u i q = sym (any-of (twin p (endOf p v) t) (range 0 t) u (in-range 0 t u (omega arith) (omega arith)) (sym (tested u i) ∙ q))

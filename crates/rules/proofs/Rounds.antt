@@ -1,4 +1,4 @@
--- R3 behind a prefix: the counters of its machine, and the rounds of the search for sleepers.
+-- R3 behind a prefix: the counters of its threads, and the rounds of the search for sleepers.
 use Prim.Native.Nat.{ℕ, zero, suc, _<_, _≤_}
 use mathlib.Core.Path.{_≡_, refl, sym, ap, subst, _∙_}
 use mathlib.Core.Logic.{_≢_}
@@ -13,8 +13,8 @@ use Rattle.rows.specs.Rows.{threadCode}
 use Rattle.schedules.specs.Order.{Schedule}
 use Rattle.sc.specs.State.{State}
 use Rattle.sc.specs.Graph.{endOf}
-use Rattle.machine.specs.Held.{threadAt}
-use Rattle.machine.specs.declared.state.Machine.{Machine}
+use Rattle.accesses.specs.declared.thread.ThreadState.{ThreadState}
+use Rattle.machine.specs.Held.{idle}
 use Rattle.survivors.specs.LateSet.{lateSet}
 use Rattle.survivors.specs.Sleepers.{unwoken, sleepers}
 use Rattle.survivors.proofs.LateSet.{late-below}
@@ -25,27 +25,27 @@ use Rattle.prefix.specs.declared.place.Place.{Place}
 use Rattle.prefix.proofs.ReachedStep.{reached-short}
 
 -- the six counters
-abbrev pub countersOf : Machine → List ℕ
-countersOf m = threadAt m 0 .at ∷ threadAt m 1 .at ∷ threadAt m 2 .at ∷ threadAt m 3 .at ∷ threadAt m 4 .at ∷ threadAt m 5 .at ∷ []
+abbrev pub countersOf : List ThreadState → List ℕ
+countersOf ts = getD ts 0 idle .at ∷ getD ts 1 idle .at ∷ getD ts 2 idle .at ∷ getD ts 3 idle .at ∷ getD ts 4 idle .at ∷ getD ts 5 idle .at ∷ []
 
-six-counters : (m : Machine) (k : ℕ) → k < 6 → getD (countersOf m) k 0 ≡ threadAt m k .at
-six-counters m zero h = refl
-six-counters m (suc zero) h = refl
-six-counters m (suc (suc zero)) h = refl
-six-counters m (suc (suc (suc zero))) h = refl
-six-counters m (suc (suc (suc (suc zero)))) h = refl
-six-counters m (suc (suc (suc (suc (suc zero))))) h = refl
-six-counters m (suc (suc (suc (suc (suc (suc k)))))) h = absurd (omega arith)
+six-counters : (ts : List ThreadState) (k : ℕ) → k < 6 → getD (countersOf ts) k 0 ≡ getD ts k idle .at
+six-counters ts zero h = refl
+six-counters ts (suc zero) h = refl
+six-counters ts (suc (suc zero)) h = refl
+six-counters ts (suc (suc (suc zero))) h = refl
+six-counters ts (suc (suc (suc (suc zero)))) h = refl
+six-counters ts (suc (suc (suc (suc (suc zero))))) h = refl
+six-counters ts (suc (suc (suc (suc (suc (suc k)))))) h = absurd (omega arith)
 
 module _ (code lengths class : List ℕ) (threads groups : ℕ) (x : Place) (p : Program) (v : Schedule) (r : Reached code lengths class threads groups x p v) where
   abbrev σ : State
   σ = endOf p v
 
-  pub counters-short : ShortAt lengths (countersOf (x .machine))
-  counters-short k h l = let e = six-counters (x .machine) k h in reached-short code lengths class threads groups x p v r k h (omega (arith, e, l))
+  pub counters-short : ShortAt lengths (countersOf (x .threads))
+  counters-short k h l = let e = six-counters (x .threads) k h in reached-short code lengths class threads groups x p v r k h (omega (arith, e, l))
 
-  pub counters-rest : Rests code lengths (countersOf (x .machine)) (endOf p v)
-  counters-rest t h = r .holds .threads t h .rest ∙ ap (λ (i : ℕ). drop i (threadCode code t (getD lengths t 0))) (sym (six-counters (x .machine) t h))
+  pub counters-rest : Rests code lengths (countersOf (x .threads)) (endOf p v)
+  counters-rest t h = r .holds .threads t h .rest ∙ ap (λ (i : ℕ). drop i (threadCode code t (getD lengths t 0))) (sym (six-counters (x .threads) t h))
 
   pub late-small : x .late < 64
   late-small = omega (arith, r .late, late-below p v)

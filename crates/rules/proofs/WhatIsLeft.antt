@@ -1,7 +1,7 @@
 -- The sets of what is left, row by row from the last one on, and R3 read off them.
 use Prim.Native.Nat.{ℕ, zero, suc, _+_, _-_, _*_, _/_, _%_, _^_, _<_, _≤_}
 use mathlib.Core.Path.{_≡_, refl, sym, ap, ap₂, subst, _∙_}
-use mathlib.Core.Bool.{Bool, true, false, not, _&&_, _||_}
+use mathlib.Core.Bool.{Bool, true, false, cond, not, _&&_, _||_}
 use mathlib.Core.List.{List, [], _∷_, List·Memᴰ·not-nil}
 use native.Mathlib.Omega.{arith}
 use native.Mathlib.Decide.{ℕ-discrete, decLt}
@@ -10,12 +10,14 @@ use lib.ListN.{length, getD, set, drop, length-set}
 use lib.Seq.{getD-set-same, getD-set-other}
 use borrow.Author.Tests.{eqb-true, ne-eqb}
 use Rattle.program.specs.declared.instruction.Instruction.{Instruction}
+use Rattle.program.specs.declared.instruction.Instruction.the-variants.{Memory, Alone}
 use Rattle.rows.specs.Rows.{instructionAt, threadCode}
-use Rattle.accesses.proofs.HeldTurns.{code-at, code-end}
-use Rattle.schedules.specs.Lists.{upTo, all}
-use Rattle.schedules.proofs.Lists.{in-upTo, all-at, all-of, all-yes, all-no}
-use Rattle.schedules.proofs.Loops.{upTo-none, upTo-more}
-use Rattle.sc.specs.Local.{firstPlace, placeOf}
+use Rattle.rows.proofs.Rows.{row-store, row-load, row-fetch-add, row-compare-swap, row-no-access}
+use Rattle.accesses.proofs.HeldSettling.{code-at, code-end}
+use Rattle.schedules.specs.Lists.{range, all}
+use Rattle.schedules.proofs.Lists.{in-range, all-at, all-of, all-yes, all-no}
+use Rattle.schedules.proofs.Loops.{range-none, range-more}
+use Rattle.sc.specs.Local.{accessTakes, firstPlace, firstTakes, placeOf}
 use Rattle.sc.specs.State.{State, threadOf, place}
 use Rattle.sc.specs.Ahead.{firstMayPut, mayPut}
 use Rattle.survivors.specs.Sets.{has, addend, setOf, joined}
@@ -25,29 +27,75 @@ use Rattle.rules.specs.Left.{Left, Rests}
 use Rattle.prefix.proofs.RowAccess.{place-first, writer-first}
 
 -- ---- one location more
-own-eight : all (λ s. eqb (setOf (has s) 8) s) (upTo 0 256) ≡ true
-unfolding all upTo has addend setOf
+own-eight : all (λ s. eqb (setOf (has s) 8) s) (range 0 256) ≡ true
+unfolding all range has addend setOf
 own-eight = refl
 
 -- a number that names no location
 pub joined-out : (l s : ℕ) → 8 ≤ l → s < 256 → s ≡ joined l s
 unfolding joined
 joined-out l s h k =
-    sym (eqb-true (setOf (has s) 8) s (all-at (λ s. eqb (setOf (has s) 8) s) (upTo 0 256) s own-eight (in-upTo 0 256 s (omega arith) (omega arith))))
+    sym (eqb-true (setOf (has s) 8) s (all-at (λ s. eqb (setOf (has s) 8) s) (range 0 256) s own-eight (in-range 0 256 s (omega arith) (omega arith))))
     ∙ set-same (has s) (λ k. eqb l k || has s k) 8 (λ t i. let q = ne-eqb l t (λ e. omega (arith, e)) in rw q)
 
-powers : all (λ l. eqb (getD (1 ∷ 2 ∷ 4 ∷ 8 ∷ 16 ∷ 32 ∷ 64 ∷ 128 ∷ []) l 0) (2 ^ l)) (upTo 0 8) ≡ true
-unfolding all upTo
+powers : all (λ l. eqb (getD (1 ∷ 2 ∷ 4 ∷ 8 ∷ 16 ∷ 32 ∷ 64 ∷ 128 ∷ []) l 0) (2 ^ l)) (range 0 8) ≡ true
+unfolding all range
 powers = refl
 
 pub power-at : (l : ℕ) → l < 8 → getD (1 ∷ 2 ∷ 4 ∷ 8 ∷ 16 ∷ 32 ∷ 64 ∷ 128 ∷ []) l 0 ≡ 2 ^ l
-power-at l h = eqb-true (getD (1 ∷ 2 ∷ 4 ∷ 8 ∷ 16 ∷ 32 ∷ 64 ∷ 128 ∷ []) l 0) (2 ^ l) (all-at (λ l. eqb (getD (1 ∷ 2 ∷ 4 ∷ 8 ∷ 16 ∷ 32 ∷ 64 ∷ 128 ∷ []) l 0) (2 ^ l)) (upTo 0 8) l powers (in-upTo 0 8 l (omega arith) (omega arith)))
+power-at l h = eqb-true (getD (1 ∷ 2 ∷ 4 ∷ 8 ∷ 16 ∷ 32 ∷ 64 ∷ 128 ∷ []) l 0) (2 ^ l) (all-at (λ l. eqb (getD (1 ∷ 2 ∷ 4 ∷ 8 ∷ 16 ∷ 32 ∷ 64 ∷ 128 ∷ []) l 0) (2 ^ l)) (range 0 8) l powers (in-range 0 8 l (omega arith) (omega arith)))
 
 pub joined-power : (l s : ℕ) → l < 8 → s < 256 → has s l ≡ false → s + getD (1 ∷ 2 ∷ 4 ∷ 8 ∷ 16 ∷ 32 ∷ 64 ∷ 128 ∷ []) l 0 ≡ joined l s
 joined-power l s h k e = ap (λ (n : ℕ). s + n) (power-at l h) ∙ sym (joined-new l s h k e)
 
 pub joined-fits : (l s : ℕ) → l < 8 → s < 256 → has s l ≡ false → s + getD (1 ∷ 2 ∷ 4 ∷ 8 ∷ 16 ∷ 32 ∷ 64 ∷ 128 ∷ []) l 0 < 256
 joined-fits l s h k e = omega (arith, joined-power l s h k e, joined-below l s)
+
+-- ---- one instruction more in front
+reads-front : (x : Instruction) (is : List Instruction) → readsLeft (x ∷ is) ≡ cond (firstTakes (x ∷ [])) (joined (firstPlace (x ∷ [])) (readsLeft is)) (readsLeft is)
+unfolding readsLeft firstTakes firstPlace
+reads-front (Memory a) is = refl
+reads-front (Alone o) is = refl
+
+writes-front : (x : Instruction) (is : List Instruction) → writesLeft (x ∷ is) ≡ cond (firstMayPut (x ∷ [])) (joined (firstPlace (x ∷ [])) (writesLeft is)) (writesLeft is)
+unfolding writesLeft firstMayPut firstPlace
+writes-front (Memory a) is = refl
+writes-front (Alone o) is = refl
+
+module _ (x : Instruction) (is : List Instruction) (set : ℕ) where
+  pub reads-more : (l r : ℕ) → firstTakes (x ∷ []) ≡ true → l ≡ firstPlace (x ∷ []) → set ≡ readsLeft is → r ≡ joined l set → r ≡ readsLeft (x ∷ is)
+  reads-more l r t el es er = er ∙ ap₂ joined el es ∙ sym (reads-front x is ∙ ap (λ (b : Bool). cond b (joined (firstPlace (x ∷ [])) (readsLeft is)) (readsLeft is)) t)
+
+  pub reads-same : firstTakes (x ∷ []) ≡ false → set ≡ readsLeft is → set ≡ readsLeft (x ∷ is)
+  reads-same t es = es ∙ sym (reads-front x is ∙ ap (λ (b : Bool). cond b (joined (firstPlace (x ∷ [])) (readsLeft is)) (readsLeft is)) t)
+
+  pub writes-more : (l r : ℕ) → firstMayPut (x ∷ []) ≡ true → l ≡ firstPlace (x ∷ []) → set ≡ writesLeft is → r ≡ joined l set → r ≡ writesLeft (x ∷ is)
+  writes-more l r t el es er = er ∙ ap₂ joined el es ∙ sym (writes-front x is ∙ ap (λ (b : Bool). cond b (joined (firstPlace (x ∷ [])) (writesLeft is)) (writesLeft is)) t)
+
+  pub writes-same : firstMayPut (x ∷ []) ≡ false → set ≡ writesLeft is → set ≡ writesLeft (x ∷ is)
+  writes-same t es = es ∙ sym (writes-front x is ∙ ap (λ (b : Bool). cond b (joined (firstPlace (x ∷ [])) (writesLeft is)) (writesLeft is)) t)
+
+-- whether the access in a row reads, by the row's first byte
+module _ (code : List ℕ) (k : ℕ) (h : k < 96) where
+  pub reader-load : getD code (k * 16) 0 ≡ 0x11 → true ≡ firstTakes (instructionAt code k ∷ [])
+  unfolding firstTakes accessTakes
+  reader-load e = rw (row-load code k h e)
+
+  pub reader-fetch-add : getD code (k * 16) 0 ≡ 0x12 → true ≡ firstTakes (instructionAt code k ∷ [])
+  unfolding firstTakes accessTakes
+  reader-fetch-add e = rw (row-fetch-add code k h e)
+
+  pub reader-compare-swap : getD code (k * 16) 0 ≡ 0x13 → true ≡ firstTakes (instructionAt code k ∷ [])
+  unfolding firstTakes accessTakes
+  reader-compare-swap e = rw (row-compare-swap code k h e)
+
+  pub reader-none : (getD code (k * 16) 0 ≡ 0x11 → ⊥) → (getD code (k * 16) 0 ≡ 0x12 → ⊥) → (getD code (k * 16) 0 ≡ 0x13 → ⊥) → false ≡ firstTakes (instructionAt code k ∷ [])
+  unfolding firstTakes accessTakes
+  reader-none n11 n12 n13 = go (ℕ-discrete (getD code (k * 16) 0) 0x10)
+    where
+      go : Dec (getD code (k * 16) 0 ≡ 0x10) → false ≡ firstTakes (instructionAt code k ∷ [])
+      go (yes e) = rw (row-store code k h e)
+      go (no n10) = row-no-access code k h (λ i. false ≡ firstTakes (i ∷ [])) n10 n11 n12 n13 (λ o. refl)
 
 -- ---- whether what is left meets an access
 module _ (code : List ℕ) (u n i l : ℕ) (w : Bool) where
@@ -96,14 +144,14 @@ module _ (code lengths at : List ℕ) (σ : State) (rests : Rests code lengths a
 
 -- ---- a test over the numbers from d on, one at a time
 module _ (f : ℕ → Bool) (d j : ℕ) where
-  pub all-over : j ≡ 0 → all f (upTo d j) ≡ true
-  all-over e = ap (all f) (upTo-none d j e) ∙ all-of f [] (λ x m. absurd (List·Memᴰ·not-nil m))
+  pub all-over : j ≡ 0 → all f (range d j) ≡ true
+  all-over e = ap (all f) (range-none d j e) ∙ all-of f [] (λ x m. absurd (List·Memᴰ·not-nil m))
 
-  pub all-further : 0 < j → f d ≡ true → all f (upTo d j) ≡ all f (upTo (d + 1) (j - 1))
-  all-further h e = ap (all f) (upTo-more d j h) ∙ all-yes f d (upTo (d + 1) (j - 1)) e
+  pub all-further : 0 < j → f d ≡ true → all f (range d j) ≡ all f (range (d + 1) (j - 1))
+  all-further h e = ap (all f) (range-more d j h) ∙ all-yes f d (range (d + 1) (j - 1)) e
 
-  pub all-fails : 0 < j → f d ≡ false → all f (upTo d j) ≡ false
-  all-fails h e = ap (all f) (upTo-more d j h) ∙ all-no f d (upTo (d + 1) (j - 1)) e
+  pub all-fails : 0 < j → f d ≡ false → all f (range d j) ≡ false
+  all-fails h e = ap (all f) (range-more d j h) ∙ all-no f d (range (d + 1) (j - 1)) e
 
 -- ---- the sets row by row, from the last row on
 module _ (code lengths : List ℕ) where
@@ -158,11 +206,11 @@ module _ (code lengths : List ℕ) where
           go (no l) = none (omega (arith, l)) ∙ sym (ap writesLeft (code-end code (k / 16) (getD lengths (k / 16) 0) (suc (k % 16)) (omega (arith, l))))
 
       -- a row with one
-      pub rows-more : (x : Instruction) (r w : ℕ) → length left ≡ 192 → x ≡ instructionAt code k
-          → r ≡ readsLeft (x ∷ drop (suc (k % 16)) (threadCode code (k / 16) (getD lengths (k / 16) 0)))
-          → w ≡ writesLeft (x ∷ drop (suc (k % 16)) (threadCode code (k / 16) (getD lengths (k / 16) 0)))
+      pub rows-more : (r w : ℕ) → length left ≡ 192
+          → r ≡ readsLeft (instructionAt code k ∷ drop (suc (k % 16)) (threadCode code (k / 16) (getD lengths (k / 16) 0)))
+          → w ≡ writesLeft (instructionAt code k ∷ drop (suc (k % 16)) (threadCode code (k / 16) (getD lengths (k / 16) 0)))
           → From k (set (set left k r) (k + 96) w)
-      rows-more x r w size ex er ew t i h l n b = go (ℕ-discrete (t * 16 + i) k)
+      rows-more r w size er ew t i h l n b = go (ℕ-discrete (t * 16 + i) k)
         where
           new : List ℕ
           new = set (set left k r) (k + 96) w
@@ -176,8 +224,8 @@ module _ (code lengths : List ℕ) where
           row : k / 16 * 16 + k % 16 ≡ k
           row = omega arith
 
-          whole : x ∷ drop (suc (k % 16)) (codeAt (k / 16)) ≡ drop (k % 16) (codeAt (k / 16))
-          whole = sym (code-at code (k / 16) (getD lengths (k / 16) 0) (k % 16) own ∙ ap (λ (y : Instruction). y ∷ drop (suc (k % 16)) (codeAt (k / 16))) (ap (instructionAt code) row ∙ sym ex))
+          whole : instructionAt code k ∷ drop (suc (k % 16)) (codeAt (k / 16)) ≡ drop (k % 16) (codeAt (k / 16))
+          whole = sym (code-at code (k / 16) (getD lengths (k / 16) 0) (k % 16) own ∙ ap (λ (y : Instruction). y ∷ drop (suc (k % 16)) (codeAt (k / 16))) (ap (instructionAt code) row))
 
           go : Dec (t * 16 + i ≡ k) → (getD new (t * 16 + i) 0 ≡ readsLeft (drop i (codeAt t))) × (getD new (t * 16 + i + 96) 0 ≡ writesLeft (drop i (codeAt t)))
           go (no q) =
@@ -198,6 +246,6 @@ module _ (σ : State) (s t : ℕ) where
   unfolding sleepsIn
   sleeps-out e = rw e
 
-  pub sleeps-by : (b : Bool) → has s t ≡ true → all (λ u. has s u || not (wakes σ t u)) (upTo 0 6) ≡ b → b ≡ sleepsIn σ s t
+  pub sleeps-by : (b : Bool) → has s t ≡ true → all (λ u. has s u || not (wakes σ t u)) (range 0 6) ≡ b → b ≡ sleepsIn σ s t
   unfolding sleepsIn
   sleeps-by b e q = sym (rw (e, q))

@@ -1,12 +1,15 @@
 // The locations that the code of each row's thread from this row on may still read, and write.
 use prefix::is_in;
-use program::Instruction;
-use rows::instruction_at;
+use prefix::is_writer;
+use prefix::location_at;
+use rows::Code;
 ghost use mathlib.Core.Path.{_≡_};
-ghost use mathlib.Core.List.{List, _∷_};
+ghost use mathlib.Core.List.{List, [], _∷_};
 ghost use Prim.Native.Nat.{_+_, _<_, _≤_};
 ghost use lib.ListN.{getD};
 ghost use Rattle.program.specs.declared.instruction.Instruction.{Instruction};
+ghost use Rattle.rows.specs.Rows.{instructionAt};
+ghost use Rattle.sc.specs.Local.{firstTakes};
 ghost use Rattle.survivors.specs.Sets.{joined};
 ghost use Rattle.survivors.specs.Sleepers.{readsLeft, writesLeft};
 ghost use Rattle.rules.specs.Left.{Left};
@@ -26,36 +29,44 @@ fn with_location(l: u8, set: u8) -> u8
     set + POWERS[l as usize]
 }
 
-// What code may read that begins with i, where the code behind it may read this.
-fn reads_from(i: Instruction, set: u8) -> u8
-    ensures { λ r. ⌜ ((is : List Instruction) → set ≡ readsLeft is → r ≡ readsLeft (i ∷ is)) ⌝ }
+// Whether the row holds an access that reads.
+fn is_reader(code: &Code, row: usize) -> bool
+    requires { ⌜ row < 96 ⌝ }
+    ensures { λ r. ⌜ r ≡ firstTakes (instructionAt (now (code .entry)) row ∷ []) ⌝ }
 {
-    match i {
-        Instruction::Store(_, _) => set,
-        Instruction::Load(_, l) => with_location(l, set),
-        Instruction::FetchAdd(_, l, _) => with_location(l, set),
-        Instruction::CompareSwap(_, l, _, _) => with_location(l, set),
-        Instruction::Assign(_, _) => set,
-        Instruction::AddAssign(_, _) => set,
-        Instruction::SkipUnless(_, _, _) => set,
-        Instruction::Assert(_, _) => set,
+    let b = code[row * 16];
+    if b == 0x11 {
+        return true;
     }
+    if b == 0x12 {
+        return true;
+    }
+    if b == 0x13 {
+        return true;
+    }
+    false
 }
 
-// What code may write that begins with i, where the code behind it may write this.
-fn writes_from(i: Instruction, set: u8) -> u8
-    ensures { λ r. ⌜ ((is : List Instruction) → set ≡ writesLeft is → r ≡ writesLeft (i ∷ is)) ⌝ }
+// What code may read that begins with the row's instruction, where the code behind it may read this.
+fn reads_from(code: &Code, row: usize, set: u8) -> u8
+    requires { ⌜ row < 96 ⌝ }
+    ensures { λ r. ⌜ ((is : List Instruction) → set ≡ readsLeft is → r ≡ readsLeft (instructionAt (now (code .entry)) row ∷ is)) ⌝ }
 {
-    match i {
-        Instruction::Store(l, _) => with_location(l, set),
-        Instruction::Load(_, _) => set,
-        Instruction::FetchAdd(_, l, _) => with_location(l, set),
-        Instruction::CompareSwap(_, l, _, _) => with_location(l, set),
-        Instruction::Assign(_, _) => set,
-        Instruction::AddAssign(_, _) => set,
-        Instruction::SkipUnless(_, _, _) => set,
-        Instruction::Assert(_, _) => set,
+    if is_reader(code, row) {
+        return with_location(location_at(code, row), set);
     }
+    set
+}
+
+// What it may write, where the code behind it may write this.
+fn writes_from(code: &Code, row: usize, set: u8) -> u8
+    requires { ⌜ row < 96 ⌝ }
+    ensures { λ r. ⌜ ((is : List Instruction) → set ≡ writesLeft is → r ≡ writesLeft (instructionAt (now (code .entry)) row ∷ is)) ⌝ }
+{
+    if is_writer(code, row) {
+        return with_location(location_at(code, row), set);
+    }
+    set
 }
 
 // What stands in a row's place of an array, where the thread, of n instructions, has one in the row before; else the empty set.
@@ -70,7 +81,7 @@ fn behind(left: &[u8; 192], k: usize, i: usize, n: usize) -> u8
 }
 
 // The sets of all rows: of reads, then of writes.
-pub fn left_sets(code: &[u8; 1536], lengths: &[usize; 6]) -> [u8; 192]
+pub fn left_sets(code: &Code, lengths: &[usize; 6]) -> [u8; 192]
     ensures { λ r. ⌜ Left (now (code .entry)) (now (lengths .entry)) r ⌝ }
 {
     let mut left = [0u8; 192];
@@ -81,11 +92,10 @@ pub fn left_sets(code: &[u8; 1536], lengths: &[usize; 6]) -> [u8; 192]
         let n = lengths[row / 16];
         if i < n {
             if n <= 16 {
-                let x = instruction_at(code, row);
                 let reads = behind(&left, row + 1, i, n);
                 let writes = behind(&left, row + 97, i, n);
-                left[row] = reads_from(x, reads);
-                left[row + 96] = writes_from(x, writes);
+                left[row] = reads_from(code, row, reads);
+                left[row + 96] = writes_from(code, row, writes);
             }
         }
     }

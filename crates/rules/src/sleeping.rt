@@ -1,10 +1,11 @@
 // R3: late threads that nothing left to the others can wake.
-use accesses::wide;
+use lines::wide;
 use prefix::Place;
 use prefix::addend;
 use prefix::is_in;
 use prefix::is_writer;
 use prefix::location_at;
+use rows::Code;
 ghost use mathlib.Core.Path.{_≡_};
 ghost use mathlib.Core.Bool.{not, _||_};
 ghost use mathlib.Core.List.{List};
@@ -28,7 +29,7 @@ pub struct Awaited {
 }
 
 // That of thread t; of one that has ended, location 0 and no write.
-fn access_of(code: &[u8; 1536], lengths: &[usize; 6], at: &[usize; 6], t: usize) -> Awaited
+fn access_of(code: &Code, lengths: &[usize; 6], at: &[usize; 6], t: usize) -> Awaited
     requires { ⌜ (t < 6) × ShortAt (now lengths) (now at) ⌝ }
     ensures { λ r. ⌜ ((σ : State) → Rests (now (code .entry)) (now (lengths .entry)) (now (at .entry)) σ
         → (r .location ≡ place σ t) × (r .writer ≡ mayPut (threadOf σ t .local))) ⌝ }
@@ -88,7 +89,7 @@ fn is_quiet(
 
 // Whether thread t is in the set, and no thread outside could wake it.
 fn sleeps_in(
-    code: &[u8; 1536],
+    code: &Code,
     lengths: &[usize; 6],
     left: &[u8; 192],
     at: &[usize; 6],
@@ -114,13 +115,7 @@ fn sleeps_in(
 }
 
 // What is left of the set when those that some thread outside could wake have gone.
-fn unwoken(
-    code: &[u8; 1536],
-    lengths: &[usize; 6],
-    left: &[u8; 192],
-    at: &[usize; 6],
-    set: u8,
-) -> u8
+fn unwoken(code: &Code, lengths: &[usize; 6], left: &[u8; 192], at: &[usize; 6], set: u8) -> u8
     requires { ⌜ ShortAt (now lengths) (now at) ⌝ }
     ensures { λ r. ⌜ ((σ : State) → Rests (now (code .entry)) (now (lengths .entry)) (now (at .entry)) σ
         → Left (now (code .entry)) (now (lengths .entry)) (now (left .entry)) → r ≡ unwoken σ set) ⌝ }
@@ -136,7 +131,7 @@ fn unwoken(
 }
 
 // Whether some late threads are asleep for good.
-pub fn some_asleep(code: &[u8; 1536], lengths: &[usize; 6], left: &[u8; 192], x: Place) -> bool
+pub fn some_asleep(code: &Code, lengths: &[usize; 6], left: &[u8; 192], x: Place) -> bool
     requires { ⌜ ((class : List ℕ) × (threads : ℕ) × (groups : ℕ) × (p : Program) × (v : Schedule)
         × Reached (now code) (now lengths) class threads groups x p v × Left (now code) (now lengths) (now left)) ⌝ }
     ensures { λ r. ⌜ ((class : List ℕ) (threads groups : ℕ) (p : Program) (v : Schedule)
@@ -146,13 +141,12 @@ pub fn some_asleep(code: &[u8; 1536], lengths: &[usize; 6], left: &[u8; 192], x:
     if x.late == 0 {
         return false;
     }
-    let m = x.machine;
-    let a = m.threads[0];
-    let b = m.threads[1];
-    let c = m.threads[2];
-    let d = m.threads[3];
-    let e = m.threads[4];
-    let f = m.threads[5];
+    let a = x.threads[0];
+    let b = x.threads[1];
+    let c = x.threads[2];
+    let d = x.threads[3];
+    let e = x.threads[4];
+    let f = x.threads[5];
     let at = [a.at, b.at, c.at, d.at, e.at, f.at];
     let mut set = x.late;
     while set != 0 {

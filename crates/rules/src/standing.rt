@@ -1,6 +1,5 @@
 // R2: a smaller thread of t's class with the same word.
-use accesses::wide;
-use prefix::Place;
+use lines::wide;
 ghost use mathlib.Core.Path.{_≡_};
 ghost use mathlib.Core.Bool.{_&&_};
 ghost use mathlib.Core.List.{List};
@@ -8,11 +7,12 @@ ghost use Prim.Native.Nat.{ℕ, _<_};
 ghost use lib.Dec.{eqb};
 ghost use lib.ListN.{getD};
 ghost use Rattle.program.specs.Program.{Program};
-ghost use Rattle.schedules.specs.Lists.{upTo, any};
+ghost use Rattle.schedules.specs.Lists.{range, any};
 ghost use Rattle.schedules.specs.Order.{Schedule};
 ghost use Rattle.sc.specs.Graph.{endOf};
 ghost use Rattle.list.specs.Rules.{twin};
 ghost use Rattle.prefix.specs.Reached.{Reached};
+ghost use Rattle.prefix.specs.declared.place.Place.{Place};
 
 // Whether thread u, which has this word, is of class g and the word is that one.
 fn is_twin(class: &[usize; 6], u: usize, g: usize, word: u64, own: u64) -> bool
@@ -26,18 +26,17 @@ fn is_twin(class: &[usize; 6], u: usize, g: usize, word: u64, own: u64) -> bool
 }
 
 // Whether a smaller thread is t's twin.
-pub fn has_smaller_twin(class: &[usize; 6], x: Place, t: u8) -> bool
+pub fn has_smaller_twin(class: &[usize; 6], words: &[u64; 6], t: u8) -> bool
     requires { ⌜ t < 6 ⌝ }
-    ensures { λ r. ⌜ ((code lengths : List ℕ) (threads groups : ℕ) (p : Program) (v : Schedule)
-        → Reached code lengths (now (class .entry)) threads groups x p v
-        → r ≡ any (twin p (endOf p v) t) (upTo 0 t)) ⌝ }
+    ensures { λ r. ⌜ ((code lengths : List ℕ) (threads groups : ℕ) (x : Place) (p : Program) (v : Schedule)
+        → Reached code lengths (now (class .entry)) threads groups x p v → x .words ≡ now (words .entry)
+        → r ≡ any (twin p (endOf p v) t) (range 0 t)) ⌝ }
 {
     let own = wide(t);
     let g = class[own];
     if g == 0 {
         return false;
     }
-    let words = x.words;
     let word = words[own];
     let mut u = 0;
     while u < own {

@@ -3,30 +3,43 @@
 use Prim.Native.Nat.{ℕ}
 use mathlib.Core.Path.{_≡_, refl, sym, subst, _∙_}
 use mathlib.Core.Logic.{_≢_, _⊎_, inl, inr}
-use mathlib.Core.Bool.{Bool, true, false, true≢false, false≢true, _&&_}
+use mathlib.Core.Bool.{Bool, true, false, true≢false, false≢true, _&&_, _||_}
 use mathlib.Core.Option.{none}
 use mathlib.Core.List.{List, [], _∷_, List·Memᴰ, List·Memᴰ·head, Memᴰ·append-right}
 use lib.Dec.{eqb}
 use borrow.Author.Tests.{eqb-false}
+use Rattle.program.specs.declared.instruction.Access.{Access}
+use Rattle.program.specs.declared.instruction.Access.the-variants.{Store, Load, FetchAdd, CompareSwap}
 use Rattle.program.specs.declared.instruction.Instruction.{Instruction}
-use Rattle.program.specs.declared.instruction.Instruction.the-variants.{Store, Load, FetchAdd, CompareSwap, Assign, AddAssign, SkipUnless, Assert}
+use Rattle.program.specs.declared.instruction.Instruction.the-variants.{Memory, Alone}
+use Rattle.program.proofs.Tests.{neither}
 use Rattle.schedules.specs.Lists.{any}
 use Rattle.schedules.proofs.Lists.{any-yes, any-of, any-no}
-use Rattle.sc.specs.Local.{Local, beginsWithAccess, firstPlace, firstPuts, pending, placeOf, puts}
-use Rattle.sc.specs.Ahead.{firstMayPut, mayPut, couldConflict, couldMeet}
+use Rattle.sc.specs.Local.{Local, accessPlace, accessTakes, accessPuts, beginsWithAccess, firstPlace, firstPuts, pending, placeOf, puts}
+use Rattle.sc.specs.Ahead.{accessMayPut, firstMayPut, mayPut, couldConflict, couldMeet}
 use Rattle.sc.proofs.Suffix.{Suffix}
+
+-- an access reads or could write
+pub takes-or-puts : (a : Access) → (accessTakes a || accessMayPut a) ≡ true
+unfolding accessTakes accessMayPut
+takes-or-puts (Store l p) = refl
+takes-or-puts (Load r l) = refl
+takes-or-puts (FetchAdd r l p) = refl
+takes-or-puts (CompareSwap r l e v) = refl
+
+-- one that could not write writes nothing
+access-puts-not : (a : Access) → accessMayPut a ≡ false → (rs : List ℕ) (x : ℕ) → accessPuts rs a x ≡ none
+unfolding accessMayPut accessPuts
+access-puts-not (Store l p) e rs x = absurd (true≢false e)
+access-puts-not (Load r l) e rs x = refl
+access-puts-not (FetchAdd r l p) e rs x = absurd (true≢false e)
+access-puts-not (CompareSwap r l c v) e rs x = absurd (true≢false e)
 
 first-puts-not : (is : List Instruction) → firstMayPut is ≡ false → (rs : List ℕ) (x : ℕ) → firstPuts rs is x ≡ none
 unfolding firstMayPut firstPuts
 first-puts-not [] e rs x = refl
-first-puts-not (Store l p ∷ is) e rs x = absurd (true≢false e)
-first-puts-not (Load r l ∷ is) e rs x = refl
-first-puts-not (FetchAdd r l p ∷ is) e rs x = absurd (true≢false e)
-first-puts-not (CompareSwap r l c v ∷ is) e rs x = absurd (true≢false e)
-first-puts-not (Assign r p ∷ is) e rs x = refl
-first-puts-not (AddAssign r p ∷ is) e rs x = refl
-first-puts-not (SkipUnless r p n ∷ is) e rs x = refl
-first-puts-not (Assert r p ∷ is) e rs x = refl
+first-puts-not (Memory a ∷ is) e rs x = access-puts-not a e rs x
+first-puts-not (Alone o ∷ is) e rs x = refl
 
 pub puts-not : (h : Local) → mayPut h ≡ false → (x : ℕ) → puts h x ≡ none
 unfolding mayPut puts
@@ -40,18 +53,12 @@ and-false false b e = inl refl
 first-elsewhere : (l : ℕ) (w : Bool) (i : Instruction) (is : List Instruction) → beginsWithAccess (i ∷ is) ≡ true → couldConflict l w i ≡ false →
     (firstPlace (i ∷ is) ≢ l) ⊎ ((w ≡ false) × ((rs : List ℕ) (x : ℕ) → firstPuts rs (i ∷ is) x ≡ none))
 unfolding beginsWithAccess couldConflict firstPlace firstPuts
-first-elsewhere l w (Store k p) is b e = inl (eqb-false k l e)
-first-elsewhere l w (Load r k) is b e = go (and-false (eqb k l) w e)
+first-elsewhere l w (Memory a) is b e = go (and-false (eqb (accessPlace a) l) (accessMayPut a || w) e)
   where
-    go : (eqb k l ≡ false) ⊎ (w ≡ false) → (firstPlace (Load r k ∷ is) ≢ l) ⊎ ((w ≡ false) × ((rs : List ℕ) (x : ℕ) → firstPuts rs (Load r k ∷ is) x ≡ none))
-    go (inl q) = inl (eqb-false k l q)
-    go (inr q) = inr (q, λ rs x. refl)
-first-elsewhere l w (FetchAdd r k p) is b e = inl (eqb-false k l e)
-first-elsewhere l w (CompareSwap r k c v) is b e = inl (eqb-false k l e)
-first-elsewhere l w (Assign r p) is b e = absurd (false≢true b)
-first-elsewhere l w (AddAssign r p) is b e = absurd (false≢true b)
-first-elsewhere l w (SkipUnless r p n) is b e = absurd (false≢true b)
-first-elsewhere l w (Assert r p) is b e = absurd (false≢true b)
+    go : (eqb (accessPlace a) l ≡ false) ⊎ ((accessMayPut a || w) ≡ false) → (accessPlace a ≢ l) ⊎ ((w ≡ false) × ((rs : List ℕ) (x : ℕ) → accessPuts rs a x ≡ none))
+    go (inl q) = inl (eqb-false (accessPlace a) l q)
+    go (inr q) = let n = neither (accessMayPut a) w q in inr (n .1, access-puts-not a (n .0))
+first-elsewhere l w (Alone o) is b e = absurd (false≢true b)
 
 elsewhere-at : (l : ℕ) (w : Bool) (is : List Instruction) → beginsWithAccess is ≡ true → any (couldConflict l w) is ≡ false → (firstPlace is ≢ l) ⊎ ((w ≡ false) × ((rs : List ℕ) (x : ℕ) → firstPuts rs is x ≡ none))
 unfolding beginsWithAccess

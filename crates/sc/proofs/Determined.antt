@@ -12,15 +12,15 @@ use Rattle.schedules.specs.Order.{Schedule}
 use Rattle.schedules.specs.System.{run, Allowed, FullFrom}
 use Rattle.schedules.proofs.Runs.{run-append, run-snoc, full-split, full-allowed}
 use Rattle.sc.specs.Local.{takes, puts}
-use Rattle.sc.specs.State.{Event, initialWrite, Thread, Cell, State, threadOf, cellOf, place, latest, advanced, step, may, SC}
+use Rattle.sc.specs.State.{Event, initialWrite, Thread, Cell, State, threadOf, cellOf, place, latest, advanced, step, enabled, SC}
 use Rattle.sc.specs.Graph.{graphOf}
-use Rattle.sc.proofs.Steps.{may-same, may-small, may-pending, may-range, thread-own, thread-other}
+use Rattle.sc.proofs.Steps.{enabled-same, enabled-small, enabled-pending, enabled-range, thread-own, thread-other}
 use Rattle.sc.proofs.Change.{Change, kept, wrote, wrote-own}
 use Rattle.sc.proofs.Regular.{Regular, place-in, changes, regular-step, regular-run}
 use Rattle.sc.proofs.Rows.{same-reads}
 use Rattle.sc.proofs.Histories.{done-run}
 use Rattle.sc.proofs.Growth.{grown, same-latest}
-use Rattle.sc.proofs.Reading.{first-turn, same-place, source, same-source, same-finding}
+use Rattle.sc.proofs.Reading.{first-step-of, same-place, source, same-source, same-finding}
 
 -- two ways to cut a list
 compare : (p q : Schedule) (a : ℕ) (r s : Schedule) → p ++ r ≡ q ++ (a ∷ s) → ((y : Schedule) × (q ≡ p ++ y)) ⊎ ((y : Schedule) × (p ≡ q ++ (a ∷ y)))
@@ -72,7 +72,7 @@ module _ (σ : State) (reg : Regular σ) (v w : Schedule) (fv : FullFrom SC σ v
   meeting u b r e s =
       let h = s .threads b in
       let fr = cut-w u (b ∷ r) e .1 in
-      let t = first-turn (h .1) (run SC σ (h .0)) b (cut-v (h .0) (h .1) (h .2) .1) (may-same (run SC σ (h .0)) (run SC σ u) b (h .3) ∙ fr .0) in
+      let t = first-step-of (h .1) (run SC σ (h .0)) b (cut-v (h .0) (h .1) (h .2) .1) (enabled-same (run SC σ (h .0)) (run SC σ u) b (h .3) ∙ fr .0) in
       let P′ : Schedule = h .0 ++ t .front in
       let sp : v ≡ P′ ++ (b ∷ t .rest) = h .2 ∙ ap (λ (k : Schedule). h .0 ++ k) (t .split) ∙ sym (append-assoc (h .0) (t .front) (b ∷ t .rest)) in
       let th : threadOf (run SC σ P′) b ≡ threadOf (run SC σ u) b = ap (λ (τ : State). threadOf τ b) (run-append SC σ (h .0) (t .front)) ∙ t .waits ∙ h .3 in
@@ -102,10 +102,10 @@ module _ (σ : State) (reg : Regular σ) (v w : Schedule) (fv : FullFrom SC σ v
     regτ : Regular τ
     regτ = regular-run (m .front) σ reg (cut-v (m .front) (b ∷ m .rest) (m .split) .0)
 
-    live : may ρ b ≡ true
+    live : enabled ρ b ≡ true
     live = cut-w u (b ∷ r) e .1 .0
 
-    live′ : may τ b ≡ true
+    live′ : enabled τ b ≡ true
     live′ = cut-v (m .front) (b ∷ m .rest) (m .split) .1 .0
 
     where-same : place τ b ≡ place ρ b
@@ -115,7 +115,7 @@ module _ (σ : State) (reg : Regular σ) (v w : Schedule) (fv : FullFrom SC σ v
     both : (advanced (threadOf τ b) (cellOf τ (place τ b)) ≡ advanced (threadOf ρ b) (cellOf ρ (place ρ b))) ×
         (puts (threadOf τ b .local) (cellOf τ (place τ b) .value) ≡ puts (threadOf ρ b .local) (cellOf ρ (place ρ b) .value))
     both =
-        let k = same-finding (threadOf ρ b) (cellOf τ (place τ b)) (cellOf ρ (place ρ b)) (may-pending ρ b live) (λ k. let src = m .from k in
+        let k = same-finding (threadOf ρ b) (cellOf τ (place τ b)) (cellOf ρ (place ρ b)) (enabled-pending ρ b live) (λ k. let src = m .from k in
         (ap (λ (x : ℕ). cellOf τ x .value) where-same ∙ s .cells (place ρ b) (m .front) (b ∷ m .rest) (m .split) (ap (λ (x : ℕ). latest (cellOf τ x .writes)) (sym where-same) ∙ src), src)) in (
           ap (λ (h : Thread). advanced h (cellOf τ (place τ b))) (m .thread) ∙ k .0,
           ap (λ (h : Thread). puts (h .local) (cellOf τ (place τ b) .value)) (m .thread) ∙ k .1,
@@ -127,7 +127,7 @@ module _ (σ : State) (reg : Regular σ) (v w : Schedule) (fv : FullFrom SC σ v
       m .front ++ (b ∷ []),
       m .rest,
       m .split ∙ sym (append-assoc (m .front) (b ∷ []) (m .rest)),
-      ap (λ (x : State). threadOf x a) (run-snoc SC σ (m .front) b) ∙ ap (threadOf (step τ b)) q ∙ thread-own τ b (may-range τ b live′) ∙ both .0 ∙ sym (thread-own ρ b (may-range ρ b live)) ∙ ap (threadOf (step ρ b)) (sym q),
+      ap (λ (x : State). threadOf x a) (run-snoc SC σ (m .front) b) ∙ ap (threadOf (step τ b)) q ∙ thread-own τ b (enabled-range τ b live′) ∙ both .0 ∙ sym (thread-own ρ b (enabled-range ρ b live)) ∙ ap (threadOf (step ρ b)) (sym q),
     )
 
     -- v comes to a point p where the location's latest write is the one that b made: p lies behind b's step, and nothing was written there since
@@ -141,7 +141,7 @@ module _ (σ : State) (reg : Regular σ) (v w : Schedule) (fv : FullFrom SC σ v
 
         at : ((y : Schedule) × (m .front ≡ p ++ y)) ⊎ ((y : Schedule) × (p ≡ m .front ++ (b ∷ y))) → cellOf (run SC σ p) l .value ≡ n
         at (inl z) =
-            let old = regular-run p σ reg ap′ .old l (b, threadOf ρ b .history .done) (latest-in (cellOf (run SC σ p) l .writes) (b, threadOf ρ b .history .done) top (may-small ρ b live)) in
+            let old = regular-run p σ reg ap′ .old l (b, threadOf ρ b .history .done) (latest-in (cellOf (run SC σ p) l .writes) (b, threadOf ρ b .history .done) top (enabled-small ρ b live)) in
             let mid : FullFrom SC (run SC σ p) (z .0 ++ (b ∷ m .rest)) = cut-v p (z .0 ++ (b ∷ m .rest)) (m .split ∙ ap (λ (k : Schedule). k ++ (b ∷ m .rest)) (z .1) ∙ append-assoc p (z .0) (b ∷ m .rest)) .1 in
             let mono = done-run (z .0) (run SC σ p) (full-split SC (run SC σ p) (z .0) (b ∷ m .rest) mid .0) b in
             let here : threadOf (run SC (run SC σ p) (z .0)) b .history .done ≡ threadOf ρ b .history .done = ap (λ (α : State). threadOf α b .history .done) (sym (run-append SC σ p (z .0)) ∙ ap (run SC σ) (sym (z .1))) ∙ ap (λ (h : Thread). h .history .done) (m .thread) in

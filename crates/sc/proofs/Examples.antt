@@ -4,21 +4,25 @@ use mathlib.Core.Path.{_≡_, refl}
 use mathlib.Core.Bool.{Bool, true, false}
 use mathlib.Core.List.{List, [], _∷_, map}
 use Rattle.program.specs.Program.{Program, initial}
+use Rattle.program.specs.Frames.{test}
 use Rattle.program.specs.declared.instruction.Operand.the-variants.{Constant, Register}
-use Rattle.program.specs.declared.instruction.Instruction.the-variants.{Store, Load, FetchAdd, CompareSwap, Assign, AddAssign, SkipUnless, Assert}
-use Rattle.schedules.specs.Lists.{any, first, upTo}
+use Rattle.program.specs.declared.instruction.Access.the-variants.{Store, Load, FetchAdd, CompareSwap}
+use Rattle.program.specs.declared.instruction.Comparison.the-variants.{Equal}
+use Rattle.program.specs.declared.instruction.Own.the-variants.{Assign, AddAssign, SkipUnless, Assert}
+use Rattle.program.specs.declared.instruction.Instruction.the-variants.{Memory, Alone}
+use Rattle.schedules.specs.Lists.{any, find, range}
 use Rattle.schedules.specs.Order.{Schedule}
 use Rattle.lines.specs.Digit.{digitOf}
 use Rattle.lines.specs.Text.{digits, text}
-use Rattle.schedules.specs.System.{run, none-may, ended}
+use Rattle.schedules.specs.System.{run, none-enabled, ended}
 use Rattle.schedules.specs.Greedy.{greedy}
 use Rattle.schedules.specs.Orders.{trace, nextOf, clear, clearOf, ready, takeOut, leastOrder}
-use Rattle.sc.specs.Local.{eval, sum32, skipped, settle, beginsWithAccess, firstPlace, firstTakes, firstPuts, firstNext, pending, placeOf, takes, puts, next, begin}
-use Rattle.sc.specs.State.{initialWrite, noThread, freshCell, threadOf, cellOf, place, latest, noted, advanced, written, met, step, may, SC, opened, start, failedOf, fails, valueOf, memoryOf}
+use Rattle.sc.specs.Local.{eval, sum32, accessPlace, accessTakes, accessPuts, accessSets, compare, holds, outcome, settle, beginsWithAccess, firstPlace, firstTakes, firstPuts, firstNext, pending, placeOf, takes, puts, next, begin}
+use Rattle.sc.specs.State.{initialWrite, noThread, freshCell, threadOf, cellOf, place, latest, noted, advanced, written, met, step, enabled, SC, opened, start, failedOf, fails, valueOf, memoryOf}
 use Rattle.sc.specs.Graph.{readsOf, writesOf, graphOf, graph, endOf}
 use Rattle.sc.specs.Replay.{refused, replayFrom, replay}
 use Rattle.sc.specs.Text.{readFrame, readFrames, eventBytes, writeFrame, writeFrames, frames, textOf, graphText}
-use Rattle.sc.specs.Trail.{given, writes, action, trail, who, conflict, leastOf}
+use Rattle.sc.specs.Actions.{given, writes, action, actions, who, conflict, leastOf}
 
 -- whether the schedule is full (given that its bytes may step), whether it fails, memory at its end, its graph's frames
 pub record Seen : Type 0 where
@@ -29,12 +33,12 @@ pub record Seen : Type 0 where
 
 -- what a proof names on its `unfolding` line to compute with every definition of a run
 unfoldable pub seen : Program → Schedule → Seen
-unfolding eval sum32 skipped settle beginsWithAccess firstPlace firstTakes firstPuts firstNext pending placeOf takes puts next begin initialWrite noThread freshCell threadOf cellOf place latest noted advanced written met step may opened start failedOf fails valueOf memoryOf readsOf writesOf graphOf readFrame readFrames eventBytes writeFrame writeFrames frames run none-may ended any upTo initial
+unfolding eval sum32 accessPlace accessTakes accessPuts accessSets compare holds outcome settle beginsWithAccess firstPlace firstTakes firstPuts firstNext pending placeOf takes puts next begin initialWrite noThread freshCell threadOf cellOf place latest noted advanced written met step enabled opened start failedOf fails valueOf memoryOf readsOf writesOf graphOf readFrame readFrames eventBytes writeFrame writeFrames frames run none-enabled ended any range initial
 seen p s = let σ = endOf p s in record { full = ended SC σ; fails = fails σ; memory = memoryOf σ; frames = frames (graphOf σ) }
 
 -- a store of 1 beside two loads
 stores : Program
-stores = record { threads = (Store 0 (Constant 1) ∷ []) ∷ (Load 0 0 ∷ []) ∷ (Load 0 0 ∷ []) ∷ []; groups = (1 ∷ 2 ∷ []) ∷ [] }
+stores = record { threads = (Memory (Store 0 (Constant 1)) ∷ []) ∷ (Memory (Load 0 0) ∷ []) ∷ (Memory (Load 0 0) ∷ []) ∷ []; groups = (1 ∷ 2 ∷ []) ∷ [] }
 
 between : seen stores (1 ∷ 0 ∷ 2 ∷ []) ≡ record {
   full = true;
@@ -49,20 +53,20 @@ between = refl
 wraps : Program
 wraps = record {
   threads = (
-      Assign 1 (Constant 0xffffffff) ∷
-      AddAssign 1 (Constant 1) ∷
-      Assert 1 (Constant 0) ∷
-      Assign 1 (Constant 5) ∷
-      AddAssign 1 (Register 1) ∷
-      Assert 1 (Constant 10) ∷
-      Store 3 (Constant 0xffffffff) ∷
-      Assign 0 (Constant 2) ∷
-      FetchAdd 0 3 (Register 0) ∷
-      CompareSwap 2 3 (Constant 9) (Constant 7) ∷
-      SkipUnless 2 (Constant 5) 1 ∷
-      Store 3 (Constant 5) ∷
-      Assert 2 (Constant 0) ∷
-      Load 0 0 ∷
+      Alone (Assign 1 (Constant 0xffffffff)) ∷
+      Alone (AddAssign 1 (Constant 1)) ∷
+      Alone (Assert (test Equal 1 (Constant 0))) ∷
+      Alone (Assign 1 (Constant 5)) ∷
+      Alone (AddAssign 1 (Register 1)) ∷
+      Alone (Assert (test Equal 1 (Constant 10))) ∷
+      Memory (Store 3 (Constant 0xffffffff)) ∷
+      Alone (Assign 0 (Constant 2)) ∷
+      Memory (FetchAdd 0 3 (Register 0)) ∷
+      Memory (CompareSwap 2 3 (Constant 9) (Constant 7)) ∷
+      Alone (SkipUnless (test Equal 2 (Constant 5)) 1) ∷
+      Memory (Store 3 (Constant 5)) ∷
+      Alone (Assert (test Equal 2 (Constant 0))) ∷
+      Memory (Load 0 0) ∷
       []
       ) ∷ [];
   groups = [];
@@ -79,7 +83,7 @@ wrapped = refl
 
 -- a store and a load in each of two threads, as text: `400001ffff`, `4001010000`, `41000000`, `41010100`, each line with its 0a
 pair : Program
-pair = record { threads = (Store 0 (Constant 1) ∷ Load 0 1 ∷ []) ∷ (Store 1 (Constant 1) ∷ Load 0 0 ∷ []) ∷ []; groups = [] }
+pair = record { threads = (Memory (Store 0 (Constant 1)) ∷ Memory (Load 0 1) ∷ []) ∷ (Memory (Store 1 (Constant 1)) ∷ Memory (Load 0 0) ∷ []) ∷ []; groups = [] }
 
 spelt : List ℕ
 spelt =
@@ -98,10 +102,10 @@ unfolding seen pair replay replayFrom
 refusals = refl
 
 -- the least order of a run's steps: a reader stays before the store that it did not see, and stores to different locations change places
-least : leastOf (trail (start stores) (2 ∷ 0 ∷ 1 ∷ [])) ≡ 2 ∷ 0 ∷ 1 ∷ []
-unfolding seen stores trace action writes given who conflict leastOrder greedy first ready nextOf clear clearOf takeOut
+least : leastOf (actions (start stores) (2 ∷ 0 ∷ 1 ∷ [])) ≡ 2 ∷ 0 ∷ 1 ∷ []
+unfolding seen stores trace action writes given who conflict leastOrder greedy find ready nextOf clear clearOf takeOut
 least = refl
 
-earlier : leastOf (trail (start pair) (1 ∷ 0 ∷ 1 ∷ 0 ∷ [])) ≡ 0 ∷ 1 ∷ 0 ∷ 1 ∷ []
-unfolding seen pair trace action writes given who conflict leastOrder greedy first ready nextOf clear clearOf takeOut
+earlier : leastOf (actions (start pair) (1 ∷ 0 ∷ 1 ∷ 0 ∷ [])) ≡ 0 ∷ 1 ∷ 0 ∷ 1 ∷ []
+unfolding seen pair trace action writes given who conflict leastOrder greedy find ready nextOf clear clearOf takeOut
 earlier = refl

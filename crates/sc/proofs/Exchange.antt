@@ -14,10 +14,10 @@ use Rattle.schedules.specs.Order.{Schedule}
 use Rattle.schedules.specs.System.{run, ended, FullFrom}
 use Rattle.schedules.proofs.Runs.{ended-of, ended-none}
 use Rattle.sc.specs.Local.{pending, placeOf, takes, puts}
-use Rattle.sc.specs.State.{Event, initialWrite, History, Thread, Cell, State, freshCell, threadOf, cellOf, place, latest, noted, advanced, written, met, step, may, SC, valueOf, memoryOf}
+use Rattle.sc.specs.State.{Event, initialWrite, History, Thread, Cell, State, freshCell, threadOf, cellOf, place, latest, noted, advanced, written, met, step, enabled, SC, valueOf, memoryOf}
 use Rattle.sc.specs.Graph.{writesOf, graphOf}
-use Rattle.sc.specs.Exchange.{Permutation, movedEvent, movedRead, movedReads, movedWrites, movedSchedule, movedThread, movedCell, Moves, Turns}
-use Rattle.sc.proofs.Steps.{may-range, thread-own, thread-other, step-threads}
+use Rattle.sc.specs.Exchange.{Permutation, movedEvent, movedRead, movedReads, movedWrites, movedSchedule, movedThread, movedCell, Moves, Renames}
+use Rattle.sc.proofs.Steps.{enabled-range, thread-own, thread-other, step-threads}
 use Rattle.sc.proofs.Lawful.{lawful}
 use Rattle.sc.proofs.Rows.{row-at}
 pub use Rattle.model.proofs.Exchanges.{injective}
@@ -74,9 +74,9 @@ module _ (π : ℕ → ℕ) (q : Permutation π) where
     unfolding cellOf movedCell movedWrites freshCell
     moves-cell l = ap (λ (cs : List Cell). getD cs l (freshCell 0)) (m .cells) ∙ List·getD-map (movedCell π) (σ .cells) l (freshCell 0)
 
-    pub moves-may : (t : ℕ) → may τ (π t) ≡ may σ t
-    unfolding may movedThread
-    moves-may t = ap₂ (λ (b : Bool) (h : Thread). elim b [ true ↦ pending (h .local) | false ↦ false ]) (small π q t) (m .threads t)
+    pub moves-enabled : (t : ℕ) → enabled τ (π t) ≡ enabled σ t
+    unfolding enabled movedThread
+    moves-enabled t = ap₂ (λ (b : Bool) (h : Thread). elim b [ true ↦ pending (h .local) | false ↦ false ]) (small π q t) (m .threads t)
 
     moves-here : (t : ℕ) → cellOf τ (place τ (π t)) ≡ movedCell π (cellOf σ (place σ t))
     moves-here t = ap (cellOf τ) (moves-place t) ∙ moves-cell (place σ t)
@@ -92,7 +92,7 @@ module _ (π : ℕ → ℕ) (q : Permutation π) where
     step-cells t = rw (moves-met t, moves-place t, m .cells) (map-set (movedCell π) (σ .cells) (place σ t) (met t (threadOf σ t) (cellOf σ (place σ t))))
 
     -- ONE STEP
-    pub moves-step : (t : ℕ) → may σ t ≡ true → Moves π (step σ t) (step τ (π t))
+    pub moves-step : (t : ℕ) → enabled σ t ≡ true → Moves π (step σ t) (step τ (π t))
     moves-step t k = record {
       threads = λ u. at u (ℕ-discrete u t);
       cells = step-cells t;
@@ -100,7 +100,7 @@ module _ (π : ℕ → ℕ) (q : Permutation π) where
     }
       where
         r : t < length (σ .threads)
-        r = may-range σ t k
+        r = enabled-range σ t k
 
         at : (u : ℕ) → Dec (u ≡ t) → threadOf (step τ (π t)) (π u) ≡ movedThread π (threadOf (step σ t) u)
         at u (yes e) =
@@ -109,7 +109,7 @@ module _ (π : ℕ → ℕ) (q : Permutation π) where
         at u (no e) = thread-other τ (π t) (π u) (λ i. e (injective π q u t i)) ∙ m .threads u ∙ ap (movedThread π) (sym (thread-other σ t u e))
 
     pub moves-ended : ended SC σ ≡ true → ended SC τ ≡ true
-    moves-ended e = ended-of SC τ (λ u. ap (may τ) (sym (q .after-inverse u)) ∙ moves-may (q .inverse u) ∙ ended-none SC lawful σ (q .inverse u) e)
+    moves-ended e = ended-of SC τ (λ u. ap (enabled τ) (sym (q .after-inverse u)) ∙ moves-enabled (q .inverse u) ∙ ended-none SC lawful σ (q .inverse u) e)
 
   -- WHOLE SCHEDULES: what is full from the one is, exchanged, full from the other, and the ends are related
   pub moves-full : (z : Schedule) (σ τ : State) → Moves π σ τ → FullFrom SC σ z → FullFrom SC τ (movedSchedule π z) × Moves π (run SC σ z) (run SC τ (movedSchedule π z))
@@ -117,7 +117,7 @@ module _ (π : ℕ → ℕ) (q : Permutation π) where
   moves-full [] σ τ m f = (moves-ended σ τ m f, m)
   moves-full (t ∷ z) σ τ m f =
       let r = moves-full z (step σ t) (step τ (π t)) (moves-step σ τ m t (f .0)) (f .1) in
-      ((moves-may σ τ m t ∙ f .0, r .0), r .1)
+      ((moves-enabled σ τ m t ∙ f .0, r .0), r .1)
 
 writes-moved : (π : ℕ → ℕ) (cs : List Cell) → map writesOf (map (movedCell π) cs) ≡ map (movedWrites π) (map writesOf cs)
 unfolding writesOf movedCell
@@ -125,7 +125,7 @@ writes-moved π [] = refl
 writes-moved π (c ∷ cs) = ap (λ (k : List (List Event)). movedWrites π (c .writes) ∷ k) (writes-moved π cs)
 
 -- related states have related graphs
-pub moves-graph : (π : ℕ → ℕ) (σ τ : State) → Moves π σ τ → Turns π (graphOf σ) (graphOf τ)
+pub moves-graph : (π : ℕ → ℕ) (σ τ : State) → Moves π σ τ → Renames π (graphOf σ) (graphOf τ)
 unfolding graphOf movedThread
 moves-graph π σ τ m = record {
   reads = λ t h. row-at τ (π t) ∙ ap (λ (x : Thread). x .history .reads) (m .threads t) ∙ ap (movedReads π) (sym (row-at σ t));

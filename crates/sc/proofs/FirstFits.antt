@@ -17,11 +17,11 @@ use Rattle.schedules.proofs.Runs.{run-append, run-cons, full-split, full-allowe
 use Rattle.sc.specs.Local.{takes}
 use Rattle.sc.specs.State.{Event, Thread, Cell, State, threadOf, cellOf, place, latest, step, SC}
 use Rattle.sc.specs.Graph.{graphOf}
-use Rattle.sc.specs.Trail.{Action, writes, action, trail, who, conflict}
+use Rattle.sc.specs.Actions.{Action, writes, action, actions, who, conflict}
 use Rattle.sc.proofs.Regular.{Regular, regular-step, regular-run}
 use Rattle.sc.proofs.Rows.{same-reads, same-writes}
 use Rattle.sc.proofs.Growth.{Grown, grown, same-latest, no-growth}
-use Rattle.sc.proofs.Reading.{before-end, Turn, first-turn, same-place, same-source}
+use Rattle.sc.proofs.Reading.{before-end, FirstStep, first-step-of, same-place, same-source}
 use Rattle.sc.proofs.Determined.{determined}
 use Rattle.sc.proofs.Trails.{writes-own, blind-writes, still-takes, first-at, clear-at, same-action}
 
@@ -49,8 +49,8 @@ nothing-between P n (ends r y) h x np a b c k =
     absurd (np (subst P (sym (before-end a (b ++ (x ∷ r)) x y c k′)) (h y (Memᴰ·append-right r (List·Memᴰ·head refl)))))
 
 module _ (σ : State) (reg : Regular σ) (t : ℕ) (v w : Schedule) (fv : FullFrom SC σ (t ∷ v)) (fw : FullFrom SC σ w) (same : graphOf (run SC σ (t ∷ v)) ≡ graphOf (run SC σ w)) where
-  turn : Turn σ w t
-  turn = first-turn w σ t fw (fv .0)
+  turn : FirstStep σ w t
+  turn = first-step-of w σ t fw (fv .0)
 
   abbrev z : Schedule
   z = turn .front
@@ -161,8 +161,8 @@ module _ (σ : State) (reg : Regular σ) (t : ℕ) (v w : Schedule) (fv : FullFr
         go true p false q false r = rw (p, q, conflict) r
 
   -- FIRST FITS: t's first step in w is the step that t does first in v, and nothing before it conflicts with it
-  pub first-fits : (nextOf who conflict (trail σ w) t ≡ some (action σ t)) × (clear who conflict (trail σ w) t (action σ t) ≡ true)
+  pub first-fits : (nextOf who conflict (actions σ w) t ≡ some (action σ t)) × (clear who conflict (actions σ w) t (action σ t) ≡ true)
   first-fits = (
-    ap (λ (k : Schedule). nextOf who conflict (trail σ k) t) (turn .split) ∙ first-at z (turn .rest) σ t (turn .not-yet) ∙ ap (λ (d : Action). some d) (same-action ρ σ t (turn .waits) cell-waits),
-    ap (λ (k : Schedule). clear who conflict (trail σ k) t (action σ t)) (turn .split) ∙ clear-at z (turn .rest) σ t (action σ t) (turn .not-yet) no-conflict,
+    ap (λ (k : Schedule). nextOf who conflict (actions σ k) t) (turn .split) ∙ first-at z (turn .rest) σ t (turn .not-yet) ∙ ap (λ (d : Action). some d) (same-action ρ σ t (turn .waits) cell-waits),
+    ap (λ (k : Schedule). clear who conflict (actions σ k) t (action σ t)) (turn .split) ∙ clear-at z (turn .rest) σ t (action σ t) (turn .not-yet) no-conflict,
   )

@@ -9,8 +9,8 @@ use native.Mathlib.Omega.{arith}
 use lib.ListN.{length, length-append}
 use Rattle.schedules.specs.Order.{Schedule}
 use Rattle.schedules.specs.System.{run, Allowed}
-use Rattle.sc.specs.State.{Event, initialWrite, Cell, State, threadOf, cellOf, latest, step, may, SC}
-use Rattle.sc.proofs.Steps.{may-small, may-range}
+use Rattle.sc.specs.State.{Event, initialWrite, Cell, State, threadOf, cellOf, latest, step, enabled, SC}
+use Rattle.sc.proofs.Steps.{enabled-small, enabled-range}
 use Rattle.sc.proofs.Change.{done-grows, Change, kept, wrote}
 use Rattle.sc.proofs.Regular.{Regular, changes, regular-step, regular-run}
 
@@ -35,21 +35,21 @@ append-none a x e = omega (arith, ap length e, length-append a (x ∷ []))
 only : {A : Type 0} (x y : A) → List·Memᴰ x (y ∷ []) → x ≡ y
 only {A} x y k = ⊎-elim (λ (e : x ≡ y). e) (λ (j : List·Memᴰ x []). absurd (List·Memᴰ·not-nil j)) (List·Memᴰ·cases-cons k)
 
-grown-step : (t : ℕ) (z : Schedule) (σ : State) → may σ t ≡ true → (l : ℕ) → Change σ t l → Grown (step σ t) z l → Grown σ (t ∷ z) l
+grown-step : (t : ℕ) (z : Schedule) (σ : State) → enabled σ t ≡ true → (l : ℕ) → Change σ t l → Grown (step σ t) z l → Grown σ (t ∷ z) l
 unfolding run
 grown-step t z σ m l (kept q) g = record {
   new = g .new;
   whole = g .whole ∙ ap (λ (c : Cell). g .new ++ c .writes) q;
   none-new = λ e. g .none-new e ∙ q;
-  fresh = λ x k. let f = g .fresh x k in record { real = f .real; late = omega (arith, f .late, done-grows σ t (may-range σ t m) (x .0)) };
+  fresh = λ x k. let f = g .fresh x k in record { real = f .real; late = omega (arith, f .late, done-grows σ t (enabled-range σ t m) (x .0)) };
   of = λ x k. List·Memᴰ·tail (g .of x k);
 }
 grown-step t z σ m l (wrote q v o w y) g = record {
   new = g .new ++ (e ∷ []);
   whole = g .whole ∙ ap (λ (c : List Event). g .new ++ c) w ∙ sym (append-assoc (g .new) (e ∷ []) (cellOf σ l .writes));
   none-new = λ i. absurd (append-none (g .new) e i);
-  fresh = λ x k. ⊎-elim (λ (j : List·Memᴰ x (g .new)). let f = g .fresh x j in record { real = f .real; late = omega (arith, f .late, done-grows σ t (may-range σ t m) (x .0)) })
-      (λ (j : List·Memᴰ x (e ∷ [])). subst (Fresh σ) (sym (only x e j)) (record { real = may-small σ t m; late = omega arith })) (List·Memᴰ·append-cases (g .new) k);
+  fresh = λ x k. ⊎-elim (λ (j : List·Memᴰ x (g .new)). let f = g .fresh x j in record { real = f .real; late = omega (arith, f .late, done-grows σ t (enabled-range σ t m) (x .0)) })
+      (λ (j : List·Memᴰ x (e ∷ [])). subst (Fresh σ) (sym (only x e j)) (record { real = enabled-small σ t m; late = omega arith })) (List·Memᴰ·append-cases (g .new) k);
   of = λ x k. ⊎-elim (λ (j : List·Memᴰ x (g .new)). List·Memᴰ·tail (g .of x j)) (λ (j : List·Memᴰ x (e ∷ [])). List·Memᴰ·head (ap (λ (i : Event). i .0) (only x e j))) (List·Memᴰ·append-cases (g .new) k);
 }
   where

@@ -2,20 +2,18 @@
 use Prim.Native.Nat.{ℕ, zero, suc}
 use mathlib.Core.Path.{_≡_, refl, sym, ap, subst, _∙_}
 use mathlib.Core.Logic.{_≢_}
-use mathlib.Core.Bool.{Bool, true, false, true≢false, false≢true}
+use mathlib.Core.Bool.{true, true≢false, false≢true}
 use mathlib.Core.List.{List, [], _∷_}
-use lib.Dec.{eqb}
-use lib.ListN.{getD, set}
 use Rattle.program.specs.Program.{Program}
 use Rattle.program.specs.declared.instruction.Instruction.{Instruction}
-use Rattle.program.specs.declared.instruction.Instruction.the-variants.{Store, Load, FetchAdd, CompareSwap, Assign, AddAssign, SkipUnless, Assert}
+use Rattle.program.specs.declared.instruction.Instruction.the-variants.{Memory, Alone}
 use Rattle.schedules.specs.Order.{Schedule}
 use Rattle.schedules.specs.System.{run, Allowed}
-use Rattle.sc.specs.Local.{Local, eval, settle, beginsWithAccess, firstNext, pending, next, begin}
-use Rattle.sc.specs.State.{State, noThread, threadOf, advanced, step, may, SC, opened, start, failedOf, fails}
+use Rattle.sc.specs.Local.{Local, accessSets, Outcome, continues, stops, outcome, settle, beginsWithAccess, firstNext, pending, next, begin}
+use Rattle.sc.specs.State.{State, noThread, threadOf, advanced, step, enabled, SC, opened, start, failedOf, fails}
 use Rattle.sc.specs.Graph.{endOf}
-use Rattle.sc.proofs.Access.{nothing-pending}
-use Rattle.sc.proofs.Steps.{may-pending, may-range, thread-other}
+use Rattle.sc.proofs.Access.{settle-continues, settle-stops, nothing-pending}
+use Rattle.sc.proofs.Steps.{enabled-pending, enabled-range, thread-other}
 use Rattle.sc.proofs.Change.{thread-cases}
 use Rattle.sc.proofs.Start.{start-cases, everyone}
 use Rattle.sc.proofs.Failing.{fails-at, fails-of}
@@ -28,34 +26,22 @@ settle-halts : (is : List Instruction) (k : ℕ) (rs : List ℕ) → Halts (sett
 unfolding settle
 settle-halts [] k rs e = refl
 settle-halts (i ∷ is) (suc k) rs e = settle-halts is k rs e
-settle-halts (Store l p ∷ is) zero rs e = absurd (false≢true e)
-settle-halts (Load r l ∷ is) zero rs e = absurd (false≢true e)
-settle-halts (FetchAdd r l p ∷ is) zero rs e = absurd (false≢true e)
-settle-halts (CompareSwap r l c v ∷ is) zero rs e = absurd (false≢true e)
-settle-halts (Assign r p ∷ is) zero rs e = settle-halts is zero _ e
-settle-halts (AddAssign r p ∷ is) zero rs e = settle-halts is zero _ e
-settle-halts (SkipUnless r p n ∷ is) zero rs e = settle-halts is _ rs e
-settle-halts (Assert r p ∷ is) zero rs e = go (eqb (getD rs r 0) (eval rs p)) refl (settle-halts is zero rs) e
+settle-halts (Memory a ∷ is) zero rs e = absurd (false≢true e)
+settle-halts (Alone o ∷ is) zero rs e = go (outcome rs o) refl (settle-halts is) e
   where
-    go : (b : Bool) → eqb (getD rs r 0) (eval rs p) ≡ b → Halts (settle zero rs is) → Halts (settle zero rs (Assert r p ∷ is))
-    go true q ih = rw (q, settle) ih
-    go false q ih = rw (q, settle) (λ k. refl)
+    go : (x : Outcome) → outcome rs o ≡ x → ((k : ℕ) (ss : List ℕ) → Halts (settle k ss is)) → Halts (settle zero rs (Alone o ∷ is))
+    go (continues ss k) q ih = subst Halts (sym (settle-continues o is rs ss k q)) (ih k ss)
+    go stops q ih = subst Halts (sym (settle-stops o is rs q)) (λ k. refl)
 
 next-halts : (h : Local) (is : List Instruction) (x : ℕ) → beginsWithAccess is ≡ true → Halts (firstNext h is x)
 unfolding beginsWithAccess firstNext
 next-halts h [] x b = absurd (false≢true b)
-next-halts h (Store l p ∷ is) x b = settle-halts is 0 (h .registers)
-next-halts h (Load r l ∷ is) x b = settle-halts is 0 (set (h .registers) r x)
-next-halts h (FetchAdd r l p ∷ is) x b = settle-halts is 0 (set (h .registers) r x)
-next-halts h (CompareSwap r l c v ∷ is) x b = settle-halts is 0 (set (h .registers) r x)
-next-halts h (Assign r p ∷ is) x b = absurd (false≢true b)
-next-halts h (AddAssign r p ∷ is) x b = absurd (false≢true b)
-next-halts h (SkipUnless r p n ∷ is) x b = absurd (false≢true b)
-next-halts h (Assert r p ∷ is) x b = absurd (false≢true b)
+next-halts h (Memory a ∷ is) x b = settle-halts is 0 (accessSets (h .registers) a x)
+next-halts h (Alone o ∷ is) x b = absurd (false≢true b)
 
-halts-step : (σ : State) (t : ℕ) → may σ t ≡ true → ((u : ℕ) → Halts (threadOf σ u .local)) → (u : ℕ) → Halts (threadOf (step σ t) u .local)
+halts-step : (σ : State) (t : ℕ) → enabled σ t ≡ true → ((u : ℕ) → Halts (threadOf σ u .local)) → (u : ℕ) → Halts (threadOf (step σ t) u .local)
 unfolding advanced next pending
-halts-step σ t m h u = thread-cases (λ k x. Halts (x .local)) σ t (may-range σ t m) (next-halts (threadOf σ t .local) (threadOf σ t .local .rest) _ (may-pending σ t m)) u (λ ne. h u)
+halts-step σ t m h u = thread-cases (λ k x. Halts (x .local)) σ t (enabled-range σ t m) (next-halts (threadOf σ t .local) (threadOf σ t .local .rest) _ (enabled-pending σ t m)) u (λ ne. h u)
 
 halts-start : (p : Program) (u : ℕ) → Halts (threadOf (start p) u .local)
 unfolding noThread opened begin
@@ -66,12 +52,16 @@ unfolding run
 halts-run [] σ a h = h
 halts-run (t ∷ s) σ a h = halts-run s (step σ t) (a .1) (halts-step σ t (a .0) h)
 
+-- along a run a failed assertion of a thread leaves it no code
+pub halted : (p : Program) (s : Schedule) → Allowed SC (start p) s → (t : ℕ) → threadOf (endOf p s) t .local .failed ≡ true → threadOf (endOf p s) t .local .rest ≡ []
+halted p s a = halts-run s (start p) a (halts-start p)
+
 -- A FAILED RUN STAYS FAILED
-pub stays-failed : (p : Program) (s : Schedule) (t : ℕ) → Allowed SC (start p) s → may (endOf p s) t ≡ true → fails (endOf p s) ≡ true → fails (step (endOf p s) t) ≡ true
+pub stays-failed : (p : Program) (s : Schedule) (t : ℕ) → Allowed SC (start p) s → enabled (endOf p s) t ≡ true → fails (endOf p s) ≡ true → fails (step (endOf p s) t) ≡ true
 unfolding failedOf
 stays-failed p s t a m e =
     let σ : State = endOf p s in
     let r = fails-at σ e in
-    let stopped = nothing-pending (threadOf σ (r .0) .local) (halts-run s (start p) a (halts-start p) (r .0) (r .1)) in
-    let ne : r .0 ≢ t = λ q. true≢false (sym (may-pending σ t m) ∙ ap (λ (u : ℕ). pending (threadOf σ u .local)) (sym q) ∙ stopped) in
+    let stopped = nothing-pending (threadOf σ (r .0) .local) (halted p s a (r .0) (r .1)) in
+    let ne : r .0 ≢ t = λ q. true≢false (sym (enabled-pending σ t m) ∙ ap (λ (u : ℕ). pending (threadOf σ u .local)) (sym q) ∙ stopped) in
     fails-of (step σ t) (r .0) (ap failedOf (thread-other σ t (r .0) ne) ∙ r .1)

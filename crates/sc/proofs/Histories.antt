@@ -12,10 +12,10 @@ use Rattle.program.specs.declared.instruction.Instruction.{Instruction}
 use Rattle.schedules.specs.Order.{Schedule}
 use Rattle.schedules.specs.System.{run, Allowed}
 use Rattle.sc.specs.Local.{takes}
-use Rattle.sc.specs.State.{Event, Thread, Cell, State, noThread, threadOf, cellOf, place, latest, advanced, step, may, SC, opened, start}
+use Rattle.sc.specs.State.{Event, Thread, Cell, State, noThread, threadOf, cellOf, place, latest, advanced, step, enabled, SC, opened, start}
 use Rattle.sc.proofs.Suffix.{Suffix, suffix-same, suffix-nil, suffix-trans}
 use Rattle.sc.proofs.Access.{next-suffix, begin-law}
-use Rattle.sc.proofs.Steps.{may-pending, may-range, missing, thread-other}
+use Rattle.sc.proofs.Steps.{enabled-pending, enabled-range, missing, thread-other}
 use Rattle.sc.proofs.Change.{thread-cases, addedRead, noted-done, noted-reads, done-own, done-grows, Change, kept, wrote}
 use Rattle.sc.proofs.Start.{start-thread, start-threads}
 use Rattle.sc.proofs.Regular.{Regular, changes, regular-step}
@@ -43,18 +43,18 @@ done-exists σ e h = go (decLt (e .0) (length (σ .threads)))
     go (no k) = absurd (omega (arith, ap (λ (x : Thread). x .history .done) (missing σ (e .0) (omega arith)), no-thread-done))
 
 -- a step does the upcoming event of its thread, and no other
-module _ (σ : State) (t : ℕ) (m : may σ t ≡ true) where
+module _ (σ : State) (t : ℕ) (m : enabled σ t ≡ true) where
   pub done-more : (e : Event) → Done σ e → Done (step σ t) e
-  done-more e d = omega (arith, done-grows σ t (may-range σ t m) (e .0))
+  done-more e d = omega (arith, done-grows σ t (enabled-range σ t m) (e .0))
 
   pub done-new : Done (step σ t) (upcoming σ t)
-  done-new = omega (arith, done-own σ t (may-range σ t m))
+  done-new = omega (arith, done-own σ t (enabled-range σ t m))
 
   pub done-cases : (e : Event) → Done (step σ t) e → Done σ e ⊎ (e ≡ upcoming σ t)
   done-cases e d = go (ℕ-discrete (e .0) t) (decLt (e .1) (threadOf σ (e .0) .history .done))
     where
       own : e .0 ≡ t → e .1 < suc (threadOf σ t .history .done)
-      own q = subst (λ (n : ℕ). e .1 < n) (ap (λ (u : ℕ). threadOf (step σ t) u .history .done) q ∙ done-own σ t (may-range σ t m)) d
+      own q = subst (λ (n : ℕ). e .1 < n) (ap (λ (u : ℕ). threadOf (step σ t) u .history .done) q ∙ done-own σ t (enabled-range σ t m)) d
 
       go : Dec (e .0 ≡ t) → Dec (Done σ e) → Done σ e ⊎ (e ≡ upcoming σ t)
       go q (yes h) = inl h
@@ -68,21 +68,21 @@ module _ (σ : State) (t : ℕ) (m : may σ t ≡ true) where
 pub done-run : (z : Schedule) (σ : State) → Allowed SC σ z → (u : ℕ) → threadOf σ u .history .done ≤ threadOf (run SC σ z) u .history .done
 unfolding run
 done-run [] σ a u = omega arith
-done-run (t ∷ z) σ a u = omega (arith, done-grows σ t (may-range σ t (a .0)) u, done-run z (step σ t) (a .1) u)
+done-run (t ∷ z) σ a u = omega (arith, done-grows σ t (enabled-range σ t (a .0)) u, done-run z (step σ t) (a .1) u)
 
 pub done-length : (z : Schedule) (σ : State) → Allowed SC σ z → (u : ℕ) → threadOf (run SC σ z) u .history .done ≤ threadOf σ u .history .done + length z
 unfolding run advanced
 done-length [] σ a u = omega arith
 done-length (t ∷ z) σ a u =
     let ih = done-length z (step σ t) (a .1) u in
-    let k = thread-cases (λ j h. h .history .done ≤ suc (threadOf σ j .history .done)) σ t (may-range σ t (a .0))
+    let k = thread-cases (λ j h. h .history .done ≤ suc (threadOf σ j .history .done)) σ t (enabled-range σ t (a .0))
     (let e = noted-done (takes (threadOf σ t .local)) (latest (cellOf σ (place σ t) .writes)) (threadOf σ t .history) in omega arith) u (λ ne. omega arith) in
     omega arith
 
 -- reads and writes of a step stand in front of the older ones
-pub step-row : (σ : State) (t : ℕ) → may σ t ≡ true → (u : ℕ) → Suffix (threadOf σ u .history .reads) (threadOf (step σ t) u .history .reads)
+pub step-row : (σ : State) (t : ℕ) → enabled σ t ≡ true → (u : ℕ) → Suffix (threadOf σ u .history .reads) (threadOf (step σ t) u .history .reads)
 unfolding advanced
-step-row σ t m u = thread-cases (λ k h. Suffix (threadOf σ k .history .reads) (h .history .reads)) σ t (may-range σ t m)
+step-row σ t m u = thread-cases (λ k h. Suffix (threadOf σ k .history .reads) (h .history .reads)) σ t (enabled-range σ t m)
     (addedRead (takes (threadOf σ t .local)) (threadOf σ t .history .done) (latest (cellOf σ (place σ t) .writes)), noted-reads _ _ (threadOf σ t .history)) u (λ ne. suffix-same _)
 
 pub step-order : (σ : State) → Regular σ → (t l : ℕ) → Suffix (cellOf σ l .writes) (cellOf (step σ t) l .writes)
@@ -107,7 +107,7 @@ pub rest-run : (z : Schedule) (σ : State) → Allowed SC σ z → (u : ℕ) →
 unfolding run advanced
 rest-run [] σ a u = suffix-same (threadOf σ u .local .rest)
 rest-run (t ∷ z) σ a u = suffix-trans (rest-run z (step σ t) (a .1) u)
-    (thread-cases (λ k h. Suffix (h .local .rest) (threadOf σ k .local .rest)) σ t (may-range σ t (a .0)) (next-suffix (threadOf σ t .local) _ (may-pending σ t (a .0))) u (λ ne. suffix-same (threadOf σ u .local .rest)))
+    (thread-cases (λ k h. Suffix (h .local .rest) (threadOf σ k .local .rest)) σ t (enabled-range σ t (a .0)) (next-suffix (threadOf σ t .local) _ (enabled-pending σ t (a .0))) u (λ ne. suffix-same (threadOf σ u .local .rest)))
 
 no-thread-rest : noThread .local .rest ≡ []
 unfolding noThread

@@ -6,20 +6,14 @@ use mathlib.Core.Bool.{Bool, true, false, true≢false}
 use mathlib.Core.Option.{none}
 use mathlib.Core.List.{List, [], _∷_}
 use Rattle.program.specs.declared.instruction.Instruction.{Instruction}
-use Rattle.program.specs.declared.instruction.Instruction.the-variants.{Store, Load, FetchAdd, CompareSwap, Assign, AddAssign, SkipUnless, Assert}
+use Rattle.program.specs.declared.instruction.Instruction.the-variants.{Memory, Alone}
 use Rattle.sc.specs.Local.{Local, beginsWithAccess, firstTakes, firstPuts, firstNext, pending, takes, puts, next}
 
 idle-at : (h : Local) (is : List Instruction) (x : ℕ) → beginsWithAccess is ≡ false → (firstNext h is x ≡ h) × (firstTakes is ≡ false) × (firstPuts (h .registers) is x ≡ none)
 unfolding beginsWithAccess firstTakes firstPuts firstNext
 idle-at h [] x e = (refl, refl, refl)
-idle-at h (Store l p ∷ is) x e = absurd (true≢false e)
-idle-at h (Load r l ∷ is) x e = absurd (true≢false e)
-idle-at h (FetchAdd r l p ∷ is) x e = absurd (true≢false e)
-idle-at h (CompareSwap r l c v ∷ is) x e = absurd (true≢false e)
-idle-at h (Assign r p ∷ is) x e = (refl, refl, refl)
-idle-at h (AddAssign r p ∷ is) x e = (refl, refl, refl)
-idle-at h (SkipUnless r p n ∷ is) x e = (refl, refl, refl)
-idle-at h (Assert r p ∷ is) x e = (refl, refl, refl)
+idle-at h (Memory a ∷ is) x e = absurd (true≢false e)
+idle-at h (Alone o ∷ is) x e = (refl, refl, refl)
 
 pub record Idle (h : Local) (x : ℕ) : Type 0 where
   pub stays : next h x ≡ h

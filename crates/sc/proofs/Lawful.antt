@@ -12,18 +12,18 @@ use lib.ListN.{length, getD, set}
 use Rattle.program.specs.Program.{Program}
 use Rattle.program.specs.WellFormed.{WellFormed, accesses, allAccesses}
 use Rattle.program.specs.declared.instruction.Instruction.{Instruction}
-use Rattle.schedules.specs.Lists.{Ascends, upTo}
+use Rattle.schedules.specs.Lists.{Ascends, range}
 use Rattle.schedules.specs.Order.{Schedule}
 use Rattle.schedules.specs.System.{Lawful}
 use Rattle.schedules.specs.Fulls.{fulls}
-use Rattle.schedules.proofs.Lists.{in-upTo, upTo-ascends}
+use Rattle.schedules.proofs.Lists.{in-range, range-ascends}
 use Rattle.schedules.proofs.Runs.{full-length}
 use Rattle.schedules.proofs.Fulls.{fulls-length}
 use Rattle.sc.specs.Local.{begin}
-use Rattle.sc.specs.State.{State, Thread, noThread, threadOf, cellOf, place, advanced, step, may, accessesLeft, size, SC, opened, start}
+use Rattle.sc.specs.State.{State, Thread, noThread, threadOf, cellOf, place, advanced, step, enabled, accessesLeft, size, SC, opened, start}
 use Rattle.sc.specs.Graph.{Full}
 use Rattle.sc.proofs.Access.{suffix-accesses, next-fewer, begin-law}
-use Rattle.sc.proofs.Steps.{may-small, may-pending, may-range}
+use Rattle.sc.proofs.Steps.{enabled-small, enabled-pending, enabled-range}
 
 set-fewer : (l : List Thread) (t : ℕ) (h d : Thread) → t < length l → accesses (h .local .rest) < accesses (getD l t d .local .rest) → accessesLeft (set l t h) < accessesLeft l
 unfolding accessesLeft
@@ -31,12 +31,12 @@ set-fewer [] t h d i e = absurd (not-suc-le-zero i)
 set-fewer (x ∷ l) zero h d i e = omega arith
 set-fewer (x ∷ l) (suc t) h d i e = omega (arith, set-fewer l t h d (le-of-suc-le-suc i) e)
 
-pub falls : (σ : State) (t : ℕ) → may σ t ≡ true → size (step σ t) < size σ
+pub falls : (σ : State) (t : ℕ) → enabled σ t ≡ true → size (step σ t) < size σ
 unfolding size step threadOf advanced
-falls σ t m = set-fewer (σ .threads) t _ noThread (may-range σ t m) (next-fewer (threadOf σ t .local) (cellOf σ (place σ t) .value) (may-pending σ t m))
+falls σ t m = set-fewer (σ .threads) t _ noThread (enabled-range σ t m) (next-fewer (threadOf σ t .local) (cellOf σ (place σ t) .value) (enabled-pending σ t m))
 
 pub lawful : Lawful SC
-lawful = record { named = λ σ t m. let h = may-small σ t m in in-upTo 0 6 t (omega arith) (omega arith); falls = falls }
+lawful = record { named = λ σ t m. let h = enabled-small σ t m in in-range 0 6 t (omega arith) (omega arith); falls = falls }
 
 opened-left : (c : List (List Instruction)) → accessesLeft (map opened c) ≤ allAccesses c
 unfolding accessesLeft allAccesses opened
@@ -53,13 +53,13 @@ start-24 p w = omega (arith, start-size p, w .access-24)
 
 -- the six names ascend
 pub names-ascend : Ascends ltb (SC .names)
-names-ascend = upTo-ascends 0 6
+names-ascend = range-ascends 0 6
 
 pub at-most-24 : (p : Program) → WellFormed p → (s : Schedule) → Full p s → length s ≤ 24
 at-most-24 p w s f = omega (arith, full-length SC lawful (start p) s f, start-24 p w)
 
 pub count-bound : (p : Program) → WellFormed p → length (fulls SC (start p)) ≤ 6 ^ 24
-unfolding upTo
+unfolding range
 count-bound p w = fulls-length SC lawful (start p) 6 24 (omega arith) (omega arith) (start-24 p w)
 
 pub fits-64-bits : 6 ^ 24 < 2 ^ 63

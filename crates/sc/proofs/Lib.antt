@@ -16,8 +16,6 @@ pub mod Start
 pub mod Words
 -- sequential consistency is a lawful step system; T0: at most 24 steps, at most 6^24 full schedules
 pub mod Lawful
--- the actions of a run: of six threads, and as they are where no thread moves
-pub mod Actions
 -- T1: independent steps commute; the orders of a run's steps
 pub mod Swap
 pub mod Orders
@@ -25,8 +23,6 @@ pub mod Orders
 pub mod Regular
 pub mod Histories
 pub mod Growth
--- full schedules in document 01's words
-pub mod Ended
 -- replaying a schedule: whole exactly when full, refused by 20 or 21 exactly where it should be
 pub mod Replay
 pub mod SmallRefusals
@@ -38,6 +34,8 @@ pub mod Permitted
 pub mod Failing
 -- a run that failed stays so
 pub mod Halted
+-- full schedules in document 01's words
+pub mod Ended
 -- T3(b): full schedules with one graph do the same steps, end in the same state, and the least is found from any
 pub mod Reading
 pub mod Determined
@@ -51,7 +49,7 @@ pub mod Printed
 -- for the listing: graphs and trails of exchanged schedules, what an exchange leaves as it is, steps that can be moved, and what is left to do
 pub mod Turning
 pub mod ProgramGraphs
-pub mod ExchangedTrail
+pub mod ExchangedActions
 pub mod FixedState
 pub mod FreeSteps
 pub mod Ahead

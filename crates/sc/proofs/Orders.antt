@@ -14,9 +14,9 @@ use Rattle.schedules.specs.Orders.{nextOf, clear, takeOut, OrderOf}
 use Rattle.schedules.proofs.Order.{AtMost}
 use Rattle.schedules.proofs.Front.{Commute}
 use Rattle.schedules.proofs.Orders
-use Rattle.sc.specs.State.{State, cellOf, place, step, may, SC}
-use Rattle.sc.specs.Trail.{Action, writes, action, trail, who, conflict, leastOf}
-use Rattle.sc.proofs.Steps.{thread-other, place-other, may-other}
+use Rattle.sc.specs.State.{State, cellOf, place, step, enabled, SC}
+use Rattle.sc.specs.Actions.{Action, writes, action, actions, who, conflict, leastOf}
+use Rattle.sc.proofs.Steps.{thread-other, place-other, enabled-other}
 use Rattle.sc.proofs.Lawful.{lawful, names-ascend}
 use Rattle.sc.proofs.Swap.{Independent, independent-sym, still-cells, action-after, swap}
 
@@ -37,16 +37,17 @@ apart σ a t ne m = go (eqb (place σ a) (place (step σ a) t)) refl (writes σ 
         let k : writes (step σ a) t ≡ false = rw (e, q, conflict) at m in
         inr (q, sym (writes-still σ a t ne q) ∙ k)
 
-by : (σ : State) (t : ℕ) → who (action σ t) ≡ t
+-- a step's action is its thread's
+pub action-who : (σ : State) (t : ℕ) → who (action σ t) ≡ t
 unfolding who action
-by σ t = refl
+action-who σ t = refl
 
 -- independent steps can be turned round
-pub commute : (σ : State) (a t : ℕ) → a ≢ t → Independent σ a t → may σ a ≡ true → may (step σ a) t ≡ true → Commute SC σ a t
-commute σ a t ne i m n = (sym (may-other σ a t (Ne·symm ne)) ∙ n, may-other σ t a ne ∙ m, swap σ a t ne i)
+pub commute : (σ : State) (a t : ℕ) → a ≢ t → Independent σ a t → enabled σ a ≡ true → enabled (step σ a) t ≡ true → Commute SC σ a t
+commute σ a t ne i m n = (sym (enabled-other σ a t (Ne·symm ne)) ∙ n, enabled-other σ t a ne ∙ m, swap σ a t ne i)
 
 -- so can steps that do not conflict, and both do what they did
-pub turned-round : (σ : State) (a t : ℕ) → a ≢ t → may σ a ≡ true → may (step σ a) t ≡ true → conflict (action σ a) (action (step σ a) t) ≡ false →
+pub turned-round : (σ : State) (a t : ℕ) → a ≢ t → enabled σ a ≡ true → enabled (step σ a) t ≡ true → conflict (action σ a) (action (step σ a) t) ≡ false →
     Commute SC σ a t × (action (step σ a) t ≡ action σ t) × (action (step σ t) a ≡ action σ a)
 turned-round σ a t ne m n c =
     let i = apart σ a t (Ne·symm ne) c in (
@@ -60,13 +61,13 @@ abbrev pub Reorders : List Action → Schedule → Type 0
 Reorders ds s = OrderOf who conflict (SC .names) ds s
 
 -- the first step of t, if nothing before it conflicts with it, can be taken first
-pub pulled : (w : Schedule) (σ : State) (t : ℕ) (d : Action) → FullFrom SC σ w → nextOf who conflict (trail σ w) t ≡ some d → clear who conflict (trail σ w) t d ≡ true →
-    (r : Schedule) × FullFrom SC σ (t ∷ r) × (run SC σ (t ∷ r) ≡ run SC σ w) × (trail (step σ t) r ≡ takeOut who conflict (trail σ w) t) × (action σ t ≡ d)
-pulled = Orders.pulled SC lawful names-ascend who conflict action by turned-round
+pub pulled : (w : Schedule) (σ : State) (t : ℕ) (d : Action) → FullFrom SC σ w → nextOf who conflict (actions σ w) t ≡ some d → clear who conflict (actions σ w) t d ≡ true →
+    (r : Schedule) × FullFrom SC σ (t ∷ r) × (run SC σ (t ∷ r) ≡ run SC σ w) × (actions (step σ t) r ≡ takeOut who conflict (actions σ w) t) × (action σ t ≡ d)
+pulled = Orders.pulled SC lawful names-ascend who conflict action action-who turned-round
 
-pub reorders-full : (v w : Schedule) (σ : State) → FullFrom SC σ w → Reorders (trail σ w) v → FullFrom SC σ v × (run SC σ v ≡ run SC σ w)
-reorders-full = Orders.order-full SC lawful names-ascend who conflict action by turned-round
+pub reorders-full : (v w : Schedule) (σ : State) → FullFrom SC σ w → Reorders (actions σ w) v → FullFrom SC σ v × (run SC σ v ≡ run SC σ w)
+reorders-full = Orders.order-full SC lawful names-ascend who conflict action action-who turned-round
 
 pub least-order : (σ : State) (w : Schedule) → FullFrom SC σ w →
-    FullFrom SC σ (leastOf (trail σ w)) × (run SC σ (leastOf (trail σ w)) ≡ run SC σ w) × ((r : Schedule) → Reorders (trail σ w) r → AtMost (leastOf (trail σ w)) r)
-least-order = Orders.order-least SC lawful names-ascend who conflict action by turned-round
+    FullFrom SC σ (leastOf (actions σ w)) × (run SC σ (leastOf (actions σ w)) ≡ run SC σ w) × ((r : Schedule) → Reorders (actions σ w) r → AtMost (leastOf (actions σ w)) r)
+least-order = Orders.order-least SC lawful names-ascend who conflict action action-who turned-round

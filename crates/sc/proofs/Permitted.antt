@@ -11,7 +11,7 @@ use Rattle.program.specs.WellFormed.{WellFormed, Group}
 use Rattle.schedules.specs.Order.{Schedule}
 use Rattle.sc.specs.State.{Cell, noThread, freshCell, threadOf, opened, start}
 use Rattle.sc.specs.Graph.{Full, endOf, graph}
-use Rattle.sc.specs.Exchange.{Permutation, Together, Permitted, movedReads, movedWrites, movedSchedule, movedThread, movedCell, Moves, Turns}
+use Rattle.sc.specs.Exchange.{Permutation, Together, Permitted, movedReads, movedWrites, movedSchedule, movedThread, movedCell, Moves, Renames}
 use Rattle.program.proofs.Everywhere.{everywhere-at}
 use Rattle.sc.proofs.Start.{start-threads, start-thread, start-cases, everyone}
 use Rattle.sc.proofs.Exchange.{moves-full, moves-graph}
@@ -66,5 +66,5 @@ module _ (p : Program) (w : WellFormed p) (π : ℕ → ℕ) (m : Permitted p π
   pub exchanged : Permutation π → (s : Schedule) → Full p s → Full p (movedSchedule π s) × Moves π (endOf p s) (endOf p (movedSchedule π s))
   exchanged q s f = moves-full π q s (start p) (start p) moves-start f
 
-  pub exchanged-graph : Permutation π → (s : Schedule) → Full p s → Turns π (graph p s) (graph p (movedSchedule π s))
+  pub exchanged-graph : Permutation π → (s : Schedule) → Full p s → Renames π (graph p s) (graph p (movedSchedule π s))
   exchanged-graph q s f = moves-graph π (endOf p s) (endOf p (movedSchedule π s)) (exchanged q s f .1)

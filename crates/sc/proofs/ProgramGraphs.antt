@@ -9,8 +9,8 @@ use Rattle.schedules.specs.Order.{Schedule}
 use Rattle.schedules.proofs.Order.{AtMost}
 use Rattle.sc.specs.State.{start}
 use Rattle.sc.specs.Graph.{graphOf, graph, endOf, Full}
-use Rattle.sc.specs.Trail.{trail, leastOf}
-use Rattle.sc.specs.Exchange.{Moves, Turns}
+use Rattle.sc.specs.Actions.{actions, leastOf}
+use Rattle.sc.specs.Exchange.{Moves, Renames}
 use Rattle.sc.proofs.Steps.{run-threads}
 use Rattle.sc.proofs.Start.{start-threads}
 use Rattle.sc.proofs.Regular.{regular-start}
@@ -25,9 +25,9 @@ graph-rows p s = graph-sizes (endOf p s) .0 ∙ run-threads s (start p) ∙ star
 pub graph-same-end : (p : Program) (a b : Schedule) → endOf p a ≡ endOf p b → graph p a ≡ graph p b
 graph-same-end p a b e = ap graphOf e
 
-pub graph-moved-end : (p : Program) (π : ℕ → ℕ) (a b : Schedule) → Moves π (endOf p a) (endOf p b) → Turns π (graph p a) (graph p b)
+pub graph-moved-end : (p : Program) (π : ℕ → ℕ) (a b : Schedule) → Moves π (endOf p a) (endOf p b) → Renames π (graph p a) (graph p b)
 graph-moved-end p π a b m = moves-graph π (endOf p a) (endOf p b) m
 
 pub graph-least : (p : Program) → WellFormed p → (s : Schedule) → Full p s →
-    Full p (leastOf (trail (start p) s)) × (endOf p (leastOf (trail (start p) s)) ≡ endOf p s) × ((r : Schedule) → Full p r → graph p r ≡ graph p s → AtMost (leastOf (trail (start p) s)) r)
+    Full p (leastOf (actions (start p) s)) × (endOf p (leastOf (actions (start p) s)) ≡ endOf p s) × ((r : Schedule) → Full p r → graph p r ≡ graph p s → AtMost (leastOf (actions (start p) s)) r)
 graph-least p w s f = same-graph-least (start p) (regular-start p w) s f

@@ -10,9 +10,9 @@ use Rattle.schedules.specs.Order.{Schedule}
 use Rattle.schedules.specs.System.{run, Allowed, FullFrom}
 use Rattle.schedules.proofs.Runs.{ended-none}
 use Rattle.sc.specs.Local.{Local, pending, placeOf, takes, puts, next}
-use Rattle.sc.specs.State.{Event, History, Thread, Cell, State, threadOf, cellOf, place, latest, noted, advanced, step, may, SC}
+use Rattle.sc.specs.State.{Event, History, Thread, Cell, State, threadOf, cellOf, place, latest, noted, advanced, step, enabled, SC}
 use Rattle.sc.proofs.Access.{blind-next, blind-puts}
-use Rattle.sc.proofs.Steps.{may-range, may-other, thread-own, thread-other}
+use Rattle.sc.proofs.Steps.{enabled-range, enabled-other, thread-own, thread-other}
 use Rattle.sc.proofs.Change.{addedRead, noted-reads}
 use Rattle.sc.proofs.Lawful.{lawful}
 use Rattle.sc.proofs.Histories.{run-row}
@@ -33,7 +33,7 @@ before-end a b x y r e =
     sym (last-of x a x) ∙ ap (lastOr x) k ∙ last-of x b y
 
 -- the first turn of a thread in a schedule; until then it waits
-pub record Turn (σ : State) (w : Schedule) (t : ℕ) : Type 0 where
+pub record FirstStep (σ : State) (w : Schedule) (t : ℕ) : Type 0 where
   pub front : Schedule
   pub rest : Schedule
   pub split : w ≡ front ++ (t ∷ rest)
@@ -41,12 +41,12 @@ pub record Turn (σ : State) (w : Schedule) (t : ℕ) : Type 0 where
   pub waits : threadOf (run SC σ front) t ≡ threadOf σ t
 
 -- a thread that may step takes a turn in every full schedule
-pub first-turn : (w : Schedule) (σ : State) (t : ℕ) → FullFrom SC σ w → may σ t ≡ true → Turn σ w t
+pub first-step-of : (w : Schedule) (σ : State) (t : ℕ) → FullFrom SC σ w → enabled σ t ≡ true → FirstStep σ w t
 unfolding run
-first-turn [] σ t f e = absurd (true≢false (sym e ∙ ended-none SC lawful σ t f))
-first-turn (a ∷ w) σ t f e = go (ℕ-discrete t a) (λ ne. first-turn w (step σ a) t (f .1) (may-other σ a t ne ∙ e))
+first-step-of [] σ t f e = absurd (true≢false (sym e ∙ ended-none SC lawful σ t f))
+first-step-of (a ∷ w) σ t f e = go (ℕ-discrete t a) (λ ne. first-step-of w (step σ a) t (f .1) (enabled-other σ a t ne ∙ e))
   where
-    go : Dec (t ≡ a) → ((t ≢ a) → Turn (step σ a) w t) → Turn σ (a ∷ w) t
+    go : Dec (t ≡ a) → ((t ≢ a) → FirstStep (step σ a) w t) → FirstStep σ (a ∷ w) t
     go (yes q) ih = record { front = []; rest = w; split = ap (λ (x : ℕ). x ∷ w) (sym q); not-yet = λ m. List·Memᴰ·not-nil m; waits = refl }
     go (no q) ih =
         let r = ih q in record {
@@ -79,7 +79,7 @@ source-at τ b y v e =
     let h = threadOf τ b .history in (
       g .0,
       g .1 ∙ ap (λ (k : List (ℕ × Event)). g .0 ++ k)
-          (ap (λ (x : Thread). x .history .reads) (thread-own τ b (may-range τ b (v .0))) ∙ noted-reads (takes (threadOf τ b .local)) (source τ b) h ∙ ap (λ (x : List (ℕ × Event)). x ++ h .reads) (added-true (takes (threadOf τ b .local)) (h .done) (source τ b) e)),
+          (ap (λ (x : Thread). x .history .reads) (thread-own τ b (enabled-range τ b (v .0))) ∙ noted-reads (takes (threadOf τ b .local)) (source τ b) h ∙ ap (λ (x : List (ℕ × Event)). x ++ h .reads) (added-true (takes (threadOf τ b .local)) (h .done) (source τ b) e)),
     )
 
 -- so where two runs come to one thread's state, and end with the same reads of it, its next access has the same source in both

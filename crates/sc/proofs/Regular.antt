@@ -12,10 +12,10 @@ use Rattle.program.specs.WellFormed.{WellFormed, Everywhere, InRange}
 use Rattle.schedules.specs.Order.{Schedule}
 use Rattle.schedules.specs.System.{run, Allowed}
 use Rattle.sc.specs.Local.{takes, begin}
-use Rattle.sc.specs.State.{Event, initialWrite, History, Thread, Cell, State, noThread, threadOf, cellOf, place, latest, noted, advanced, step, may, SC, opened, start}
+use Rattle.sc.specs.State.{Event, initialWrite, History, Thread, Cell, State, noThread, threadOf, cellOf, place, latest, noted, advanced, step, enabled, SC, opened, start}
 use Rattle.sc.proofs.Suffix.{suffix-everywhere}
 use Rattle.sc.proofs.Access.{Settled, behind, next-suffix, begin-law, place-below}
-use Rattle.sc.proofs.Steps.{may-pending, may-range, step-threads, step-cells}
+use Rattle.sc.proofs.Steps.{enabled-pending, enabled-range, step-threads, step-cells}
 use Rattle.sc.proofs.Change.{thread-cases, done-own, done-grows, Change, kept, wrote, change, writes-stay}
 use Rattle.sc.proofs.Start.{start-threads, start-cells, start-cases, start-writes, start-history}
 
@@ -56,23 +56,23 @@ unfolding noted
 noted-sourced P true e h p f r m = ⊎-elim (λ (q : r ≡ (h .done, e)). subst P (sym (ap (λ (k : ℕ × Event). k .1) q)) p) (λ (k : List·Memᴰ r (h .reads)). f r k) (List·Memᴰ·cases-cons m)
 noted-sourced P false e h p f r m = f r m
 
-module _ (σ : State) (t : ℕ) (r : Regular σ) (m : may σ t ≡ true) where
+module _ (σ : State) (t : ℕ) (r : Regular σ) (m : enabled σ t ≡ true) where
   abbrev own : Thread
   own = advanced (threadOf σ t) (cellOf σ (place σ t))
 
-  range : t < length (σ .threads)
-  range = may-range σ t m
+  in-range : t < length (σ .threads)
+  in-range = enabled-range σ t m
 
   step-old : (l : ℕ) (x : Event) → List·Memᴰ x (cellOf (step σ t) l .writes) → x .1 < threadOf (step σ t) (x .0) .history .done
   step-old l x k = go (changes σ r t l)
     where
       more : List·Memᴰ x (cellOf σ l .writes) → x .1 < threadOf (step σ t) (x .0) .history .done
-      more h = omega (arith, r .old l x h, done-grows σ t range (x .0))
+      more h = omega (arith, r .old l x h, done-grows σ t in-range (x .0))
 
       go : Change σ t l → x .1 < threadOf (step σ t) (x .0) .history .done
       go (kept q) = more (subst (λ (c : Cell). List·Memᴰ x (c .writes)) q k)
       go (wrote q v e w y) = ⊎-elim
-          (λ (i : x ≡ (t, threadOf σ t .history .done)). subst (λ (z : Event). z .1 < threadOf (step σ t) (z .0) .history .done) (sym i) (omega (arith, done-own σ t range)))
+          (λ (i : x ≡ (t, threadOf σ t .history .done)). subst (λ (z : Event). z .1 < threadOf (step σ t) (z .0) .history .done) (sym i) (omega (arith, done-own σ t in-range)))
           (λ (i : List·Memᴰ x (cellOf σ l .writes)). more i)
           (List·Memᴰ·cases-cons (subst (List·Memᴰ x) w k))
 
@@ -91,16 +91,16 @@ module _ (σ : State) (t : ℕ) (r : Regular σ) (m : may σ t ≡ true) where
   pub regular-step : Regular (step σ t)
   unfolding advanced
   regular-step = record {
-    settled = λ u. thread-cases (λ k h. Settled (h .local)) σ t range (behind (threadOf σ t .local) (cellOf σ (place σ t) .value) (may-pending σ t m) .settled) u (λ ne. r .settled u);
-    ranges = λ u. thread-cases (λ k h. Everywhere InRange (h .local .rest)) σ t range
-        (suffix-everywhere InRange (own .local .rest) (threadOf σ t .local .rest) (next-suffix (threadOf σ t .local) _ (may-pending σ t m)) (r .ranges t)) u (λ ne. r .ranges u);
+    settled = λ u. thread-cases (λ k h. Settled (h .local)) σ t in-range (behind (threadOf σ t .local) (cellOf σ (place σ t) .value) (enabled-pending σ t m) .settled) u (λ ne. r .settled u);
+    ranges = λ u. thread-cases (λ k h. Everywhere InRange (h .local .rest)) σ t in-range
+        (suffix-everywhere InRange (own .local .rest) (threadOf σ t .local .rest) (next-suffix (threadOf σ t .local) _ (enabled-pending σ t m)) (r .ranges t)) u (λ ne. r .ranges u);
     eight = step-cells σ t ∙ r .eight;
     six = omega (arith, step-threads σ t, r .six);
     old = step-old;
-    numbered = λ u. thread-cases (λ k h. (x : ℕ × Event) → List·Memᴰ x (h .history .reads) → x .0 < h .history .done) σ t range
+    numbered = λ u. thread-cases (λ k h. (x : ℕ × Event) → List·Memᴰ x (h .history .reads) → x .0 < h .history .done) σ t in-range
         (noted-numbered (takes (threadOf σ t .local)) (latest (cellOf σ (place σ t) .writes)) (threadOf σ t .history) (r .numbered t)) u (λ ne. r .numbered u);
     sourced = λ u x k. stays-written (x .1)
-        (thread-cases (λ j h. (x : ℕ × Event) → List·Memᴰ x (h .history .reads) → (x .1 ≡ initialWrite) ⊎ Written σ (x .1)) σ t range
+        (thread-cases (λ j h. (x : ℕ × Event) → List·Memᴰ x (h .history .reads) → (x .1 ≡ initialWrite) ⊎ Written σ (x .1)) σ t in-range
         (noted-sourced (λ e. (e ≡ initialWrite) ⊎ Written σ e) (takes (threadOf σ t .local)) (latest (cellOf σ (place σ t) .writes)) (threadOf σ t .history) latest-written (r .sourced t)) u (λ ne. r .sourced u) x k);
   }
 

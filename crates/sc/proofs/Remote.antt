@@ -1,19 +1,18 @@
 -- A thread whose next access nothing left to the others could conflict with: it is free of every step until its turn.
 use Prim.Native.Nat.{ℕ}
-use mathlib.Core.Path.{_≡_, refl, ap, subst}
+use mathlib.Core.Path.{_≡_, refl, ap}
 use mathlib.Core.Logic.{_≢_, _⊎_, inl, inr, Ne·symm}
-use mathlib.Core.Bool.{Bool, true, false}
+use mathlib.Core.Bool.{true, false}
 use mathlib.Core.Option.{none}
 use mathlib.Core.List.{[], _∷_, List·Memᴰ, List·Memᴰ·head, List·Memᴰ·tail}
-use Rattle.schedules.specs.Lists.{any}
 use Rattle.schedules.specs.Order.{Schedule}
 use Rattle.schedules.specs.System.{run, Allowed}
 use Rattle.schedules.proofs.Front.{Free}
 use Rattle.sc.specs.Local.{placeOf, puts}
-use Rattle.sc.specs.State.{State, noThread, threadOf, cellOf, place, step, may, SC}
-use Rattle.sc.specs.Trail.{given, writes}
+use Rattle.sc.specs.State.{State, threadOf, cellOf, place, step, enabled, SC}
+use Rattle.sc.specs.Actions.{given, writes}
 use Rattle.sc.specs.Ahead.{mayPut, couldMeet}
-use Rattle.sc.proofs.Steps.{may-pending, thread-other, place-other}
+use Rattle.sc.proofs.Steps.{enabled-pending, thread-other, place-other}
 use Rattle.sc.proofs.Swap.{Independent}
 use Rattle.sc.proofs.Histories.{rest-run}
 use Rattle.sc.proofs.Ahead.{puts-not, elsewhere, meet-end}
@@ -22,28 +21,19 @@ use Rattle.sc.proofs.Ahead.{puts-not, elsewhere, meet-end}
 abbrev pub Unmet : State → ℕ → ℕ → Type 0
 Unmet σ t u = couldMeet (place σ t) (mayPut (threadOf σ t .local)) (threadOf σ u .local) ≡ false
 
--- nothing left to any other thread could
-abbrev pub Remote : State → ℕ → Type 0
-Remote σ t = (u : ℕ) → u ≢ t → Unmet σ t u
-
--- a thread that does not exist could do nothing
-pub nothing-meets : (l : ℕ) (w : Bool) → couldMeet l w (noThread .local) ≡ false
-unfolding couldMeet noThread any
-nothing-meets l w = refl
-
 writes-not : (σ : State) (t : ℕ) → ((x : ℕ) → puts (threadOf σ t .local) x ≡ none) → writes σ t ≡ false
 unfolding writes given
 writes-not σ t h = ap given (h (cellOf σ (place σ t) .value))
 
-unmet-independent : (σ : State) (a t : ℕ) → may σ a ≡ true → Unmet σ t a → Independent σ a t
+unmet-independent : (σ : State) (a t : ℕ) → enabled σ a ≡ true → Unmet σ t a → Independent σ a t
 unfolding place
-unmet-independent σ a t m r = go (elsewhere (place σ t) (mayPut (threadOf σ t .local)) (threadOf σ a .local) (may-pending σ a m) r)
+unmet-independent σ a t m r = go (elsewhere (place σ t) (mayPut (threadOf σ t .local)) (threadOf σ a .local) (enabled-pending σ a m) r)
   where
     go : (placeOf (threadOf σ a .local) ≢ place σ t) ⊎ ((mayPut (threadOf σ t .local) ≡ false) × ((x : ℕ) → puts (threadOf σ a .local) x ≡ none)) → Independent σ a t
     go (inl q) = inl q
     go (inr q) = inr (writes-not σ a (q .1), writes-not σ t (puts-not (threadOf σ t .local) (q .0)))
 
-unmet-step : (σ : State) (a t u : ℕ) → may σ a ≡ true → a ≢ t → Unmet σ t u → Unmet (step σ a) t u
+unmet-step : (σ : State) (a t u : ℕ) → enabled σ a ≡ true → a ≢ t → Unmet σ t u → Unmet (step σ a) t u
 unfolding run
 unmet-step σ a t u m ne r =
     let k = meet-end (place σ t) (mayPut (threadOf σ t .local)) (threadOf σ u .local) (threadOf (step σ a) u .local) (rest-run (a ∷ []) σ (m, tt) u) r in
@@ -60,6 +50,3 @@ unmet-free (b ∷ z) σ t a r =
       unmet-independent σ b t (a .0) (k .1),
       unmet-free z (step σ b) t (a .1) (λ u m. let j = r u (List·Memᴰ·tail m) in (j .0, unmet-step σ b t u (a .0) (k .0) (j .1))),
     )
-
-pub remote-free : (z : Schedule) (σ : State) (t : ℕ) → Allowed SC σ z → (List·Memᴰ t z → ⊥) → Remote σ t → Free SC Independent σ z t
-remote-free z σ t a n r = unmet-free z σ t a (λ u m. let ne : u ≢ t = λ q. n (subst (λ (x : ℕ). List·Memᴰ x z) q m) in (ne, r u ne))

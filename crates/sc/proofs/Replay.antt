@@ -10,13 +10,13 @@ use lib.ListN.{length}
 use Rattle.program.specs.Program.{Program}
 use Rattle.schedules.specs.Order.{Schedule}
 use Rattle.schedules.specs.System.{run, ended, Allowed, FullFrom}
-use Rattle.sc.specs.State.{State, step, may, SC, start}
+use Rattle.sc.specs.State.{State, step, enabled, SC, start}
 use Rattle.sc.specs.Graph.{Full, endOf}
 use Rattle.sc.specs.Replay.{whole, refused, replayFrom, replay}
 
 -- the byte behind u is the first that may not step
 abbrev pub StopsBehind : State → Schedule → Schedule → Type 0
-StopsBehind σ u s = (t : ℕ) × (r : Schedule) × (s ≡ u ++ (t ∷ r)) × Allowed SC σ u × (may (run SC σ u) t ≡ false)
+StopsBehind σ u s = (t : ℕ) × (r : Schedule) × (s ≡ u ++ (t ∷ r)) × Allowed SC σ u × (enabled (run SC σ u) t ≡ false)
 
 -- what a replay says, case by case
 pub data Outcome (k : ℕ) (σ : State) (s : Schedule) : Type 0 where
@@ -32,11 +32,11 @@ pub nil-short : (k : ℕ) (σ : State) → ended SC σ ≡ false → replayFrom 
 unfolding replayFrom
 nil-short k σ e = rw (e, replayFrom)
 
-pub cons-goes : (k : ℕ) (σ : State) (t : ℕ) (s : Schedule) → may σ t ≡ true → replayFrom k σ (t ∷ s) ≡ replayFrom (suc k) (step σ t) s
+pub cons-goes : (k : ℕ) (σ : State) (t : ℕ) (s : Schedule) → enabled σ t ≡ true → replayFrom k σ (t ∷ s) ≡ replayFrom (suc k) (step σ t) s
 unfolding replayFrom
 cons-goes k σ t s e = rw (e, replayFrom)
 
-pub cons-stops : (k : ℕ) (σ : State) (t : ℕ) (s : Schedule) → may σ t ≡ false → replayFrom k σ (t ∷ s) ≡ refused 20 k
+pub cons-stops : (k : ℕ) (σ : State) (t : ℕ) (s : Schedule) → enabled σ t ≡ false → replayFrom k σ (t ∷ s) ≡ refused 20 k
 unfolding replayFrom
 cons-stops k σ t s e = rw (e, replayFrom)
 
@@ -50,7 +50,7 @@ outcome [] k σ = go (ended SC σ) refl
     go : (b : Bool) → ended SC σ ≡ b → Outcome k σ []
     go true e = full e (nil-full k σ e)
     go false e = short tt e (nil-short k σ e ∙ ap (refused 21) same)
-outcome (t ∷ s) k σ = go (may σ t) refl (outcome s (suc k) (step σ t))
+outcome (t ∷ s) k σ = go (enabled σ t) refl (outcome s (suc k) (step σ t))
   where
     more : (n : ℕ) → suc k + n ≡ k + suc n
     more n = omega arith
@@ -58,7 +58,7 @@ outcome (t ∷ s) k σ = go (may σ t) refl (outcome s (suc k) (step σ t))
     here : k ≡ k + 0
     here = omega arith
 
-    go : (b : Bool) → may σ t ≡ b → Outcome (suc k) (step σ t) s → Outcome k σ (t ∷ s)
+    go : (b : Bool) → enabled σ t ≡ b → Outcome (suc k) (step σ t) s → Outcome k σ (t ∷ s)
     go false e o = stops [] (t, s, refl, tt, e) (cons-stops k σ t s e ∙ ap (refused 20) here)
     go true e (full f q) = full (e, f) (cons-goes k σ t s e ∙ q)
     go true e (stops u h q) = stops (t ∷ u) (h .0, h .1, ap {B = List ℕ} (λ z. t ∷ z) (h .2), (e, h .3), h .4) (cons-goes k σ t s e ∙ q ∙ ap (refused 20) (more (length u)))
@@ -70,7 +70,7 @@ unfolding run
 full-replayed [] k σ f = nil-full k σ f
 full-replayed (t ∷ s) k σ f = cons-goes k σ t s (f .0) ∙ full-replayed s (suc k) (step σ t) (f .1)
 
-pub stops-replayed : (u : Schedule) (k : ℕ) (σ : State) (t : ℕ) (r : Schedule) → Allowed SC σ u → may (run SC σ u) t ≡ false → replayFrom k σ (u ++ (t ∷ r)) ≡ refused 20 (k + length u)
+pub stops-replayed : (u : Schedule) (k : ℕ) (σ : State) (t : ℕ) (r : Schedule) → Allowed SC σ u → enabled (run SC σ u) t ≡ false → replayFrom k σ (u ++ (t ∷ r)) ≡ refused 20 (k + length u)
 unfolding run
 stops-replayed [] k σ t r a e = cons-stops k σ t r e ∙ ap (refused 20) (let z : k ≡ k + 0 = omega arith in z)
 stops-replayed (b ∷ u) k σ t r a e = cons-goes k σ b (u ++ (t ∷ r)) (a .0) ∙ stops-replayed u (suc k) (step σ b) t r (a .1) e ∙ ap (refused 20) (let z : suc k + length u ≡ k + suc (length u) = omega arith in z)

@@ -13,26 +13,26 @@ use Rattle.schedules.proofs.Runs.{ended-none}
 use Rattle.schedules.proofs.Remaining as Ordered
 use Rattle.sc.specs.State.{State, step, start, SC}
 use Rattle.sc.specs.Graph.{graphOf, graph, Full, endOf}
-use Rattle.sc.specs.Trail.{Action, action, trail, who, conflict, leastOf}
+use Rattle.sc.specs.Actions.{Action, action, actions, who, conflict, leastOf}
 use Rattle.sc.proofs.Lawful.{lawful}
 use Rattle.sc.proofs.Orders.{Reorders, pulled, reorders-full, least-order}
 use Rattle.sc.proofs.Regular.{Regular, regular-step, regular-start}
 use Rattle.sc.proofs.FirstFits.{first-fits}
 
-ended-nil : (w : Schedule) (σ : State) → ended SC σ ≡ true → FullFrom SC σ w → trail σ w ≡ []
+ended-nil : (w : Schedule) (σ : State) → ended SC σ ≡ true → FullFrom SC σ w → actions σ w ≡ []
 unfolding trace
 ended-nil [] σ e f = refl
 ended-nil (a ∷ w) σ e f = absurd (true≢false (sym (f .0) ∙ ended-none SC lawful σ a e))
 
 -- every full schedule with the same graph is an order of the steps that keeps dependent ones in order
-pub same-graph-reorders : (v w : Schedule) (σ : State) → Regular σ → FullFrom SC σ v → FullFrom SC σ w → graphOf (run SC σ v) ≡ graphOf (run SC σ w) → Reorders (trail σ w) v
+pub same-graph-reorders : (v w : Schedule) (σ : State) → Regular σ → FullFrom SC σ v → FullFrom SC σ w → graphOf (run SC σ v) ≡ graphOf (run SC σ w) → Reorders (actions σ w) v
 unfolding run
 same-graph-reorders [] w σ r fv fw e = ended-nil w σ fv fw
 same-graph-reorders (t ∷ v) w σ r fv fw e =
     let k = first-fits σ r t v w fv fw e in
     let p = pulled w σ t (action σ t) fw (k .0) (k .1) in
     let o = same-graph-reorders v (p .0) (step σ t) (regular-step σ t r (fv .0)) (fv .1) (p .1 .1) (e ∙ ap graphOf (sym (p .2))) in
-    (Ordered.at-ready who conflict (trail σ w) t (action σ t) (k .0) (k .1), subst (λ (ds : List Action). Reorders ds v) (p .3) o)
+    (Ordered.at-ready who conflict (actions σ w) t (action σ t) (k .0) (k .1), subst (λ (ds : List Action). Reorders ds v) (p .3) o)
 
 -- ONE GRAPH, ONE END
 pub same-graph-end : (v w : Schedule) (σ : State) → Regular σ → FullFrom SC σ v → FullFrom SC σ w → graphOf (run SC σ v) ≡ graphOf (run SC σ w) → run SC σ v ≡ run SC σ w
@@ -40,7 +40,7 @@ same-graph-end v w σ r fv fw e = reorders-full v w σ fw (same-graph-reorders v
 
 -- THE LEAST SCHEDULE with the graph of w is the least order of w's steps
 pub same-graph-least : (σ : State) → Regular σ → (w : Schedule) → FullFrom SC σ w →
-    FullFrom SC σ (leastOf (trail σ w)) × (run SC σ (leastOf (trail σ w)) ≡ run SC σ w) × ((r : Schedule) → FullFrom SC σ r → graphOf (run SC σ r) ≡ graphOf (run SC σ w) → AtMost (leastOf (trail σ w)) r)
+    FullFrom SC σ (leastOf (actions σ w)) × (run SC σ (leastOf (actions σ w)) ≡ run SC σ w) × ((r : Schedule) → FullFrom SC σ r → graphOf (run SC σ r) ≡ graphOf (run SC σ w) → AtMost (leastOf (actions σ w)) r)
 same-graph-least σ g w f =
     let o = least-order σ w f in
     (o .0, o .1, λ r fr e. o .2 r (same-graph-reorders r w σ g fr f e))

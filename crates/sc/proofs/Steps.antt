@@ -13,29 +13,29 @@ use lib.Seq.{getD-set-other, getD-set-same}
 use Rattle.schedules.specs.Order.{Schedule}
 use Rattle.schedules.specs.System.{run}
 use Rattle.sc.specs.Local.{beginsWithAccess, pending, placeOf}
-use Rattle.sc.specs.State.{State, Thread, noThread, threadOf, cellOf, place, advanced, met, step, may, SC}
+use Rattle.sc.specs.State.{State, Thread, noThread, threadOf, cellOf, place, advanced, met, step, enabled, SC}
 
 -- who may step: one of the six numbers, of a thread before an access
-pub may-small : (σ : State) (t : ℕ) → may σ t ≡ true → t < 6
-unfolding may
-may-small σ t m = go (ltb t 6) refl
+pub enabled-small : (σ : State) (t : ℕ) → enabled σ t ≡ true → t < 6
+unfolding enabled
+enabled-small σ t m = go (ltb t 6) refl
   where
     go : (b : Bool) → ltb t 6 ≡ b → t < 6
     go true e = ltb-true t 6 e
-    go false e = absurd (false≢true (rw (e, may) at m))
+    go false e = absurd (false≢true (rw (e, enabled) at m))
 
-pub may-pending : (σ : State) (t : ℕ) → may σ t ≡ true → pending (threadOf σ t .local) ≡ true
-unfolding may
-may-pending σ t m = let e = lt-ltb t 6 (may-small σ t m) in rw (e, may) at m
+pub enabled-pending : (σ : State) (t : ℕ) → enabled σ t ≡ true → pending (threadOf σ t .local) ≡ true
+unfolding enabled
+enabled-pending σ t m = let e = lt-ltb t 6 (enabled-small σ t m) in rw (e, enabled) at m
 
-pub may-of : (σ : State) (t : ℕ) → t < 6 → pending (threadOf σ t .local) ≡ true → may σ t ≡ true
-unfolding may
-may-of σ t h e = let k = lt-ltb t 6 h in rw (k, may) e
+pub enabled-of : (σ : State) (t : ℕ) → t < 6 → pending (threadOf σ t .local) ≡ true → enabled σ t ≡ true
+unfolding enabled
+enabled-of σ t h e = let k = lt-ltb t 6 h in rw (k, enabled) e
 
 -- whether a number may step goes by its local state alone
-pub may-same : (σ τ : State) (t : ℕ) → threadOf σ t ≡ threadOf τ t → may σ t ≡ may τ t
-unfolding may
-may-same σ τ t e = ap (λ (h : Thread). elim (ltb t 6) [ true ↦ pending (h .local) | false ↦ false ]) e
+pub enabled-same : (σ τ : State) (t : ℕ) → threadOf σ t ≡ threadOf τ t → enabled σ t ≡ enabled τ t
+unfolding enabled
+enabled-same σ τ t e = ap (λ (h : Thread). elim (ltb t 6) [ true ↦ pending (h .local) | false ↦ false ]) e
 
 no-thread-pending : pending (noThread .local) ≡ false
 unfolding pending beginsWithAccess noThread
@@ -53,8 +53,8 @@ in-range σ t e = go (decLt t (length (σ .threads)))
     go (yes h) = h
     go (no h) = absurd (true≢false (sym e ∙ ap (λ (k : Thread). pending (k .local)) (missing σ t (omega arith)) ∙ no-thread-pending))
 
-pub may-range : (σ : State) (t : ℕ) → may σ t ≡ true → t < length (σ .threads)
-may-range σ t m = in-range σ t (may-pending σ t m)
+pub enabled-range : (σ : State) (t : ℕ) → enabled σ t ≡ true → t < length (σ .threads)
+enabled-range σ t m = in-range σ t (enabled-pending σ t m)
 
 -- the thread that steps, and the others
 pub thread-own : (σ : State) (t : ℕ) → t < length (σ .threads) → threadOf (step σ t) t ≡ advanced (threadOf σ t) (cellOf σ (place σ t))
@@ -69,8 +69,8 @@ pub place-other : (σ : State) (a b : ℕ) → b ≢ a → place (step σ a) b �
 unfolding place
 place-other σ a b ne = ap (λ (h : Thread). placeOf (h .local)) (thread-other σ a b ne)
 
-pub may-other : (σ : State) (a b : ℕ) → b ≢ a → may (step σ a) b ≡ may σ b
-may-other σ a b ne = may-same (step σ a) σ b (thread-other σ a b ne)
+pub enabled-other : (σ : State) (a b : ℕ) → b ≢ a → enabled (step σ a) b ≡ enabled σ b
+enabled-other σ a b ne = enabled-same (step σ a) σ b (thread-other σ a b ne)
 
 -- the location it goes to, and the others
 pub cell-own : (σ : State) (t : ℕ) → place σ t < length (σ .cells) → cellOf (step σ t) (place σ t) ≡ met t (threadOf σ t) (cellOf σ (place σ t))

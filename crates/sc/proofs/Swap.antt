@@ -9,7 +9,7 @@ use mathlib.Core.Option.{Option, none, some}
 use lib.ListN.{set}
 use lib.Seq.{set-getD, set-comm}
 use Rattle.sc.specs.State.{Event, State, Thread, Cell, threadOf, cellOf, place, advanced, written, met, step}
-use Rattle.sc.specs.Trail.{given, writes, action}
+use Rattle.sc.specs.Actions.{given, writes, action}
 use Rattle.sc.proofs.Steps.{thread-other, place-other, cell-other}
 
 -- the two next accesses go to different locations, or neither writes

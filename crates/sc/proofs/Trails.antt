@@ -11,13 +11,14 @@ use Rattle.schedules.specs.System.{run}
 use Rattle.schedules.specs.Orders.{trace, nextOf, clear}
 use Rattle.schedules.proofs.Remaining as Ordered
 use Rattle.sc.specs.Local.{takes, puts}
-use Rattle.sc.specs.State.{State, threadOf, cellOf, place, step, may, SC}
-use Rattle.sc.specs.Trail.{Action, given, writes, action, trail, who, conflict}
+use Rattle.sc.specs.State.{State, threadOf, cellOf, place, step, enabled, SC}
+use Rattle.sc.specs.Actions.{Action, given, writes, action, actions, who, conflict}
 use Rattle.sc.proofs.Access.{blind-puts}
-use Rattle.sc.proofs.Steps.{may-pending}
+use Rattle.sc.proofs.Steps.{enabled-pending}
 use Rattle.sc.proofs.Change.{wrote-own}
 use Rattle.sc.proofs.Regular.{Regular, place-in}
 use Rattle.sc.proofs.Reading.{same-place}
+use Rattle.sc.proofs.Orders.{action-who}
 
 -- a step that writes: what it leaves
 given-some : (o : Option ℕ) → given o ≡ true → (n : ℕ) × (o ≡ some n)
@@ -33,11 +34,11 @@ pub writes-own : (σ : State) → Regular σ → (t l : ℕ) → l ≡ place σ 
 writes-own σ r t l q e = let o = writes-some σ t e in wrote-own σ t l (o .0) (place-in σ r t) q (o .1) .0
 
 -- a step reads or writes
-pub blind-writes : (σ : State) (t : ℕ) → may σ t ≡ true → takes (threadOf σ t .local) ≡ false → writes σ t ≡ true
+pub blind-writes : (σ : State) (t : ℕ) → enabled σ t ≡ true → takes (threadOf σ t .local) ≡ false → writes σ t ≡ true
 unfolding writes given
-blind-writes σ t m e = let o = blind-puts (threadOf σ t .local) (cellOf σ (place σ t) .value) 0 (may-pending σ t m) e in ap given (o .1)
+blind-writes σ t m e = let o = blind-puts (threadOf σ t .local) (cellOf σ (place σ t) .value) 0 (enabled-pending σ t m) e in ap given (o .1)
 
-pub still-takes : (σ : State) (t : ℕ) → may σ t ≡ true → writes σ t ≡ false → takes (threadOf σ t .local) ≡ true
+pub still-takes : (σ : State) (t : ℕ) → enabled σ t ≡ true → writes σ t ≡ false → takes (threadOf σ t .local) ≡ true
 still-takes σ t m w = go (takes (threadOf σ t .local)) refl
   where
     go : (b : Bool) → takes (threadOf σ t .local) ≡ b → takes (threadOf σ t .local) ≡ true
@@ -67,22 +68,18 @@ by : (σ : State) (a t : ℕ) → a ≢ t → who (action σ a) ≢ t
 unfolding who action
 by σ a t ne = ne
 
-own : (σ : State) (t : ℕ) → who (action σ t) ≡ t
-unfolding who action
-own σ t = refl
-
-pub first-at : (z w : Schedule) (σ : State) (t : ℕ) → (List·Memᴰ t z → ⊥) → nextOf who conflict (trail σ (z ++ (t ∷ w))) t ≡ some (action (run SC σ z) t)
+pub first-at : (z w : Schedule) (σ : State) (t : ℕ) → (List·Memᴰ t z → ⊥) → nextOf who conflict (actions σ (z ++ (t ∷ w))) t ≡ some (action (run SC σ z) t)
 unfolding trace run
-first-at [] w σ t n = Ordered.next-same who conflict (action σ t) (trail (step σ t) w) t (own σ t)
+first-at [] w σ t n = Ordered.next-same who conflict (action σ t) (actions (step σ t) w) t (action-who σ t)
 first-at (a ∷ z) w σ t n =
-    Ordered.next-other who conflict (action σ a) (trail (step σ a) (z ++ (t ∷ w))) t (by σ a t (λ q. n (List·Memᴰ·head (sym q))))
+    Ordered.next-other who conflict (action σ a) (actions (step σ a) (z ++ (t ∷ w))) t (by σ a t (λ q. n (List·Memᴰ·head (sym q))))
     ∙ first-at z w (step σ a) t (λ m. n (List·Memᴰ·tail m))
 
-pub clear-at : (z w : Schedule) (σ : State) (t : ℕ) (d : Action) → (List·Memᴰ t z → ⊥) → ((x : Schedule) (a : ℕ) (y : Schedule) → z ≡ x ++ (a ∷ y) → conflict (action (run SC σ x) a) d ≡ false) → clear who conflict (trail σ (z ++ (t ∷ w))) t d ≡ true
+pub clear-at : (z w : Schedule) (σ : State) (t : ℕ) (d : Action) → (List·Memᴰ t z → ⊥) → ((x : Schedule) (a : ℕ) (y : Schedule) → z ≡ x ++ (a ∷ y) → conflict (action (run SC σ x) a) d ≡ false) → clear who conflict (actions σ (z ++ (t ∷ w))) t d ≡ true
 unfolding trace run
-clear-at [] w σ t d n h = Ordered.clear-same who conflict (action σ t) (trail (step σ t) w) t d (own σ t)
+clear-at [] w σ t d n h = Ordered.clear-same who conflict (action σ t) (actions (step σ t) w) t d (action-who σ t)
 clear-at (a ∷ z) w σ t d n h =
-    Ordered.clear-more who conflict (action σ a) (trail (step σ a) (z ++ (t ∷ w))) t d (by σ a t (λ q. n (List·Memᴰ·head (sym q)))) (h [] a z refl)
+    Ordered.clear-more who conflict (action σ a) (actions (step σ a) (z ++ (t ∷ w))) t d (by σ a t (λ q. n (List·Memᴰ·head (sym q)))) (h [] a z refl)
     (clear-at z w (step σ a) t d (λ m. n (List·Memᴰ·tail m)) (λ x b y e. h (a ∷ x) b y (ap {B = List ℕ} (λ k. a ∷ k) e)))
 
 pub same-action : (τ σ : State) (t : ℕ) → threadOf τ t ≡ threadOf σ t → cellOf τ (place σ t) ≡ cellOf σ (place σ t) → action τ t ≡ action σ t

@@ -7,7 +7,7 @@ use lib.ListN.{length, getD}
 use lib.Seq.{ext-getD}
 use Rattle.sc.specs.State.{Event}
 use Rattle.sc.specs.Graph.{Graph, graphWith}
-use Rattle.sc.specs.Exchange.{Permutation, movedEvent, movedRead, movedReads, movedWrites, Turns}
+use Rattle.sc.specs.Exchange.{Permutation, movedEvent, movedRead, movedReads, movedWrites, Renames}
 
 -- moving twice
 reads-twice : (ρ π : ℕ → ℕ) (rs : List (ℕ × Event)) → movedReads ρ (movedReads π rs) ≡ movedReads (λ t. ρ (π t)) rs
@@ -40,12 +40,12 @@ module _ (f : ℕ → ℕ) (h : (t : ℕ) → f t ≡ t) where
   writes-same (w ∷ ws) = ap₂ (λ (a : List Event) (b : List (List Event)). a ∷ b) (row-same w) (writes-same ws)
 
 -- exchanging none
-pub turns-none : (g : Graph) → Turns (λ t. t) g g
-turns-none g = record { reads = λ t h. sym (reads-same (λ t. t) (λ t. refl) (getD (g .reads) t [])); writes = sym (writes-same (λ t. t) (λ t. refl) (g .writes)) }
+pub renames-none : (g : Graph) → Renames (λ t. t) g g
+renames-none g = record { reads = λ t h. sym (reads-same (λ t. t) (λ t. refl) (getD (g .reads) t [])); writes = sym (writes-same (λ t. t) (λ t. refl) (g .writes)) }
 
 -- exchanging back, where the threads of the second graph come from threads of the first
-pub turns-back : (π : ℕ → ℕ) (q : Permutation π) (g h : Graph) → ((t : ℕ) → t < length (h .reads) → q .inverse t < length (g .reads)) → Turns π g h → Turns (q .inverse) h g
-turns-back π q g h within r = record { reads = rows; writes = columns }
+pub renames-back : (π : ℕ → ℕ) (q : Permutation π) (g h : Graph) → ((t : ℕ) → t < length (h .reads) → q .inverse t < length (g .reads)) → Renames π g h → Renames (q .inverse) h g
+renames-back π q g h within r = record { reads = rows; writes = columns }
   where
     back : ℕ → ℕ
     back = q .inverse
@@ -60,15 +60,15 @@ turns-back π q g h within r = record { reads = rows; writes = columns }
     columns = sym (writes-same (λ u. back (π u)) (q .inverse-after) (g .writes)) ∙ sym (writes-twice back π (g .writes)) ∙ ap (map (movedWrites back)) (sym (r .writes))
 
 -- one exchange after another
-pub turns-both : (ρ π : ℕ → ℕ) (g h k : Graph) → ((t : ℕ) → t < length (g .reads) → π t < length (h .reads)) → Turns π g h → Turns ρ h k → Turns (λ t. ρ (π t)) g k
-turns-both ρ π g h k within r s = record {
+pub renames-both : (ρ π : ℕ → ℕ) (g h k : Graph) → ((t : ℕ) → t < length (g .reads) → π t < length (h .reads)) → Renames π g h → Renames ρ h k → Renames (λ t. ρ (π t)) g k
+renames-both ρ π g h k within r s = record {
   reads = λ t i. s .reads (π t) (within t i) ∙ ap (movedReads ρ) (r .reads t i) ∙ reads-twice ρ π (getD (g .reads) t []);
   writes = s .writes ∙ ap (map (movedWrites ρ)) (r .writes) ∙ writes-twice ρ π (g .writes);
 }
 
 -- what an exchange makes of a graph is one graph
-pub turned-once : (π : ℕ → ℕ) (q : Permutation π) (g h k : Graph) → length (h .reads) ≡ length (k .reads) → ((t : ℕ) → t < length (h .reads) → q .inverse t < length (g .reads)) → Turns π g h → Turns π g k → h ≡ k
-turned-once π q g h k e within r s =
+pub renamed-once : (π : ℕ → ℕ) (q : Permutation π) (g h k : Graph) → length (h .reads) ≡ length (k .reads) → ((t : ℕ) → t < length (h .reads) → q .inverse t < length (g .reads)) → Renames π g h → Renames π g k → h ≡ k
+renamed-once π q g h k e within r s =
     ap₂ graphWith
     (ext-getD [] (h .reads) (k .reads) e (λ u i.
     let a = q .after-inverse u in

@@ -2,23 +2,27 @@
 -- keeps such registers and writes such values.
 use Prim.Native.Nat.{ℕ, zero, suc, _<_, _^_}
 use mathlib.Core.Path.{_≡_, refl, sym, subst}
-use mathlib.Core.Bool.{Bool, true, false}
+use mathlib.Core.Bool.{Bool, true, false, cond}
 use mathlib.Core.Option.{none, some, Option·none-ne-some}
 use mathlib.Core.List.{List, [], _∷_}
 use native.Mathlib.Omega.{arith}
 use lib.Dec.{eqb}
 use lib.ListN.{getD, set, replicate}
 use Rattle.program.specs.Program.{Program, initial}
-use Rattle.program.specs.WellFormed.{WellFormed, Everywhere, OperandInRange, InRange}
+use Rattle.program.specs.WellFormed.{WellFormed, Everywhere, OperandInRange, AccessInRange, OwnInRange, InRange}
 use Rattle.program.specs.declared.instruction.Operand.{Operand}
 use Rattle.program.specs.declared.instruction.Operand.the-variants.{Constant, Register}
+use Rattle.program.specs.declared.instruction.Access.{Access}
+use Rattle.program.specs.declared.instruction.Access.the-variants.{Store, Load, FetchAdd, CompareSwap}
+use Rattle.program.specs.declared.instruction.Own.{Own}
+use Rattle.program.specs.declared.instruction.Own.the-variants.{Assign, AddAssign, SkipUnless, Assert}
 use Rattle.program.specs.declared.instruction.Instruction.{Instruction}
-use Rattle.program.specs.declared.instruction.Instruction.the-variants.{Store, Load, FetchAdd, CompareSwap, Assign, AddAssign, SkipUnless, Assert}
+use Rattle.program.specs.declared.instruction.Instruction.the-variants.{Memory, Alone}
 use Rattle.program.proofs.Everywhere.{everywhere-getD, everywhere-set}
-use Rattle.sc.specs.Local.{Local, eval, sum32, settle, firstPuts, firstNext, pending, puts, next, begin}
+use Rattle.sc.specs.Local.{Local, eval, sum32, accessPuts, accessSets, holds, Outcome, continues, stops, outcome, settle, firstPuts, firstNext, pending, puts, next, begin}
 use Rattle.sc.specs.State.{noThread, threadOf, opened, start}
 use Rattle.sc.proofs.Suffix.{suffix-everywhere}
-use Rattle.sc.proofs.Access.{next-suffix, begin-law}
+use Rattle.sc.proofs.Access.{settle-continues, settle-stops, next-suffix, begin-law}
 use Rattle.sc.proofs.Idle.{idle}
 use Rattle.sc.proofs.Start.{start-cases}
 
@@ -34,39 +38,49 @@ unfolding eval
 eval-word rs (Constant v) w r = r
 eval-word rs (Register k) w r = everywhere-getD Word rs k 0 w (omega arith)
 
+outcome-words : (o : Own) (rs ss : List ℕ) (k : ℕ) → OwnInRange o → Everywhere Word rs → outcome rs o ≡ continues ss k → Everywhere Word ss
+unfolding outcome
+outcome-words (Assign r p) rs ss k i w e =
+    let q : set rs r (eval rs p) ≡ ss = cc in
+    subst (Everywhere Word) q (everywhere-set Word rs r (eval rs p) w (eval-word rs p w (i .1)))
+outcome-words (AddAssign r p) rs ss k i w e =
+    let v : ℕ = sum32 (getD rs r 0) (eval rs p) in
+    let q : set rs r v ≡ ss = cc in
+    subst (Everywhere Word) q (everywhere-set Word rs r v w (sum-word (getD rs r 0) (eval rs p)))
+outcome-words (SkipUnless t n) rs ss k i w e = let q : rs ≡ ss = cc in subst (Everywhere Word) q w
+outcome-words (Assert t) rs ss k i w e = go (holds rs t) e
+  where
+    go : (b : Bool) → cond b (continues rs 0) stops ≡ continues ss k → Everywhere Word ss
+    go true q = let j : rs ≡ ss = cc in subst (Everywhere Word) j w
+    go false q = let z : _≡_ {A = ℕ} 0 1 = cc in absurd (omega arith)
+
 settle-words : (is : List Instruction) (k : ℕ) (rs : List ℕ) → Everywhere InRange is → Everywhere Word rs → Everywhere Word (settle k rs is .registers)
 unfolding settle
 settle-words [] k rs i w = w
 settle-words (x ∷ is) (suc k) rs i w = settle-words is k rs (i .1) w
-settle-words (Store l p ∷ is) zero rs i w = w
-settle-words (Load r l ∷ is) zero rs i w = w
-settle-words (FetchAdd r l p ∷ is) zero rs i w = w
-settle-words (CompareSwap r l e v ∷ is) zero rs i w = w
-settle-words (Assign r p ∷ is) zero rs i w = settle-words is zero (set rs r (eval rs p)) (i .1) (everywhere-set Word rs r (eval rs p) w (eval-word rs p w (i .0 .1)))
-settle-words (AddAssign r p ∷ is) zero rs i w =
-    settle-words is zero (set rs r (sum32 (getD rs r 0) (eval rs p))) (i .1) (everywhere-set Word rs r (sum32 (getD rs r 0) (eval rs p)) w (sum-word (getD rs r 0) (eval rs p)))
-settle-words (SkipUnless r p n ∷ is) zero rs i w = settle-words is _ rs (i .1) w
-settle-words (Assert r p ∷ is) zero rs i w = go (eqb (getD rs r 0) (eval rs p)) refl (settle-words is zero rs (i .1) w)
+settle-words (Memory a ∷ is) zero rs i w = w
+settle-words (Alone o ∷ is) zero rs i w = go (outcome rs o) refl (λ k ss. settle-words is k ss (i .1))
   where
-    go : (b : Bool) → eqb (getD rs r 0) (eval rs p) ≡ b → Everywhere Word (settle zero rs is .registers) → Everywhere Word (settle zero rs (Assert r p ∷ is) .registers)
-    go true e ih = rw (e, settle) ih
-    go false e ih = rw (e, settle) w
+    go : (x : Outcome) → outcome rs o ≡ x → ((k : ℕ) (ss : List ℕ) → Everywhere Word ss → Everywhere Word (settle k ss is .registers)) → Everywhere Word (settle zero rs (Alone o ∷ is) .registers)
+    go (continues ss k) e ih = subst (λ (h : Local). Everywhere Word (h .registers)) (sym (settle-continues o is rs ss k e)) (ih k ss (outcome-words o rs ss k (i .0) w e))
+    go stops e ih = subst (λ (h : Local). Everywhere Word (h .registers)) (sym (settle-stops o is rs e)) w
 
 -- the thread's code is in range and its registers hold 32-bit values
 abbrev pub Words : Local → Type 0
 Words h = Everywhere InRange (h .rest) × Everywhere Word (h .registers)
 
+access-words : (a : Access) (rs : List ℕ) (x : ℕ) → Everywhere Word rs → Word x → Everywhere Word (accessSets rs a x)
+unfolding accessSets
+access-words (Store l p) rs x w y = w
+access-words (Load r l) rs x w y = everywhere-set Word rs r x w y
+access-words (FetchAdd r l p) rs x w y = everywhere-set Word rs r x w y
+access-words (CompareSwap r l e v) rs x w y = everywhere-set Word rs r x w y
+
 registers-at : (h : Local) (is : List Instruction) (x : ℕ) → Everywhere InRange is → Everywhere Word (h .registers) → Word x → Everywhere Word (firstNext h is x .registers)
 unfolding firstNext
 registers-at h [] x i w y = w
-registers-at h (Store l p ∷ is) x i w y = settle-words is 0 (h .registers) (i .1) w
-registers-at h (Load r l ∷ is) x i w y = settle-words is 0 (set (h .registers) r x) (i .1) (everywhere-set Word (h .registers) r x w y)
-registers-at h (FetchAdd r l p ∷ is) x i w y = settle-words is 0 (set (h .registers) r x) (i .1) (everywhere-set Word (h .registers) r x w y)
-registers-at h (CompareSwap r l e v ∷ is) x i w y = settle-words is 0 (set (h .registers) r x) (i .1) (everywhere-set Word (h .registers) r x w y)
-registers-at h (Assign r p ∷ is) x i w y = w
-registers-at h (AddAssign r p ∷ is) x i w y = w
-registers-at h (SkipUnless r p n ∷ is) x i w y = w
-registers-at h (Assert r p ∷ is) x i w y = w
+registers-at h (Memory a ∷ is) x i w y = settle-words is 0 (accessSets (h .registers) a x) (i .1) (access-words a (h .registers) x w y)
+registers-at h (Alone o ∷ is) x i w y = w
 
 -- so it is behind an access that found such a value
 pub next-words : (h : Local) (x : ℕ) → Words h → Word x → Words (next h x)
@@ -77,21 +91,22 @@ next-words h x w y = (go (pending h) refl, registers-at h (h .rest) x (w .0) (w 
     go true e = suffix-everywhere InRange (next h x .rest) (h .rest) (next-suffix h x e) (w .0)
     go false e = subst (λ (k : Local). Everywhere InRange (k .rest)) (sym (idle h x e .stays)) (w .0)
 
+access-puts-word : (a : Access) (rs : List ℕ) (x y : ℕ) → AccessInRange a → Everywhere Word rs → accessPuts rs a x ≡ some y → Word y
+unfolding accessPuts
+access-puts-word (Store l p) rs x y i w e = let q : eval rs p ≡ y = cc in subst Word q (eval-word rs p w (i .1))
+access-puts-word (Load r l) rs x y i w e = absurd (Option·none-ne-some y e)
+access-puts-word (FetchAdd r l p) rs x y i w e = let q : sum32 x (eval rs p) ≡ y = cc in subst Word q (sum-word x (eval rs p))
+access-puts-word (CompareSwap r l c v) rs x y i w e = go (eqb x (eval rs c)) e
+  where
+    go : (b : Bool) → cond b (some (eval rs v)) none ≡ some y → Word y
+    go true k = let q : eval rs v ≡ y = cc in subst Word q (eval-word rs v w (i .3))
+    go false k = absurd (Option·none-ne-some y k)
+
 puts-at : (rs : List ℕ) (is : List Instruction) (x y : ℕ) → Everywhere InRange is → Everywhere Word rs → firstPuts rs is x ≡ some y → Word y
 unfolding firstPuts
 puts-at rs [] x y i w e = absurd (Option·none-ne-some y e)
-puts-at rs (Store l p ∷ is) x y i w e = let q : eval rs p ≡ y = cc in subst Word q (eval-word rs p w (i .0 .1))
-puts-at rs (Load r l ∷ is) x y i w e = absurd (Option·none-ne-some y e)
-puts-at rs (FetchAdd r l p ∷ is) x y i w e = let q : sum32 x (eval rs p) ≡ y = cc in subst Word q (sum-word x (eval rs p))
-puts-at rs (CompareSwap r l c v ∷ is) x y i w e = go (eqb x (eval rs c)) refl
-  where
-    go : (b : Bool) → eqb x (eval rs c) ≡ b → Word y
-    go true k = let j : some (eval rs v) ≡ some y = rw (k, firstPuts) at e in let q : eval rs v ≡ y = cc in subst Word q (eval-word rs v w (i .0 .3))
-    go false k = let j : none ≡ some y = rw (k, firstPuts) at e in absurd (Option·none-ne-some y j)
-puts-at rs (Assign r p ∷ is) x y i w e = absurd (Option·none-ne-some y e)
-puts-at rs (AddAssign r p ∷ is) x y i w e = absurd (Option·none-ne-some y e)
-puts-at rs (SkipUnless r p n ∷ is) x y i w e = absurd (Option·none-ne-some y e)
-puts-at rs (Assert r p ∷ is) x y i w e = absurd (Option·none-ne-some y e)
+puts-at rs (Memory a ∷ is) x y i w e = access-puts-word a rs x y (i .0) w e
+puts-at rs (Alone o ∷ is) x y i w e = absurd (Option·none-ne-some y e)
 
 -- and what it writes is such a value
 pub puts-word : (h : Local) (x y : ℕ) → Words h → puts h x ≡ some y → Word y

@@ -39,6 +39,6 @@ pub record Moves (π : ℕ → ℕ) (σ τ : State) : Type 0 where
   pub within : (t : ℕ) → t < length (σ .threads) → π t < length (τ .threads)
 
 -- the second graph is the first with its threads exchanged
-pub record Turns (π : ℕ → ℕ) (g h : Graph) : Type 0 where
+pub record Renames (π : ℕ → ℕ) (g h : Graph) : Type 0 where
   pub reads : (t : ℕ) → t < length (g .reads) → getD (h .reads) (π t) [] ≡ movedReads π (getD (g .reads) t [])
   pub writes : h .writes ≡ map (movedWrites π) (g .writes)

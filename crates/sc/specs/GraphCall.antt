@@ -1,5 +1,6 @@
--- What the graph call says, in document 01's words. Refusals in order: the program's, then 22 for an output shorter than 512 bytes, then 20 and 21
--- of the schedule. Otherwise the text of the schedule's graph, which then stands in front of the output. Only a text changes the output.
+-- What the graph call says, in document 01's words. Refusals in order: the program's, then 22 for an output shorter than 512 bytes, then 20
+-- and 21 of the schedule. Otherwise the text of the schedule's graph, which then stands in front of the output. Only a text changes the
+-- output.
 use Prim.Native.Nat.{ℕ}
 use mathlib.Core.Bool.{cond}
 use mathlib.Core.List.{List}
@@ -14,29 +15,29 @@ use Rattle.sc.specs.Text.{graphText}
 use Rattle.sc.specs.Replay.{Replayed, whole, replay}
 use Rattle.sc.specs.Replay as Replay
 
-pub data GraphSaid : Type 0 where
+pub data GraphResult : Type 0 where
   -- the text of the graph
-  texted : List ℕ → GraphSaid
+  texted : List ℕ → GraphResult
   -- number and place
-  refusing : ℕ → ℕ → GraphSaid
+  refusing : ℕ → ℕ → GraphResult
 
-unfoldable pub texting : Replayed → GraphSaid
+unfoldable pub texting : Replayed → GraphResult
 texting (whole σ) = texted (graphText (graphOf σ))
 texting (Replay.refused n k) = refusing n k
 
 -- of an accepted program, with an output of so many bytes
-unfoldable pub graphAnswer : Program → Schedule → ℕ → GraphSaid
+unfoldable pub graphAnswer : Program → Schedule → ℕ → GraphResult
 graphAnswer p s room = cond (ltb room 512) (refusing 22 0) (texting (replay p s))
 
-unfoldable pub graphOn : Decoded → Schedule → ℕ → GraphSaid
+unfoldable pub graphOn : Decoded → Schedule → ℕ → GraphResult
 graphOn (accepted p) s room = graphAnswer p s room
 graphOn (File.refused n k) s room = refusing n k
 
 -- of a program file
-unfoldable pub graphFile : List ℕ → Schedule → ℕ → GraphSaid
+unfoldable pub graphFile : List ℕ → Schedule → ℕ → GraphResult
 graphFile file s room = graphOn (decode file) s room
 
 -- the later content of the output
-unfoldable pub graphOutput : GraphSaid → List ℕ → List ℕ
+unfoldable pub graphOutput : GraphResult → List ℕ → List ℕ
 graphOutput (texted t) out = over t out
 graphOutput (refusing n k) out = out

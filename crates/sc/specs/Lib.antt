@@ -10,7 +10,7 @@ pub mod Replay
 -- the text of a graph
 pub mod Text
 -- what the steps of a run did, which of them conflict, and the least order of them
-pub mod Trail
+pub mod Actions
 -- what the code left to a thread could still do
 pub mod Ahead
 -- what the graph call says of a program file, a schedule and an output
@@ -18,4 +18,4 @@ pub mod GraphCall
 -- exchanging threads: permitted permutations, and states and graphs turned into others
 pub mod Exchange
 -- the steps of an exchanged run
-pub mod ExchangedTrail
+pub mod ExchangedActions

@@ -1,15 +1,23 @@
--- A thread by itself: its registers and what is left of its code. Memory meets it through four functions only: where its next access goes,
--- whether that access reads, what it writes on finding a value, and the thread's state behind it. Instructions appear here and nowhere else.
+-- A thread by itself: its registers and what is left of its code. Memory meets it through four functions of an access only: where it goes,
+-- whether it reads, what it writes on finding a value, and the registers behind it. What a thread does by itself is settling. Single
+-- instructions appear here and nowhere else.
 use Prim.Native.Nat.{ℕ, zero, suc, _+_, _%_, _^_}
-use mathlib.Core.Bool.{Bool, true, false}
+use mathlib.Core.Bool.{Bool, true, false, cond}
 use mathlib.Core.List.{List, [], _∷_}
 use mathlib.Core.Option.{Option, none, some}
 use lib.Dec.{eqb}
 use lib.ListN.{getD, set}
 use Rattle.program.specs.declared.instruction.Operand.{Operand}
 use Rattle.program.specs.declared.instruction.Operand.the-variants.{Constant, Register}
+use Rattle.program.specs.declared.instruction.Access.{Access}
+use Rattle.program.specs.declared.instruction.Access.the-variants.{Store, Load, FetchAdd, CompareSwap}
+use Rattle.program.specs.declared.instruction.Comparison.{Comparison}
+use Rattle.program.specs.declared.instruction.Comparison.the-variants.{Equal}
+use Rattle.program.specs.declared.instruction.Test.{Test}
+use Rattle.program.specs.declared.instruction.Own.{Own}
+use Rattle.program.specs.declared.instruction.Own.the-variants.{Assign, AddAssign, SkipUnless, Assert}
 use Rattle.program.specs.declared.instruction.Instruction.{Instruction}
-use Rattle.program.specs.declared.instruction.Instruction.the-variants.{Store, Load, FetchAdd, CompareSwap, Assign, AddAssign, SkipUnless, Assert}
+use Rattle.program.specs.declared.instruction.Instruction.the-variants.{Memory, Alone}
 
 -- registers, what is left of the code, and whether an assertion failed; a thread has ended when nothing is left
 pub record Local : Type 0 where
@@ -26,86 +34,95 @@ eval rs (Register k) = getD rs k 0
 unfoldable pub sum32 : ℕ → ℕ → ℕ
 sum32 a b = (a + b) % 2 ^ 32
 
--- how many instructions are skipped: none if the register is what was asked for
-unfoldable pub skipped : Bool → ℕ → ℕ
-skipped true n = 0
-skipped false n = n
+-- ---- an access
+-- the location that it goes to
+unfoldable pub accessPlace : Access → ℕ
+accessPlace (Store l p) = l
+accessPlace (Load r l) = l
+accessPlace (FetchAdd r l p) = l
+accessPlace (CompareSwap r l e v) = l
+
+-- whether it reads
+unfoldable pub accessTakes : Access → Bool
+accessTakes (Store l p) = false
+accessTakes (Load r l) = true
+accessTakes (FetchAdd r l p) = true
+accessTakes (CompareSwap r l e v) = true
+
+-- what it writes on finding x: nothing for a load and for a compare and swap that fails
+unfoldable pub accessPuts : List ℕ → Access → ℕ → Option ℕ
+accessPuts rs (Store l p) x = some (eval rs p)
+accessPuts rs (Load r l) x = none
+accessPuts rs (FetchAdd r l p) x = some (sum32 x (eval rs p))
+accessPuts rs (CompareSwap r l e v) x = cond (eqb x (eval rs e)) (some (eval rs v)) none
+
+-- the registers behind it: a read's holds x
+unfoldable pub accessSets : List ℕ → Access → ℕ → List ℕ
+accessSets rs (Store l p) x = rs
+accessSets rs (Load r l) x = set rs r x
+accessSets rs (FetchAdd r l p) x = set rs r x
+accessSets rs (CompareSwap r l e v) x = set rs r x
+
+-- ---- what a thread does by itself
+-- a comparison of two values
+unfoldable pub compare : Comparison → ℕ → ℕ → Bool
+compare Equal a b = eqb a b
+
+-- whether a test holds
+unfoldable pub holds : List ℕ → Test → Bool
+holds rs t = compare (t .comparison) (getD rs (t .register) 0) (eval rs (t .operand))
+
+-- how an instruction that is no access ends: with these registers and so many instructions skipped, or an assertion has failed
+pub data Outcome : Type 0 where
+  continues : List ℕ → ℕ → Outcome
+  stops : Outcome
+
+unfoldable pub outcome : List ℕ → Own → Outcome
+outcome rs (Assign r p) = continues (set rs r (eval rs p)) 0
+outcome rs (AddAssign r p) = continues (set rs r (sum32 (getD rs r 0) (eval rs p))) 0
+outcome rs (SkipUnless t n) = continues rs (cond (holds rs t) 0 n)
+outcome rs (Assert t) = cond (holds rs t) (continues rs 0) stops
 
 -- carries out the instructions up to the next access; the first number says how many to skip. A failed assertion leaves no code.
 unfoldable pub settle : ℕ → List ℕ → List Instruction → Local
 settle k rs [] = record { registers = rs; rest = []; failed = false }
 settle (suc k) rs (i ∷ is) = settle k rs is
-settle zero rs (Store l p ∷ is) = record { registers = rs; rest = Store l p ∷ is; failed = false }
-settle zero rs (Load r l ∷ is) = record { registers = rs; rest = Load r l ∷ is; failed = false }
-settle zero rs (FetchAdd r l p ∷ is) = record { registers = rs; rest = FetchAdd r l p ∷ is; failed = false }
-settle zero rs (CompareSwap r l e v ∷ is) = record { registers = rs; rest = CompareSwap r l e v ∷ is; failed = false }
-settle zero rs (Assign r p ∷ is) = settle zero (set rs r (eval rs p)) is
-settle zero rs (AddAssign r p ∷ is) = settle zero (set rs r (sum32 (getD rs r 0) (eval rs p))) is
-settle zero rs (SkipUnless r p n ∷ is) = settle (skipped (eqb (getD rs r 0) (eval rs p)) n) rs is
-settle zero rs (Assert r p ∷ is) = elim (eqb (getD rs r 0) (eval rs p)) [
-  | true ↦ settle zero rs is
-  | false ↦ record { registers = rs; rest = []; failed = true }
+settle zero rs (Memory a ∷ is) = record { registers = rs; rest = Memory a ∷ is; failed = false }
+settle zero rs (Alone o ∷ is) = elim (outcome rs o) [
+  | continues ss k ↦ settle k ss is
+  | stops ↦ record { registers = rs; rest = []; failed = true }
 ]
 
+-- ---- a thread's code
 -- whether this code begins with an access
 unfoldable pub beginsWithAccess : List Instruction → Bool
 beginsWithAccess [] = false
-beginsWithAccess (Store l p ∷ is) = true
-beginsWithAccess (Load r l ∷ is) = true
-beginsWithAccess (FetchAdd r l p ∷ is) = true
-beginsWithAccess (CompareSwap r l e v ∷ is) = true
-beginsWithAccess (Assign r p ∷ is) = false
-beginsWithAccess (AddAssign r p ∷ is) = false
-beginsWithAccess (SkipUnless r p n ∷ is) = false
-beginsWithAccess (Assert r p ∷ is) = false
+beginsWithAccess (Memory a ∷ is) = true
+beginsWithAccess (Alone o ∷ is) = false
 
 -- the location that this code's first access goes to
 unfoldable pub firstPlace : List Instruction → ℕ
 firstPlace [] = 0
-firstPlace (Store l p ∷ is) = l
-firstPlace (Load r l ∷ is) = l
-firstPlace (FetchAdd r l p ∷ is) = l
-firstPlace (CompareSwap r l e v ∷ is) = l
-firstPlace (Assign r p ∷ is) = 0
-firstPlace (AddAssign r p ∷ is) = 0
-firstPlace (SkipUnless r p n ∷ is) = 0
-firstPlace (Assert r p ∷ is) = 0
+firstPlace (Memory a ∷ is) = accessPlace a
+firstPlace (Alone o ∷ is) = 0
 
 -- whether it reads
 unfoldable pub firstTakes : List Instruction → Bool
 firstTakes [] = false
-firstTakes (Store l p ∷ is) = false
-firstTakes (Load r l ∷ is) = true
-firstTakes (FetchAdd r l p ∷ is) = true
-firstTakes (CompareSwap r l e v ∷ is) = true
-firstTakes (Assign r p ∷ is) = false
-firstTakes (AddAssign r p ∷ is) = false
-firstTakes (SkipUnless r p n ∷ is) = false
-firstTakes (Assert r p ∷ is) = false
+firstTakes (Memory a ∷ is) = accessTakes a
+firstTakes (Alone o ∷ is) = false
 
--- what it writes on finding x: nothing for a load and for a compare and swap that fails
+-- what it writes on finding x
 unfoldable pub firstPuts : List ℕ → List Instruction → ℕ → Option ℕ
 firstPuts rs [] x = none
-firstPuts rs (Store l p ∷ is) x = some (eval rs p)
-firstPuts rs (Load r l ∷ is) x = none
-firstPuts rs (FetchAdd r l p ∷ is) x = some (sum32 x (eval rs p))
-firstPuts rs (CompareSwap r l e v ∷ is) x = elim (eqb x (eval rs e)) [ true ↦ some (eval rs v) | false ↦ none ]
-firstPuts rs (Assign r p ∷ is) x = none
-firstPuts rs (AddAssign r p ∷ is) x = none
-firstPuts rs (SkipUnless r p n ∷ is) x = none
-firstPuts rs (Assert r p ∷ is) x = none
+firstPuts rs (Memory a ∷ is) x = accessPuts rs a x
+firstPuts rs (Alone o ∷ is) x = none
 
--- the thread behind it: a read's register holds x, and the thread is settled again
+-- the thread behind it, settled again
 unfoldable pub firstNext : Local → List Instruction → ℕ → Local
 firstNext h [] x = h
-firstNext h (Store l p ∷ is) x = settle 0 (h .registers) is
-firstNext h (Load r l ∷ is) x = settle 0 (set (h .registers) r x) is
-firstNext h (FetchAdd r l p ∷ is) x = settle 0 (set (h .registers) r x) is
-firstNext h (CompareSwap r l e v ∷ is) x = settle 0 (set (h .registers) r x) is
-firstNext h (Assign r p ∷ is) x = h
-firstNext h (AddAssign r p ∷ is) x = h
-firstNext h (SkipUnless r p n ∷ is) x = h
-firstNext h (Assert r p ∷ is) x = h
+firstNext h (Memory a ∷ is) x = settle 0 (accessSets (h .registers) a x) is
+firstNext h (Alone o ∷ is) x = h
 
 -- a thread may step when an access comes next; otherwise it has ended
 unfoldable pub pending : Local → Bool

@@ -6,7 +6,7 @@ use mathlib.Core.List.{[], _∷_}
 use Rattle.program.specs.Program.{Program}
 use Rattle.schedules.specs.Order.{Schedule}
 use Rattle.schedules.specs.System.{ended}
-use Rattle.sc.specs.State.{State, step, may, SC, start}
+use Rattle.sc.specs.State.{State, step, enabled, SC, start}
 
 pub data Replayed : Type 0 where
   whole : State → Replayed
@@ -15,7 +15,7 @@ pub data Replayed : Type 0 where
 -- behind k steps that led to this state
 unfoldable pub replayFrom : ℕ → State → Schedule → Replayed
 replayFrom k σ [] = elim (ended SC σ) [ true ↦ whole σ | false ↦ refused 21 k ]
-replayFrom k σ (t ∷ s) = elim (may σ t) [ true ↦ replayFrom (suc k) (step σ t) s | false ↦ refused 20 k ]
+replayFrom k σ (t ∷ s) = elim (enabled σ t) [ true ↦ replayFrom (suc k) (step σ t) s | false ↦ refused 20 k ]
 
 unfoldable pub replay : Program → Schedule → Replayed
 replay p s = replayFrom 0 (start p) s

@@ -9,7 +9,7 @@ use lib.ListN.{getD, set}
 use Rattle.program.specs.Program.{Program, initial}
 use Rattle.program.specs.WellFormed.{accesses}
 use Rattle.program.specs.declared.instruction.Instruction.{Instruction}
-use Rattle.schedules.specs.Lists.{any, upTo}
+use Rattle.schedules.specs.Lists.{any, range}
 use Rattle.schedules.specs.System.{System}
 use Rattle.sc.specs.Local.{Local, pending, placeOf, takes, puts, next, begin}
 
@@ -88,8 +88,8 @@ step σ t =
     record { threads = set (σ .threads) t (advanced h c); cells = set (σ .cells) (place σ t) (met t h c) }
 
 -- a thread may step while it has not ended; there are at most six
-unfoldable pub may : State → ℕ → Bool
-may σ t = elim (ltb t 6) [ true ↦ pending (threadOf σ t .local) | false ↦ false ]
+unfoldable pub enabled : State → ℕ → Bool
+enabled σ t = elim (ltb t 6) [ true ↦ pending (threadOf σ t .local) | false ↦ false ]
 
 -- the accesses left in the code of these threads
 unfoldable pub accessesLeft : List Thread → ℕ
@@ -101,7 +101,7 @@ size σ = accessesLeft (σ .threads)
 
 -- sequential consistency as a step system
 abbrev pub SC : System
-SC = record { State = State; may = may; step = step; names = upTo 0 6; size = size }
+SC = record { State = State; enabled = enabled; step = step; names = range 0 6; size = size }
 
 -- a thread of this code before its first step
 unfoldable pub opened : List Instruction → Thread

@@ -7,52 +7,48 @@ use native.Mathlib.Omega.{arith}
 use lib.ListN.{length}
 use Rattle.program.specs.Program.{Program}
 use Rattle.program.specs.WellFormed.{WellFormed}
-use Rattle.schedules.specs.Lists.{upTo}
+use Rattle.schedules.specs.Lists.{range}
 use Rattle.schedules.specs.Order.{Schedule}
-use Rattle.schedules.proofs.Lists.{upTo-length}
+use Rattle.schedules.proofs.Lists.{range-length}
 use Rattle.model.specs.Exchange.{Permutation, Exchange}
 use Rattle.model.specs.Laws.{StepLaws, ExchangeLaws, ProgramLaws, Laws}
 use Rattle.model.proofs.Exchanges.{exchange-back}
 use Rattle.sc.specs.State.{State, SC, start}
-use Rattle.sc.specs.Trail.{action, who}
+use Rattle.sc.specs.Actions.{action, who}
 use Rattle.sc.specs.Graph.{Graph, graphOf, endOf, graph}
-use Rattle.sc.specs.Exchange.{Moves, Turns}
+use Rattle.sc.specs.Exchange.{Moves, Renames}
 use Rattle.sc.proofs.Lawful.{lawful, names-ascend, start-24}
-use Rattle.sc.proofs.Steps.{may-small}
+use Rattle.sc.proofs.Steps.{enabled-small}
 use Rattle.sc.proofs.Start.{start-threads}
 use Rattle.sc.proofs.Regular.{regular-start}
-use Rattle.sc.proofs.Orders.{turned-round}
+use Rattle.sc.proofs.Orders.{turned-round, action-who}
 use Rattle.sc.proofs.SameGraph.{same-graph-reorders}
-use Rattle.sc.proofs.Exchange.{moves-may, moves-step, moves-ended, moves-graph, moves-memory}
-use Rattle.sc.proofs.ExchangedTrail.{moves-action}
+use Rattle.sc.proofs.Exchange.{moves-enabled, moves-step, moves-ended, moves-graph, moves-memory}
+use Rattle.sc.proofs.ExchangedActions.{moves-action}
 use Rattle.sc.proofs.Permitted.{moves-start}
 use Rattle.sc.proofs.ProgramGraphs.{graph-rows}
-use Rattle.sc.proofs.Turning.{turns-none, turns-back, turns-both, turned-once}
+use Rattle.sc.proofs.Turning.{renames-none, renames-back, renames-both, renamed-once}
 use Rattle.sc.proofs.Failing.{moves-fails}
 use Rattle.sc.proofs.Halted.{stays-failed}
 use Rattle.sc_model.specs.Sequential.{sc}
-use Rattle.sc_model.proofs.Turned.{turns-true, true-turns}
-
-by : (σ : State) (b : ℕ) → who (action σ b) ≡ b
-unfolding who action
-by σ b = refl
+use Rattle.sc_model.proofs.Turned.{renames-true, true-renames}
 
 step-laws : StepLaws sc
 step-laws = record {
   lawful = lawful;
   ascend = names-ascend;
-  named = let e = upTo-length 0 6 in omega arith;
-  below = may-small;
-  by = by;
+  named = let e = range-length 0 6 in omega arith;
+  below = enabled-small;
+  by = action-who;
   swap = λ σ a b ne m n c. turned-round σ a b ne m n c .0;
   waits = λ σ a b ne m n c. let r = turned-round σ a b ne m n c in (r .1, r .2);
-  turns-exact = λ π g h. (turns-true π g h, true-turns π g h);
-  turns-none = turns-none;
+  renames-exact = λ π g h. (renames-true π g h, true-renames π g h);
+  renames-none = renames-none;
 }
 
 exchange-laws : (π : ℕ → ℕ) → Permutation π → (σ τ : State) → Moves π σ τ → ExchangeLaws sc π σ τ
 exchange-laws π q σ τ m = record {
-  may = λ b e. moves-may π q σ τ m b ∙ e;
+  enabled = λ b e. moves-enabled π q σ τ m b ∙ e;
   step = moves-step π q σ τ m;
   act = λ b e. moves-action π q σ τ m b;
   ends = moves-ended π q σ τ m;
@@ -79,9 +75,9 @@ module _ (p : Program) (w : WellFormed p) where
     bound = start-24 p w;
     room = omega arith;
     start = λ π x. moves-start p w π (x .1);
-    turns-back = λ π x a b. turns-back π (x .0) (graphOf (endOf p a)) (graphOf (endOf p b)) (rows (x .0 .inverse) (exchange-back p π x) b a);
-    turns-both = λ ρ π y x a b c. turns-both ρ π (graphOf (endOf p a)) (graphOf (endOf p b)) (graphOf (endOf p c)) (rows π x a b);
-    turned-once = λ π x a b c. turned-once π (x .0) (graphOf (endOf p a)) (graphOf (endOf p b)) (graphOf (endOf p c)) (rows-of b ∙ sym (rows-of c)) (rows (x .0 .inverse) (exchange-back p π x) b a);
+    renames-back = λ π x a b. renames-back π (x .0) (graphOf (endOf p a)) (graphOf (endOf p b)) (rows (x .0 .inverse) (exchange-back p π x) b a);
+    renames-both = λ ρ π y x a b c. renames-both ρ π (graphOf (endOf p a)) (graphOf (endOf p b)) (graphOf (endOf p c)) (rows π x a b);
+    renamed-once = λ π x a b c. renamed-once π (x .0) (graphOf (endOf p a)) (graphOf (endOf p b)) (graphOf (endOf p c)) (rows-of b ∙ sym (rows-of c)) (rows (x .0 .inverse) (exchange-back p π x) b a);
     same-graph = λ v u fv fu e. same-graph-reorders v u (start p) (regular-start p w) fv fu e;
     stays-failed = λ s b a m e. stays-failed p s b a m e;
   }

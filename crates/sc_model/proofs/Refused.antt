@@ -8,7 +8,7 @@ use Rattle.program.specs.Program.{Program}
 use Rattle.schedules.specs.Order.{Schedule}
 use Rattle.schedules.specs.System.{ended}
 use Rattle.model.specs.Answers.{refusesFrom}
-use Rattle.sc.specs.State.{State, SC, start, may, step}
+use Rattle.sc.specs.State.{State, SC, start, enabled, step}
 use Rattle.sc.specs.Replay.{Replayed, whole, refused, replayFrom, replay}
 
 unfoldable pub refusalOf : Replayed → Option (ℕ × ℕ)
@@ -22,9 +22,9 @@ refuses-from [] k σ = go (ended SC σ) refl
     go : (b : Bool) → ended SC σ ≡ b → refusesFrom SC k σ [] ≡ refusalOf (replayFrom k σ [])
     go true e = rw (e, refusesFrom, replayFrom)
     go false e = rw (e, refusesFrom, replayFrom)
-refuses-from (t ∷ s) k σ = go (may σ t) refl (refuses-from s (suc k) (step σ t))
+refuses-from (t ∷ s) k σ = go (enabled σ t) refl (refuses-from s (suc k) (step σ t))
   where
-    go : (b : Bool) → may σ t ≡ b → refusesFrom SC (suc k) (step σ t) s ≡ refusalOf (replayFrom (suc k) (step σ t) s) →
+    go : (b : Bool) → enabled σ t ≡ b → refusesFrom SC (suc k) (step σ t) s ≡ refusalOf (replayFrom (suc k) (step σ t) s) →
         refusesFrom SC k σ (t ∷ s) ≡ refusalOf (replayFrom k σ (t ∷ s))
     go true e ih = rw (e, refusesFrom, replayFrom) ih
     go false e ih = rw (e, refusesFrom, replayFrom)

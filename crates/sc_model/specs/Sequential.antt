@@ -3,11 +3,11 @@
 use mathlib.Core.Option.{none}
 use Rattle.model.specs.Model.{Model}
 use Rattle.sc.specs.State.{SC, start, fails, memoryOf}
-use Rattle.sc.specs.Trail.{Action, action, who, conflict}
+use Rattle.sc.specs.Actions.{Action, action, who, conflict}
 use Rattle.sc.specs.Graph.{Graph, graphOf}
-use Rattle.sc.specs.Exchange.{Moves, Turns}
-use Rattle.sc.specs.ExchangedTrail.{movedAction}
-use Rattle.sc_model.specs.Turned.{turns}
+use Rattle.sc.specs.Exchange.{Moves, Renames}
+use Rattle.sc.specs.ExchangedActions.{movedAction}
+use Rattle.sc_model.specs.Turned.{renames}
 
 abbrev pub sc : Model
 sc = record {
@@ -22,8 +22,8 @@ sc = record {
   movedByte = λ π b. π b;
   movedAction = movedAction;
   Moves = Moves;
-  Turns = Turns;
-  turns = turns;
+  Renames = Renames;
+  renames = renames;
   fails = fails;
   memoryOf = memoryOf;
   top = 6;

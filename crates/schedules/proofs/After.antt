@@ -3,14 +3,16 @@ use mathlib.Core.Path.{_≡_, refl, sym, ap, subst, _∙_}
 use mathlib.Core.Bool.{Bool, true, false}
 use mathlib.Core.Option.{Option, none, some}
 use mathlib.Core.List.{List, [], _∷_, _++_, List·Memᴰ, List·Memᴰ·head, Memᴰ·append-right}
+use Prim.Native.Nat.{ℕ, _≤_}
+use lib.ListN.{length, take}
 use Rattle.schedules.specs.Lists.{both, headOf, Ascends}
 use Rattle.schedules.specs.Order.{Schedule, less}
 use Rattle.schedules.specs.Calls.{offer}
 use Rattle.schedules.specs.Found.{after}
-use Rattle.schedules.proofs.Order.{less-irreflexive, less-asymmetric, less-transitive}
-use Rattle.schedules.proofs.Lists.{keep-no, of-keep, ascends-keep}
-use Rattle.schedules.proofs.Kept.{keep-same, keep-keep, keep-whole}
-use Rattle.schedules.proofs.First.{head-keep, next-first}
+use Rattle.schedules.proofs.Order.{less-cut, less-irreflexive, less-asymmetric, less-transitive}
+use Rattle.schedules.proofs.Lists.{filter-no, of-filter, ascends-filter}
+use Rattle.schedules.proofs.Kept.{filter-agree, filter-same, filter-filter, filter-whole}
+use Rattle.schedules.proofs.First.{head-filter, next-find}
 
 -- without a bound it is the whole list
 pub after-none : (l : List Schedule) → after none l ≡ l
@@ -21,7 +23,7 @@ after-none l = refl
 pub of-after : (o : Option Schedule) (l : List Schedule) (s : Schedule) → List·Memᴰ s (after o l) → List·Memᴰ s l
 unfolding after
 of-after none l s m = m
-of-after (some b) l s m = of-keep (less b) l s m .0
+of-after (some b) l s m = of-filter (less b) l s m .0
 
 -- an empty list has no first member
 pub head-nil : {A : Type 0} → headOf {A = A} [] ≡ none
@@ -32,28 +34,33 @@ head-nil = refl
 pub offer-after : (o : Option Schedule) (l : List Schedule) → headOf (after o l) ≡ offer l o
 unfolding after offer
 offer-after none l = refl
-offer-after (some b) l = head-keep (less b) l ∙ sym (next-first b l)
+offer-after (some b) l = head-filter (less b) l ∙ sym (next-find b l)
 
 -- it ascends where the list does
 pub after-ascends : (o : Option Schedule) (l : List Schedule) → Ascends less l → Ascends less (after o l)
 unfolding after
 after-ascends none l a = a
-after-ascends (some b) l a = ascends-keep less (less b) l a
+after-ascends (some b) l a = ascends-filter less (less b) l a
+
+-- of a bound no more bytes tell than the longest member has
+pub after-cut : (n : ℕ) (b : Schedule) (l : List Schedule) → ((x : Schedule) → List·Memᴰ x l → length x ≤ n) → after (some (take n b)) l ≡ after (some b) l
+unfolding after
+after-cut n b l h = filter-agree (less (take n b)) (less b) l (λ x m. less-cut n b x (h x m))
 
 -- behind a member
 pub after-behind : (xs : List Schedule) (s : Schedule) (ys : List Schedule) → Ascends less (xs ++ (s ∷ ys)) → after (some s) (xs ++ (s ∷ ys)) ≡ ys
 unfolding after
-after-behind [] s ys a = keep-no (less s) s ys (less-irreflexive s) ∙ keep-whole (less s) ys (a .0)
-after-behind (x ∷ xs) s ys a = keep-no (less s) x (xs ++ (s ∷ ys)) (less-asymmetric x s (a .0 s (Memᴰ·append-right xs (List·Memᴰ·head refl)))) ∙ after-behind xs s ys (a .1)
+after-behind [] s ys a = filter-no (less s) s ys (less-irreflexive s) ∙ filter-whole (less s) ys (a .0)
+after-behind (x ∷ xs) s ys a = filter-no (less s) x (xs ++ (s ∷ ys)) (less-asymmetric x s (a .0 s (Memᴰ·append-right xs (List·Memᴰ·head refl)))) ∙ after-behind xs s ys (a .1)
 
 -- above a member of what is above a bound
 above-two : (o : Option Schedule) (l : List Schedule) (s : Schedule) → List·Memᴰ s (after o l) → after (some s) (after o l) ≡ after (some s) l
 unfolding after both
 above-two none l s m = refl
-above-two (some b) l s m = keep-keep (less b) (less s) l ∙ keep-same (λ x. both (less s x) (less b x)) (less s) l (λ x. go x (less s x) refl)
+above-two (some b) l s m = filter-filter (less b) (less s) l ∙ filter-same (λ x. both (less s x) (less b x)) (less s) l (λ x. go x (less s x) refl)
   where
     b-s : less b s ≡ true
-    b-s = of-keep (less b) l s m .1
+    b-s = of-filter (less b) l s m .1
 
     go : (x : Schedule) (c : Bool) → less s x ≡ c → both (less s x) (less b x) ≡ less s x
     go x true e = ap (λ (c : Bool). both c (less b x)) e ∙ less-transitive b s x b-s e ∙ sym e

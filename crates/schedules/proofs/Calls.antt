@@ -11,21 +11,21 @@ use lib.Seq.{drop-nil}
 use Rattle.lines.specs.Over.{over}
 use Rattle.schedules.specs.Lists.{headOf, Ascends}
 use Rattle.schedules.specs.Order.{Schedule, less}
-use Rattle.schedules.specs.Calls.{found, nomore, refused, next, offer, turn, short, content, Result, result, called, last, Dialogue, left, due, served, member}
+use Rattle.schedules.specs.Calls.{found, nomore, refused, next, offer, answerTo, short, content, Result, result, called, last, Dialogue, left, due, served, member}
 use Rattle.schedules.proofs.Order.{less-irreflexive, less-asymmetric}
 
 -- one call: refused exactly where the output is too short, and otherwise it answers what there is
 pub called-short : (need : ℕ) (l : List Schedule) (o : Option Schedule) (out : List ℕ) → length out < need → called need l o out ≡ (refused 22 0, out)
-unfolding turn content
-called-short need l o out h = rw (lt-ltb (length out) need h, turn)
+unfolding answerTo content
+called-short need l o out h = rw (lt-ltb (length out) need h, answerTo)
 
 pub called-found : (need : ℕ) (l : List Schedule) (o : Option Schedule) (out : List ℕ) (s : Schedule) → need ≤ length out → offer l o ≡ some s → called need l o out ≡ (found s, over s out)
-unfolding turn content
-called-found need l o out s h e = rw (le-ltb (length out) need h, e, turn)
+unfolding answerTo content
+called-found need l o out s h e = rw (le-ltb (length out) need h, e, answerTo)
 
 pub called-nomore : (need : ℕ) (l : List Schedule) (o : Option Schedule) (out : List ℕ) → need ≤ length out → offer l o ≡ none → called need l o out ≡ (nomore, out)
-unfolding turn content
-called-nomore need l o out h e = rw (le-ltb (length out) need h, e, turn)
+unfolding answerTo content
+called-nomore need l o out h e = rw (le-ltb (length out) need h, e, answerTo)
 
 -- v is what stands in l behind the schedule answered last
 abbrev pub Behind : List Schedule → Option Schedule → List Schedule → Type 0
@@ -37,8 +37,8 @@ pub behind-next : (l : List Schedule) (o : Option Schedule) (x : Schedule) (v : 
 behind-next l none x v r = ([], r)
 behind-next l (some s) x v r = (r .0 ++ (s ∷ []), r .1 ∙ sym (append-assoc (r .0) (s ∷ []) (x ∷ v)))
 
-behind-turn : (l : List Schedule) (b : Bool) (o : Option Schedule) (v : List Schedule) → Behind l o v → Behind l (last o (turn b (headOf v))) (left b v)
-unfolding last turn headOf left
+behind-turn : (l : List Schedule) (b : Bool) (o : Option Schedule) (v : List Schedule) → Behind l o v → Behind l (last o (answerTo b (headOf v))) (left b v)
+unfolding last answerTo headOf left
 behind-turn l true o v r = r
 behind-turn l false o [] r = r
 behind-turn l false o (x ∷ v) r = behind-next l o x v r
@@ -62,7 +62,7 @@ module _ (need : ℕ) (l : List Schedule) (asc : Ascends less l) where
   from-here [] (r ∷ rs) o v b d = absurd d
   from-here (out ∷ outs) [] o v b d = absurd d
   from-here (out ∷ outs) (r ∷ rs) o v b d =
-      let e : r ≡ result (turn (short need out) (headOf v)) out = d .0 ∙ ap (λ (x : Option Schedule). result (turn (short need out) x) out) (offer-behind l asc o v b) in
+      let e : r ≡ result (answerTo (short need out) (headOf v)) out = d .0 ∙ ap (λ (x : Option Schedule). result (answerTo (short need out) x) out) (offer-behind l asc o v b) in
       ap₂ {C = List Result} (λ x xs. x ∷ xs) e
       (from-here outs rs (last o (r .0)) (left (short need out) v)
       (subst (λ (x : Result). Behind l (last o (x .0)) (left (short need out) v)) (sym e) (behind-turn l (short need out) o v b)) (d .1))
@@ -94,19 +94,19 @@ left-drop need out outs l = go (short need out) refl
 pub due-append : (need : ℕ) (l : List Schedule) (a b : List (List ℕ)) → due need l (a ++ b) ≡ due need l a ++ due need (drop (served need a) l) b
 unfolding due served
 due-append need l [] b = refl
-due-append need l (out ∷ a) b = ap {B = List Result} (λ rs. result (turn (short need out) (headOf l)) out ∷ rs)
+due-append need l (out ∷ a) b = ap {B = List Result} (λ rs. result (answerTo (short need out) (headOf l)) out ∷ rs)
     (due-append need (left (short need out) l) a b ∙ ap (λ (k : List Schedule). due need (left (short need out) l) a ++ due need k b) (left-drop need out a l))
 
 -- call by call: a call that is not refused answers the member whose number is that of the calls before it that were not refused
 pub due-at : (need : ℕ) (l : List Schedule) (before : List (List ℕ)) (out : List ℕ) (outs : List (List ℕ)) →
-    due need l (before ++ (out ∷ outs)) ≡ due need l before ++ (result (turn (short need out) (member l (served need before))) out ∷ due need (left (short need out) (drop (served need before) l)) outs)
+    due need l (before ++ (out ∷ outs)) ≡ due need l before ++ (result (answerTo (short need out) (member l (served need before))) out ∷ due need (left (short need out) (drop (served need before) l)) outs)
 unfolding due
 due-at need l before out outs =
     let k = drop (served need before) l in
     due-append need l before (out ∷ outs) ∙ ap (λ (rs : List Result). due need l before ++ rs) (due-first need k out outs)
-    ∙ ap (λ (o : Option Schedule). due need l before ++ (result (turn (short need out) o) out ∷ due need (left (short need out) k) outs)) (head-drop l (served need before))
+    ∙ ap (λ (o : Option Schedule). due need l before ++ (result (answerTo (short need out) o) out ∷ due need (left (short need out) k) outs)) (head-drop l (served need before))
   where
-    due-first : (need : ℕ) (l : List Schedule) (out : List ℕ) (outs : List (List ℕ)) → due need l (out ∷ outs) ≡ result (turn (short need out) (headOf l)) out ∷ due need (left (short need out) l) outs
+    due-first : (need : ℕ) (l : List Schedule) (out : List ℕ) (outs : List (List ℕ)) → due need l (out ∷ outs) ≡ result (answerTo (short need out) (headOf l)) out ∷ due need (left (short need out) l) outs
     due-first need l out outs = refl
 
 pub length-due : (need : ℕ) (l : List Schedule) (outs : List (List ℕ)) → length (due need l outs) ≡ length outs

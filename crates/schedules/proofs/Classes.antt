@@ -7,11 +7,11 @@ use mathlib.Core.List.{List, [], _∷_, List·Memᴰ, List·Memᴰ·head, List·
 use Prim.Native.Nat.{_≤_}
 use native.Mathlib.Omega.{arith}
 use lib.ListN.{length}
-use Rattle.schedules.specs.Lists.{any, keep, Ascends}
+use Rattle.schedules.specs.Lists.{any, filter, Ascends}
 use Rattle.schedules.specs.Order.{Schedule, less}
 use Rattle.schedules.specs.Classes.{firstsFrom, firsts}
 use Rattle.schedules.proofs.Order.{less-irreflexive, less-asymmetric}
-use Rattle.schedules.proofs.Lists.{any-yes, any-no, in-keep, of-keep, ascends-keep, ascends-unique}
+use Rattle.schedules.proofs.Lists.{any-yes, any-no, in-filter, of-filter, ascends-filter, ascends-unique}
 
 -- of two members of an ascending list, the same or one smaller
 pub members-compared : (l : List Schedule) → Ascends less l → (x y : Schedule) → List·Memᴰ x l → List·Memᴰ y l → (x ≡ y) ⊎ ((less x y ≡ true) ⊎ (less y x ≡ true))
@@ -117,12 +117,12 @@ module _ (like : Schedule → Schedule → Bool) where
     firsts-ascend = firstsFrom-ascend [] l asc
 
     -- a test that is exact on the members keeps the same ones
-    pub firsts-keep : (listed : Schedule → Bool) → ((x : Schedule) → List·Memᴰ x l → listed x ≡ true → Unmatched l x) →
-        ((x : Schedule) → List·Memᴰ x l → listed x ≡ false → (y : Schedule) × List·Memᴰ y l × (less y x ≡ true) × (like y x ≡ true)) → firsts like l ≡ keep listed l
-    firsts-keep listed good bad =
-        ascends-unique less less-irreflexive less-asymmetric (firsts like l) (keep listed l) firsts-ascend (ascends-keep less listed l asc)
-        (λ x m. let r = of-firsts x m in in-keep listed l x (r .0) (passes x (r .0) (r .1) (listed x) refl))
-        (λ x m. let r = of-keep listed l x m in in-firsts x (r .0) (good x (r .0) (r .1)))
+    pub firsts-filter : (listed : Schedule → Bool) → ((x : Schedule) → List·Memᴰ x l → listed x ≡ true → Unmatched l x) →
+        ((x : Schedule) → List·Memᴰ x l → listed x ≡ false → (y : Schedule) × List·Memᴰ y l × (less y x ≡ true) × (like y x ≡ true)) → firsts like l ≡ filter listed l
+    firsts-filter listed good bad =
+        ascends-unique less less-irreflexive less-asymmetric (firsts like l) (filter listed l) firsts-ascend (ascends-filter less listed l asc)
+        (λ x m. let r = of-firsts x m in in-filter listed l x (r .0) (passes x (r .0) (r .1) (listed x) refl))
+        (λ x m. let r = of-filter listed l x m in in-firsts x (r .0) (good x (r .0) (r .1)))
       where
         passes : (x : Schedule) → List·Memᴰ x l → Unmatched l x → (b : Bool) → listed x ≡ b → listed x ≡ true
         passes x m h true e = e

@@ -22,7 +22,7 @@ total (n ∷ ns) = n + total ns
 
 -- the state says how many steps are left to 0 and to 1
 abbrev Two : System
-Two = record { State = List ℕ; may = λ σ t. ltb 0 (getD σ t 0); step = λ σ t. set σ t (getD σ t 0 - 1); names = 0 ∷ 1 ∷ []; size = total }
+Two = record { State = List ℕ; enabled = λ σ t. ltb 0 (getD σ t 0); step = λ σ t. set σ t (getD σ t 0 - 1); names = 0 ∷ 1 ∷ []; size = total }
 
 -- all full schedules, ascending
 fulls-two : fulls Two (2 ∷ 1 ∷ []) ≡ (0 ∷ 0 ∷ 1 ∷ []) ∷ (0 ∷ 1 ∷ 0 ∷ []) ∷ (1 ∷ 0 ∷ 0 ∷ []) ∷ []

@@ -11,7 +11,7 @@ use borrow.Author.Tests.{eq-eqb, ne-eqb}
 use Rattle.schedules.specs.Order.{Schedule}
 use Rattle.schedules.specs.System.{System, ended}
 use Rattle.schedules.specs.Search.{low, past}
-use Rattle.schedules.specs.Found.{inTurn, foundAt, foundBy, foundFrom}
+use Rattle.schedules.specs.Found.{concatRange, foundAt, foundBy, foundFrom}
 
 -- the first byte to try
 pub low-none : low none ≡ 0
@@ -44,19 +44,19 @@ unfolding past
 past-other b bs t ne = rw (ne-eqb b t ne, past)
 
 -- one behind the other, one at a time
-turn-more : {A : Type 0} (f : ℕ → List A) (j i d : ℕ) → j ≡ suc i → inTurn f j d ≡ f d ++ inTurn f i (d + 1)
-unfolding inTurn
+turn-more : {A : Type 0} (f : ℕ → List A) (j i d : ℕ) → j ≡ suc i → concatRange f j d ≡ f d ++ concatRange f i (d + 1)
+unfolding concatRange
 turn-more f j i d e = rw e
 
-pub in-turn-more : {A : Type 0} (f : ℕ → List A) (top t : ℕ) → t < top → inTurn f (top - t) t ≡ f t ++ inTurn f (top - (t + 1)) (t + 1)
-in-turn-more f top t h = turn-more f (top - t) (top - (t + 1)) t (omega arith)
+pub concat-range-more : {A : Type 0} (f : ℕ → List A) (top t : ℕ) → t < top → concatRange f (top - t) t ≡ f t ++ concatRange f (top - (t + 1)) (t + 1)
+concat-range-more f top t h = turn-more f (top - t) (top - (t + 1)) t (omega arith)
 
-none-left : {A : Type 0} (f : ℕ → List A) (j d : ℕ) → j ≡ 0 → inTurn f j d ≡ []
-unfolding inTurn
+none-left : {A : Type 0} (f : ℕ → List A) (j d : ℕ) → j ≡ 0 → concatRange f j d ≡ []
+unfolding concatRange
 none-left f j d e = rw e
 
-pub in-turn-over : {A : Type 0} (f : ℕ → List A) (top t : ℕ) → top ≤ t → inTurn f (top - t) t ≡ []
-in-turn-over f top t h = none-left f (top - t) t (omega arith)
+pub concat-range-over : {A : Type 0} (f : ℕ → List A) (top t : ℕ) → top ≤ t → concatRange f (top - t) t ≡ []
+concat-range-over f top t h = none-left f (top - t) t (omega arith)
 
 module _ (M : System) (top : ℕ) (cut : Schedule → M .State → ℕ → Bool) (listed : Schedule → Bool) where
   abbrev Finder : Type 0
@@ -76,15 +76,15 @@ module _ (M : System) (top : ℕ) (cut : Schedule → M .State → ℕ → Bool)
   at-unlisted v e = rw (e, foundAt)
 
   -- behind one next byte
-  pub by-not : (f : Finder) (o : Option Schedule) (v : Schedule) (σ : M .State) (t : ℕ) → M .may σ t ≡ false → foundBy M top cut listed f o v σ t ≡ []
+  pub by-not : (f : Finder) (o : Option Schedule) (v : Schedule) (σ : M .State) (t : ℕ) → M .enabled σ t ≡ false → foundBy M top cut listed f o v σ t ≡ []
   unfolding foundBy
   by-not f o v σ t e = rw (e, foundBy)
 
-  pub by-cut : (f : Finder) (o : Option Schedule) (v : Schedule) (σ : M .State) (t : ℕ) → M .may σ t ≡ true → cut v σ t ≡ true → foundBy M top cut listed f o v σ t ≡ []
+  pub by-cut : (f : Finder) (o : Option Schedule) (v : Schedule) (σ : M .State) (t : ℕ) → M .enabled σ t ≡ true → cut v σ t ≡ true → foundBy M top cut listed f o v σ t ≡ []
   unfolding foundBy
   by-cut f o v σ t e c = rw (e, c, foundBy)
 
-  pub by-live : (f : Finder) (o : Option Schedule) (v : Schedule) (σ : M .State) (t : ℕ) → M .may σ t ≡ true → cut v σ t ≡ false →
+  pub by-live : (f : Finder) (o : Option Schedule) (v : Schedule) (σ : M .State) (t : ℕ) → M .enabled σ t ≡ true → cut v σ t ≡ false →
       foundBy M top cut listed f o v σ t ≡ f (past o t) (v ++ (t ∷ [])) (M .step σ t)
   unfolding foundBy
   by-live f o v σ t e c = rw (e, c, foundBy)
@@ -101,13 +101,13 @@ module _ (M : System) (top : ℕ) (cut : Schedule → M .State → ℕ → Bool)
   found-stuck (suc k) o v σ e z = absurd (omega arith)
 
   found-suc : (k : ℕ) (o : Option Schedule) (v : Schedule) (σ : M .State) → ended M σ ≡ false →
-      foundFrom M top cut listed (suc k) o v σ ≡ inTurn (foundBy M top cut listed (λ a b c. foundFrom M top cut listed k a b c) o v σ) (top - low o) (low o)
+      foundFrom M top cut listed (suc k) o v σ ≡ concatRange (foundBy M top cut listed (λ a b c. foundFrom M top cut listed k a b c) o v σ) (top - low o) (low o)
   unfolding foundFrom
   found-suc k o v σ e = rw (e, foundFrom)
 
   pub found-turns : (k : ℕ) (o : Option Schedule) (v : Schedule) (σ : M .State) → ended M σ ≡ false → 0 < k →
-      foundFrom M top cut listed k o v σ ≡ inTurn (foundBy M top cut listed (λ a b c. foundFrom M top cut listed (k - 1) a b c) o v σ) (top - low o) (low o)
+      foundFrom M top cut listed k o v σ ≡ concatRange (foundBy M top cut listed (λ a b c. foundFrom M top cut listed (k - 1) a b c) o v σ) (top - low o) (low o)
   found-turns zero o v σ e h = absurd (omega arith)
   found-turns (suc k) o v σ e h =
       found-suc k o v σ e
-      ∙ ap (λ (i : ℕ). inTurn (foundBy M top cut listed (λ a b c. foundFrom M top cut listed i a b c) o v σ) (top - low o) (low o)) (sym (sub-one (suc k)))
+      ∙ ap (λ (i : ℕ). concatRange (foundBy M top cut listed (λ a b c. foundFrom M top cut listed i a b c) o v σ) (top - low o) (low o)) (sym (sub-one (suc k)))

@@ -47,47 +47,47 @@ length-fronts t (s ∷ ss) = ap suc (length-fronts t ss)
 
 module _ (M : System) where
   -- one byte of a branching
-  pub branch-may : (f : M .State → List Schedule) (σ : M .State) (t : ℕ) (ts : List ℕ) → M .may σ t ≡ true → branch M f σ (t ∷ ts) ≡ fronts t (f (M .step σ t)) ++ branch M f σ ts
+  pub branch-enabled : (f : M .State → List Schedule) (σ : M .State) (t : ℕ) (ts : List ℕ) → M .enabled σ t ≡ true → branch M f σ (t ∷ ts) ≡ fronts t (f (M .step σ t)) ++ branch M f σ ts
   unfolding branch
-  branch-may f σ t ts e = rw (e, branch)
+  branch-enabled f σ t ts e = rw (e, branch)
 
-  pub branch-not : (f : M .State → List Schedule) (σ : M .State) (t : ℕ) (ts : List ℕ) → M .may σ t ≡ false → branch M f σ (t ∷ ts) ≡ branch M f σ ts
+  pub branch-not : (f : M .State → List Schedule) (σ : M .State) (t : ℕ) (ts : List ℕ) → M .enabled σ t ≡ false → branch M f σ (t ∷ ts) ≡ branch M f σ ts
   unfolding branch
   branch-not f σ t ts e = rw (e, branch)
 
   -- a member of a branching: its first byte is one of those tried and may step, and the rest is a member behind it
   abbrev pub Branched : (M .State → List Schedule) → M .State → List ℕ → Schedule → Type 0
-  Branched f σ ts s = (t : ℕ) × (r : Schedule) × (s ≡ t ∷ r) × List·Memᴰ t ts × (M .may σ t ≡ true) × List·Memᴰ r (f (M .step σ t))
+  Branched f σ ts s = (t : ℕ) × (r : Schedule) × (s ≡ t ∷ r) × List·Memᴰ t ts × (M .enabled σ t ≡ true) × List·Memᴰ r (f (M .step σ t))
 
   pub of-branch : (f : M .State → List Schedule) (σ : M .State) (ts : List ℕ) (s : Schedule) → List·Memᴰ s (branch M f σ ts) → Branched f σ ts s
   unfolding branch
   of-branch f σ [] s m = absurd (List·Memᴰ·not-nil m)
-  of-branch f σ (t ∷ ts) s m = go (M .may σ t) refl (λ k. of-branch f σ ts s k)
+  of-branch f σ (t ∷ ts) s m = go (M .enabled σ t) refl (λ k. of-branch f σ ts s k)
     where
       on : Branched f σ ts s → Branched f σ (t ∷ ts) s
       on h = (h .0, h .1, h .2, List·Memᴰ·tail (h .3), h .4, h .5)
 
-      go : (b : Bool) → M .may σ t ≡ b → (List·Memᴰ s (branch M f σ ts) → Branched f σ ts s) → Branched f σ (t ∷ ts) s
+      go : (b : Bool) → M .enabled σ t ≡ b → (List·Memᴰ s (branch M f σ ts) → Branched f σ ts s) → Branched f σ (t ∷ ts) s
       go true e ih = ⊎-elim (λ (k : List·Memᴰ s (fronts t (f (M .step σ t)))). let r = of-fronts t s (f (M .step σ t)) k in (t, r .0, r .1, List·Memᴰ·head refl, e, r .2))
           (λ (k : List·Memᴰ s (branch M f σ ts)). on (ih k)) (List·Memᴰ·append-cases (fronts t (f (M .step σ t))) (rw (e, branch) at m))
       go false e ih = on (ih (rw (e, branch) at m))
 
-  pub in-branch : (f : M .State → List Schedule) (σ : M .State) (ts : List ℕ) (t : ℕ) (r : Schedule) → List·Memᴰ t ts → M .may σ t ≡ true → List·Memᴰ r (f (M .step σ t)) → List·Memᴰ (t ∷ r) (branch M f σ ts)
+  pub in-branch : (f : M .State → List Schedule) (σ : M .State) (ts : List ℕ) (t : ℕ) (r : Schedule) → List·Memᴰ t ts → M .enabled σ t ≡ true → List·Memᴰ r (f (M .step σ t)) → List·Memᴰ (t ∷ r) (branch M f σ ts)
   in-branch f σ [] t r m e k = absurd (List·Memᴰ·not-nil m)
-  in-branch f σ (u ∷ ts) t r m e k = go (M .may σ u) refl (List·Memᴰ·cases-cons m) (λ n. in-branch f σ ts t r n e k)
+  in-branch f σ (u ∷ ts) t r m e k = go (M .enabled σ u) refl (List·Memᴰ·cases-cons m) (λ n. in-branch f σ ts t r n e k)
     where
-      go : (b : Bool) → M .may σ u ≡ b → (t ≡ u) ⊎ List·Memᴰ t ts → (List·Memᴰ t ts → List·Memᴰ (t ∷ r) (branch M f σ ts)) → List·Memᴰ (t ∷ r) (branch M f σ (u ∷ ts))
-      go true q (inl i) ih = rw (branch-may f σ u ts q) (Memᴰ·append-left {s = fronts u (f (M .step σ u))} (branch M f σ ts) (rw (← i) (in-fronts t r (f (M .step σ t)) k)))
-      go true q (inr n) ih = rw (branch-may f σ u ts q) (Memᴰ·append-right (fronts u (f (M .step σ u))) (ih n))
-      go false q (inl i) ih = absurd (true≢false (sym e ∙ ap (M .may σ) i ∙ q))
+      go : (b : Bool) → M .enabled σ u ≡ b → (t ≡ u) ⊎ List·Memᴰ t ts → (List·Memᴰ t ts → List·Memᴰ (t ∷ r) (branch M f σ ts)) → List·Memᴰ (t ∷ r) (branch M f σ (u ∷ ts))
+      go true q (inl i) ih = rw (branch-enabled f σ u ts q) (Memᴰ·append-left {s = fronts u (f (M .step σ u))} (branch M f σ ts) (rw (← i) (in-fronts t r (f (M .step σ t)) k)))
+      go true q (inr n) ih = rw (branch-enabled f σ u ts q) (Memᴰ·append-right (fronts u (f (M .step σ u))) (ih n))
+      go false q (inl i) ih = absurd (true≢false (sym e ∙ ap (M .enabled σ) i ∙ q))
       go false q (inr n) ih = rw (branch-not f σ u ts q) (ih n)
 
   branch-ascends : (f : M .State → List Schedule) (σ : M .State) (ts : List ℕ) → Ascends ltb ts → ((τ : M .State) → Ascends less (f τ)) → Ascends less (branch M f σ ts)
   unfolding branch
   branch-ascends f σ [] a h = tt
-  branch-ascends f σ (t ∷ ts) a h = go (M .may σ t) refl (branch-ascends f σ ts (a .1) h)
+  branch-ascends f σ (t ∷ ts) a h = go (M .enabled σ t) refl (branch-ascends f σ ts (a .1) h)
     where
-      go : (b : Bool) → M .may σ t ≡ b → Ascends less (branch M f σ ts) → Ascends less (branch M f σ (t ∷ ts))
+      go : (b : Bool) → M .enabled σ t ≡ b → Ascends less (branch M f σ ts) → Ascends less (branch M f σ (t ∷ ts))
       go true e ih = rw (e, branch) (ascends-append less (fronts t (f (M .step σ t))) (branch M f σ ts) (fronts-ascends t (f (M .step σ t)) (h (M .step σ t))) ih
           (λ x y k m. let r = of-fronts t x (f (M .step σ t)) k in let q = of-branch f σ ts y m in
           rw (r .1, q .2) (less-heads t (q .0) (r .0) (q .1) (ltb-true t (q .0) (a .0 (q .0) (q .3))))))
@@ -96,12 +96,12 @@ module _ (M : System) where
   branch-length : (f : M .State → List Schedule) (σ : M .State) (n : ℕ) → ((τ : M .State) → length (f τ) ≤ n) → (ts : List ℕ) → length (branch M f σ ts) ≤ length ts * n
   unfolding branch
   branch-length f σ n h [] = omega arith
-  branch-length f σ n h (t ∷ ts) = go (M .may σ t) refl (branch-length f σ n h ts)
+  branch-length f σ n h (t ∷ ts) = go (M .enabled σ t) refl (branch-length f σ n h ts)
     where
       more : length ts * n + n ≡ suc (length ts) * n
       more = sym (suc-mul (length ts) n)
 
-      go : (b : Bool) → M .may σ t ≡ b → length (branch M f σ ts) ≤ length ts * n → length (branch M f σ (t ∷ ts)) ≤ suc (length ts) * n
+      go : (b : Bool) → M .enabled σ t ≡ b → length (branch M f σ ts) ≤ length ts * n → length (branch M f σ (t ∷ ts)) ≤ suc (length ts) * n
       go true e ih = rw (e, branch, length-append, length-fronts) (omega (arith, more, h (M .step σ t)))
       go false e ih = rw (e, branch) (omega (arith, more))
 

@@ -11,7 +11,7 @@ use native.Mathlib.Decide.{ℕ-discrete}
 use lib.Dec.{ltb}
 use lib.ListN.{length}
 use borrow.Author.Tests.{ltb-true}
-use Rattle.schedules.specs.Lists.{first, Ascends}
+use Rattle.schedules.specs.Lists.{find, Ascends}
 use Rattle.schedules.specs.Order.{Schedule}
 use Rattle.schedules.specs.System.{System, run}
 use Rattle.schedules.specs.Greedy.{greedy, Fitting}
@@ -19,21 +19,21 @@ use Rattle.schedules.proofs.Order.{AtMost, at-most-front, less-heads, C
 use Rattle.schedules.proofs.Runs.{run-cons}
 
 -- the first member of an ascending list that passes a test is the least one that does
-pub data FirstIs (f : ℕ → Bool) (l : List ℕ) : Option ℕ → Type 0 where
-  found-at : {t : ℕ} → List·Memᴰ t l → f t ≡ true → ((u : ℕ) → List·Memᴰ u l → u < t → f u ≡ false) → FirstIs f l (some t)
-  nowhere : ((u : ℕ) → List·Memᴰ u l → f u ≡ false) → FirstIs f l none
+pub data FindIs (f : ℕ → Bool) (l : List ℕ) : Option ℕ → Type 0 where
+  found-at : {t : ℕ} → List·Memᴰ t l → f t ≡ true → ((u : ℕ) → List·Memᴰ u l → u < t → f u ≡ false) → FindIs f l (some t)
+  nowhere : ((u : ℕ) → List·Memᴰ u l → f u ≡ false) → FindIs f l none
 
-pub first-is : (f : ℕ → Bool) (l : List ℕ) → Ascends ltb l → FirstIs f l (first f l)
-unfolding first
-first-is f [] a = nowhere (λ u m. absurd (List·Memᴰ·not-nil m))
-first-is f (x ∷ l) a = go (f x) refl (first f l) (first-is f l (a .1))
+pub find-is : (f : ℕ → Bool) (l : List ℕ) → Ascends ltb l → FindIs f l (find f l)
+unfolding find
+find-is f [] a = nowhere (λ u m. absurd (List·Memᴰ·not-nil m))
+find-is f (x ∷ l) a = go (f x) refl (find f l) (find-is f l (a .1))
   where
-    pass : (o : Option ℕ) → f x ≡ false → FirstIs f l o → FirstIs f (x ∷ l) o
+    pass : (o : Option ℕ) → f x ≡ false → FindIs f l o → FindIs f (x ∷ l) o
     pass o e (found-at {t = t} m q low) = found-at {t = t} (List·Memᴰ·tail m) q
         (λ u n h. ⊎-elim (λ (i : u ≡ x). ap f i ∙ e) (λ (k : List·Memᴰ u l). low u k h) (List·Memᴰ·cases-cons n))
     pass o e (nowhere low) = nowhere (λ u n. ⊎-elim (λ (i : u ≡ x). ap f i ∙ e) (λ (k : List·Memᴰ u l). low u k) (List·Memᴰ·cases-cons n))
 
-    go : (b : Bool) → f x ≡ b → (o : Option ℕ) → FirstIs f l o → FirstIs f (x ∷ l) (elim b [ true ↦ some x | false ↦ o ])
+    go : (b : Bool) → f x ≡ b → (o : Option ℕ) → FindIs f l o → FindIs f (x ∷ l) (elim b [ true ↦ some x | false ↦ o ])
     go true e o r = found-at {t = x} (List·Memᴰ·head refl) e
         (λ u n h. ⊎-elim (λ (i : u ≡ x). absurd (omega arith)) (λ (k : List·Memᴰ u l). absurd (omega (arith, ltb-true x u (a .0 u k)))) (List·Memᴰ·cases-cons n))
     go false e o r = pass o e r
@@ -79,9 +79,9 @@ module _ (M : System) (fits : M .State → ℕ → Bool) (Goal Inv : M .State �
   unfolding greedy
   greedy-least zero σ [] h i f = least-nil σ [] i f f
   greedy-least zero σ (a ∷ s) h i f = absurd (omega arith)
-  greedy-least (suc k) σ s h i f = go (first (fits σ) (M .names)) (first-is (fits σ) (M .names) (F .ascending)) refl s h f (λ τ r j q w. greedy-least k τ r j q w)
+  greedy-least (suc k) σ s h i f = go (find (fits σ) (M .names)) (find-is (fits σ) (M .names) (F .ascending)) refl s h f (λ τ r j q w. greedy-least k τ r j q w)
     where
-      go : (o : Option ℕ) → FirstIs (fits σ) (M .names) o → first (fits σ) (M .names) ≡ o → (s : Schedule) → length s ≤ suc k → Fitting M fits Goal σ s →
+      go : (o : Option ℕ) → FindIs (fits σ) (M .names) o → find (fits σ) (M .names) ≡ o → (s : Schedule) → length s ≤ suc k → Fitting M fits Goal σ s →
           ((τ : M .State) (r : Schedule) → length r ≤ k → Inv τ → Fitting M fits Goal τ r → Least τ r (greedy M fits k τ)) → Least σ s (greedy M fits (suc k) σ)
       go o (nowhere low) q [] h f ih = rw (q, greedy) (least-nil σ [] i f f)
       go o (nowhere low) q (a ∷ s) h f ih = absurd (true≢false (sym (f .0) ∙ low a (F .named σ a i (f .0))))

@@ -19,8 +19,8 @@ use Rattle.schedules.proofs.Greedy.{GreedyLaws, greedy-least, one-end}
 
 -- what `fits` must satisfy for the goal, in states that satisfy `Inv`
 pub record FitsLaws (M : System) (fits : M .State → ℕ → Bool) (Goal Inv : M .State → Type 0) : Type 0 where
-  pub allowed : (σ : M .State) (t : ℕ) → Inv σ → fits σ t ≡ true → M .may σ t ≡ true
-  pub kept : (σ : M .State) (t : ℕ) → Inv σ → M .may σ t ≡ true → Inv (M .step σ t)
+  pub allowed : (σ : M .State) (t : ℕ) → Inv σ → fits σ t ≡ true → M .enabled σ t ≡ true
+  pub kept : (σ : M .State) (t : ℕ) → Inv σ → M .enabled σ t ≡ true → Inv (M .step σ t)
   -- F1: the first byte of a full schedule that ends in the goal fits
   pub first-fits : (σ : M .State) (t : ℕ) (s : Schedule) → Inv σ → Reaches M Goal σ (t ∷ s) → fits σ t ≡ true
   -- F2: a byte that fits can be moved to the front from its first place, with the same end
@@ -44,8 +44,8 @@ first-place t (a ∷ s) m = go (ℕ-discrete t a) (List·Memᴰ·cases-cons m) (
 
 module _ (M : System) (L : Lawful M) where
   -- F3 where a byte that may step stays so until it is taken
-  pub stays-occurs : ((σ : M .State) (a b : ℕ) → a ≢ b → M .may σ a ≡ true → M .may σ b ≡ true → M .may (M .step σ a) b ≡ true) →
-      (σ : M .State) (t : ℕ) (s : Schedule) → M .may σ t ≡ true → FullFrom M σ s → List·Memᴰ t s
+  pub stays-occurs : ((σ : M .State) (a b : ℕ) → a ≢ b → M .enabled σ a ≡ true → M .enabled σ b ≡ true → M .enabled (M .step σ a) b ≡ true) →
+      (σ : M .State) (t : ℕ) (s : Schedule) → M .enabled σ t ≡ true → FullFrom M σ s → List·Memᴰ t s
   stays-occurs stays σ t [] e f = absurd (true≢false (sym e ∙ ended-none M L σ t f))
   stays-occurs stays σ t (a ∷ s) e f = go (ℕ-discrete a t) (λ ne. stays-occurs stays (M .step σ a) t s (stays σ a t ne (f .0) e) (f .1))
     where

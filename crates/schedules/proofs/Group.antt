@@ -10,9 +10,9 @@ use lib.Dec.{eqb, ltb}
 use lib.ListN.{length, getD, List·getD-map, List·getD-eq-default, length-map}
 use lib.Seq.{ext-getD}
 use borrow.Author.Tests.{eqb-true, eq-eqb, ltb-true}
-use Rattle.schedules.specs.Lists.{upTo, both, any, all}
-use Rattle.schedules.specs.Permutations.{NoDuplicates, Permutation, permutations, factorial, dropAt, arranged, permutationOf, moved, inverse, compose}
-use Rattle.schedules.proofs.Lists.{both-left, both-right, in-upTo, of-upTo, any-no, all-at}
+use Rattle.schedules.specs.Lists.{range, both, any, all, Distinct}
+use Rattle.schedules.specs.Permutations.{Permutation, permutations, factorial, dropAt, arranged, permutationOf, moved, inverse, compose}
+use Rattle.schedules.proofs.Lists.{both-left, both-right, in-range, of-range, any-no, all-at}
 use Rattle.schedules.proofs.Permutations.{permutations-complete}
 use Rattle.schedules.proofs.Numbered.{numbered, sameNumbers, distinctb, permutationb, invertible, all-invertible}
 
@@ -28,12 +28,12 @@ same-numbers (x ∷ xs) (y ∷ ys) e = go (eqb x y) refl (λ k. same-numbers xs 
     go true q ih = ap₂ {C = List ℕ} (λ z zs. z ∷ zs) (eqb-true x y q) (ih (rw (q, sameNumbers) at e))
     go false q ih = absurd (false≢true (rw (q, sameNumbers) at e))
 
-distinct-is : (xs : List ℕ) → distinctb xs ≡ true → NoDuplicates xs
+distinct-is : (xs : List ℕ) → distinctb xs ≡ true → Distinct xs
 unfolding distinctb
 distinct-is [] e = tt
 distinct-is (x ∷ xs) e = go (any (eqb x) xs) refl (λ k. distinct-is xs k)
   where
-    go : (b : Bool) → any (eqb x) xs ≡ b → (distinctb xs ≡ true → NoDuplicates xs) → NoDuplicates (x ∷ xs)
+    go : (b : Bool) → any (eqb x) xs ≡ b → (distinctb xs ≡ true → Distinct xs) → Distinct (x ∷ xs)
     go true q ih = absurd (false≢true (rw (q, distinctb) at e))
     go false q ih = ((λ m. true≢false (sym (eq-eqb x x refl) ∙ any-no (eqb x) xs x q m)), ih (rw (q, distinctb) at e))
 
@@ -71,14 +71,14 @@ compose-moved ρ π le x = go (decLt x (length π))
         ∙ sym (List·getD-eq-default ρ x {n = x} (omega arith)) ∙ ap (moved ρ) (sym a)
 
 -- the identity
-getD-upTo : (a n i d : ℕ) → d ≡ a + i → getD (upTo a n) i d ≡ d
-unfolding upTo
-getD-upTo a zero i d e = refl
-getD-upTo a (suc n) zero d e = omega arith
-getD-upTo a (suc n) (suc i) d e = getD-upTo (suc a) n i d (omega arith)
+getD-range : (a n i d : ℕ) → d ≡ a + i → getD (range a n) i d ≡ d
+unfolding range
+getD-range a zero i d e = refl
+getD-range a (suc n) zero d e = omega arith
+getD-range a (suc n) (suc i) d e = getD-range (suc a) n i d (omega arith)
 
-pub identity-moved : (x : ℕ) → moved (upTo 0 6) x ≡ x
-identity-moved x = getD-upTo 0 6 x x (omega arith)
+pub identity-moved : (x : ℕ) → moved (range 0 6) x ≡ x
+identity-moved x = getD-range 0 6 x x (omega arith)
 
 -- two lists of one length that move alike are equal
 pub moved-same : (π ρ : List ℕ) → length π ≡ length ρ → ((x : ℕ) → moved π x ≡ moved ρ x) → π ≡ ρ
@@ -100,12 +100,12 @@ module _ (π : List ℕ) (m : List·Memᴰ π permutations) where
   pub inverse-member : List·Memᴰ (inverse π) permutations
   inverse-member = permutations-complete (inverse π) inverse-permutation
 
-  undo : (compose (inverse π) π ≡ upTo 0 6) × (compose π (inverse π) ≡ upTo 0 6)
+  undo : (compose (inverse π) π ≡ range 0 6) × (compose π (inverse π) ≡ range 0 6)
   unfolding invertible
   undo =
       let r = both-right (permutationb (inverse π)) _ (both-right (permutationb π) _ test) in (
-        same-numbers (compose (inverse π) π) (upTo 0 6) (both-left (sameNumbers (compose (inverse π) π) (upTo 0 6)) _ r),
-        same-numbers (compose π (inverse π)) (upTo 0 6) (both-right (sameNumbers (compose (inverse π) π) (upTo 0 6)) _ r),
+        same-numbers (compose (inverse π) π) (range 0 6) (both-left (sameNumbers (compose (inverse π) π) (range 0 6)) _ r),
+        same-numbers (compose π (inverse π)) (range 0 6) (both-right (sameNumbers (compose (inverse π) π) (range 0 6)) _ r),
       )
 
   lengths : length (inverse π) ≡ length π
@@ -128,7 +128,7 @@ module _ (π : List ℕ) (m : List·Memᴰ π permutations) where
   moved-above x h = List·getD-eq-default π x {n = x} (omega (arith, member-permutation .six))
 
 -- what has no duplicates keeps none under an injective function
-pub distinct-map : (f : ℕ → ℕ) → ((x y : ℕ) → f x ≡ f y → x ≡ y) → (l : List ℕ) → NoDuplicates l → NoDuplicates (map f l)
+pub distinct-map : (f : ℕ → ℕ) → ((x y : ℕ) → f x ≡ f y → x ≡ y) → (l : List ℕ) → Distinct l → Distinct (map f l)
 distinct-map f inj [] d = tt
 distinct-map f inj (x ∷ l) d = (
   (λ m. let r = Memᴰ·of-map f l m in d .0 (subst (λ (z : ℕ). List·Memᴰ z l) (inj (r .0) x (r .2)) (r .1))),
@@ -146,8 +146,8 @@ compose-member ρ π m n =
       distinct = distinct-map (moved ρ) (moved-injective ρ m) π (p .distinct);
     })
 
-pub identity-member : List·Memᴰ (upTo 0 6) permutations
-unfolding upTo permutationb both all distinctb any
+pub identity-member : List·Memᴰ (range 0 6) permutations
+unfolding range permutationb both all distinctb any
 identity-member = permutations-complete (0 ∷ 1 ∷ 2 ∷ 3 ∷ 4 ∷ 5 ∷ []) (permutation-is (0 ∷ 1 ∷ 2 ∷ 3 ∷ 4 ∷ 5 ∷ []) test-identity)
   where
     test-identity : permutationb (0 ∷ 1 ∷ 2 ∷ 3 ∷ 4 ∷ 5 ∷ []) ≡ true
@@ -156,8 +156,8 @@ identity-member = permutations-complete (0 ∷ 1 ∷ 2 ∷ 3 ∷ 4 ∷ 5 ∷ [])
 -- EVERY PERMUTATION HAS ITS NUMBER, and every number a permutation
 pub number-of : (π : List ℕ) → List·Memᴰ π permutations → (k : ℕ) × (k < 720) × (permutationOf k ≡ π)
 number-of π m =
-    let r = Memᴰ·of-map permutationOf (upTo 0 720) (subst (List·Memᴰ π) (sym numbered) m) in
-    (r .0, of-upTo 0 720 (r .0) (r .1) .1, r .2)
+    let r = Memᴰ·of-map permutationOf (range 0 720) (subst (List·Memᴰ π) (sym numbered) m) in
+    (r .0, of-range 0 720 (r .0) (r .1) .1, r .2)
 
 -- only the digits count, and they are the same modulo 720
 arranged-same : (n k j : ℕ) → ((i : ℕ) → i < n → k / factorial (suc i) % suc (suc i) ≡ j / factorial (suc i) % suc (suc i)) → (xs : List ℕ) → arranged n k xs ≡ arranged n j xs
@@ -176,12 +176,12 @@ digit-rest k (suc (suc (suc (suc (suc i))))) h = absurd (omega arith)
 
 pub number-rest : (k : ℕ) → permutationOf k ≡ permutationOf (k % 720)
 unfolding permutationOf
-number-rest k = arranged-same 5 k (k % 720) (λ i h. digit-rest k i h) (upTo 0 6)
+number-rest k = arranged-same 5 k (k % 720) (λ i h. digit-rest k i h) (range 0 6)
 
 -- the first number is the identity's
-pub number-none : permutationOf 0 ≡ upTo 0 6
-unfolding permutationOf arranged factorial dropAt upTo
+pub number-none : permutationOf 0 ≡ range 0 6
+unfolding permutationOf arranged factorial dropAt range
 number-none = refl
 
 pub numbered-member : (k : ℕ) → List·Memᴰ (permutationOf k) permutations
-numbered-member k = rw (number-rest k) (subst (List·Memᴰ (permutationOf (k % 720))) numbered (Memᴰ·map permutationOf (in-upTo 0 720 (k % 720) (omega arith) (omega arith))))
+numbered-member k = rw (number-rest k) (subst (List·Memᴰ (permutationOf (k % 720))) numbered (Memᴰ·map permutationOf (in-range 0 720 (k % 720) (omega arith) (omega arith))))

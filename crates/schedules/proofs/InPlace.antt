@@ -5,7 +5,7 @@ use Prim.Native.Nat.{ℕ, zero, suc, _+_, _-_, _/_, _%_, _<_}
 use native.Mathlib.Omega.{arith}
 use native.Mathlib.Nat.{not-suc-le-zero, le-of-suc-le-suc}
 use lib.ListN.{length, getD, set}
-use Rattle.schedules.specs.Lists.{upTo}
+use Rattle.schedules.specs.Lists.{range}
 use Rattle.schedules.specs.Permutations.{factorial, dropAt, arranged, permutationOf, bring}
 
 -- the list with what stands at j and behind it exchanged
@@ -53,5 +53,5 @@ bring-here (suc i) (x ∷ l) h = ap (λ (k : List ℕ). x ∷ k) (bring-here i l
 
 -- the permutation with number k
 pub in-place : (k : ℕ) → permutationOf k ≡ bring 4 (k % 2) (bring 3 (k / 2 % 3) (bring 2 (k / 6 % 4) (bring 1 (k / 24 % 5) (bring 0 (k / 120 % 6) (0 ∷ 1 ∷ 2 ∷ 3 ∷ 4 ∷ 5 ∷ [])))))
-unfolding permutationOf arranged bring factorial upTo
+unfolding permutationOf arranged bring factorial range
 in-place k = let e : k / 1 % 2 ≡ k % 2 = omega arith in rw e

@@ -8,70 +8,73 @@ use native.Mathlib.Numerals.{add-one}
 use lib.Dec.{ltb}
 use lib.ListN.{length}
 use borrow.Author.Tests.{ltb-true, le-ltb}
-use Rattle.schedules.specs.Lists.{upTo, both, all, keep, Ascends}
-use Rattle.schedules.specs.Found.{inTurn}
-use Rattle.schedules.proofs.Lists.{keep-yes, keep-no, in-keep, of-keep, ascends-keep, ascends-unique}
+use Rattle.schedules.specs.Lists.{range, both, all, filter, Ascends}
+use Rattle.schedules.specs.Found.{concatRange}
+use Rattle.schedules.proofs.Lists.{filter-yes, filter-no, in-filter, of-filter, ascends-filter, ascends-unique}
 
 module _ {A : Type 0} where
   -- nothing of nothing, and no more than there is
-  pub keep-nil : (f : A → Bool) → keep f [] ≡ []
-  unfolding keep
-  keep-nil f = refl
+  pub filter-nil : (f : A → Bool) → filter f [] ≡ []
+  unfolding filter
+  filter-nil f = refl
 
-  pub keep-length : (f : A → Bool) (l : List A) → length (keep f l) ≤ length l
-  keep-length f [] = let y = ap length (keep-nil f) in omega (arith, y)
-  keep-length f (x ∷ l) = go (keep-length f l) (f x) refl
+  pub filter-length : (f : A → Bool) (l : List A) → length (filter f l) ≤ length l
+  filter-length f [] = let y = ap length (filter-nil f) in omega (arith, y)
+  filter-length f (x ∷ l) = go (filter-length f l) (f x) refl
     where
-      go : length (keep f l) ≤ length l → (b : Bool) → f x ≡ b → length (keep f (x ∷ l)) ≤ length (x ∷ l)
-      go h true e = let y = ap length (keep-yes f x l e) in omega (arith, y, h)
-      go h false e = let y = ap length (keep-no f x l e) in omega (arith, y, h)
+      go : length (filter f l) ≤ length l → (b : Bool) → f x ≡ b → length (filter f (x ∷ l)) ≤ length (x ∷ l)
+      go h true e = let y = ap length (filter-yes f x l e) in omega (arith, y, h)
+      go h false e = let y = ap length (filter-no f x l e) in omega (arith, y, h)
 
-  pub keep-append : (f : A → Bool) (a b : List A) → keep f (a ++ b) ≡ keep f a ++ keep f b
-  unfolding keep
-  keep-append f [] b = refl
-  keep-append f (x ∷ a) b = go (f x) refl (keep-append f a b)
+  pub filter-append : (f : A → Bool) (a b : List A) → filter f (a ++ b) ≡ filter f a ++ filter f b
+  unfolding filter
+  filter-append f [] b = refl
+  filter-append f (x ∷ a) b = go (f x) refl (filter-append f a b)
     where
-      go : (c : Bool) → f x ≡ c → keep f (a ++ b) ≡ keep f a ++ keep f b → keep f (x ∷ (a ++ b)) ≡ keep f (x ∷ a) ++ keep f b
-      go true e ih = rw (e, keep) (ap {B = List A} (λ l. x ∷ l) ih)
-      go false e ih = rw (e, keep) ih
+      go : (c : Bool) → f x ≡ c → filter f (a ++ b) ≡ filter f a ++ filter f b → filter f (x ∷ (a ++ b)) ≡ filter f (x ∷ a) ++ filter f b
+      go true e ih = rw (e, filter) (ap {B = List A} (λ l. x ∷ l) ih)
+      go false e ih = rw (e, filter) ih
 
   -- none passes, all pass
-  pub keep-none : (f : A → Bool) (l : List A) → ((x : A) → List·Memᴰ x l → f x ≡ false) → keep f l ≡ []
-  unfolding keep
-  keep-none f [] h = refl
-  keep-none f (x ∷ l) h = keep-no f x l (h x (List·Memᴰ·head refl)) ∙ keep-none f l (λ y m. h y (List·Memᴰ·tail m))
+  pub filter-none : (f : A → Bool) (l : List A) → ((x : A) → List·Memᴰ x l → f x ≡ false) → filter f l ≡ []
+  unfolding filter
+  filter-none f [] h = refl
+  filter-none f (x ∷ l) h = filter-no f x l (h x (List·Memᴰ·head refl)) ∙ filter-none f l (λ y m. h y (List·Memᴰ·tail m))
 
-  pub keep-whole : (f : A → Bool) (l : List A) → ((x : A) → List·Memᴰ x l → f x ≡ true) → keep f l ≡ l
-  unfolding keep
-  keep-whole f [] h = refl
-  keep-whole f (x ∷ l) h = keep-yes f x l (h x (List·Memᴰ·head refl)) ∙ ap {B = List A} (λ k. x ∷ k) (keep-whole f l (λ y m. h y (List·Memᴰ·tail m)))
+  pub filter-whole : (f : A → Bool) (l : List A) → ((x : A) → List·Memᴰ x l → f x ≡ true) → filter f l ≡ l
+  unfolding filter
+  filter-whole f [] h = refl
+  filter-whole f (x ∷ l) h = filter-yes f x l (h x (List·Memᴰ·head refl)) ∙ ap {B = List A} (λ k. x ∷ k) (filter-whole f l (λ y m. h y (List·Memᴰ·tail m)))
 
   -- two tests that agree, and one behind the other
-  pub keep-same : (f g : A → Bool) (l : List A) → ((x : A) → f x ≡ g x) → keep f l ≡ keep g l
-  unfolding keep
-  keep-same f g [] h = refl
-  keep-same f g (x ∷ l) h = go (g x) refl (keep-same f g l h)
+  pub filter-agree : (f g : A → Bool) (l : List A) → ((x : A) → List·Memᴰ x l → f x ≡ g x) → filter f l ≡ filter g l
+  unfolding filter
+  filter-agree f g [] h = refl
+  filter-agree f g (x ∷ l) h = go (g x) refl (h x (List·Memᴰ·head refl)) (filter-agree f g l (λ y m. h y (List·Memᴰ·tail m)))
     where
-      go : (c : Bool) → g x ≡ c → keep f l ≡ keep g l → keep f (x ∷ l) ≡ keep g (x ∷ l)
-      go true e ih = keep-yes f x l (h x ∙ e) ∙ ap {B = List A} (λ k. x ∷ k) ih ∙ sym (keep-yes g x l e)
-      go false e ih = keep-no f x l (h x ∙ e) ∙ ih ∙ sym (keep-no g x l e)
+      go : (c : Bool) → g x ≡ c → f x ≡ g x → filter f l ≡ filter g l → filter f (x ∷ l) ≡ filter g (x ∷ l)
+      go true e q ih = filter-yes f x l (q ∙ e) ∙ ap {B = List A} (λ k. x ∷ k) ih ∙ sym (filter-yes g x l e)
+      go false e q ih = filter-no f x l (q ∙ e) ∙ ih ∙ sym (filter-no g x l e)
 
-  pub keep-keep : (f g : A → Bool) (l : List A) → keep g (keep f l) ≡ keep (λ x. both (g x) (f x)) l
-  unfolding keep both
-  keep-keep f g [] = refl
-  keep-keep f g (x ∷ l) = go (f x) refl (g x) refl (keep-keep f g l)
+  pub filter-same : (f g : A → Bool) (l : List A) → ((x : A) → f x ≡ g x) → filter f l ≡ filter g l
+  filter-same f g l h = filter-agree f g l (λ x m. h x)
+
+  pub filter-filter : (f g : A → Bool) (l : List A) → filter g (filter f l) ≡ filter (λ x. both (g x) (f x)) l
+  unfolding filter both
+  filter-filter f g [] = refl
+  filter-filter f g (x ∷ l) = go (f x) refl (g x) refl (filter-filter f g l)
     where
-      go : (b : Bool) → f x ≡ b → (c : Bool) → g x ≡ c → keep g (keep f l) ≡ keep (λ x. both (g x) (f x)) l → keep g (keep f (x ∷ l)) ≡ keep (λ x. both (g x) (f x)) (x ∷ l)
-      go true e true q ih = rw (e, keep, q) (ap {B = List A} (λ k. x ∷ k) ih)
-      go true e false q ih = rw (e, keep, q) ih
-      go false e true q ih = rw (e, keep, q) ih
-      go false e false q ih = rw (e, keep, q) ih
+      go : (b : Bool) → f x ≡ b → (c : Bool) → g x ≡ c → filter g (filter f l) ≡ filter (λ x. both (g x) (f x)) l → filter g (filter f (x ∷ l)) ≡ filter (λ x. both (g x) (f x)) (x ∷ l)
+      go true e true q ih = rw (e, filter, q) (ap {B = List A} (λ k. x ∷ k) ih)
+      go true e false q ih = rw (e, filter, q) ih
+      go false e true q ih = rw (e, filter, q) ih
+      go false e false q ih = rw (e, filter, q) ih
 
   -- one list for each number, as a function over a list of numbers
-  pub turn-flat : (f : ℕ → List A) (j d : ℕ) → inTurn f j d ≡ flatMap f (upTo d j)
-  unfolding inTurn flatMap upTo
+  pub turn-flat : (f : ℕ → List A) (j d : ℕ) → concatRange f j d ≡ flatMap f (range d j)
+  unfolding concatRange flatMap range
   turn-flat f zero d = refl
-  turn-flat f (suc j) d = ap (λ (l : List A). f d ++ l) (turn-flat f j (d + 1) ∙ ap (λ (k : ℕ). flatMap f (upTo k j)) (add-one d))
+  turn-flat f (suc j) d = ap (λ (l : List A). f d ++ l) (turn-flat f j (d + 1) ∙ ap (λ (k : ℕ). flatMap f (range k j)) (add-one d))
 
   pub flat-same : (f g : ℕ → List A) (ts : List ℕ) → ((t : ℕ) → List·Memᴰ t ts → f t ≡ g t) → flatMap f ts ≡ flatMap g ts
   unfolding flatMap
@@ -83,21 +86,21 @@ module _ {A : Type 0} where
   there (x ∷ l) = true
 
   -- numbers without a member can be left out
-  flat-keep : (f : ℕ → List A) (ts : List ℕ) → flatMap f ts ≡ flatMap f (keep (λ t. there (f t)) ts)
-  unfolding flatMap keep
-  flat-keep f [] = refl
-  flat-keep f (t ∷ ts) = go (f t) refl (flat-keep f ts)
+  flat-filter : (f : ℕ → List A) (ts : List ℕ) → flatMap f ts ≡ flatMap f (filter (λ t. there (f t)) ts)
+  unfolding flatMap filter
+  flat-filter f [] = refl
+  flat-filter f (t ∷ ts) = go (f t) refl (flat-filter f ts)
     where
       rest : List ℕ
-      rest = keep (λ u. there (f u)) ts
+      rest = filter (λ u. there (f u)) ts
 
-      go : (l : List A) → f t ≡ l → flatMap f ts ≡ flatMap f rest → f t ++ flatMap f ts ≡ flatMap f (keep (λ u. there (f u)) (t ∷ ts))
-      go [] e ih = ap (λ (l : List A). l ++ flatMap f ts) e ∙ ih ∙ sym (ap (flatMap f) (keep-no (λ u. there (f u)) t ts (ap there e)))
-      go (x ∷ l) e ih = ap (λ (l : List A). f t ++ l) ih ∙ sym (ap (flatMap f) (keep-yes (λ u. there (f u)) t ts (ap there e)))
+      go : (l : List A) → f t ≡ l → flatMap f ts ≡ flatMap f rest → f t ++ flatMap f ts ≡ flatMap f (filter (λ u. there (f u)) (t ∷ ts))
+      go [] e ih = ap (λ (l : List A). l ++ flatMap f ts) e ∙ ih ∙ sym (ap (flatMap f) (filter-no (λ u. there (f u)) t ts (ap there e)))
+      go (x ∷ l) e ih = ap (λ (l : List A). f t ++ l) ih ∙ sym (ap (flatMap f) (filter-yes (λ u. there (f u)) t ts (ap there e)))
 
   -- so two ascending lists that both have every number with a member give the same
   pub flat-two : (f : ℕ → List A) (ts us : List ℕ) → Ascends ltb ts → Ascends ltb us → ((t : ℕ) → (f t ≡ [] → ⊥) → List·Memᴰ t ts × List·Memᴰ t us) → flatMap f ts ≡ flatMap f us
-  flat-two f ts us a b h = flat-keep f ts ∙ ap (flatMap f) same ∙ sym (flat-keep f us)
+  flat-two f ts us a b h = flat-filter f ts ∙ ap (flatMap f) same ∙ sym (flat-filter f us)
     where
       test : ℕ → Bool
       test t = there (f t)
@@ -105,19 +108,19 @@ module _ {A : Type 0} where
       in-both : (t : ℕ) → there (f t) ≡ true → List·Memᴰ t ts × List·Memᴰ t us
       in-both t q = h t (λ e. false≢true (sym (ap there e) ∙ q))
 
-      same : keep test ts ≡ keep test us
-      same = ascends-unique ltb (λ n. le-ltb n n (omega arith)) (λ m n e. le-ltb n m (omega (arith, ltb-true m n e))) (keep test ts) (keep test us) (ascends-keep ltb test ts a) (ascends-keep ltb test us b)
-          (λ t m. let r = of-keep test ts t m in in-keep test us t (in-both t (r .1) .1) (r .1))
-          (λ t m. let r = of-keep test us t m in in-keep test ts t (in-both t (r .1) .0) (r .1))
+      same : filter test ts ≡ filter test us
+      same = ascends-unique ltb (λ n. le-ltb n n (omega arith)) (λ m n e. le-ltb n m (omega (arith, ltb-true m n e))) (filter test ts) (filter test us) (ascends-filter ltb test ts a) (ascends-filter ltb test us b)
+          (λ t m. let r = of-filter test ts t m in in-filter test us t (in-both t (r .1) .1) (r .1))
+          (λ t m. let r = of-filter test us t m in in-filter test ts t (in-both t (r .1) .0) (r .1))
 
 -- a mapped list
-pub keep-map : {A B : Type 0} (f : B → Bool) (g : A → B) (l : List A) → keep f (map g l) ≡ map g (keep (λ x. f (g x)) l)
-keep-map f g [] = keep-nil f ∙ sym (ap (map g) (keep-nil (λ x. f (g x))))
-keep-map {A} {B} f g (x ∷ l) = go (f (g x)) refl (keep-map f g l)
+pub filter-map : {A B : Type 0} (f : B → Bool) (g : A → B) (l : List A) → filter f (map g l) ≡ map g (filter (λ x. f (g x)) l)
+filter-map f g [] = filter-nil f ∙ sym (ap (map g) (filter-nil (λ x. f (g x))))
+filter-map {A} {B} f g (x ∷ l) = go (f (g x)) refl (filter-map f g l)
   where
-    go : (b : Bool) → f (g x) ≡ b → keep f (map g l) ≡ map g (keep (λ x. f (g x)) l) → keep f (g x ∷ map g l) ≡ map g (keep (λ x. f (g x)) (x ∷ l))
-    go true e ih = keep-yes f (g x) (map g l) e ∙ ap {B = List B} (λ k. g x ∷ k) ih ∙ sym (ap (map g) (keep-yes (λ x. f (g x)) x l e))
-    go false e ih = keep-no f (g x) (map g l) e ∙ ih ∙ sym (ap (map g) (keep-no (λ x. f (g x)) x l e))
+    go : (b : Bool) → f (g x) ≡ b → filter f (map g l) ≡ map g (filter (λ x. f (g x)) l) → filter f (g x ∷ map g l) ≡ map g (filter (λ x. f (g x)) (x ∷ l))
+    go true e ih = filter-yes f (g x) (map g l) e ∙ ap {B = List B} (λ k. g x ∷ k) ih ∙ sym (ap (map g) (filter-yes (λ x. f (g x)) x l e))
+    go false e ih = filter-no f (g x) (map g l) e ∙ ih ∙ sym (ap (map g) (filter-no (λ x. f (g x)) x l e))
 
 pub all-map : {A B : Type 0} (f : B → Bool) (g : A → B) (l : List A) → all f (map g l) ≡ all (λ x. f (g x)) l
 unfolding all

@@ -7,7 +7,7 @@ use Prim.Native.Nat.{ℕ, suc}
 use native.Mathlib.Omega.{arith}
 use native.Mathlib.Numerals.{sub-one}
 use lib.ListN.{length}
-use Rattle.schedules.specs.Lists.{first}
+use Rattle.schedules.specs.Lists.{find}
 use Rattle.schedules.specs.Order.{Schedule}
 use Rattle.schedules.specs.Greedy.{greedy}
 use Rattle.schedules.specs.Orders.{ready, Remaining, leastOrder}
@@ -27,7 +27,7 @@ module _ {D : Type 0} (who : D → ℕ) (dependent : D → D → Bool) (names : 
   least-nil = least-walk [] 0 refl ∙ greedy-over (Remaining who dependent names) (ready who dependent) 0 [] refl
 
   -- where the first action goes first, the least order of the others follows
-  pub least-cons : (d : D) (ds : List D) → first (ready who dependent (d ∷ ds)) names ≡ some (who d) → leastOrder who dependent names (d ∷ ds) ≡ who d ∷ leastOrder who dependent names ds
+  pub least-cons : (d : D) (ds : List D) → find (ready who dependent (d ∷ ds)) names ≡ some (who d) → leastOrder who dependent names (d ∷ ds) ≡ who d ∷ leastOrder who dependent names ds
   least-cons d ds e =
       least-walk (d ∷ ds) (suc (length ds)) refl
       ∙ greedy-step (Remaining who dependent names) (ready who dependent) (suc (length ds)) (d ∷ ds) (who d) (omega arith) e

@@ -31,7 +31,7 @@ pub mod Search
 pub mod SameFound
 -- the listed schedules: exact, ascending, finite, one for each full schedule; the search finds them
 pub mod Listed
--- moving a step to the front over independent ones
+-- steps that can be turned round
 pub mod Front
 -- the greedy walk is least among the lists of fitting bytes, if a fitting byte can be taken first
 pub mod Greedy

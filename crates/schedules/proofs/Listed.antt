@@ -9,7 +9,7 @@ use Prim.Native.Nat.{ℕ, _^_, _<_, _≤_}
 use native.Mathlib.Nat.{le-trans}
 use lib.Dec.{ltb}
 use lib.ListN.{length}
-use Rattle.schedules.specs.Lists.{keep, Ascends}
+use Rattle.schedules.specs.Lists.{filter, Ascends}
 use Rattle.schedules.specs.Order.{Schedule, less}
 use Rattle.schedules.specs.System.{System, Lawful, run, FullFrom}
 use Rattle.schedules.specs.Fulls.{fulls}
@@ -17,7 +17,7 @@ use Rattle.schedules.specs.Search.{SoundCut}
 use Rattle.schedules.specs.Found.{after, foundFrom}
 use Rattle.schedules.specs.Listed.{Listed, listOf, Smaller}
 use Rattle.schedules.proofs.Fulls.{fulls-exact, fulls-ascend, fulls-length}
-use Rattle.schedules.proofs.Classes.{of-firsts, in-firsts, firsts-ascend, firsts-length, firsts-keep, covered, covered-once}
+use Rattle.schedules.proofs.Classes.{of-firsts, in-firsts, firsts-ascend, firsts-length, firsts-filter, covered, covered-once}
 use Rattle.schedules.proofs.Search.{found-above}
 
 module _ (M : System) (L : Lawful M) (asc : Ascends ltb (M .names)) (ρ : M .State) (like : Schedule → Schedule → Bool) where
@@ -66,9 +66,9 @@ module _ (M : System) (L : Lawful M) (asc : Ascends ltb (M .names)) (ρ : M .Sta
   -- a test that is exact keeps exactly the listed ones, and every sound cut leaves the search exact
   module _ (listed : Schedule → Bool) (good : (s : Schedule) → FullFrom M ρ s → listed s ≡ true → Smaller M ρ like s → ⊥)
       (bad : (s : Schedule) → FullFrom M ρ s → listed s ≡ false → Smaller M ρ like s) where
-    pub list-keep : listOf M ρ like ≡ keep listed (fulls M ρ)
+    pub list-filter : listOf M ρ like ≡ filter listed (fulls M ρ)
     unfolding listOf
-    list-keep = firsts-keep like (fulls M ρ) all-full listed unmatched beaten
+    list-filter = firsts-filter like (fulls M ρ) all-full listed unmatched beaten
       where
         unmatched : (s : Schedule) → List·Memᴰ s (fulls M ρ) → listed s ≡ true → (r : Schedule) → List·Memᴰ r (fulls M ρ) → less r s ≡ true → like r s ≡ false
         unmatched s m e r n q = go (like r s) refl
@@ -90,7 +90,7 @@ module _ (M : System) (L : Lawful M) (asc : Ascends ltb (M .names)) (ρ : M .Sta
         unlisted s f w false e = e
 
     -- THE SEARCH FINDS what the list has above the bound
-    pub found-listed : (top : ℕ) → ((σ : M .State) (t : ℕ) → M .may σ t ≡ true → t < top) → (cut : Schedule → M .State → ℕ → Bool) →
+    pub found-listed : (top : ℕ) → ((σ : M .State) (t : ℕ) → M .enabled σ t ≡ true → t < top) → (cut : Schedule → M .State → ℕ → Bool) →
         ((v : Schedule) (t : ℕ) (z : Schedule) → cut v (run M ρ v) t ≡ true → FullFrom M ρ (v ++ (t ∷ z)) → Smaller M ρ like (v ++ (t ∷ z))) →
         (k : ℕ) (o : Option Schedule) → M .size ρ ≤ k → foundFrom M top cut listed k o [] ρ ≡ after o (listOf M ρ like)
-    found-listed top bound cut sound k o h = found-above M top cut listed L asc bound ρ (cut-sound cut sound) k o h ∙ ap (after o) (sym list-keep)
+    found-listed top bound cut sound k o h = found-above M top cut listed L asc bound ρ (cut-sound cut sound) k o h ∙ ap (after o) (sym list-filter)

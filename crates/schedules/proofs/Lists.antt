@@ -1,7 +1,7 @@
 -- Members of lists, what tests over lists say of them, and ascending lists.
 use mathlib.Core.Path.{_≡_, refl, sym, ap, ap₂, _∙_}
 use mathlib.Core.Logic.{_⊎_, inl, inr, ⊎-elim}
-use mathlib.Core.Bool.{Bool, true, false, true≢false, false≢true}
+use mathlib.Core.Bool.{Bool, true, false, true≢false, false≢true, _&&_, _||_}
 use mathlib.Core.Option.{some}
 use mathlib.Core.List.{List, [], _∷_, _++_, List·Memᴰ, List·Memᴰ·head, List·Memᴰ·tail, List·Memᴰ·cases-cons, List·Memᴰ·not-nil, List·Memᴰ·append-cases}
 use Prim.Native.Nat.{ℕ, zero, suc, _+_, _<_, _≤_}
@@ -10,27 +10,27 @@ use native.Mathlib.Nat.{eq-or-lt-of-le}
 use lib.Dec.{ltb}
 use lib.ListN.{length}
 use borrow.Author.Tests.{lt-ltb}
-use Rattle.schedules.specs.Lists.{upTo, both, any, all, keep, first, Ascends}
+use Rattle.schedules.specs.Lists.{range, both, any, all, filter, find, Ascends}
 
 -- the numbers from one on
-pub upTo-suc : (a n : ℕ) → upTo a (suc n) ≡ a ∷ upTo (suc a) n
-unfolding upTo
-upTo-suc a n = refl
+pub range-suc : (a n : ℕ) → range a (suc n) ≡ a ∷ range (suc a) n
+unfolding range
+range-suc a n = refl
 
-pub in-upTo : (a n k : ℕ) → a ≤ k → k < a + n → List·Memᴰ k (upTo a n)
-unfolding upTo
-in-upTo a zero k l h = absurd (omega arith)
-in-upTo a (suc n) k l h = ⊎-elim (λ (e : a ≡ k). List·Memᴰ·head (sym e)) (λ (g : suc a ≤ k). List·Memᴰ·tail (in-upTo (suc a) n k g (omega arith))) (eq-or-lt-of-le l)
+pub in-range : (a n k : ℕ) → a ≤ k → k < a + n → List·Memᴰ k (range a n)
+unfolding range
+in-range a zero k l h = absurd (omega arith)
+in-range a (suc n) k l h = ⊎-elim (λ (e : a ≡ k). List·Memᴰ·head (sym e)) (λ (g : suc a ≤ k). List·Memᴰ·tail (in-range (suc a) n k g (omega arith))) (eq-or-lt-of-le l)
 
-pub of-upTo : (a n k : ℕ) → List·Memᴰ k (upTo a n) → (a ≤ k) × (k < a + n)
-unfolding upTo
-of-upTo a zero k m = absurd (List·Memᴰ·not-nil m)
-of-upTo a (suc n) k m = ⊎-elim (λ (e : k ≡ a). (omega arith, omega arith)) (λ (j : List·Memᴰ k (upTo (suc a) n)). let r = of-upTo (suc a) n k j in (omega (arith, r .0), omega (arith, r .1))) (List·Memᴰ·cases-cons m)
+pub of-range : (a n k : ℕ) → List·Memᴰ k (range a n) → (a ≤ k) × (k < a + n)
+unfolding range
+of-range a zero k m = absurd (List·Memᴰ·not-nil m)
+of-range a (suc n) k m = ⊎-elim (λ (e : k ≡ a). (omega arith, omega arith)) (λ (j : List·Memᴰ k (range (suc a) n)). let r = of-range (suc a) n k j in (omega (arith, r .0), omega (arith, r .1))) (List·Memᴰ·cases-cons m)
 
-pub upTo-ascends : (a n : ℕ) → Ascends ltb (upTo a n)
-unfolding upTo
-upTo-ascends a zero = tt
-upTo-ascends a (suc n) = ((λ k m. lt-ltb a k (of-upTo (suc a) n k m .0)), upTo-ascends (suc a) n)
+pub range-ascends : (a n : ℕ) → Ascends ltb (range a n)
+unfolding range
+range-ascends a zero = tt
+range-ascends a (suc n) = ((λ k m. lt-ltb a k (of-range (suc a) n k m .0)), range-ascends (suc a) n)
 
 -- two tests
 pub true-both : (b : Bool) → both true b ≡ b
@@ -108,7 +108,7 @@ all-not {A} f (x ∷ xs) e = go (f x) refl (λ k. all-not f xs k)
     go true q ih = let r = ih (rw (q, all) at e) in (r .0, List·Memᴰ·tail (r .1), r .2)
     go false q ih = (x, List·Memᴰ·head refl, q)
 
--- one turn of `all`, of `keep` and of `first`
+-- one turn of `all`, of `filter` and of `find`
 pub all-yes : {A : Type 0} (f : A → Bool) (x : A) (l : List A) → f x ≡ true → all f (x ∷ l) ≡ all f l
 unfolding all
 all-yes f x l e = rw (e, all)
@@ -117,41 +117,41 @@ pub all-no : {A : Type 0} (f : A → Bool) (x : A) (l : List A) → f x ≡ fals
 unfolding all
 all-no f x l e = rw (e, all)
 
-pub keep-yes : {A : Type 0} (f : A → Bool) (x : A) (l : List A) → f x ≡ true → keep f (x ∷ l) ≡ x ∷ keep f l
-unfolding keep
-keep-yes f x l e = rw (e, keep)
+pub filter-yes : {A : Type 0} (f : A → Bool) (x : A) (l : List A) → f x ≡ true → filter f (x ∷ l) ≡ x ∷ filter f l
+unfolding filter
+filter-yes f x l e = rw (e, filter)
 
-pub keep-no : {A : Type 0} (f : A → Bool) (x : A) (l : List A) → f x ≡ false → keep f (x ∷ l) ≡ keep f l
-unfolding keep
-keep-no f x l e = rw (e, keep)
+pub filter-no : {A : Type 0} (f : A → Bool) (x : A) (l : List A) → f x ≡ false → filter f (x ∷ l) ≡ filter f l
+unfolding filter
+filter-no f x l e = rw (e, filter)
 
-pub first-yes : {A : Type 0} (f : A → Bool) (x : A) (l : List A) → f x ≡ true → first f (x ∷ l) ≡ some x
-unfolding first
-first-yes f x l e = rw (e, first)
+pub find-yes : {A : Type 0} (f : A → Bool) (x : A) (l : List A) → f x ≡ true → find f (x ∷ l) ≡ some x
+unfolding find
+find-yes f x l e = rw (e, find)
 
-pub first-no : {A : Type 0} (f : A → Bool) (x : A) (l : List A) → f x ≡ false → first f (x ∷ l) ≡ first f l
-unfolding first
-first-no f x l e = rw (e, first)
+pub find-no : {A : Type 0} (f : A → Bool) (x : A) (l : List A) → f x ≡ false → find f (x ∷ l) ≡ find f l
+unfolding find
+find-no f x l e = rw (e, find)
 
 -- the members kept are those that pass
-pub in-keep : {A : Type 0} (f : A → Bool) (l : List A) (x : A) → List·Memᴰ x l → f x ≡ true → List·Memᴰ x (keep f l)
-in-keep f [] x m e = absurd (List·Memᴰ·not-nil m)
-in-keep f (y ∷ ys) x m e = go (f y) refl (List·Memᴰ·cases-cons m) (λ k. in-keep f ys x k e)
+pub in-filter : {A : Type 0} (f : A → Bool) (l : List A) (x : A) → List·Memᴰ x l → f x ≡ true → List·Memᴰ x (filter f l)
+in-filter f [] x m e = absurd (List·Memᴰ·not-nil m)
+in-filter f (y ∷ ys) x m e = go (f y) refl (List·Memᴰ·cases-cons m) (λ k. in-filter f ys x k e)
   where
-    go : (b : Bool) → f y ≡ b → (x ≡ y) ⊎ List·Memᴰ x ys → (List·Memᴰ x ys → List·Memᴰ x (keep f ys)) → List·Memᴰ x (keep f (y ∷ ys))
-    go true q (inl i) ih = rw (keep-yes f y ys q) (List·Memᴰ·head i)
-    go true q (inr k) ih = rw (keep-yes f y ys q) (List·Memᴰ·tail (ih k))
+    go : (b : Bool) → f y ≡ b → (x ≡ y) ⊎ List·Memᴰ x ys → (List·Memᴰ x ys → List·Memᴰ x (filter f ys)) → List·Memᴰ x (filter f (y ∷ ys))
+    go true q (inl i) ih = rw (filter-yes f y ys q) (List·Memᴰ·head i)
+    go true q (inr k) ih = rw (filter-yes f y ys q) (List·Memᴰ·tail (ih k))
     go false q (inl i) ih = absurd (false≢true (sym q ∙ ap f (sym i) ∙ e))
-    go false q (inr k) ih = rw (keep-no f y ys q) (ih k)
+    go false q (inr k) ih = rw (filter-no f y ys q) (ih k)
 
-pub of-keep : {A : Type 0} (f : A → Bool) (l : List A) (x : A) → List·Memᴰ x (keep f l) → List·Memᴰ x l × (f x ≡ true)
-unfolding keep
-of-keep f [] x m = absurd (List·Memᴰ·not-nil m)
-of-keep {A} f (y ∷ ys) x m = go (f y) refl (λ k. of-keep f ys x k)
+pub of-filter : {A : Type 0} (f : A → Bool) (l : List A) (x : A) → List·Memᴰ x (filter f l) → List·Memᴰ x l × (f x ≡ true)
+unfolding filter
+of-filter f [] x m = absurd (List·Memᴰ·not-nil m)
+of-filter {A} f (y ∷ ys) x m = go (f y) refl (λ k. of-filter f ys x k)
   where
-    go : (b : Bool) → f y ≡ b → (List·Memᴰ x (keep f ys) → List·Memᴰ x ys × (f x ≡ true)) → List·Memᴰ x (y ∷ ys) × (f x ≡ true)
-    go true q ih = ⊎-elim (λ (i : x ≡ y). (List·Memᴰ·head i, ap f i ∙ q)) (λ (k : List·Memᴰ x (keep f ys)). let r = ih k in (List·Memᴰ·tail (r .0), r .1)) (List·Memᴰ·cases-cons (rw (q, keep) at m))
-    go false q ih = let r = ih (rw (q, keep) at m) in (List·Memᴰ·tail (r .0), r .1)
+    go : (b : Bool) → f y ≡ b → (List·Memᴰ x (filter f ys) → List·Memᴰ x ys × (f x ≡ true)) → List·Memᴰ x (y ∷ ys) × (f x ≡ true)
+    go true q ih = ⊎-elim (λ (i : x ≡ y). (List·Memᴰ·head i, ap f i ∙ q)) (λ (k : List·Memᴰ x (filter f ys)). let r = ih k in (List·Memᴰ·tail (r .0), r .1)) (List·Memᴰ·cases-cons (rw (q, filter) at m))
+    go false q ih = let r = ih (rw (q, filter) at m) in (List·Memᴰ·tail (r .0), r .1)
 
 -- ascending lists
 module _ {A : Type 0} (less : A → A → Bool) where
@@ -162,14 +162,14 @@ module _ {A : Type 0} (less : A → A → Bool) where
     ascends-append xs ys (a .1) b (λ z y k n. c z y (List·Memᴰ·tail k) n),
   )
 
-  pub ascends-keep : (f : A → Bool) (l : List A) → Ascends less l → Ascends less (keep f l)
-  unfolding keep
-  ascends-keep f [] a = tt
-  ascends-keep f (x ∷ xs) a = go (f x) refl (ascends-keep f xs (a .1))
+  pub ascends-filter : (f : A → Bool) (l : List A) → Ascends less l → Ascends less (filter f l)
+  unfolding filter
+  ascends-filter f [] a = tt
+  ascends-filter f (x ∷ xs) a = go (f x) refl (ascends-filter f xs (a .1))
     where
-      go : (b : Bool) → f x ≡ b → Ascends less (keep f xs) → Ascends less (keep f (x ∷ xs))
-      go true e ih = rw (e, keep) ((λ y m. a .0 y (of-keep f xs y m .0)), ih)
-      go false e ih = rw (e, keep) ih
+      go : (b : Bool) → f x ≡ b → Ascends less (filter f xs) → Ascends less (filter f (x ∷ xs))
+      go true e ih = rw (e, filter) ((λ y m. a .0 y (of-filter f xs y m .0)), ih)
+      go false e ih = rw (e, filter) ih
 
   module _ (irreflexive : (x : A) → less x x ≡ false) (asymmetric : (x y : A) → less x y ≡ true → less y x ≡ false) where
     -- two ascending lists with the same members are equal
@@ -193,7 +193,23 @@ module _ {A : Type 0} (less : A → A → Bool) where
         rest {v} {w} z zs h e q m = ⊎-elim (λ (i : z ≡ w). absurd (true≢false (sym q ∙ ap₂ less e i ∙ irreflexive w))) (λ (k : List·Memᴰ z zs). k) (List·Memᴰ·cases-cons m)
 
 -- so many numbers
-pub upTo-length : (a n : ℕ) → length (upTo a n) ≡ n
-unfolding upTo
-upTo-length a zero = refl
-upTo-length a (suc n) = ap suc (upTo-length (suc a) n)
+pub range-length : (a n : ℕ) → length (range a n) ≡ n
+unfolding range
+range-length a zero = refl
+range-length a (suc n) = ap suc (range-length (suc a) n)
+
+pub all-cons : {A : Type 0} (f : A → Bool) (x : A) (xs : List A) → all f (x ∷ xs) ≡ (f x && all f xs)
+unfolding all
+all-cons f x xs = go (f x) refl
+  where
+    go : (b : Bool) → f x ≡ b → all f (x ∷ xs) ≡ (f x && all f xs)
+    go true q = rw (q, all)
+    go false q = rw (q, all)
+
+pub any-cons : {A : Type 0} (f : A → Bool) (x : A) (xs : List A) → any f (x ∷ xs) ≡ (f x || any f xs)
+unfolding any
+any-cons f x xs = go (f x) refl
+  where
+    go : (b : Bool) → f x ≡ b → any f (x ∷ xs) ≡ (f x || any f xs)
+    go true q = rw (q, any)
+    go false q = rw (q, any)

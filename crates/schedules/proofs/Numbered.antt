@@ -5,13 +5,13 @@ use mathlib.Core.List.{List, [], _∷_, map}
 use Prim.Native.Nat.{ℕ}
 use lib.Dec.{eqb, ltb}
 use lib.ListN.{length}
-use Rattle.schedules.specs.Lists.{upTo, both, any, all}
+use Rattle.schedules.specs.Lists.{range, both, any, all}
 use Rattle.schedules.specs.Fulls.{fronts}
 use Rattle.schedules.specs.Permutations.{without, each, permsOf, permutations, factorial, dropAt, arranged, permutationOf, placeIn, inverse, compose}
 
 -- the numbers give the list
-pub numbered : map permutationOf (upTo 0 720) ≡ permutations
-unfolding upTo fronts without each permsOf permutations factorial dropAt arranged permutationOf
+pub numbered : map permutationOf (range 0 720) ≡ permutations
+unfolding range fronts without each permsOf permutations factorial dropAt arranged permutationOf
 numbered = refl
 
 -- tests that compute
@@ -30,8 +30,8 @@ permutationb π = both (eqb (length π) 6) (both (all (λ x. ltb x 6) π) (disti
 
 -- a permutation whose inverse is one and undoes it from both sides
 unfoldable pub invertible : List ℕ → Bool
-invertible π = both (permutationb π) (both (permutationb (inverse π)) (both (sameNumbers (compose (inverse π) π) (upTo 0 6)) (sameNumbers (compose π (inverse π)) (upTo 0 6))))
+invertible π = both (permutationb π) (both (permutationb (inverse π)) (both (sameNumbers (compose (inverse π) π) (range 0 6)) (sameNumbers (compose π (inverse π)) (range 0 6))))
 
 pub all-invertible : all invertible permutations ≡ true
-unfolding upTo any all fronts without each permsOf permutations placeIn inverse compose both sameNumbers distinctb permutationb invertible
+unfolding range any all fronts without each permsOf permutations placeIn inverse compose both sameNumbers distinctb permutationb invertible
 all-invertible = refl

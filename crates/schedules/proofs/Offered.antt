@@ -8,7 +8,7 @@ use native.Mathlib.Omega.{arith}
 use Rattle.lines.specs.Over.{over}
 use Rattle.schedules.specs.Lists.{headOf}
 use Rattle.schedules.specs.Order.{Schedule, less}
-use Rattle.schedules.specs.Calls.{found, nomore, refused, next, offer, turn, content, last}
+use Rattle.schedules.specs.Calls.{found, nomore, refused, next, offer, answerTo, content, last}
 
 head-in : (l : List Schedule) (s : Schedule) → headOf l ≡ some s → List·Memᴰ s l
 unfolding headOf
@@ -34,17 +34,17 @@ unfolding offer
 offer-next l s = refl
 
 -- what a call answers
-pub turn-short : (o : Option Schedule) → turn true o ≡ refused 22 0
-unfolding turn
-turn-short o = refl
+pub answer-short : (o : Option Schedule) → answerTo true o ≡ refused 22 0
+unfolding answerTo
+answer-short o = refl
 
-pub turn-none : turn false none ≡ nomore
-unfolding turn
-turn-none = refl
+pub answer-none : answerTo false none ≡ nomore
+unfolding answerTo
+answer-none = refl
 
-pub turn-some : (s : Schedule) → turn false (some s) ≡ found s
-unfolding turn
-turn-some s = refl
+pub answer-some : (s : Schedule) → answerTo false (some s) ≡ found s
+unfolding answerTo
+answer-some s = refl
 
 -- the output behind an answer
 pub content-found : (s : Schedule) (out : List ℕ) → content (found s) out ≡ over s out
@@ -60,8 +60,8 @@ unfolding content
 content-refused n k out = refl
 
 -- a property of what was answered last, behind an answer
-pub last-turn : (P : Schedule → Type 0) (Q : Option Schedule → Type 0) → ((s : Schedule) → P s → Q (some s)) → (b : Bool) (x o : Option Schedule) → Q o → ((s : Schedule) → x ≡ some s → P s) → Q (last o (turn b x))
-unfolding turn last
+pub last-turn : (P : Schedule → Type 0) (Q : Option Schedule → Type 0) → ((s : Schedule) → P s → Q (some s)) → (b : Bool) (x o : Option Schedule) → Q o → ((s : Schedule) → x ≡ some s → P s) → Q (last o (answerTo b x))
+unfolding answerTo last
 last-turn P Q f true x o k h = k
 last-turn P Q f false none o k h = k
 last-turn P Q f false (some s) o k h = f s (h s refl)

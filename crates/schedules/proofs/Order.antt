@@ -3,9 +3,10 @@ use mathlib.Core.Path.{_≡_, refl, sym, ap, subst, _∙_}
 use mathlib.Core.Logic.{_⊎_, inl, inr}
 use mathlib.Core.Bool.{Bool, true, false, false≢true}
 use mathlib.Core.List.{[], _∷_, _++_}
-use Prim.Native.Nat.{ℕ, _<_}
+use Prim.Native.Nat.{ℕ, zero, suc, _<_, _≤_}
 use native.Mathlib.Omega.{arith}
 use lib.Dec.{ltb}
+use lib.ListN.{length, take}
 use borrow.Author.Tests.{eq-eqb, ne-eqb, ltb-true, ltb-false, lt-ltb, le-ltb}
 use Rattle.schedules.specs.Order.{Schedule, less}
 
@@ -49,6 +50,18 @@ compared x y = go (ltb x y) refl (ltb y x) refl
     go true e c q = below (ltb-true x y e)
     go false e true q = above (ltb-true y x q)
     go false e false q = same (omega (arith, ltb-false x y e, ltb-false y x q))
+
+-- compared with so many bytes, no more of the first tell
+pub less-cut : (n : ℕ) (a b : Schedule) → length b ≤ n → less (take n a) b ≡ less a b
+less-cut n a [] h = less-nil (take n a) ∙ sym (less-nil a)
+less-cut zero a (y ∷ b) h = absurd (omega arith)
+less-cut (suc n) [] (y ∷ b) h = refl
+less-cut (suc n) (x ∷ a) (y ∷ b) h = go (compared x y) (less-cut n a b (omega (arith, h)))
+  where
+    go : Compared x y → less (take n a) b ≡ less a b → less (x ∷ take n a) (y ∷ b) ≡ less (x ∷ a) (y ∷ b)
+    go (below k) ih = less-heads x y (take n a) b k ∙ sym (less-heads x y a b k)
+    go (above k) ih = more-heads x y (take n a) b k ∙ sym (more-heads x y a b k)
+    go (same k) ih = subst (λ (z : ℕ). less (x ∷ take n a) (z ∷ b) ≡ less (x ∷ a) (z ∷ b)) k (less-front x (take n a) b ∙ ih ∙ sym (less-front x a b))
 
 pub less-irreflexive : (a : Schedule) → less a a ≡ false
 less-irreflexive [] = less-nil []

@@ -22,7 +22,7 @@ use Rattle.schedules.proofs.Remaining.{out-same, out-other, next-same, 
 -- at a step system whose steps are noted: independent steps can be turned round, and both actions stay what they are
 module _ (M : System) (L : Lawful M) (asc : Ascends ltb (M .names)) {D : Type 0} (who : D → ℕ) (dependent : D → D → Bool) (act : M .State → ℕ → D)
     (by : (σ : M .State) (t : ℕ) → who (act σ t) ≡ t)
-    (swap : (σ : M .State) (a t : ℕ) → a ≢ t → M .may σ a ≡ true → M .may (M .step σ a) t ≡ true → dependent (act σ a) (act (M .step σ a) t) ≡ false →
+    (swap : (σ : M .State) (a t : ℕ) → a ≢ t → M .enabled σ a ≡ true → M .enabled (M .step σ a) t ≡ true → dependent (act σ a) (act (M .step σ a) t) ≡ false →
     Commute M σ a t × (act (M .step σ a) t ≡ act σ t) × (act (M .step σ t) a ≡ act σ a)) where
   -- the first step of t, if it waits for none, can be taken first
   abbrev Pulled : M .State → Schedule → ℕ → D → Type 0

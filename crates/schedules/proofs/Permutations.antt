@@ -8,12 +8,12 @@ use native.Mathlib.Omega.{arith}
 use lib.Dec.{eqb, ltb}
 use lib.ListN.{length}
 use borrow.Author.Tests.{eqb-true, ltb-true}
-use Rattle.schedules.specs.Lists.{upTo, Ascends}
+use Rattle.schedules.specs.Lists.{range, Ascends, Distinct}
 use Rattle.schedules.specs.Order.{less}
 use Rattle.schedules.specs.Fulls.{fronts}
-use Rattle.schedules.specs.Permutations.{NoDuplicates, Permutation, without, each, permsOf, permutations}
+use Rattle.schedules.specs.Permutations.{Permutation, without, each, permsOf, permutations}
 use Rattle.schedules.proofs.Order.{less-heads}
-use Rattle.schedules.proofs.Lists.{in-upTo, upTo-ascends, ascends-append}
+use Rattle.schedules.proofs.Lists.{in-range, range-ascends, ascends-append}
 use Rattle.schedules.proofs.Fulls.{in-fronts, of-fronts, fronts-ascends}
 
 in-without : (a x : ℕ) (xs : List ℕ) → x ≢ a → List·Memᴰ x xs → List·Memᴰ x (without a xs)
@@ -67,7 +67,7 @@ each-ascends f xs h (y ∷ ys) a = ascends-append less (fronts y (f (without y x
     (λ l r m n. let p = of-fronts y l (f (without y xs)) m in let q = of-each f xs ys r n in rw (p .1, q .2) (less-heads y (q .0) (p .0) (q .1) (ltb-true y (q .0) (a .0 (q .0) (q .3)))))
 
 -- n distinct members in any order are among the ways
-pub permsOf-complete : (n : ℕ) (xs ys : List ℕ) → length ys ≡ n → ((y : ℕ) → List·Memᴰ y ys → List·Memᴰ y xs) → NoDuplicates ys → List·Memᴰ ys (permsOf n xs)
+pub permsOf-complete : (n : ℕ) (xs ys : List ℕ) → length ys ≡ n → ((y : ℕ) → List·Memᴰ y ys → List·Memᴰ y xs) → Distinct ys → List·Memᴰ ys (permsOf n xs)
 unfolding permsOf
 permsOf-complete zero xs [] e w d = List·Memᴰ·head refl
 permsOf-complete zero xs (y ∷ ys) e w d = absurd (omega arith)
@@ -84,8 +84,8 @@ permsOf-ascend (suc n) xs a = each-ascends (λ l. permsOf n l) xs (λ y. permsOf
 -- EVERY PERMUTATION is in the list
 pub permutations-complete : (π : List ℕ) → Permutation π → List·Memᴰ π permutations
 unfolding permutations
-permutations-complete π p = permsOf-complete 6 (upTo 0 6) π (p .six) (λ x m. in-upTo 0 6 x (omega arith) (p .below x m)) (p .distinct)
+permutations-complete π p = permsOf-complete 6 (range 0 6) π (p .six) (λ x m. in-range 0 6 x (omega arith) (p .below x m)) (p .distinct)
 
 pub permutations-ascend : Ascends less permutations
 unfolding permutations
-permutations-ascend = permsOf-ascend 6 (upTo 0 6) (upTo-ascends 0 6)
+permutations-ascend = permsOf-ascend 6 (range 0 6) (range-ascends 0 6)

@@ -7,28 +7,28 @@ use Prim.Native.Nat.{ℕ, _≤_}
 use native.Mathlib.Omega.{arith}
 use lib.ListN.{length}
 use Rattle.schedules.specs.Order.{Schedule}
-use Rattle.schedules.specs.System.{System, Lawful, run, none-may, ended, Allowed, FullFrom}
+use Rattle.schedules.specs.System.{System, Lawful, run, none-enabled, ended, Allowed, FullFrom}
 
 module _ (M : System) where
   -- none of these bytes may step: a test, and what it says
-  none-may-at : (σ : M .State) (ts : List ℕ) (t : ℕ) → none-may M σ ts ≡ true → List·Memᴰ t ts → M .may σ t ≡ false
-  unfolding none-may
-  none-may-at σ [] t e m = absurd (List·Memᴰ·not-nil m)
-  none-may-at σ (u ∷ ts) t e m = go (M .may σ u) refl (List·Memᴰ·cases-cons m) (λ q k. none-may-at σ ts t q k)
+  none-enabled-at : (σ : M .State) (ts : List ℕ) (t : ℕ) → none-enabled M σ ts ≡ true → List·Memᴰ t ts → M .enabled σ t ≡ false
+  unfolding none-enabled
+  none-enabled-at σ [] t e m = absurd (List·Memᴰ·not-nil m)
+  none-enabled-at σ (u ∷ ts) t e m = go (M .enabled σ u) refl (List·Memᴰ·cases-cons m) (λ q k. none-enabled-at σ ts t q k)
     where
-      go : (b : Bool) → M .may σ u ≡ b → (t ≡ u) ⊎ List·Memᴰ t ts → (none-may M σ ts ≡ true → List·Memᴰ t ts → M .may σ t ≡ false) → M .may σ t ≡ false
-      go true q d ih = absurd (false≢true (rw (q, none-may) at e))
-      go false q (inl i) ih = ap (M .may σ) i ∙ q
-      go false q (inr k) ih = ih (rw (q, none-may) at e) k
+      go : (b : Bool) → M .enabled σ u ≡ b → (t ≡ u) ⊎ List·Memᴰ t ts → (none-enabled M σ ts ≡ true → List·Memᴰ t ts → M .enabled σ t ≡ false) → M .enabled σ t ≡ false
+      go true q d ih = absurd (false≢true (rw (q, none-enabled) at e))
+      go false q (inl i) ih = ap (M .enabled σ) i ∙ q
+      go false q (inr k) ih = ih (rw (q, none-enabled) at e) k
 
-  none-may-of : (σ : M .State) (ts : List ℕ) → ((t : ℕ) → List·Memᴰ t ts → M .may σ t ≡ false) → none-may M σ ts ≡ true
-  unfolding none-may
-  none-may-of σ [] h = refl
-  none-may-of σ (t ∷ ts) h = rw (h t (List·Memᴰ·head refl), none-may) (none-may-of σ ts (λ u m. h u (List·Memᴰ·tail m)))
+  none-enabled-of : (σ : M .State) (ts : List ℕ) → ((t : ℕ) → List·Memᴰ t ts → M .enabled σ t ≡ false) → none-enabled M σ ts ≡ true
+  unfolding none-enabled
+  none-enabled-of σ [] h = refl
+  none-enabled-of σ (t ∷ ts) h = rw (h t (List·Memᴰ·head refl), none-enabled) (none-enabled-of σ ts (λ u m. h u (List·Memᴰ·tail m)))
 
-  pub ended-of : (σ : M .State) → ((t : ℕ) → M .may σ t ≡ false) → ended M σ ≡ true
+  pub ended-of : (σ : M .State) → ((t : ℕ) → M .enabled σ t ≡ false) → ended M σ ≡ true
   unfolding ended
-  ended-of σ h = none-may-of σ (M .names) (λ t m. h t)
+  ended-of σ h = none-enabled-of σ (M .names) (λ t m. h t)
 
   -- runs
   pub run-append : (σ : M .State) (u s : Schedule) → run M σ (u ++ s) ≡ run M (run M σ u) s
@@ -77,15 +77,15 @@ module _ (M : System) where
 
   module _ (L : Lawful M) where
     -- where a byte may step the run has not ended
-    pub ended-none : (σ : M .State) (t : ℕ) → ended M σ ≡ true → M .may σ t ≡ false
+    pub ended-none : (σ : M .State) (t : ℕ) → ended M σ ≡ true → M .enabled σ t ≡ false
     unfolding ended
-    ended-none σ t e = go (M .may σ t) refl
+    ended-none σ t e = go (M .enabled σ t) refl
       where
-        go : (b : Bool) → M .may σ t ≡ b → M .may σ t ≡ false
-        go true q = none-may-at σ (M .names) t e (L .named σ t q)
+        go : (b : Bool) → M .enabled σ t ≡ b → M .enabled σ t ≡ false
+        go true q = none-enabled-at σ (M .names) t e (L .named σ t q)
         go false q = q
 
-    pub not-ended : (σ : M .State) (t : ℕ) → M .may σ t ≡ true → ended M σ ≡ false
+    pub not-ended : (σ : M .State) (t : ℕ) → M .enabled σ t ≡ true → ended M σ ≡ false
     not-ended σ t e = go (ended M σ) refl
       where
         go : (b : Bool) → ended M σ ≡ b → ended M σ ≡ false

@@ -11,11 +11,11 @@ use lib.ListN.{length, length-append}
 use Rattle.schedules.specs.Order.{Schedule}
 use Rattle.schedules.specs.System.{System, run, ended, Allowed, FullFrom}
 use Rattle.schedules.specs.Search.{low, past, Uncut}
-use Rattle.schedules.specs.Found.{inTurn, foundAt, foundBy, foundFrom}
+use Rattle.schedules.specs.Found.{concatRange, foundAt, foundBy, foundFrom}
 use Rattle.schedules.proofs.Runs.{run-nil, run-snoc, allowed-join, allowed-full}
 
-turns-same : {A : Type 0} (f g : ℕ → List A) → ((d : ℕ) → f d ≡ g d) → (j d : ℕ) → inTurn f j d ≡ inTurn g j d
-unfolding inTurn
+turns-same : {A : Type 0} (f g : ℕ → List A) → ((d : ℕ) → f d ≡ g d) → (j d : ℕ) → concatRange f j d ≡ concatRange g j d
+unfolding concatRange
 turns-same f g h zero d = refl
 turns-same {A} f g h (suc j) d = ap₂ {C = List A} (λ a b. a ++ b) (h d) (turns-same f g h j (d + 1))
 
@@ -51,12 +51,12 @@ module _ (M : System) (top : ℕ) (cut : Schedule → M .State → ℕ → Bool)
     at-same (some b) v e = refl
 
     by-same : (F G : Option Schedule → Schedule → M .State → List Schedule) (o : Option Schedule) (v : Schedule) (σ : M .State) (t : ℕ) →
-        (M .may σ t ≡ true → cut v σ t ≡ false → F (past o t) (v ++ (t ∷ [])) (M .step σ t) ≡ G (past o t) (v ++ (t ∷ [])) (M .step σ t)) →
+        (M .enabled σ t ≡ true → cut v σ t ≡ false → F (past o t) (v ++ (t ∷ [])) (M .step σ t) ≡ G (past o t) (v ++ (t ∷ [])) (M .step σ t)) →
         foundBy M top cut f F o v σ t ≡ foundBy M top cut g G o v σ t
     unfolding foundBy
-    by-same F G o v σ t h = go (M .may σ t) refl (cut v σ t) refl
+    by-same F G o v σ t h = go (M .enabled σ t) refl (cut v σ t) refl
       where
-        go : (a : Bool) → M .may σ t ≡ a → (b : Bool) → cut v σ t ≡ b → foundBy M top cut f F o v σ t ≡ foundBy M top cut g G o v σ t
+        go : (a : Bool) → M .enabled σ t ≡ a → (b : Bool) → cut v σ t ≡ b → foundBy M top cut f F o v σ t ≡ foundBy M top cut g G o v σ t
         go false p b q = rw (p, foundBy)
         go true p true q = rw (p, q, foundBy)
         go true p false q = rw (p, q, foundBy) (h p q)
@@ -69,7 +69,7 @@ module _ (M : System) (top : ℕ) (cut : Schedule → M .State → ℕ → Bool)
         go true e = rw (e, foundFrom) (at-same o v (agree v (allowed-full M ρ v a (ap (λ (τ : M .State). ended M τ) (sym s) ∙ e)) u))
         go false e = rw (e, foundFrom)
     same-from (suc k) o v σ s a u = go (ended M σ) refl (λ t m c. same-from k (past o t) (v ++ (t ∷ [])) (M .step σ t)
-        (ap (λ (τ : M .State). M .step τ t) s ∙ sym (run-snoc M ρ v t)) (allowed-join M ρ v (t ∷ []) a (subst (λ (τ : M .State). M .may τ t ≡ true) s m, tt))
+        (ap (λ (τ : M .State). M .step τ t) s ∙ sym (run-snoc M ρ v t)) (allowed-join M ρ v (t ∷ []) a (subst (λ (τ : M .State). M .enabled τ t ≡ true) s m, tt))
         (uncut-more v t u (subst (λ (τ : M .State). cut v τ t ≡ false) s c)))
       where
         F : Option Schedule → Schedule → M .State → List Schedule
@@ -78,7 +78,7 @@ module _ (M : System) (top : ℕ) (cut : Schedule → M .State → ℕ → Bool)
         G : Option Schedule → Schedule → M .State → List Schedule
         G = λ a b c. foundFrom M top cut g k a b c
 
-        go : (b : Bool) → ended M σ ≡ b → ((t : ℕ) → M .may σ t ≡ true → cut v σ t ≡ false → foundFrom M top cut f k (past o t) (v ++ (t ∷ [])) (M .step σ t) ≡ foundFrom M top cut g k (past o t) (v ++ (t ∷ [])) (M .step σ t)) →
+        go : (b : Bool) → ended M σ ≡ b → ((t : ℕ) → M .enabled σ t ≡ true → cut v σ t ≡ false → foundFrom M top cut f k (past o t) (v ++ (t ∷ [])) (M .step σ t) ≡ foundFrom M top cut g k (past o t) (v ++ (t ∷ [])) (M .step σ t)) →
             foundFrom M top cut f (suc k) o v σ ≡ foundFrom M top cut g (suc k) o v σ
         go true e ih = rw (e, foundFrom) (at-same o v (agree v (allowed-full M ρ v a (ap (λ (τ : M .State). ended M τ) (sym s) ∙ e)) u))
         go false e ih = rw (e, foundFrom) (turns-same (foundBy M top cut f F o v σ) (foundBy M top cut g G o v σ) (λ t. by-same F G o v σ t (ih t)) (top - low o) (low o))

@@ -5,18 +5,18 @@ use mathlib.Core.Bool.{Bool, true, false, true≢false}
 use mathlib.Core.List.{List, [], _∷_}
 use native.Mathlib.Omega.{arith}
 use Rattle.schedules.specs.Order.{Schedule}
-use Rattle.schedules.specs.System.{System, Lawful, none-may, ended, FullFrom}
+use Rattle.schedules.specs.System.{System, Lawful, none-enabled, ended, FullFrom}
 
 module _ (M : System) (L : Lawful M) where
   -- where the run has not ended some byte may step
-  some-may : (σ : M .State) (ts : List ℕ) → none-may M σ ts ≡ false → (t : ℕ) × (M .may σ t ≡ true)
-  unfolding none-may
-  some-may σ [] e = absurd (true≢false e)
-  some-may σ (t ∷ ts) e = go (M .may σ t) refl (λ k. some-may σ ts k)
+  some-enabled : (σ : M .State) (ts : List ℕ) → none-enabled M σ ts ≡ false → (t : ℕ) × (M .enabled σ t ≡ true)
+  unfolding none-enabled
+  some-enabled σ [] e = absurd (true≢false e)
+  some-enabled σ (t ∷ ts) e = go (M .enabled σ t) refl (λ k. some-enabled σ ts k)
     where
-      go : (b : Bool) → M .may σ t ≡ b → (none-may M σ ts ≡ false → (u : ℕ) × (M .may σ u ≡ true)) → (u : ℕ) × (M .may σ u ≡ true)
+      go : (b : Bool) → M .enabled σ t ≡ b → (none-enabled M σ ts ≡ false → (u : ℕ) × (M .enabled σ u ≡ true)) → (u : ℕ) × (M .enabled σ u ≡ true)
       go true q ih = (t, q)
-      go false q ih = ih (rw (q, none-may) at e)
+      go false q ih = ih (rw (q, none-enabled) at e)
 
   pub some-full : (k : ℕ) (σ : M .State) → M .size σ ≤ k → (s : Schedule) × FullFrom M σ s
   unfolding ended
@@ -24,12 +24,12 @@ module _ (M : System) (L : Lawful M) where
     where
       go : (b : Bool) → ended M σ ≡ b → (s : Schedule) × FullFrom M σ s
       go true e = ([], e)
-      go false e = let t = some-may σ (M .names) e in absurd (omega (arith, L .falls σ (t .0) (t .1)))
+      go false e = let t = some-enabled σ (M .names) e in absurd (omega (arith, L .falls σ (t .0) (t .1)))
   some-full (suc k) σ h = go (ended M σ) refl (λ τ i. some-full k τ i)
     where
       go : (b : Bool) → ended M σ ≡ b → ((τ : M .State) → M .size τ ≤ k → (s : Schedule) × FullFrom M τ s) → (s : Schedule) × FullFrom M σ s
       go true e ih = ([], e)
       go false e ih =
-          let t = some-may σ (M .names) e in
+          let t = some-enabled σ (M .names) e in
           let r = ih (M .step σ (t .0)) (omega (arith, L .falls σ (t .0) (t .1))) in
           (t .0 ∷ r .0, (t .1, r .1))

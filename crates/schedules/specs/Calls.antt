@@ -1,7 +1,7 @@
 -- A list of schedules walked by calls. Each call has an output of its own; until a schedule has been answered it is a start, from then on a
 -- continue from the schedule answered last. Refused, with 22 at place 0, are exactly the calls whose output is shorter than `need`.
--- `called` is what one call does, and stands in the contracts of start and continue; `Dialogue` says that each call did so, from what the calls
--- before it answered; `due` is what the whole list of calls is to give. That they agree is the one claim about a list of calls.
+-- `called` is what one call does, and stands in the contracts of start and continue; `Dialogue` says that each call did so, from what the
+-- calls before it answered; `due` is what the whole list of calls is to give. That they agree is the one claim about a list of calls.
 use Prim.Native.Nat.{ℕ, zero, suc}
 use mathlib.Core.Path.{_≡_}
 use mathlib.Core.Bool.{Bool, true, false}
@@ -30,10 +30,10 @@ offer l none = headOf l
 offer l (some s) = next l s
 
 -- the answer, by whether the output is too short and what there is to answer
-unfoldable pub turn : Bool → Option Schedule → Answer
-turn true o = refused 22 0
-turn false none = nomore
-turn false (some s) = found s
+unfoldable pub answerTo : Bool → Option Schedule → Answer
+answerTo true o = refused 22 0
+answerTo false none = nomore
+answerTo false (some s) = found s
 
 -- the output behind an answer: a schedule stands in front of the old rest, and nothing else changes a byte
 unfoldable pub content : Answer → List ℕ → List ℕ
@@ -54,7 +54,7 @@ result a out = (a, content a out)
 
 -- one call, with this output, after this schedule was answered last (none: a start)
 abbrev pub called : ℕ → List Schedule → Option Schedule → List ℕ → Result
-called need l o out = result (turn (short need out) (offer l o)) out
+called need l o out = result (answerTo (short need out) (offer l o)) out
 
 -- the schedule answered last, behind an answer
 unfoldable pub last : Option Schedule → Answer → Option Schedule
@@ -77,7 +77,7 @@ left false l = tail l
 -- the results that are due: each call that is not refused takes the next member, and no more when none is left
 unfoldable pub due : ℕ → List Schedule → List (List ℕ) → List Result
 due need l [] = []
-due need l (out ∷ outs) = result (turn (short need out) (headOf l)) out ∷ due need (left (short need out) l) outs
+due need l (out ∷ outs) = result (answerTo (short need out) (headOf l)) out ∷ due need (left (short need out) l) outs
 
 -- how many of these calls are not refused
 unfoldable pub served : ℕ → List (List ℕ) → ℕ

@@ -1,11 +1,11 @@
--- All that the search finds above a bound, in order: depth first, bytes ascending, along the bound's own path no smaller byte than its. `cut`
--- gives up a prefix and a next byte; `listed` is the test at a full schedule; `top` is above every byte that may step. The law says that for
--- every sound cut these are exactly the listed full schedules above the bound.
+-- All that the search finds above a bound, in order: depth first, bytes ascending, along the bound's own path no smaller byte than its.
+-- `cut` gives up a prefix and a next byte; `listed` is the test at a full schedule; `top` is above every byte that may step. The law says
+-- that for every sound cut these are exactly the listed full schedules above the bound.
 use Prim.Native.Nat.{ℕ, zero, suc, _+_, _-_}
 use mathlib.Core.Bool.{Bool, true, false}
 use mathlib.Core.Option.{Option, none, some}
 use mathlib.Core.List.{List, [], _∷_, _++_}
-use Rattle.schedules.specs.Lists.{keep}
+use Rattle.schedules.specs.Lists.{filter}
 use Rattle.schedules.specs.Order.{Schedule, less}
 use Rattle.schedules.specs.System.{System, ended}
 use Rattle.schedules.specs.Search.{low, past}
@@ -13,12 +13,12 @@ use Rattle.schedules.specs.Search.{low, past}
 -- the members above the bound; without a bound all
 unfoldable pub after : Option Schedule → List Schedule → List Schedule
 after none l = l
-after (some b) l = keep (less b) l
+after (some b) l = filter (less b) l
 
 -- f d, f (d + 1), .., so many, one behind the other
-unfoldable pub inTurn : {A : Type 0} → (ℕ → List A) → ℕ → ℕ → List A
-inTurn f zero d = []
-inTurn f (suc j) d = f d ++ inTurn f j (d + 1)
+unfoldable pub concatRange : {A : Type 0} → (ℕ → List A) → ℕ → ℕ → List A
+concatRange f zero d = []
+concatRange f (suc j) d = f d ++ concatRange f j (d + 1)
 
 module _ (M : System) (top : ℕ) (cut : Schedule → M .State → ℕ → Bool) (listed : Schedule → Bool) where
   -- at a full schedule: itself, if it is above the bound and listed
@@ -27,10 +27,17 @@ module _ (M : System) (top : ℕ) (cut : Schedule → M .State → ℕ → Bool)
   foundAt (some b) v = []
 
   -- behind the prefix v, with the step t: what f finds there, if t may step and is not cut
-  unfoldable pub foundBy : (Option Schedule → Schedule → M .State → List Schedule) → Option Schedule → Schedule → M .State → ℕ → List Schedule
-  foundBy f o v σ t = elim (M .may σ t) [ true ↦ elim (cut v σ t) [ true ↦ [] | false ↦ f (past o t) (v ++ (t ∷ [])) (M .step σ t) ] | false ↦ [] ]
+  unfoldable pub foundBy : (Option Schedule → Schedule → M .State → List Schedule) → Option Schedule → Schedule → M .State → ℕ
+      → List Schedule
+  foundBy f o v σ t = elim (M .enabled σ t) [
+    | true ↦ elim (cut v σ t) [ true ↦ [] | false ↦ f (past o t) (v ++ (t ∷ [])) (M .step σ t) ]
+    | false ↦ []
+  ]
 
   -- of at most so many steps, above the bound o, behind the prefix v that leads to σ
   unfoldable pub foundFrom : ℕ → Option Schedule → Schedule → M .State → List Schedule
   foundFrom zero o v σ = elim (ended M σ) [ true ↦ foundAt o v | false ↦ [] ]
-  foundFrom (suc k) o v σ = elim (ended M σ) [ true ↦ foundAt o v | false ↦ inTurn (foundBy (λ a b c. foundFrom k a b c) o v σ) (top - low o) (low o) ]
+  foundFrom (suc k) o v σ = elim (ended M σ) [
+    | true ↦ foundAt o v
+    | false ↦ concatRange (foundBy (λ a b c. foundFrom k a b c) o v σ) (top - low o) (low o)
+  ]

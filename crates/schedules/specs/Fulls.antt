@@ -14,7 +14,7 @@ fronts t (s ∷ ss) = (t ∷ s) ∷ fronts t ss
 -- what `f` gives behind each of these bytes that may step, with that byte in front
 unfoldable pub branch : (M : System) → (M .State → List Schedule) → M .State → List ℕ → List Schedule
 branch M f σ [] = []
-branch M f σ (t ∷ ts) = elim (M .may σ t) [ true ↦ fronts t (f (M .step σ t)) ++ branch M f σ ts | false ↦ branch M f σ ts ]
+branch M f σ (t ∷ ts) = elim (M .enabled σ t) [ true ↦ fronts t (f (M .step σ t)) ++ branch M f σ ts | false ↦ branch M f σ ts ]
 
 -- the full schedules of at most so many steps
 unfoldable pub fullsFrom : (M : System) → ℕ → M .State → List Schedule

@@ -5,14 +5,14 @@ use mathlib.Core.Path.{_≡_}
 use mathlib.Core.Bool.{Bool, true}
 use mathlib.Core.Option.{none, some}
 use mathlib.Core.List.{[], _∷_}
-use Rattle.schedules.specs.Lists.{first}
+use Rattle.schedules.specs.Lists.{find}
 use Rattle.schedules.specs.Order.{Schedule}
 use Rattle.schedules.specs.System.{System, run, FullFrom}
 
 -- the walk, of at most so many steps; it stops where nothing fits
 unfoldable pub greedy : (M : System) → (M .State → ℕ → Bool) → ℕ → M .State → Schedule
 greedy M fits zero σ = []
-greedy M fits (suc k) σ = elim (first (fits σ) (M .names)) [ none ↦ [] | some t ↦ t ∷ greedy M fits k (M .step σ t) ]
+greedy M fits (suc k) σ = elim (find (fits σ) (M .names)) [ none ↦ [] | some t ↦ t ∷ greedy M fits k (M .step σ t) ]
 
 -- each byte fits in its turn, and the goal holds behind the last
 abbrev pub Fitting : (M : System) → (M .State → ℕ → Bool) → (M .State → Type 0) → M .State → Schedule → Type 0

@@ -1,5 +1,5 @@
--- The list of a step system: of each class of full schedules that are alike, the least. `like` says whether one full schedule is alike to another;
--- a full schedule is listed if no smaller one is alike to it.
+-- The list of a step system: of each class of full schedules that are alike, the least. `like` says whether one full schedule is alike to
+-- another; a full schedule is listed if no smaller one is alike to it.
 use mathlib.Core.Path.{_≡_}
 use mathlib.Core.Bool.{Bool, true, false}
 use mathlib.Core.List.{List}

@@ -6,9 +6,9 @@ use mathlib.Core.Option.{Option, none, some}
 use mathlib.Core.List.{List, [], _∷_, List·Memᴰ}
 
 -- so many numbers from a on
-unfoldable pub upTo : ℕ → ℕ → List ℕ
-upTo a zero = []
-upTo a (suc n) = a ∷ upTo (suc a) n
+unfoldable pub range : ℕ → ℕ → List ℕ
+range a zero = []
+range a (suc n) = a ∷ range (suc a) n
 
 -- whether both tests pass
 unfoldable pub both : Bool → Bool → Bool
@@ -26,19 +26,24 @@ all f [] = true
 all f (x ∷ xs) = elim (f x) [ true ↦ all f xs | false ↦ false ]
 
 -- the members that pass it, in order
-unfoldable pub keep : {A : Type 0} → (A → Bool) → List A → List A
-keep f [] = []
-keep f (x ∷ xs) = elim (f x) [ true ↦ x ∷ keep f xs | false ↦ keep f xs ]
+unfoldable pub filter : {A : Type 0} → (A → Bool) → List A → List A
+filter f [] = []
+filter f (x ∷ xs) = elim (f x) [ true ↦ x ∷ filter f xs | false ↦ filter f xs ]
 
 -- the first member that passes it
-unfoldable pub first : {A : Type 0} → (A → Bool) → List A → Option A
-first f [] = none
-first f (x ∷ xs) = elim (f x) [ true ↦ some x | false ↦ first f xs ]
+unfoldable pub find : {A : Type 0} → (A → Bool) → List A → Option A
+find f [] = none
+find f (x ∷ xs) = elim (f x) [ true ↦ some x | false ↦ find f xs ]
 
 -- the first member
 unfoldable pub headOf : {A : Type 0} → List A → Option A
 headOf [] = none
 headOf (x ∷ xs) = some x
+
+-- no member stands twice
+abbrev pub Distinct : {A : Type 0} → List A → Type 0
+Distinct [] = Unit {0}
+Distinct (x ∷ xs) = (List·Memᴰ x xs → ⊥) × Distinct xs
 
 -- each member is smaller than all later ones
 abbrev pub Ascends : {A : Type 0} → (A → A → Bool) → List A → Type 0

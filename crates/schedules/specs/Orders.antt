@@ -43,7 +43,7 @@ module _ {D : Type 0} (who : D → ℕ) (dependent : D → D → Bool) where
 
   -- the actions left to take, as a step system
   abbrev pub Remaining : List ℕ → System
-  Remaining names = record { State = List D; may = ready; step = takeOut; names = names; size = length }
+  Remaining names = record { State = List D; enabled = ready; step = takeOut; names = names; size = length }
 
   -- the least order of these actions, by bytes among these names
   unfoldable pub leastOrder : List ℕ → List D → Schedule

@@ -1,24 +1,19 @@
--- The permutations of six, each as the list of where 0, 1, .. 5 go: all of them ascending, by recursion, and each from its number, 0 to 719,
--- by divisions. A number from 720 on gives the permutation of its rest modulo 720.
+-- The permutations of six, each as the list of where 0, 1, .. 5 go: all of them ascending, by recursion, and each from its number, 0 to
+-- 719, by divisions. A number from 720 on gives the permutation of its rest modulo 720.
 use Prim.Native.Nat.{ℕ, zero, suc, _*_, _/_, _%_, _<_}
 use mathlib.Core.Path.{_≡_}
 use mathlib.Core.Bool.{true, false}
 use mathlib.Core.List.{List, [], _∷_, _++_, map, List·Memᴰ}
 use lib.Dec.{eqb}
 use lib.ListN.{length, getD}
-use Rattle.schedules.specs.Lists.{upTo}
+use Rattle.schedules.specs.Lists.{range, Distinct}
 use Rattle.schedules.specs.Fulls.{fronts}
-
--- no number stands twice
-abbrev pub NoDuplicates : List ℕ → Type 0
-NoDuplicates [] = Unit {0}
-NoDuplicates (x ∷ xs) = (List·Memᴰ x xs → ⊥) × NoDuplicates xs
 
 -- six distinct numbers below six
 pub record Permutation (π : List ℕ) : Type 0 where
   pub six : length π ≡ 6
   pub below : (x : ℕ) → List·Memᴰ x π → x < 6
-  pub distinct : NoDuplicates π
+  pub distinct : Distinct π
 
 -- a list without the first x
 unfoldable pub without : ℕ → List ℕ → List ℕ
@@ -37,7 +32,7 @@ permsOf (suc n) xs = each (λ l. permsOf n l) xs xs
 
 -- all permutations of six, ascending
 unfoldable pub permutations : List (List ℕ)
-permutations = permsOf 6 (upTo 0 6)
+permutations = permsOf 6 (range 0 6)
 
 -- 1 * 2 * .. * n
 unfoldable pub factorial : ℕ → ℕ
@@ -57,7 +52,7 @@ arranged (suc n) k xs = getD xs (k / factorial (suc n) % suc (suc n)) 0 ∷ arra
 
 -- the permutation with number k
 unfoldable pub permutationOf : ℕ → List ℕ
-permutationOf k = arranged 5 k (upTo 0 6)
+permutationOf k = arranged 5 k (range 0 6)
 
 -- the same in place: what stands d places behind place i is moved to place i
 unfoldable pub bring : ℕ → ℕ → List ℕ → List ℕ
@@ -76,7 +71,7 @@ placeIn (y ∷ ys) x = elim (eqb y x) [ true ↦ 0 | false ↦ suc (placeIn ys x
 
 -- the permutation that undoes π
 unfoldable pub inverse : List ℕ → List ℕ
-inverse π = map (placeIn π) (upTo 0 6)
+inverse π = map (placeIn π) (range 0 6)
 
 -- first π, then ρ
 unfoldable pub compose : List ℕ → List ℕ → List ℕ

@@ -1,5 +1,5 @@
--- The bound and the cut of a search through the runs of a step system: along the bound's own path no byte is smaller than its, and a cut gives up
--- only what leads to no listed full schedule.
+-- The bound and the cut of a search through the runs of a step system: along the bound's own path no byte is smaller than its, and a cut
+-- gives up only what leads to no listed full schedule.
 use Prim.Native.Nat.{ℕ}
 use mathlib.Core.Path.{_≡_}
 use mathlib.Core.Bool.{Bool, true, false}
@@ -23,7 +23,8 @@ past (some (b ∷ bs)) t = elim (eqb b t) [ true ↦ some bs | false ↦ none ]
 
 -- what a cut must satisfy, in the runs from ρ: a prefix and a next byte that are cut lead to no listed full schedule
 abbrev pub SoundCut : (M : System) → M .State → (Schedule → M .State → ℕ → Bool) → (Schedule → Bool) → Type 0
-SoundCut M ρ cut listed = (v : Schedule) (t : ℕ) (z : Schedule) → cut v (run M ρ v) t ≡ true → FullFrom M ρ (v ++ (t ∷ z)) → listed (v ++ (t ∷ z)) ≡ false
+SoundCut M ρ cut listed = (v : Schedule) (t : ℕ) (z : Schedule) → cut v (run M ρ v) t ≡ true → FullFrom M ρ (v ++ (t ∷ z))
+    → listed (v ++ (t ∷ z)) ≡ false
 
 -- no step of the schedule is cut, in the run from ρ
 abbrev pub Uncut : (M : System) → M .State → (Schedule → M .State → ℕ → Bool) → Schedule → Type 0

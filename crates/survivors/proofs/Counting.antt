@@ -13,8 +13,8 @@ use Rattle.schedules.specs.System.{run, Allowed, FullFrom}
 use Rattle.schedules.proofs.Runs.{run-append, run-snoc, full-split}
 use Rattle.sc.specs.Local.{takes}
 use Rattle.sc.specs.State.{Event, Thread, Cell, State, freshCell, threadOf, cellOf, place, latest, step, SC}
-use Rattle.sc.specs.Trail.{writes}
-use Rattle.sc.proofs.Steps.{may-range, thread-other}
+use Rattle.sc.specs.Actions.{writes}
+use Rattle.sc.proofs.Steps.{enabled-range, thread-other}
 use Rattle.sc.proofs.Change.{done-own}
 use Rattle.sc.proofs.Regular.{Regular, regular-step}
 use Rattle.sc.proofs.Histories.{done-run}
@@ -35,7 +35,7 @@ waiting (t ∷ z) σ y a e = go (ℕ-discrete y t) (λ k. waiting z (step σ t) 
   where
     go : Dec (y ≡ t) → (count (run SC (step σ t) z) y ≡ count (step σ t) y → threadOf (run SC (step σ t) z) y ≡ threadOf (step σ t) y) → threadOf (run SC (step σ t) z) y ≡ threadOf σ y
     go (yes q) ih =
-        let k = done-own σ t (may-range σ t (a .0)) in
+        let k = done-own σ t (enabled-range σ t (a .0)) in
         let j : count (step σ t) y ≡ suc (count σ y) = subst (λ (x : ℕ). count (step σ t) x ≡ suc (count σ x)) (sym q) k in
         absurd (omega (arith, e, j, done-run z (step σ t) (a .1) y))
     go (no q) ih =
@@ -54,7 +54,7 @@ taken-at (t ∷ u) σ y i a l h = go (decLt i (count (step σ t) y)) (ℕ-discre
     go (no n) d ih = let r = ih (omega arith) in (t ∷ r .0, r .1, ap (λ (k : Schedule). t ∷ k) (r .2), r .3)
     go (yes k) (no q) ih = absurd (omega (arith, ap (λ (x : Thread). x .history .done) (thread-other σ t y q)))
     go (yes k) (yes q) ih =
-        let j : count (step σ t) y ≡ suc (count σ y) = subst (λ (x : ℕ). count (step σ t) x ≡ suc (count σ x)) (sym q) (done-own σ t (may-range σ t (a .0))) in
+        let j : count (step σ t) y ≡ suc (count σ y) = subst (λ (x : ℕ). count (step σ t) x ≡ suc (count σ x)) (sym q) (done-own σ t (enabled-range σ t (a .0))) in
         ([], u, ap (λ (x : ℕ). x ∷ u) (sym q), omega arith)
 
 -- two beginnings of one list: one goes on from the other
@@ -96,7 +96,7 @@ module _ (σ : State) (s : Schedule) (f : FullFrom SC σ s) where
   same-turn t a b c d e k n (x ∷ y) q r =
       let i : x ≡ t = cc in
       let fa = parts a (t ∷ b) e .1 in
-      let own = done-own (run SC σ a) t (may-range (run SC σ a) t (fa .0)) in
+      let own = done-own (run SC σ a) t (enabled-range (run SC σ a) t (fa .0)) in
       let q′ : c ≡ (a ++ (t ∷ [])) ++ y = q ∙ ap (λ (z : ℕ). a ++ (z ∷ y)) i ∙ sym (append-assoc a (t ∷ []) y) in
       let more = further (a ++ (t ∷ [])) y (t ∷ d) t (k ∙ ap (λ (z : Schedule). z ++ (t ∷ d)) q′ ∙ append-assoc (a ++ (t ∷ [])) y (t ∷ d)) in
       let one : count (run SC σ (a ++ (t ∷ []))) t ≡ suc (count (run SC σ a) t) = ap (λ (τ : State). count τ t) (run-snoc SC σ a t) ∙ own in
@@ -117,7 +117,7 @@ before-shorter (x ∷ new) b [] [] e h = absurd (omega arith)
 before-shorter (x ∷ new) b [] (z ∷ a) e h = let k : z ≡ x = cc in List·Memᴰ·head k
 before-shorter (x ∷ new) b (z ∷ n) a e h = let k : new ++ b ≡ n ++ a = cc in List·Memᴰ·tail (before-shorter new b n a k h)
 
-latest-front : (e : Event) (ws : List Event) → latest (e ∷ ws) ≡ e
+pub latest-front : (e : Event) (ws : List Event) → latest (e ∷ ws) ≡ e
 unfolding latest
 latest-front e ws = refl
 
@@ -148,7 +148,7 @@ module _ (ρ τ : State) (rρ : Regular ρ) (rτ : Regular τ) (b : ℕ) (r q : 
           let m = before-shorter (g .new) (cellOf (step ρ b) l .writes) (k .new) (cellOf (step τ b) l .writes) (sym (g .whole) ∙ ends ∙ k .whole) (omega (arith, ap length i, ap length j)) in
           let top : latest (cellOf (step τ b) l .writes) ≡ (b, count ρ b) = ap latest j ∙ latest-front (b, count τ b) (cellOf τ l .writes) ∙ ap (λ (h : Thread). let z : Event = (b, h .history .done) in z) thread in
           let f : Fresh (step ρ b) (b, count ρ b) = subst (Fresh (step ρ b)) top (g .fresh (latest (cellOf (step τ b) l .writes)) m) in
-          let own = done-own ρ b (may-range ρ b (aρ .0)) in
+          let own = done-own ρ b (enabled-range ρ b (aρ .0)) in
           let late = f .late in
           omega arith
 
@@ -170,7 +170,7 @@ as-many ρ τ rρ rτ b r q aρ aτ thread from l here ends =
 pub wrote-nothing : (ρ : State) → Regular ρ → (y : ℕ) (r : Schedule) → Allowed SC ρ (y ∷ r) → writes ρ y ≡ false → (l : ℕ) → List·Memᴰ (y, count ρ y) (cellOf (run SC ρ (y ∷ r)) l .writes) → ⊥
 unfolding run cellOf
 wrote-nothing ρ g y r a none l m = ⊎-elim
-    (λ (k : List·Memᴰ (y, count ρ y) (n .new)). let f = n .fresh (y, count ρ y) k .late in let o = done-own ρ y (may-range ρ y (a .0)) in absurd (omega arith))
+    (λ (k : List·Memᴰ (y, count ρ y) (n .new)). let f = n .fresh (y, count ρ y) k .late in let o = done-own ρ y (enabled-range ρ y (a .0)) in absurd (omega arith))
     (λ (k : List·Memᴰ (y, count ρ y) (cellOf (step ρ y) l .writes)).
     let o = g .old l (y, count ρ y) (subst (λ (cs : List Cell). List·Memᴰ (y, count ρ y) (getD cs l (freshCell 0) .writes)) (still-cells ρ y none) k) in absurd (omega arith))
     (List·Memᴰ·append-cases (n .new) (subst (List·Memᴰ (y, count ρ y)) (n .whole) m))

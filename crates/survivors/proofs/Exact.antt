@@ -10,38 +10,39 @@ use native.Mathlib.Omega.{arith}
 use lib.ListN.{length}
 use Rattle.program.specs.Program.{Program}
 use Rattle.program.specs.WellFormed.{WellFormed}
-use Rattle.schedules.specs.Lists.{upTo, any}
+use Rattle.schedules.specs.Lists.{range, any}
 use Rattle.schedules.specs.Order.{Schedule}
 use Rattle.schedules.specs.System.{run}
 use Rattle.schedules.specs.Orders.{trace}
 use Rattle.schedules.specs.Permutations.{permutations, moved}
-use Rattle.schedules.proofs.Lists.{of-keep, of-upTo, any-yes}
+use Rattle.schedules.proofs.Lists.{of-filter, of-range, any-yes}
 use Rattle.schedules.proofs.Order.{AtMost}
 use Rattle.schedules.proofs.Runs.{full-allowed}
 use Rattle.sc.specs.State.{Event, Cell, State, threadOf, opened, step, start, SC}
 use Rattle.sc.specs.Graph.{graphOf, graph, Full, endOf}
-use Rattle.sc.specs.Exchange.{movedSchedule, Moves, Turns}
-use Rattle.sc.specs.Trail.{Action, action, trail}
+use Rattle.sc.specs.Exchange.{movedSchedule, Moves, Renames}
+use Rattle.sc.specs.Actions.{Action, action, actions, who, conflict}
 use Rattle.sc.proofs.Start.{start-threads, start-thread, start-history}
 use Rattle.sc.proofs.Steps.{run-threads}
 use Rattle.sc.proofs.Regular.{regular-start, regular-run}
 use Rattle.sc.proofs.FixedState.{fixed-state}
-use Rattle.sc.proofs.FreeSteps.{trail-threads}
-use Rattle.sc.proofs.Actions.{trail-below}
 use Rattle.sc.proofs.Permitted.{exchanged, exchanged-graph}
-use Rattle.sc.proofs.ProgramGraphs.{graph-rows, graph-moved-end, graph-least}
-use Rattle.sc.proofs.Turning.{turns-back}
+use Rattle.sc.proofs.ProgramGraphs.{graph-rows, graph-moved-end}
+use Rattle.sc.proofs.Turning.{renames-back}
 use Rattle.list.specs.Alike.{Exchange, Alike, Smaller, Listed}
 use Rattle.list.specs.ListOf.{permits, permitted}
-use Rattle.list.specs.Rules.{late, Timely, taken, twin}
+use Rattle.list.specs.Rules.{late, taken, twin}
 use Rattle.model.specs.Exchange.{Together}
+use Rattle.model.specs.Late.{Timely}
 use Rattle.model.proofs.Exchanges.{exchange-back}
+use Rattle.model.proofs.Traces.{stands}
+use Rattle.model.proofs.OnTime.{on-time-least}
 use Rattle.list.proofs.Equivalence.{alike-sym, exchanged-once}
-use Rattle.sc_model.proofs.Laws.{within}
+use Rattle.sc_model.specs.Sequential.{sc}
+use Rattle.sc_model.proofs.Laws.{within, sc-laws}
 use Rattle.list.proofs.Tests.{tabled, permitted-exchange, exchange-permitted}
 use Rattle.list.proofs.Late.{late-smaller}
 use Rattle.list.proofs.Twins.{members, twin-smaller}
-use Rattle.list.proofs.NormalForm.{timely-least}
 use Rattle.list.proofs.TheList.{list-exact}
 use Rattle.list.proofs.AsModel.{one-each}
 use Rattle.survivors.specs.Survivor.{Survives}
@@ -51,34 +52,20 @@ use Rattle.survivors.proofs.Inversions.{ties}
 use Rattle.survivors.proofs.Preferring.{quiet-cell, never-survivor, never-listed, never-moved, Line, line-sym, line-trans}
 
 -- R1: a survivor's steps are on time, so it is the least of its graph
-split-trail : (w : Schedule) (σ : State) (u : List Action) (b : Action) (z : List Action) → trail σ w ≡ u ++ (b ∷ z) →
-    (f : Schedule) × (t : ℕ) × (g : Schedule) × (w ≡ f ++ (t ∷ g)) × (trail σ f ≡ u) × (action (run SC σ f) t ≡ b)
-unfolding trace run
-split-trail [] σ [] b z e = absurd (omega (arith, ap length e))
-split-trail [] σ (x ∷ u) b z e = absurd (omega (arith, ap length e))
-split-trail (t ∷ w) σ [] b z e = ([], t, w, refl, refl, cc)
-split-trail (t ∷ w) σ (x ∷ u) b z e =
-    let h : action σ t ≡ x = cc in
-    let k : trail (step σ t) w ≡ u ++ (b ∷ z) = cc in
-    let r = split-trail w (step σ t) u b z k in
-    (t ∷ r .0, r .1, r .2, ap (λ (y : Schedule). t ∷ y) (r .3), ap₂ (λ (i : Action) (y : List Action). i ∷ y) h (r .4), r .5)
-
-survivor-timely : (p : Program) (w : Schedule) → Survives p w → Timely (trail (start p) w)
-unfolding taken
+survivor-timely : (p : Program) (w : Schedule) → Survives p w → Timely who conflict (actions (start p) w)
 survivor-timely p w s u b z e =
-    let r = split-trail w (start p) u b z e in
-    sym (ap₂ (λ (k : List Action) (x : Action). late (reverse k) x) (r .4) (r .5)) ∙ s (r .0) (r .1) (r .2) (r .3) .0
+    let r = stands SC action w (start p) u b z e in
+    ap₂ (λ (k : List Action) (x : Action). late (reverse k) x) (r .fronts) (r .does) ∙ s (r .before) (r .byte) (r .after) (r .split) .0
 
 pub survivor-least : (p : Program) → WellFormed p → (w : Schedule) → Full p w → Survives p w → (r : Schedule) → Full p r → graph p r ≡ graph p w → AtMost w r
-survivor-least p wf w f s r fr e =
-    subst (λ (k : Schedule). AtMost k r) (timely-least (trail (start p) w) (survivor-timely p w s) (trail-below w (start p) (full-allowed SC (start p) w f .0)) ∙ trail-threads (start p) w) (graph-least p wf w f .2 r fr e)
+survivor-least p wf w f s = on-time-least sc sc-laws p (wf, refl) w f .0 (survivor-timely p w s)
 
 module _ (p : Program) (wf : WellFormed p) where
-  turn-back : (π : ℕ → ℕ) (x : Exchange p π) (a b : Schedule) → Turns π (graph p a) (graph p b) → Turns (x .0 .inverse) (graph p b) (graph p a)
-  turn-back π x a b t = turns-back π (x .0) (graph p a) (graph p b)
+  turn-back : (π : ℕ → ℕ) (x : Exchange p π) (a b : Schedule) → Renames π (graph p a) (graph p b) → Renames (x .0 .inverse) (graph p b) (graph p a)
+  turn-back π x a b t = renames-back π (x .0) (graph p a) (graph p b)
       (λ u h. let i = graph-rows p a in let j = graph-rows p b in let k = within p wf (x .0 .inverse) (exchange-back p π x) u (omega arith) in omega arith) t
 
-  module _ (w m : Schedule) (fw : Full p w) (s : Survives p w) (lm : Listed p m) (π : List ℕ) (mem : List·Memᴰ π (permitted p)) (t : Turns (moved π) (graph p m) (graph p w)) where
+  module _ (w m : Schedule) (fw : Full p w) (s : Survives p w) (lm : Listed p m) (π : List ℕ) (mem : List·Memᴰ π (permitted p)) (t : Renames (moved π) (graph p m) (graph p w)) where
     x : Exchange p (moved π)
     x = permitted-exchange p π mem
 
@@ -137,7 +124,7 @@ module _ (p : Program) (wf : WellFormed p) where
 
     in-permutations : List·Memᴰ π permutations
     unfolding permitted
-    in-permutations = of-keep (permits (p .groups)) permutations π mem .0
+    in-permutations = of-filter (permits (p .groups)) permutations π mem .0
 
     -- so each thread ends as the one in whose place it comes, and none that moves writes
     tied-moved : (a : ℕ) → Tied (moved π a) (moved π (moved π a))
@@ -175,7 +162,7 @@ module _ (p : Program) (wf : WellFormed p) where
   alike-survivor : (w m : Schedule) → Full p w → Survives p w → Listed p m → Alike p m w → graph p m ≡ graph p w
   alike-survivor w m fw s lm l =
       let k = exchange-permitted p (l .0) (l .1) in
-      one-graph w m fw s lm (tabled (l .0)) (k .0) (subst (λ (ρ : ℕ → ℕ). Turns ρ (graph p m) (graph p w)) (sym (k .1)) (l .2))
+      one-graph w m fw s lm (tabled (l .0)) (k .0) (subst (λ (ρ : ℕ → ℕ). Renames ρ (graph p m) (graph p w)) (sym (k .1)) (l .2))
 
   -- THE RULES ARE EXACT
   pub survivor-listed : (w : Schedule) → Full p w → Survives p w → Listed p w
@@ -190,16 +177,16 @@ module _ (p : Program) (wf : WellFormed p) where
 
   -- and sound: a listed schedule survives
   pub listed-survives : (w : Schedule) → Listed p w → Survives p w
-  listed-survives w l v t z e = (go (late (taken p v) (action (endOf p v) t)) refl, at (any (twin p (endOf p v) t) (upTo 0 t)) refl)
+  listed-survives w l v t z e = (go (late (taken p v) (action (endOf p v) t)) refl, at (any (twin p (endOf p v) t) (range 0 t)) refl)
     where
       go : (b : Bool) → late (taken p v) (action (endOf p v) t) ≡ b → late (taken p v) (action (endOf p v) t) ≡ false
       go true q = absurd (l .1 (subst (Smaller p) (sym e) (late-smaller p wf v t z q (subst (Full p) e (l .0)))))
       go false q = q
 
-      at : (b : Bool) → any (twin p (endOf p v) t) (upTo 0 t) ≡ b → any (twin p (endOf p v) t) (upTo 0 t) ≡ false
+      at : (b : Bool) → any (twin p (endOf p v) t) (range 0 t) ≡ b → any (twin p (endOf p v) t) (range 0 t) ≡ false
       at true q =
-          let r = any-yes (twin p (endOf p v) t) (upTo 0 t) q in
-          let h = of-upTo 0 t (r .0) (r .1) .1 in
+          let r = any-yes (twin p (endOf p v) t) (range 0 t) q in
+          let h = of-range 0 t (r .0) (r .1) .1 in
           absurd (l .1 (subst (Smaller p) (sym e) (twin-smaller p wf v (r .0) t z (omega arith) (r .2) (subst (Full p) e (l .0)))))
       at false q = q
 

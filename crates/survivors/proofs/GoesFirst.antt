@@ -12,11 +12,11 @@ use Rattle.schedules.specs.Order.{Schedule}
 use Rattle.schedules.specs.System.{run, Allowed, FullFrom}
 use Rattle.schedules.proofs.Runs.{run-append, run-snoc, full-allowed, ended-none}
 use Rattle.sc.specs.Local.{pending}
-use Rattle.sc.specs.State.{Thread, State, threadOf, cellOf, place, step, may, SC}
-use Rattle.sc.specs.Trail.{writes}
+use Rattle.sc.specs.State.{Thread, State, threadOf, cellOf, place, step, enabled, SC}
+use Rattle.sc.specs.Actions.{writes}
 use Rattle.sc.proofs.Suffix.{suffix-length}
 use Rattle.sc.proofs.Lawful.{lawful}
-use Rattle.sc.proofs.Steps.{may-range, may-pending, may-of, thread-other}
+use Rattle.sc.proofs.Steps.{enabled-range, enabled-pending, enabled-of, thread-other}
 use Rattle.sc.proofs.Change.{done-own, done-grows}
 use Rattle.sc.proofs.Regular.{Regular, regular-step, regular-run}
 use Rattle.sc.proofs.Histories.{done-run, run-order}
@@ -89,15 +89,15 @@ module _ (σ : State) (reg : Regular σ) (s : Schedule) (f : FullFrom SC σ s) (
         ρ : State
         ρ = run SC σ u
 
-        live : may ρ t ≡ true
+        live : enabled ρ t ≡ true
         live = parts σ s f u (t ∷ r) e .1 .0
 
         grows : (x : ℕ) → count ρ x ≤ count (step ρ t) x
-        grows = done-grows ρ t (may-range ρ t live)
+        grows = done-grows ρ t (enabled-range ρ t live)
 
         tie : z ≡ t → Dec (count ρ z < count ρ y) → Dec (i < count ρ y) → count ρ z ≤ count ρ y → (count (step ρ t) z ≤ count (step ρ t) y) ⊎ (i < count (step ρ t) y)
         tie q (yes h) d k =
-            let own : count (step ρ t) z ≡ suc (count ρ z) = subst (λ (x : ℕ). count (step ρ t) x ≡ suc (count ρ x)) (sym q) (done-own ρ t (may-range ρ t live)) in
+            let own : count (step ρ t) z ≡ suc (count ρ z) = subst (λ (x : ℕ). count (step ρ t) x ≡ suc (count ρ x)) (sym q) (done-own ρ t (enabled-range ρ t live)) in
             inl (omega (arith, grows y, own, h))
         tie q (no h) (yes d) k = inr (omega (arith, grows y, d))
         tie q (no h) (no d) k = absurd (not-twin u r (e ∙ ap (λ (x : ℕ). u ++ (x ∷ r)) (sym q)) (omega arith) (omega arith))
@@ -138,5 +138,5 @@ module _ (σ : State) (reg : Regular σ) (s : Schedule) (f : FullFrom SC σ s) (
           let t = taken-at s σ y (count (run SC σ s) z) all (omega (arith, begin-count, done-run s σ all z)) (omega arith) in
           let e = g .same (t .0) (y ∷ t .1) s [] (t .2) (sym (append-nil s)) (t .3) (omega (arith, t .3, k)) in
           let live = parts σ s f (t .0) (y ∷ t .1) (t .2) .1 .0 in
-          let p = may-of (run SC σ s) z small (ap (λ (x : Thread). pending (x .local)) (sym e) ∙ may-pending (run SC σ (t .0)) y live) in
+          let p = enabled-of (run SC σ s) z small (ap (λ (x : Thread). pending (x .local)) (sym e) ∙ enabled-pending (run SC σ (t .0)) y live) in
           absurd (true≢false (sym p ∙ ended-none SC lawful (run SC σ s) z (full-allowed SC σ s f .1)))

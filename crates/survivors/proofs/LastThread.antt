@@ -15,18 +15,19 @@ use Rattle.program.specs.Program.{Program}
 use Rattle.program.specs.WellFormed.{WellFormed}
 use Rattle.program.specs.declared.instruction.Instruction.{Instruction}
 use Rattle.program.proofs.Tests.{both}
-use Rattle.schedules.specs.Lists.{upTo, any}
+use Rattle.schedules.specs.Lists.{range, any}
 use Rattle.schedules.specs.Order.{Schedule}
 use Rattle.schedules.specs.System.{Allowed}
 use Rattle.schedules.specs.Search.{low, past}
-use Rattle.schedules.specs.Found.{inTurn}
-use Rattle.schedules.proofs.Lists.{of-upTo, any-yes}
+use Rattle.schedules.specs.Found.{concatRange}
+use Rattle.schedules.proofs.Lists.{of-range, any-yes}
 use Rattle.schedules.proofs.Runs.{not-ended}
+use Rattle.model.proofs.LateSet.{and-false}
 use Rattle.sc.specs.Local.{Local, pending, beginsWithAccess}
-use Rattle.sc.specs.State.{State, SC, threadOf, place, may, step, start}
+use Rattle.sc.specs.State.{State, SC, threadOf, place, enabled, step, start}
 use Rattle.sc.specs.Graph.{endOf}
-use Rattle.sc.specs.Trail.{action}
-use Rattle.sc.proofs.Steps.{may-small, may-pending, may-of, may-other}
+use Rattle.sc.specs.Actions.{action}
+use Rattle.sc.proofs.Steps.{enabled-small, enabled-pending, enabled-of, enabled-other}
 use Rattle.sc.proofs.Lawful.{lawful}
 use Rattle.sc.proofs.Access.{Settled}
 use Rattle.sc.proofs.Regular.{Regular, regular-start, regular-run}
@@ -37,22 +38,22 @@ use Rattle.survivors.specs.LateSet.{lateNow, lateBehind, lateSet}
 use Rattle.survivors.specs.Sleepers.{readsLeft, writesLeft, meets, wakes, sleepers}
 use Rattle.survivors.specs.Search.{givenUp, foundBehind, foundWith}
 use Rattle.survivors.proofs.Sets.{has-none, set-none}
-use Rattle.survivors.proofs.LateSet.{and-false, late-below, late-more}
+use Rattle.survivors.proofs.LateSet.{late-below, late-more}
 use Rattle.survivors.proofs.Sleepers.{sleepers-greatest, sleepers-none}
 use Rattle.survivors.proofs.Search.{up-not, with-ended, with-live, behind-turns}
 
 -- only t may step
 pub record Alone (σ : State) (t : ℕ) : Type 0 where
-  pub live : may σ t ≡ true
-  pub others : (u : ℕ) → u ≢ t → may σ u ≡ false
+  pub live : enabled σ t ≡ true
+  pub others : (u : ℕ) → u ≢ t → enabled σ u ≡ false
 
 -- nothing is left to a thread that has ended
-ended-rest : (σ : State) → Regular σ → (u : ℕ) → u < 6 → may σ u ≡ false → threadOf σ u .local .rest ≡ []
+ended-rest : (σ : State) → Regular σ → (u : ℕ) → u < 6 → enabled σ u ≡ false → threadOf σ u .local .rest ≡ []
 ended-rest σ g u h e = go (g .settled u)
   where
     go : Settled (threadOf σ u .local) → threadOf σ u .local .rest ≡ []
     go (inl q) = q
-    go (inr q) = absurd (true≢false (sym (may-of σ u h q) ∙ e))
+    go (inr q) = absurd (true≢false (sym (enabled-of σ u h q) ∙ e))
 
 ended-wakes : (σ : State) (t u : ℕ) → threadOf σ u .local .rest ≡ [] → wakes σ t u ≡ false
 unfolding wakes meets readsLeft writesLeft
@@ -67,18 +68,18 @@ rest-some h e = go (h .rest) e
     go (i ∷ is) q = λ z. omega arith
 
 -- among these only f t is not empty
-only-turn : {A : Type 0} (f : ℕ → List A) (n d t : ℕ) → d ≤ t → t < d + n → ((u : ℕ) → u ≢ t → f u ≡ []) → inTurn f n d ≡ f t
-unfolding inTurn
+only-turn : {A : Type 0} (f : ℕ → List A) (n d t : ℕ) → d ≤ t → t < d + n → ((u : ℕ) → u ≢ t → f u ≡ []) → concatRange f n d ≡ f t
+unfolding concatRange
 only-turn f zero d t l h e = absurd (omega arith)
 only-turn {A} f (suc n) d t l h e = go (ℕ-discrete d t) (λ k. only-turn f n (d + 1) t k (omega arith) e)
   where
-    rest : (m d : ℕ) → t < d → inTurn f m d ≡ []
+    rest : (m d : ℕ) → t < d → concatRange f m d ≡ []
     rest zero d k = refl
-    rest (suc m) d k = ap (λ (x : List A). x ++ inTurn f m (d + 1)) (e d (λ q. omega arith)) ∙ rest m (d + 1) (omega arith)
+    rest (suc m) d k = ap (λ (x : List A). x ++ concatRange f m (d + 1)) (e d (λ q. omega arith)) ∙ rest m (d + 1) (omega arith)
 
-    go : Dec (d ≡ t) → (d + 1 ≤ t → inTurn f n (d + 1) ≡ f t) → (f d ++ inTurn f n (d + 1)) ≡ f t
+    go : Dec (d ≡ t) → (d + 1 ≤ t → concatRange f n (d + 1) ≡ f t) → (f d ++ concatRange f n (d + 1)) ≡ f t
     go (yes q) ih = ap (λ (x : List A). f d ++ x) (rest n (d + 1) (omega arith)) ∙ append-nil (f d) ∙ ap f q
-    go (no q) ih = ap (λ (x : List A). x ++ inTurn f n (d + 1)) (e d q) ∙ ih (omega arith)
+    go (no q) ih = ap (λ (x : List A). x ++ concatRange f n (d + 1)) (e d q) ∙ ih (omega arith)
 
 module _ (p : Program) (w : WellFormed p) (v : Schedule) (a : Allowed SC (start p) v) (t : ℕ) (one : Alone (endOf p v) t) where
   abbrev σ : State
@@ -92,7 +93,7 @@ module _ (p : Program) (w : WellFormed p) (v : Schedule) (a : Allowed SC (start 
   on-time z = go (has (lateSet p v) t) refl
     where
       small : t < 6
-      small = may-small σ t (one .live)
+      small = enabled-small σ t (one .live)
 
       go : (b : Bool) → has (lateSet p v) t ≡ b → has (lateSet p v) t ≡ false
       go false e = e
@@ -110,16 +111,16 @@ module _ (p : Program) (w : WellFormed p) (v : Schedule) (a : Allowed SC (start 
       let k = both (together (p .groups) u t) _ e .1 in
       let l = both (sameLocal (threadOf σ u .local) (threadOf σ t .local)) _ k .0 in
       let s = both (eqb (length (threadOf σ u .local .rest)) (length (threadOf σ t .local .rest))) _ l .0 in
-      let r = ended-rest σ regular u (omega (arith, h, may-small σ t (one .live))) (one .others u (λ q. omega (arith, q, h))) in
+      let r = ended-rest σ regular u (omega (arith, h, enabled-small σ t (one .live))) (one .others u (λ q. omega (arith, q, h))) in
       let n : 0 ≡ length (threadOf σ t .local .rest) = ap (λ (is : List Instruction). length is) (sym r) ∙ eqb-true (length (threadOf σ u .local .rest)) (length (threadOf σ t .local .rest)) s in
-      rest-some (threadOf σ t .local) (may-pending σ t (one .live)) (sym n)
+      rest-some (threadOf σ t .local) (enabled-pending σ t (one .live)) (sym n)
 
-  no-twin : any (twin p (endOf p v) t) (upTo 0 t) ≡ false
-  no-twin = go (any (twin p σ t) (upTo 0 t)) refl
+  no-twin : any (twin p (endOf p v) t) (range 0 t) ≡ false
+  no-twin = go (any (twin p σ t) (range 0 t)) refl
     where
-      go : (b : Bool) → any (twin p σ t) (upTo 0 t) ≡ b → any (twin p σ t) (upTo 0 t) ≡ false
+      go : (b : Bool) → any (twin p σ t) (range 0 t) ≡ b → any (twin p σ t) (range 0 t) ≡ false
       go false e = e
-      go true e = let r = any-yes (twin p σ t) (upTo 0 t) e in let h = of-upTo 0 t (r .0) (r .1) .1 in absurd (twin-ended (r .0) (omega arith) (r .2))
+      go true e = let r = any-yes (twin p σ t) (range 0 t) e in let h = of-range 0 t (r .0) (r .1) .1 in absurd (twin-ended (r .0) (omega arith) (r .2))
 
   -- behind its step none is late
   pub none-late : lateSet p (v ++ (t ∷ [])) ≡ 0
@@ -127,8 +128,8 @@ module _ (p : Program) (w : WellFormed p) (v : Schedule) (a : Allowed SC (start 
   none-late = late-more p v t ∙ set-none (lateNow (step σ t) (lateSet p v) (action σ t)) 6 (λ u h. at u (ℕ-discrete u t))
     where
       at : (u : ℕ) → Dec (u ≡ t) → lateNow (step σ t) (lateSet p v) (action σ t) u ≡ false
-      at u (yes q) = let e = eq-eqb t u (sym q) in rw e (and-false (may (step σ t) u))
-      at u (no q) = let e = may-other σ t u q ∙ one .others u q in rw e
+      at u (yes q) = let e = eq-eqb t u (sym q) in rw e (and-false (enabled (step σ t) u))
+      at u (no q) = let e = enabled-other σ t u q ∙ one .others u q in rw e
 
   pub none-asleep : sleepers (endOf p (v ++ (t ∷ []))) (lateSet p (v ++ (t ∷ []))) ≡ 0
   none-asleep = ap (sleepers (endOf p (v ++ (t ∷ [])))) none-late ∙ sleepers-none (endOf p (v ++ (t ∷ [])))
@@ -138,9 +139,9 @@ module _ (p : Program) (w : WellFormed p) (v : Schedule) (a : Allowed SC (start 
   last-goes-on z = up-not p v t (on-time z) no-twin none-asleep
 
   -- and nothing else is tried
-  pub last-alone : (only : Bool) (steps : ℕ) (o : Option Schedule) → steps < 24 → low o ≤ t → sleepers (endOf p v) (lateSet p v) ≡ 0 →
-      foundBehind only p steps o v ≡ foundBehind only p (steps + 1) (past o t) (v ++ (t ∷ []))
-  last-alone only steps o h l z =
-      behind-turns only p steps v o (not-ended SC lawful σ t (one .live)) h
-      ∙ only-turn (λ d. foundWith only p steps o v d) (6 - low o) (low o) t l (omega (arith, l, may-small σ t (one .live))) (λ u n. with-ended only p steps o v u (one .others u n))
-      ∙ with-live only p steps o v t (one .live) (last-goes-on z)
+  pub last-alone : (failures : Bool) (steps : ℕ) (o : Option Schedule) → steps < 24 → low o ≤ t → sleepers (endOf p v) (lateSet p v) ≡ 0 →
+      foundBehind failures p steps o v ≡ foundBehind failures p (steps + 1) (past o t) (v ++ (t ∷ []))
+  last-alone failures steps o h l z =
+      behind-turns failures p steps v o (not-ended SC lawful σ t (one .live)) h
+      ∙ only-turn (λ d. foundWith failures p steps o v d) (6 - low o) (low o) t l (omega (arith, l, enabled-small σ t (one .live))) (λ u n. with-ended failures p steps o v u (one .others u n))
+      ∙ with-live failures p steps o v t (one .live) (last-goes-on z)

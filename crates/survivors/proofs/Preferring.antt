@@ -14,7 +14,7 @@ use Rattle.program.specs.WellFormed.{WellFormed}
 use Rattle.schedules.specs.Lists.{all}
 use Rattle.schedules.specs.Order.{Schedule}
 use Rattle.schedules.specs.System.{run, Allowed}
-use Rattle.schedules.proofs.Lists.{all-of, any-no, in-upTo}
+use Rattle.schedules.proofs.Lists.{all-of, any-no, in-range}
 use Rattle.schedules.proofs.Runs.{full-split}
 use Rattle.sc.specs.State.{Event, Thread, Cell, State, freshCell, threadOf, cellOf, step, start, SC}
 use Rattle.sc.specs.Graph.{Full, endOf}
@@ -82,7 +82,7 @@ twin-of p σ u t k e q r = both-and (true-together p u t k) (both-and (local-sam
 -- WHO PREFERS WHOM
 pub never-survivor : (p : Program) (w : Schedule) → Survives p w → (y z : ℕ) → y < z → Together p y z → Never (start p) w y z
 never-survivor p w s y z h k a b e th q r =
-    true≢false (sym (twin-of p (endOf p a) y z k th q r) ∙ any-no (twin p (endOf p a) z) _ y (s a z b e .1) (in-upTo 0 z y (omega arith) (omega (arith, h))))
+    true≢false (sym (twin-of p (endOf p a) y z k th q r) ∙ any-no (twin p (endOf p a) z) _ y (s a z b e .1) (in-range 0 z y (omega arith) (omega (arith, h))))
 
 pub never-listed : (p : Program) → WellFormed p → (m : Schedule) → Listed p m → (y z : ℕ) → y < z → Together p y z → Never (start p) m y z
 never-listed p w m l y z h k a b e th q r = l .1 (subst (Smaller p) (sym e) (twin-smaller p w a y z b h (twin-of p (endOf p a) y z k th q r) (subst (Full p) e (l .0))))

@@ -17,9 +17,9 @@ use Rattle.program.specs.WellFormed.{WellFormed}
 use Rattle.schedules.specs.Order.{Schedule}
 use Rattle.schedules.specs.System.{run, Allowed}
 use Rattle.sc.specs.Local.{Local, placeOf, takes, next}
-use Rattle.sc.specs.State.{Event, initialWrite, History, Thread, Cell, State, freshCell, threadOf, cellOf, place, latest, noted, advanced, step, may, start, SC}
-use Rattle.sc.specs.Trail.{writes}
-use Rattle.sc.proofs.Steps.{may-small, may-range, thread-own, thread-other, cell-other}
+use Rattle.sc.specs.State.{Event, initialWrite, History, Thread, Cell, State, freshCell, threadOf, cellOf, place, latest, noted, advanced, step, enabled, start, SC}
+use Rattle.sc.specs.Actions.{writes}
+use Rattle.sc.proofs.Steps.{enabled-small, enabled-range, thread-own, thread-other, cell-other}
 use Rattle.sc.proofs.Change.{done-own, done-grows, writes-stay, Change, kept, wrote}
 use Rattle.sc.proofs.Start.{start-writes, start-history}
 use Rattle.sc.proofs.Regular.{Regular, Written, place-in, changes, regular-step}
@@ -27,6 +27,7 @@ use Rattle.sc.proofs.Histories.{upcoming, Done, upcoming-undone, done-cases}
 use Rattle.sc.proofs.Swap.{still-cells}
 use Rattle.sc.proofs.Trails.{writes-own, still-takes}
 use Rattle.survivors.specs.ReadWords.{Words, lone, wordBehind, stampsBehind, wordsBehind, wordsAlong, noWords}
+use Rattle.survivors.proofs.Counting.{latest-front}
 use Rattle.survivors.proofs.GoesFirst.{Quiet}
 use Rattle.survivors.proofs.Digits.{numbered, numbered-at, numbered-else, digits, Plain, Sources, digits-same, digits-below, led, led-same}
 
@@ -84,24 +85,20 @@ code-apart ρ σ n m C d e (inr a) (inl b) q = absurd (omega (arith, q, ap (C .c
 code-apart ρ σ n m C d e (inr a) (inr b) q = C .code-once d e a b q
 
 -- ---- one step
-latest-front : (e : Event) (ws : List Event) → latest (e ∷ ws) ≡ e
-unfolding latest
-latest-front e ws = refl
-
 stamps-length : (s : List ℕ) (l n : ℕ) (b : Bool) → length (stampsBehind s l n b) ≡ length s
 unfolding stampsBehind
 stamps-length s l n true = length-set s l n
 stamps-length s l n false = refl
 
-module _ (ρ σ : State) (n : ℕ) (m : Words) (C : Held ρ σ n m) (g : Regular σ) (t : ℕ) (ok : may σ t ≡ true) (h : n < 24) where
+module _ (ρ σ : State) (n : ℕ) (m : Words) (C : Held ρ σ n m) (g : Regular σ) (t : ℕ) (ok : enabled σ t ≡ true) (h : n < 24) where
   abbrev τ : State
   τ = step σ t
 
   small : t < 6
-  small = may-small σ t ok
+  small = enabled-small σ t ok
 
-  range : t < length (σ .threads)
-  range = may-range σ t ok
+  in-range : t < length (σ .threads)
+  in-range = enabled-range σ t ok
 
   unfoldable code' : Event → ℕ
   code' = numbered (C .code) (upcoming σ t) (n + 1)
@@ -178,7 +175,7 @@ module _ (ρ σ : State) (n : ℕ) (m : Words) (C : Held ρ σ n m) (g : Regular
   quiet-back u k l j x = k l j (writes-stay σ t l (u, j) (place-in σ g t) x)
 
   lone-on : (u word : ℕ) → Lone σ word u → Lone τ word u
-  lone-on u word k = record { is = k .is; why = ⊎-elim (λ (q : Quiet σ u → ⊥). inl (λ x. q (quiet-back u x))) (λ (d : 12 < threadOf σ u .history .done). inr (omega (arith, d, done-grows σ t range u))) (k .why) }
+  lone-on u word k = record { is = k .is; why = ⊎-elim (λ (q : Quiet σ u → ⊥). inl (λ x. q (quiet-back u x))) (λ (d : 12 < threadOf σ u .history .done). inr (omega (arith, d, done-grows σ t in-range u))) (k .why) }
 
   waits : (u word : ℕ) → u ≢ t → Reads ρ σ (C .code) (C .val) word u ⊎ Lone σ word u → Reads ρ τ code' val' word u ⊎ Lone τ word u
   waits u word ne (inr k) = inr (lone-on u word k)
@@ -201,11 +198,11 @@ module _ (ρ σ : State) (n : ℕ) (m : Words) (C : Held ρ σ n m) (g : Regular
 
   read-history : takes (threadOf σ t .local) ≡ true → threadOf τ t .history ≡ record { done = suc (threadOf σ t .history .done); reads = (threadOf σ t .history .done, source) ∷ threadOf σ t .history .reads }
   unfolding advanced noted
-  read-history e = ap (λ (x : Thread). x .history) (thread-own σ t range) ∙ rw e
+  read-history e = ap (λ (x : Thread). x .history) (thread-own σ t in-range) ∙ rw e
 
   read-local : threadOf τ t .local ≡ next (threadOf σ t .local) (cellOf σ (place σ t) .value)
   unfolding advanced
-  read-local = ap (λ (x : Thread). x .local) (thread-own σ t range)
+  read-local = ap (λ (x : Thread). x .local) (thread-own σ t in-range)
 
   source-known : Known σ source
   source-known = latest-known σ g (place σ t) (cellOf σ (place σ t) .writes) refl
@@ -238,7 +235,7 @@ module _ (ρ σ : State) (n : ℕ) (m : Words) (C : Held ρ σ n m) (g : Regular
       lones q y = inr (record { is = rw (q, wordBehind) refl; why = y })
 
       go : Reads ρ σ (C .code) (C .val) word t ⊎ Lone σ word t → (b : Bool) → ltb word (2 ^ 55) ≡ b → Reads ρ τ code' val' (wordBehind t word stamp false) t ⊎ Lone τ (wordBehind t word stamp false) t
-      go (inl r) false q = lones q (inr (omega (arith, full-word word r (ltb-false word (2 ^ 55) q), done-own σ t range)))
+      go (inl r) false q = lones q (inr (omega (arith, full-word word r (ltb-false word (2 ^ 55) q), done-own σ t in-range)))
       go (inr l) false q = lones q (lone-on t word l .why)
       go (inr l) true q = absurd (omega (arith, ltb-true word (2 ^ 55) q, l .is))
       go (inl r) true q =

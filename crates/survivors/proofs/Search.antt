@@ -12,16 +12,16 @@ use borrow.Author.Tests.{eqb-false, ne-eqb, not-true}
 use Rattle.program.specs.Program.{Program}
 use Rattle.program.specs.WellFormed.{WellFormed}
 use Rattle.program.proofs.Tests.{both, either, neither}
-use Rattle.schedules.specs.Lists.{upTo, any}
+use Rattle.schedules.specs.Lists.{range, any}
 use Rattle.schedules.specs.Order.{Schedule}
 use Rattle.schedules.specs.System.{run, ended}
 use Rattle.schedules.specs.Search.{low, past}
-use Rattle.schedules.specs.Found.{after, inTurn, foundFrom}
-use Rattle.schedules.proofs.Lists.{of-upTo, any-yes}
+use Rattle.schedules.specs.Found.{after, concatRange, foundFrom}
+use Rattle.schedules.proofs.Lists.{of-range, any-yes}
 use Rattle.schedules.proofs.Runs.{run-nil, run-snoc}
 use Rattle.schedules.proofs.After.{after-none}
 use Rattle.schedules.proofs.Found.{at-bound, at-listed, at-unlisted, by-not, by-cut, by-live, found-ended, found-stuck, found-turns}
-use Rattle.sc.specs.State.{State, SC, may, step, start}
+use Rattle.sc.specs.State.{State, SC, enabled, step, start}
 use Rattle.sc.specs.Graph.{Full, endOf}
 use Rattle.list.specs.Alike.{Smaller}
 use Rattle.list.specs.Rules.{twin}
@@ -55,44 +55,44 @@ module _ (p : Program) (v : Schedule) (t : ℕ) where
   unfolding givenUp
   up-late e = or-left (has (lateSet p v) t) _ e
 
-  pub up-twin : any (twin p (endOf p v) t) (upTo 0 t) ≡ true → givenUp p v (endOf p v) t ≡ true
+  pub up-twin : any (twin p (endOf p v) t) (range 0 t) ≡ true → givenUp p v (endOf p v) t ≡ true
   unfolding givenUp
-  up-twin e = or-right (has (lateSet p v) t) _ (or-left (any (twin p σ t) (upTo 0 t)) _ e)
+  up-twin e = or-right (has (lateSet p v) t) _ (or-left (any (twin p σ t) (range 0 t)) _ e)
 
   pub up-asleep : sleepers (endOf p (v ++ (t ∷ []))) (lateSet p (v ++ (t ∷ []))) ≢ 0 → givenUp p v (endOf p v) t ≡ true
   unfolding givenUp
-  up-asleep n = or-right (has (lateSet p v) t) _ (or-right (any (twin p σ t) (upTo 0 t)) _ (ap (λ (s : ℕ). not (eqb s 0)) there ∙ ap not (ne-eqb asleep 0 n)))
+  up-asleep n = or-right (has (lateSet p v) t) _ (or-right (any (twin p σ t) (range 0 t)) _ (ap (λ (s : ℕ). not (eqb s 0)) there ∙ ap not (ne-eqb asleep 0 n)))
 
-  pub up-not : has (lateSet p v) t ≡ false → any (twin p (endOf p v) t) (upTo 0 t) ≡ false → sleepers (endOf p (v ++ (t ∷ []))) (lateSet p (v ++ (t ∷ []))) ≡ 0 →
+  pub up-not : has (lateSet p v) t ≡ false → any (twin p (endOf p v) t) (range 0 t) ≡ false → sleepers (endOf p (v ++ (t ∷ []))) (lateSet p (v ++ (t ∷ []))) ≡ 0 →
       givenUp p v (endOf p v) t ≡ false
   unfolding givenUp
   up-not a b c = let d = there ∙ c in rw (a, b, d)
 
-  cases : givenUp p v (endOf p v) t ≡ true → (has (lateSet p v) t ≡ true) ⊎ ((any (twin p (endOf p v) t) (upTo 0 t) ≡ true) ⊎ (asleep ≢ 0))
+  cases : givenUp p v (endOf p v) t ≡ true → (has (lateSet p v) t ≡ true) ⊎ ((any (twin p (endOf p v) t) (range 0 t) ≡ true) ⊎ (asleep ≢ 0))
   unfolding givenUp
   cases e = go (either (has (lateSet p v) t) _ e)
     where
-      more : (any (twin p σ t) (upTo 0 t) ≡ true) ⊎ (not (eqb (sleepers (step σ t) (lateSet p (v ++ (t ∷ [])))) 0) ≡ true) → (any (twin p σ t) (upTo 0 t) ≡ true) ⊎ (asleep ≢ 0)
+      more : (any (twin p σ t) (range 0 t) ≡ true) ⊎ (not (eqb (sleepers (step σ t) (lateSet p (v ++ (t ∷ [])))) 0) ≡ true) → (any (twin p σ t) (range 0 t) ≡ true) ⊎ (asleep ≢ 0)
       more (inl q) = inl q
       more (inr q) = inr (λ z. eqb-false _ 0 (not-true _ q) (there ∙ z))
 
-      go : (has (lateSet p v) t ≡ true) ⊎ ((any (twin p σ t) (upTo 0 t) || not (eqb (sleepers (step σ t) (lateSet p (v ++ (t ∷ [])))) 0)) ≡ true) →
-          (has (lateSet p v) t ≡ true) ⊎ ((any (twin p σ t) (upTo 0 t) ≡ true) ⊎ (asleep ≢ 0))
+      go : (has (lateSet p v) t ≡ true) ⊎ ((any (twin p σ t) (range 0 t) || not (eqb (sleepers (step σ t) (lateSet p (v ++ (t ∷ [])))) 0)) ≡ true) →
+          (has (lateSet p v) t ≡ true) ⊎ ((any (twin p σ t) (range 0 t) ≡ true) ⊎ (asleep ≢ 0))
       go (inl q) = inl q
-      go (inr q) = inr (more (either (any (twin p σ t) (upTo 0 t)) _ q))
+      go (inr q) = inr (more (either (any (twin p σ t) (range 0 t)) _ q))
 
-  left-on-time : givenUp p v (endOf p v) t ≡ false → (has (lateSet p v) t ≡ false) × (any (twin p (endOf p v) t) (upTo 0 t) ≡ false)
+  left-on-time : givenUp p v (endOf p v) t ≡ false → (has (lateSet p v) t ≡ false) × (any (twin p (endOf p v) t) (range 0 t) ≡ false)
   unfolding givenUp
-  left-on-time e = let a = neither (has (lateSet p v) t) _ e in (a .0, neither (any (twin p σ t) (upTo 0 t)) _ (a .1) .0)
+  left-on-time e = let a = neither (has (lateSet p v) t) _ e in (a .0, neither (any (twin p σ t) (range 0 t)) _ (a .1) .0)
 
 module _ (p : Program) (w : WellFormed p) where
   -- THE RULES ARE SOUND
   pub given-up-smaller : (v : Schedule) (t : ℕ) (z : Schedule) → givenUp p v (endOf p v) t ≡ true → Full p (v ++ (t ∷ z)) → Smaller p (v ++ (t ∷ z))
   given-up-smaller v t z e f = go (cases p v t e)
     where
-      go : (has (lateSet p v) t ≡ true) ⊎ ((any (twin p (endOf p v) t) (upTo 0 t) ≡ true) ⊎ (asleep p v t ≢ 0)) → Smaller p (v ++ (t ∷ z))
-      go (inl q) = late-smaller p w v t z (both (may (endOf p v) t) _ (sym (late-set p v t) ∙ q) .1) f
-      go (inr (inl q)) = let r = any-yes (twin p (endOf p v) t) (upTo 0 t) q in let h = of-upTo 0 t (r .0) (r .1) .1 in twin-smaller p w v (r .0) t z (omega arith) (r .2) f
+      go : (has (lateSet p v) t ≡ true) ⊎ ((any (twin p (endOf p v) t) (range 0 t) ≡ true) ⊎ (asleep p v t ≢ 0)) → Smaller p (v ++ (t ∷ z))
+      go (inl q) = late-smaller p w v t z (both (enabled (endOf p v) t) _ (sym (late-set p v t) ∙ q) .1) f
+      go (inr (inl q)) = let r = any-yes (twin p (endOf p v) t) (range 0 t) q in let h = of-range 0 t (r .0) (r .1) .1 in twin-smaller p w v (r .0) t z (omega arith) (r .2) f
       go (inr (inr n)) = let whole = append-assoc v (t ∷ []) z in subst (Smaller p) whole (sleepers-smaller p w (v ++ (t ∷ [])) z n (subst (Full p) (sym whole) f))
 
   fair : Fair p (givenUp p)
@@ -103,42 +103,42 @@ module _ (p : Program) (w : WellFormed p) where
   }
 
   -- THE SEARCH FINDS what the list has above the bound, in order, or those of it that fail
-  pub found-exactly : (only : Bool) (o : Option Schedule) → found only p o ≡ after o (sought only p)
+  pub found-exactly : (failures : Bool) (o : Option Schedule) → found failures p o ≡ after o (sought failures p)
   unfolding found
-  found-exactly only o = ap (λ (τ : State). foundFrom SC 6 (givenUp p) (lookedFor only p) 24 o [] τ) (run-nil SC (start p)) ∙ untested-is p w (givenUp p) fair only o
+  found-exactly failures o = ap (λ (τ : State). foundFrom SC 6 (givenUp p) (lookedFor failures p) 24 o [] τ) (run-nil SC (start p)) ∙ untested-is p w (givenUp p) fair failures o
 
   -- the list by pieces: without a bound all is found, and from the last schedule of a piece what stands behind it
-  pub found-all : (only : Bool) → found only p none ≡ sought only p
-  found-all only = found-exactly only none ∙ after-none (sought only p)
+  pub found-all : (failures : Bool) → found failures p none ≡ sought failures p
+  found-all failures = found-exactly failures none ∙ after-none (sought failures p)
 
-  pub found-on : (only : Bool) (o : Option Schedule) (xs : List Schedule) (s : Schedule) (ys : List Schedule) → found only p o ≡ xs ++ (s ∷ ys) → found only p (some s) ≡ ys
-  found-on only o xs s ys e = found-exactly only (some s) ∙ sought-on p only o xs s ys (sym (found-exactly only o) ∙ e)
+  pub found-on : (failures : Bool) (o : Option Schedule) (xs : List Schedule) (s : Schedule) (ys : List Schedule) → found failures p o ≡ xs ++ (s ∷ ys) → found failures p (some s) ≡ ys
+  found-on failures o xs s ys e = found-exactly failures (some s) ∙ sought-on p failures o xs s ys (sym (found-exactly failures o) ∙ e)
 
 -- ---- with one next step
-module _ (only : Bool) (p : Program) (steps : ℕ) (o : Option Schedule) (v : Schedule) (t : ℕ) where
+module _ (failures : Bool) (p : Program) (steps : ℕ) (o : Option Schedule) (v : Schedule) (t : ℕ) where
   abbrev finder : Option Schedule → Schedule → State → List Schedule
-  finder = λ a b c. foundFrom SC 6 (givenUp p) (lookedFor only p) (24 - steps - 1) a b c
+  finder = λ a b c. foundFrom SC 6 (givenUp p) (lookedFor failures p) (24 - steps - 1) a b c
 
   -- the thread has ended, or a rule gives its step up
-  pub with-ended : may (endOf p v) t ≡ false → foundWith only p steps o v t ≡ []
-  with-ended e = by-not SC 6 (givenUp p) (lookedFor only p) finder o v (endOf p v) t e
+  pub with-ended : enabled (endOf p v) t ≡ false → foundWith failures p steps o v t ≡ []
+  with-ended e = by-not SC 6 (givenUp p) (lookedFor failures p) finder o v (endOf p v) t e
 
-  pub with-given-up : may (endOf p v) t ≡ true → givenUp p v (endOf p v) t ≡ true → foundWith only p steps o v t ≡ []
-  with-given-up ok e = by-cut SC 6 (givenUp p) (lookedFor only p) finder o v (endOf p v) t ok e
+  pub with-given-up : enabled (endOf p v) t ≡ true → givenUp p v (endOf p v) t ≡ true → foundWith failures p steps o v t ≡ []
+  with-given-up ok e = by-cut SC 6 (givenUp p) (lookedFor failures p) finder o v (endOf p v) t ok e
 
   -- no rule gives it up
-  pub with-live : may (endOf p v) t ≡ true → givenUp p v (endOf p v) t ≡ false → foundWith only p steps o v t ≡ foundBehind only p (steps + 1) (past o t) (v ++ (t ∷ []))
+  pub with-live : enabled (endOf p v) t ≡ true → givenUp p v (endOf p v) t ≡ false → foundWith failures p steps o v t ≡ foundBehind failures p (steps + 1) (past o t) (v ++ (t ∷ []))
   with-live ok e =
       let n : 24 - steps - 1 ≡ 24 - (steps + 1) = omega arith in
-      by-live SC 6 (givenUp p) (lookedFor only p) finder o v (endOf p v) t ok e
-      ∙ ap (λ (τ : State). foundFrom SC 6 (givenUp p) (lookedFor only p) (24 - steps - 1) (past o t) (v ++ (t ∷ [])) τ) (sym (run-snoc SC (start p) v t))
-      ∙ ap (λ (k : ℕ). foundFrom SC 6 (givenUp p) (lookedFor only p) k (past o t) (v ++ (t ∷ [])) (endOf p (v ++ (t ∷ [])))) n
+      by-live SC 6 (givenUp p) (lookedFor failures p) finder o v (endOf p v) t ok e
+      ∙ ap (λ (τ : State). foundFrom SC 6 (givenUp p) (lookedFor failures p) (24 - steps - 1) (past o t) (v ++ (t ∷ [])) τ) (sym (run-snoc SC (start p) v t))
+      ∙ ap (λ (k : ℕ). foundFrom SC 6 (givenUp p) (lookedFor failures p) k (past o t) (v ++ (t ∷ [])) (endOf p (v ++ (t ∷ [])))) n
 
 -- ---- over the next steps in turn, and at a full schedule
-module _ (only : Bool) (p : Program) (steps : ℕ) (v : Schedule) where
+module _ (failures : Bool) (p : Program) (steps : ℕ) (v : Schedule) where
   -- the run has ended, along the bound
-  pub behind-bound : (b : Schedule) → ended SC (endOf p v) ≡ true → foundBehind only p steps (some b) v ≡ []
-  behind-bound b e = found-ended SC 6 (givenUp p) (lookedFor only p) (24 - steps) (some b) v (endOf p v) e ∙ at-bound SC 6 (givenUp p) (lookedFor only p) b v
+  pub behind-bound : (b : Schedule) → ended SC (endOf p v) ≡ true → foundBehind failures p steps (some b) v ≡ []
+  behind-bound b e = found-ended SC 6 (givenUp p) (lookedFor failures p) (24 - steps) (some b) v (endOf p v) e ∙ at-bound SC 6 (givenUp p) (lookedFor failures p) b v
 
   meant : (o f : Bool) → (not o || f) ≡ true → failing p v ≡ f → lookedFor o p v ≡ true
   unfolding lookedFor
@@ -151,14 +151,14 @@ module _ (only : Bool) (p : Program) (steps : ℕ) (v : Schedule) where
   unmeant true f e q = q ∙ e
 
   -- apart from it: found, unless only failing ones are wanted and it does not fail
-  pub behind-end : (f : Bool) → ended SC (endOf p v) ≡ true → failing p v ≡ f → (not only || f) ≡ true → foundBehind only p steps none v ≡ v ∷ []
-  behind-end f e q m = found-ended SC 6 (givenUp p) (lookedFor only p) (24 - steps) none v (endOf p v) e ∙ at-listed SC 6 (givenUp p) (lookedFor only p) v (meant only f m q)
+  pub behind-end : (f : Bool) → ended SC (endOf p v) ≡ true → failing p v ≡ f → (not failures || f) ≡ true → foundBehind failures p steps none v ≡ v ∷ []
+  behind-end f e q m = found-ended SC 6 (givenUp p) (lookedFor failures p) (24 - steps) none v (endOf p v) e ∙ at-listed SC 6 (givenUp p) (lookedFor failures p) v (meant failures f m q)
 
-  pub behind-passed : (f : Bool) → ended SC (endOf p v) ≡ true → failing p v ≡ f → (not only || f) ≡ false → foundBehind only p steps none v ≡ []
-  behind-passed f e q m = found-ended SC 6 (givenUp p) (lookedFor only p) (24 - steps) none v (endOf p v) e ∙ at-unlisted SC 6 (givenUp p) (lookedFor only p) v (unmeant only f m q)
+  pub behind-passed : (f : Bool) → ended SC (endOf p v) ≡ true → failing p v ≡ f → (not failures || f) ≡ false → foundBehind failures p steps none v ≡ []
+  behind-passed f e q m = found-ended SC 6 (givenUp p) (lookedFor failures p) (24 - steps) none v (endOf p v) e ∙ at-unlisted SC 6 (givenUp p) (lookedFor failures p) v (unmeant failures f m q)
 
-  pub behind-stuck : (o : Option Schedule) → ended SC (endOf p v) ≡ false → 24 ≤ steps → foundBehind only p steps o v ≡ []
-  behind-stuck o e h = found-stuck SC 6 (givenUp p) (lookedFor only p) (24 - steps) o v (endOf p v) e (omega arith)
+  pub behind-stuck : (o : Option Schedule) → ended SC (endOf p v) ≡ false → 24 ≤ steps → foundBehind failures p steps o v ≡ []
+  behind-stuck o e h = found-stuck SC 6 (givenUp p) (lookedFor failures p) (24 - steps) o v (endOf p v) e (omega arith)
 
-  pub behind-turns : (o : Option Schedule) → ended SC (endOf p v) ≡ false → steps < 24 → foundBehind only p steps o v ≡ inTurn (λ d. foundWith only p steps o v d) (6 - low o) (low o)
-  behind-turns o e h = found-turns SC 6 (givenUp p) (lookedFor only p) (24 - steps) o v (endOf p v) e (omega arith)
+  pub behind-turns : (o : Option Schedule) → ended SC (endOf p v) ≡ false → steps < 24 → foundBehind failures p steps o v ≡ concatRange (λ d. foundWith failures p steps o v d) (6 - low o) (low o)
+  behind-turns o e h = found-turns SC 6 (givenUp p) (lookedFor failures p) (24 - steps) o v (endOf p v) e (omega arith)

@@ -7,8 +7,8 @@ use native.Mathlib.Decide.{ℕ-discrete}
 use native.Mathlib.Nat.{add-zero, add-suc, mul-assoc, mul-one, pow-suc, one-le-pow, pow-le-pow-right, div-eq-of-lt, add-mul-div-left, add-mul-mod-self-left, two-pow-succ}
 use lib.Dec.{eqb}
 use borrow.Author.Tests.{eqb-true}
-use Rattle.schedules.specs.Lists.{upTo, all}
-use Rattle.schedules.proofs.Lists.{in-upTo, all-at}
+use Rattle.schedules.specs.Lists.{range, all}
+use Rattle.schedules.proofs.Lists.{in-range, all-at}
 use Rattle.survivors.specs.Sets.{has, addend, setOf, joined}
 
 -- ---- powers of two
@@ -106,12 +106,12 @@ set-none f (suc n) h = set-suc f n ∙ ap₂ (λ (k : ℕ) (b : Bool). k + adden
 
 -- ---- bytes
 -- a number below 64 is the set of its six bits
-own-six : all (λ s. eqb (setOf (has s) 6) s) (upTo 0 64) ≡ true
-unfolding all upTo has addend setOf
+own-six : all (λ s. eqb (setOf (has s) 6) s) (range 0 64) ≡ true
+unfolding all range has addend setOf
 own-six = refl
 
 pub set-own : (s : ℕ) → s < 64 → setOf (has s) 6 ≡ s
-set-own s h = eqb-true (setOf (has s) 6) s (all-at (λ s. eqb (setOf (has s) 6) s) (upTo 0 64) s own-six (in-upTo 0 64 s (omega arith) (omega arith)))
+set-own s h = eqb-true (setOf (has s) 6) s (all-at (λ s. eqb (setOf (has s) 6) s) (range 0 64) s own-six (in-range 0 64 s (omega arith) (omega arith)))
 
 pub joined-has : (l s k : ℕ) → k < 8 → has (joined l s) k ≡ (eqb l k || has s k)
 unfolding joined
@@ -122,14 +122,14 @@ unfoldable plus : ℕ → ℕ → Bool → ℕ
 plus l s true = s
 plus l s false = s + 2 ^ l
 
-joined-plus : all (λ s. all (λ l. eqb (joined l s) (plus l s (has s l))) (upTo 0 8)) (upTo 0 256) ≡ true
-unfolding all upTo has addend setOf joined plus
+joined-plus : all (λ s. all (λ l. eqb (joined l s) (plus l s (has s l))) (range 0 8)) (range 0 256) ≡ true
+unfolding all range has addend setOf joined plus
 joined-plus = refl
 
 joined-by : (l s : ℕ) → l < 8 → s < 256 → joined l s ≡ plus l s (has s l)
 joined-by l s h k =
-    let a = all-at (λ s. all (λ l. eqb (joined l s) (plus l s (has s l))) (upTo 0 8)) (upTo 0 256) s joined-plus (in-upTo 0 256 s (omega arith) (omega arith)) in
-    eqb-true (joined l s) (plus l s (has s l)) (all-at (λ l. eqb (joined l s) (plus l s (has s l))) (upTo 0 8) l a (in-upTo 0 8 l (omega arith) (omega arith)))
+    let a = all-at (λ s. all (λ l. eqb (joined l s) (plus l s (has s l))) (range 0 8)) (range 0 256) s joined-plus (in-range 0 256 s (omega arith) (omega arith)) in
+    eqb-true (joined l s) (plus l s (has s l)) (all-at (λ l. eqb (joined l s) (plus l s (has s l))) (range 0 8) l a (in-range 0 8 l (omega arith) (omega arith)))
 
 pub joined-there : (l s : ℕ) → l < 8 → s < 256 → has s l ≡ true → joined l s ≡ s
 unfolding plus

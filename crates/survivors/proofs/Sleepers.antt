@@ -13,17 +13,17 @@ use borrow.Author.Tests.{eqb-true, eqb-false, eq-eqb, ne-eqb, not-true}
 use Rattle.program.specs.Program.{Program}
 use Rattle.program.specs.WellFormed.{WellFormed}
 use Rattle.program.proofs.Tests.{both}
-use Rattle.schedules.specs.Lists.{upTo, any}
+use Rattle.schedules.specs.Lists.{range, any}
 use Rattle.schedules.specs.Order.{Schedule}
 use Rattle.schedules.specs.System.{run, Allowed, FullFrom}
-use Rattle.schedules.proofs.Lists.{in-upTo, of-upTo, all-at, all-of, any-yes, any-no}
+use Rattle.schedules.proofs.Lists.{in-range, of-range, all-at, all-of, any-yes, any-no}
 use Rattle.schedules.proofs.Runs.{full-split}
-use Rattle.sc.specs.State.{State, step, may, start, SC}
+use Rattle.sc.specs.State.{State, step, enabled, start, SC}
 use Rattle.sc.specs.Graph.{endOf, Full}
-use Rattle.sc.specs.Trail.{action}
-use Rattle.sc.proofs.Steps.{may-small}
+use Rattle.sc.specs.Actions.{action}
+use Rattle.sc.proofs.Steps.{enabled-small}
 use Rattle.sc.proofs.Regular.{place-in, regular-start, regular-run}
-use Rattle.sc.proofs.Reading.{first-turn}
+use Rattle.sc.proofs.Reading.{first-step-of}
 use Rattle.sc.proofs.Remote.{Unmet, unmet-free}
 use Rattle.consistent.proofs.Tests.{both-and}
 use Rattle.list.specs.Alike.{Smaller}
@@ -51,7 +51,7 @@ module _ (σ : State) where
   sleeps-on : (s t u : ℕ) → u < 6 → sleepsIn σ s t ≡ true → has s u ≡ false → wakes σ t u ≡ false
   unfolding sleepsIn
   sleeps-on s t u h e q =
-      let k = all-at (λ u. has s u || not (wakes σ t u)) (upTo 0 6) u (both (has s t) _ e .1) (in-upTo 0 6 u (omega arith) (omega arith)) in
+      let k = all-at (λ u. has s u || not (wakes σ t u)) (range 0 6) u (both (has s t) _ e .1) (in-range 0 6 u (omega arith) (omega arith)) in
       not-true (wakes σ t u) (rw q at k)
 
   pub unwoken-below : (s : ℕ) → unwoken σ s < 64
@@ -145,7 +145,7 @@ module _ (σ : State) where
   module _ (T : ℕ → Bool) (alone : (t u : ℕ) → t < 6 → u < 6 → T t ≡ true → T u ≡ false → wakes σ t u ≡ false) where
     stays : (s : ℕ) → ((t : ℕ) → t < 6 → T t ≡ true → has s t ≡ true) → (t : ℕ) → t < 6 → T t ≡ true → sleepsIn σ s t ≡ true
     unfolding sleepsIn
-    stays s part t h e = both-and (part t h e) (all-of (λ u. has s u || not (wakes σ t u)) (upTo 0 6) (λ u m. let i : u < 6 = of-upTo 0 6 u m .1 in at u i (T u) refl))
+    stays s part t h e = both-and (part t h e) (all-of (λ u. has s u || not (wakes σ t u)) (range 0 6) (λ u m. let i : u < 6 = of-range 0 6 u m .1 in at u i (T u) refl))
       where
         at : (u : ℕ) → u < 6 → (b : Bool) → T u ≡ b → (has s u || not (wakes σ t u)) ≡ true
         at u i true q = or-left (has s u) _ (part u i q)
@@ -168,14 +168,14 @@ module _ (σ : State) where
 -- a set that drops no more and is not empty has a member
 member : (σ : State) (s : ℕ) → unwoken σ s ≡ s → s ≢ 0 → (t : ℕ) × (t < 6) × (has s t ≡ true)
 unfolding unwoken
-member σ s e n = go (any (has s) (upTo 0 6)) refl
+member σ s e n = go (any (has s) (range 0 6)) refl
   where
-    out : (t : ℕ) → any (has s) (upTo 0 6) ≡ false → t < 6 → (b : Bool) → sleepsIn σ s t ≡ b → sleepsIn σ s t ≡ false
-    out t q h true k = absurd (true≢false (sym (sleeps-there σ s t k) ∙ any-no (has s) (upTo 0 6) t q (in-upTo 0 6 t (omega arith) (omega arith))))
+    out : (t : ℕ) → any (has s) (range 0 6) ≡ false → t < 6 → (b : Bool) → sleepsIn σ s t ≡ b → sleepsIn σ s t ≡ false
+    out t q h true k = absurd (true≢false (sym (sleeps-there σ s t k) ∙ any-no (has s) (range 0 6) t q (in-range 0 6 t (omega arith) (omega arith))))
     out t q h false k = k
 
-    go : (b : Bool) → any (has s) (upTo 0 6) ≡ b → (t : ℕ) × (t < 6) × (has s t ≡ true)
-    go true q = let r = any-yes (has s) (upTo 0 6) q in (r .0, of-upTo 0 6 (r .0) (r .1) .1, r .2)
+    go : (b : Bool) → any (has s) (range 0 6) ≡ b → (t : ℕ) × (t < 6) × (has s t ≡ true)
+    go true q = let r = any-yes (has s) (range 0 6) q in (r .0, of-range 0 6 (r .0) (r .1) .1, r .2)
     go false q = absurd (n (sym e ∙ set-none (sleepsIn σ s) 6 (λ t h. out t q h (sleepsIn σ s t) refl)))
 
 -- the first of these steps that passes the test
@@ -200,7 +200,7 @@ first-of f (x ∷ z) t m e = go (f x) refl (List·Memᴰ·cases-cons m) (λ k. f
 
 steps-small : (z : Schedule) (σ : State) → Allowed SC σ z → (u : ℕ) → List·Memᴰ u z → u < 6
 steps-small [] σ a u k = absurd (List·Memᴰ·not-nil k)
-steps-small (b ∷ z) σ a u k = ⊎-elim (λ (q : u ≡ b). subst (λ (x : ℕ). x < 6) (sym q) (may-small σ b (a .0))) (λ (j : List·Memᴰ u z). steps-small z (step σ b) (a .1) u j) (List·Memᴰ·cases-cons k)
+steps-small (b ∷ z) σ a u k = ⊎-elim (λ (q : u ≡ b). subst (λ (x : ℕ). x < 6) (sym q) (enabled-small σ b (a .0))) (λ (j : List·Memᴰ u z). steps-small z (step σ b) (a .1) u j) (List·Memᴰ·cases-cons k)
 
 module _ (p : Program) (w : WellFormed p) where
   -- late threads that none outside of them could wake
@@ -209,15 +209,15 @@ module _ (p : Program) (w : WellFormed p) where
     pub unmet : (t u : ℕ) → t < 6 → u < 6 → S t ≡ true → S u ≡ false → Unmet (endOf p v) t u
 
   -- where one of them may step every full schedule has a smaller alike one
-  pub asleep-set-smaller : (v z : Schedule) (S : ℕ → Bool) (t : ℕ) → Asleep v S → S t ≡ true → may (endOf p v) t ≡ true → Full p (v ++ z) → Smaller p (v ++ z)
+  pub asleep-set-smaller : (v z : Schedule) (S : ℕ → Bool) (t : ℕ) → Asleep v S → S t ≡ true → enabled (endOf p v) t ≡ true → Full p (v ++ z) → Smaller p (v ++ z)
   asleep-set-smaller v z S t a e m f =
       let σ : State = endOf p v in
       let s = full-split SC (start p) v z f in
-      let h = first-turn z σ t (s .1) m in
+      let h = first-step-of z σ t (s .1) m in
       let here : List·Memᴰ t z = subst (List·Memᴰ t) (sym (h .split)) (Memᴰ·append-right (h .front) (List·Memᴰ·head refl)) in
       let r = first-of S z t here e in
       let y = full-split SC σ (r .0) (r .1 ∷ r .2) (subst (FullFrom SC σ) (r .3) (s .1)) in
-      let c : r .1 < 6 = may-small (run SC σ (r .0)) (r .1) (y .1 .0) in
+      let c : r .1 < 6 = enabled-small (run SC σ (r .0)) (r .1) (y .1 .0) in
       let free = unmet-free (r .0) σ (r .1) (y .0) (λ u k. ((λ q. true≢false (sym (r .4) ∙ ap S (sym q) ∙ r .5 u k)), a .unmet (r .1) u c (steps-small (r .0) σ (y .0) u k) (r .4) (r .5 u k))) in
       let eq = ap (λ (x : Schedule). v ++ x) (r .3) in
       subst (Smaller p) (sym eq) (late-still-smaller p w v (r .0) (r .1) (r .2) (a .late-all (r .1) c (r .4)) free (subst (Full p) eq f))
@@ -225,7 +225,7 @@ module _ (p : Program) (w : WellFormed p) where
   -- what the rounds leave of the late set is such a set
   sleepers-asleep : (v : Schedule) → Allowed SC (start p) v → (s : ℕ) → unwoken (endOf p v) s ≡ s → ((t : ℕ) → t < 6 → has s t ≡ true → has (lateSet p v) t ≡ true) → Asleep v (has s)
   sleepers-asleep v a s fix part = record {
-    late-all = λ t h e. both (may (endOf p v) t) _ (sym (late-set p v t) ∙ part t h e) .1;
+    late-all = λ t h e. both (enabled (endOf p v) t) _ (sym (late-set p v t) ∙ part t h e) .1;
     unmet = λ t u h i e q.
         let g = regular-run v (start p) (regular-start p w) a in
         let on = sleeps-on (endOf p v) s t u i (sym (unwoken-has (endOf p v) s t h) ∙ ap (λ (n : ℕ). has n t) fix ∙ e) q in
@@ -242,4 +242,4 @@ module _ (p : Program) (w : WellFormed p) where
       let fix : unwoken σ s ≡ s = settled-fixed σ k k n in
       let x = member σ s fix n in
       let part = settled-part σ k k in
-      asleep-set-smaller v z (has s) (x .0) (sleepers-asleep v (full-split SC (start p) v z f .0) s fix part) (x .2) (both (may σ (x .0)) _ (sym (late-set p v (x .0)) ∙ part (x .0) (x .1) (x .2)) .0) f
+      asleep-set-smaller v z (has s) (x .0) (sleepers-asleep v (full-split SC (start p) v z f .0) s fix part) (x .2) (both (enabled σ (x .0)) _ (sym (late-set p v (x .0)) ∙ part (x .0) (x .1) (x .2)) .0) f

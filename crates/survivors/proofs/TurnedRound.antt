@@ -12,41 +12,41 @@ use Rattle.schedules.specs.Order.{Schedule}
 use Rattle.schedules.specs.System.{run, Allowed, FullFrom}
 use Rattle.schedules.proofs.Runs.{run-append, run-snoc, full-split, full-allowed}
 use Rattle.sc.specs.Local.{placeOf, puts}
-use Rattle.sc.specs.State.{Thread, Cell, State, threadOf, cellOf, place, advanced, step, may, SC}
+use Rattle.sc.specs.State.{Thread, Cell, State, threadOf, cellOf, place, advanced, step, enabled, SC}
 use Rattle.sc.specs.Graph.{graphOf}
-use Rattle.sc.specs.Trail.{given, writes}
-use Rattle.sc.proofs.Steps.{may-range, may-other, thread-own, thread-other}
+use Rattle.sc.specs.Actions.{given, writes}
+use Rattle.sc.proofs.Steps.{enabled-range, enabled-other, thread-own, thread-other}
 use Rattle.sc.proofs.Change.{done-own}
 use Rattle.sc.proofs.Regular.{Regular, regular-run}
 use Rattle.sc.proofs.Histories.{done-run}
 use Rattle.sc.proofs.Rows.{same-writes}
-use Rattle.sc.proofs.Reading.{first-turn}
+use Rattle.sc.proofs.Reading.{first-step-of}
 use Rattle.sc.proofs.Determined.{Meeting, determined}
 use Rattle.sc.proofs.SameGraph.{same-graph-end}
 use Rattle.survivors.proofs.Counting.{count, waiting, taken-at, parts, by-count, one-turn, as-many, wrote-nothing}
 use Rattle.survivors.proofs.GoesFirst.{Quiet, Never, Agree, agree-sym, no-fewer, one-more, untouched, goes-first, goes-on}
 
 -- a thread that may not step does not move any more
-ended-stays : (r : Schedule) (ρ : State) (a : ℕ) → Allowed SC ρ r → may ρ a ≡ false → threadOf (run SC ρ r) a ≡ threadOf ρ a
+ended-stays : (r : Schedule) (ρ : State) (a : ℕ) → Allowed SC ρ r → enabled ρ a ≡ false → threadOf (run SC ρ r) a ≡ threadOf ρ a
 unfolding run
 ended-stays [] ρ a f e = refl
 ended-stays (t ∷ r) ρ a f e = go (ℕ-discrete a t) (λ k. ended-stays r (step ρ t) a (f .1) k)
   where
-    go : Dec (a ≡ t) → (may (step ρ t) a ≡ false → threadOf (run SC (step ρ t) r) a ≡ threadOf (step ρ t) a) → threadOf (run SC (step ρ t) r) a ≡ threadOf ρ a
-    go (yes q) ih = absurd (true≢false (sym (f .0) ∙ ap (may ρ) (sym q) ∙ e))
-    go (no q) ih = ih (may-other ρ t a q ∙ e) ∙ thread-other ρ t a q
+    go : Dec (a ≡ t) → (enabled (step ρ t) a ≡ false → threadOf (run SC (step ρ t) r) a ≡ threadOf (step ρ t) a) → threadOf (run SC (step ρ t) r) a ≡ threadOf ρ a
+    go (yes q) ih = absurd (true≢false (sym (f .0) ∙ ap (enabled ρ) (sym q) ∙ e))
+    go (no q) ih = ih (enabled-other ρ t a q ∙ e) ∙ thread-other ρ t a q
 
 -- where the one schedule comes, the other's thread comes too
 module _ (σ : State) (reg : Regular σ) (v w : Schedule) (fv : FullFrom SC σ v) (fw : FullFrom SC σ w) (same : graphOf (run SC σ v) ≡ graphOf (run SC σ w)) where
   pub comes-too : (u r : Schedule) → w ≡ u ++ r → (a : ℕ) → (p : Schedule) × (q : Schedule) × (v ≡ p ++ q) × (threadOf (run SC σ p) a ≡ threadOf (run SC σ u) a)
-  comes-too u r e a = go (may (run SC σ u) a) refl
+  comes-too u r e a = go (enabled (run SC σ u) a) refl
     where
       k : Allowed SC σ u × FullFrom SC (run SC σ u) r
       k = parts σ w fw u r e
 
-      go : (b : Bool) → may (run SC σ u) a ≡ b → (p : Schedule) × (q : Schedule) × (v ≡ p ++ q) × (threadOf (run SC σ p) a ≡ threadOf (run SC σ u) a)
+      go : (b : Bool) → enabled (run SC σ u) a ≡ b → (p : Schedule) × (q : Schedule) × (v ≡ p ++ q) × (threadOf (run SC σ p) a ≡ threadOf (run SC σ u) a)
       go true m =
-          let t = first-turn r (run SC σ u) a (k .1) m in
+          let t = first-step-of r (run SC σ u) a (k .1) m in
           let d = determined σ reg v w fv fw same (u ++ t .front) a (t .rest) (e ∙ ap (λ (z : Schedule). u ++ z) (t .split) ∙ sym (append-assoc u (t .front) (a ∷ t .rest))) in
           (d .front, a ∷ d .rest, d .split, d .thread ∙ ap (λ (τ : State). threadOf τ a) (run-append SC σ u (t .front)) ∙ t .waits)
       go false m = (
@@ -215,7 +215,7 @@ module _ (σ : State) (reg : Regular σ) (v w : Schedule) (fv : FullFrom SC σ v
       count-z = n;
       still-y = still;
       still-z = sym (same-writing (run SC σ a) (run SC σ u) y z alike cells) ∙ still;
-      behind = thread-own (run SC σ a) y (may-range (run SC σ a) y (allowed-b .0)) ∙ ap₂ advanced alike cells ∙ sym (thread-own (run SC σ u) z (may-range (run SC σ u) z (parts σ w fw u (z ∷ r) cut .1 .0)));
+      behind = thread-own (run SC σ a) y (enabled-range (run SC σ a) y (allowed-b .0)) ∙ ap₂ advanced alike cells ∙ sym (thread-own (run SC σ u) z (enabled-range (run SC σ u) z (parts σ w fw u (z ∷ r) cut .1 .0)));
     }
 
   still-at : (i : ℕ) → Agree σ w y z i → i < count (run SC σ w) z → Still i
@@ -230,7 +230,7 @@ module _ (σ : State) (reg : Regular σ) (v w : Schedule) (fv : FullFrom SC σ v
   just-behind : (t i : ℕ) (a b c d : Schedule) → w ≡ a ++ (t ∷ b) → count (run SC σ a) t ≡ i → w ≡ c ++ d → count (run SC σ c) t ≡ suc i → threadOf (run SC σ c) t ≡ threadOf (step (run SC σ a) t) t
   just-behind t i a b c d e n k h =
       let one = run-snoc SC σ a t in
-      let own = done-own (run SC σ a) t (may-range (run SC σ a) t (parts σ w fw a (t ∷ b) e .1 .0)) in
+      let own = done-own (run SC σ a) t (enabled-range (run SC σ a) t (parts σ w fw a (t ∷ b) e .1 .0)) in
       by-count σ w fw t c d (a ++ (t ∷ [])) b k (e ∙ sym (append-assoc a (t ∷ []) b)) (h ∙ ap suc (sym n) ∙ sym own ∙ ap (λ (τ : State). count τ t) (sym one)) ∙ ap (λ (τ : State). threadOf τ t) one
 
   reg-end : Regular (run SC σ w)

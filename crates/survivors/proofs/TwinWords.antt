@@ -13,15 +13,15 @@ use Rattle.program.specs.Program.{Program}
 use Rattle.program.specs.WellFormed.{WellFormed}
 use Rattle.program.proofs.Tests.{both, equal-tests}
 use Rattle.schedules.specs.Order.{Schedule}
-use Rattle.schedules.specs.Lists.{upTo, any}
+use Rattle.schedules.specs.Lists.{range, any}
 use Rattle.schedules.specs.System.{run, Allowed}
-use Rattle.schedules.proofs.Lists.{of-upTo, any-yes, any-of}
+use Rattle.schedules.proofs.Lists.{of-range, any-yes, any-of}
 use Rattle.schedules.proofs.Runs.{allowed-length}
 use Rattle.sc.specs.Local.{Local}
 use Rattle.sc.specs.State.{Event, Thread, State, threadOf, cellOf, latest, step, start, SC, opened, History}
 use Rattle.sc.specs.Graph.{endOf}
-use Rattle.sc.specs.Trail.{writes}
-use Rattle.sc.proofs.Steps.{may-range, thread-other}
+use Rattle.sc.specs.Actions.{writes}
+use Rattle.sc.proofs.Steps.{enabled-range, thread-other}
 use Rattle.sc.proofs.Change.{done-own}
 use Rattle.sc.proofs.Start.{start-thread, start-history}
 use Rattle.sc.proofs.Lawful.{lawful, start-24}
@@ -50,7 +50,7 @@ together-done (b ∷ v) σ u t ne a = go (ℕ-discrete u b) (ℕ-discrete t b) (
     more x q = ap (λ (k : Thread). k .history .done) (thread-other σ b x q)
 
     own : (x : ℕ) → x ≡ b → threadOf (step σ b) x .history .done ≡ suc (threadOf σ x .history .done)
-    own x q = subst (λ (y : ℕ). threadOf (step σ b) y .history .done ≡ suc (threadOf σ y .history .done)) (sym q) (done-own σ b (may-range σ b (a .0)))
+    own x q = subst (λ (y : ℕ). threadOf (step σ b) y .history .done ≡ suc (threadOf σ y .history .done)) (sym q) (done-own σ b (enabled-range σ b (a .0)))
 
     after : ℕ
     after = threadOf (run SC (step σ b) v) u .history .done + threadOf (run SC (step σ b) v) t .history .done
@@ -147,9 +147,9 @@ module _ (p : Program) (w : WellFormed p) (v : Schedule) (a : Allowed SC (start 
 
 -- so none below t is its twin by one test where none is by the other
 pub twins-by-word : (p : Program) → WellFormed p → (v : Schedule) → Allowed SC (start p) v → (t : ℕ) → t < 6 →
-    any (twinByWord p (wordsOf p v) t) (upTo 0 t) ≡ any (twin p (endOf p v) t) (upTo 0 t)
-twins-by-word p w v a t h = any-same (twinByWord p (wordsOf p v) t) (twin p (endOf p v) t) (upTo 0 t)
-    (λ u m. let i = of-upTo 0 t u m .1 in twin-by-word p w v a u t (λ q. omega arith) (omega arith) h)
+    any (twinByWord p (wordsOf p v) t) (range 0 t) ≡ any (twin p (endOf p v) t) (range 0 t)
+twins-by-word p w v a t h = any-same (twinByWord p (wordsOf p v) t) (twin p (endOf p v) t) (range 0 t)
+    (λ u m. let i = of-range 0 t u m .1 in twin-by-word p w v a u t (λ q. omega arith) (omega arith) h)
   where
     any-same : (f g : ℕ → Bool) (l : List ℕ) → ((x : ℕ) → List·Memᴰ x l → f x ≡ g x) → any f l ≡ any g l
     any-same f g l e = equal-tests (any f l) (any g l)

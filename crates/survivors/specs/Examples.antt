@@ -1,51 +1,61 @@
 -- The definitions computed: the rules on a small program, and what the search finds.
 use Prim.Native.Nat.{ℕ}
 use mathlib.Core.Path.{_≡_, refl}
-use mathlib.Core.Bool.{Bool, false}
+use mathlib.Core.Bool.{false}
 use mathlib.Core.Option.{none}
 use mathlib.Core.List.{List, [], _∷_}
 use Rattle.program.specs.Program.{Program, initial}
 use Rattle.program.specs.declared.instruction.Operand.the-variants.{Constant}
-use Rattle.program.specs.declared.instruction.Instruction.the-variants.{Store, Load}
-use Rattle.schedules.specs.Lists.{upTo, any, all}
+use Rattle.program.specs.declared.instruction.Access.the-variants.{Store, Load}
+use Rattle.program.specs.declared.instruction.Instruction.the-variants.{Memory}
+use Rattle.schedules.specs.Lists.{range, any, all}
 use Rattle.schedules.specs.Order.{Schedule}
-use Rattle.schedules.specs.System.{run, none-may, ended}
+use Rattle.schedules.specs.System.{run, none-enabled, ended}
 use Rattle.schedules.specs.Search.{low, past}
-use Rattle.schedules.specs.Found.{inTurn, foundAt, foundBy, foundFrom}
+use Rattle.schedules.specs.Found.{concatRange, foundAt, foundBy, foundFrom}
 use Rattle.schedules.specs.Orders.{trace}
-use Rattle.sc.specs.Local.{eval, settle, beginsWithAccess, firstPlace, firstTakes, firstPuts, firstNext, pending, placeOf, takes, puts, next, begin}
-use Rattle.sc.specs.State.{initialWrite, noThread, freshCell, threadOf, cellOf, place, latest, noted, advanced, written, met, step, may, opened, start}
+use Rattle.sc.specs.Local.{eval, accessPlace, accessTakes, accessPuts, accessSets, settle, beginsWithAccess, firstPlace, firstTakes}
+use Rattle.sc.specs.Local.{firstPuts, firstNext, pending, placeOf, takes, puts, next, begin}
+use Rattle.sc.specs.State.{initialWrite, noThread, freshCell, threadOf, cellOf, place, latest, noted, advanced, written, met, step}
+use Rattle.sc.specs.State.{enabled, opened, start}
 use Rattle.sc.specs.Graph.{endOf}
-use Rattle.sc.specs.Trail.{given, writes, action, conflict}
-use Rattle.sc.specs.Ahead.{firstMayPut, mayPut, couldConflict, couldMeet}
+use Rattle.sc.specs.Actions.{given, writes, action, conflict}
+use Rattle.sc.specs.Ahead.{accessMayPut, firstMayPut, mayPut}
 use Rattle.consistent.specs.Same.{sameEvent, sameRead, sameList}
 use Rattle.list.specs.ListOf.{together}
-use Rattle.list.specs.Rules.{late, taken, sameFlag, sameLocal, sameHistory, silent, twin, asleep}
+use Rattle.list.specs.Rules.{sameFlag, sameLocal, sameHistory, silent, twin}
 use Rattle.survivors.specs.Sets.{has, addend, setOf, joined}
 use Rattle.survivors.specs.LateSet.{lateNow, lateBehind, lateAlong, lateSet}
 use Rattle.survivors.specs.Sleepers.{readsLeft, writesLeft, meets, wakes, sleepsIn, unwoken, settled, sleepers}
 use Rattle.survivors.specs.Search.{givenUp, lookedFor, found}
 
--- the late set behind a prefix, what of it is asleep for good, and whether one thread by itself is
+-- the late set behind a prefix, and what of it is asleep for good
 pub record Seen : Type 0 where
   pub late : ℕ
   pub asleep : ℕ
-  pub alone : Bool
 
 unfoldable pub seen : Program → Schedule → Seen
-unfolding upTo any all run trace eval settle beginsWithAccess firstPlace firstTakes firstPuts firstNext pending placeOf takes puts next begin initialWrite noThread freshCell threadOf cellOf place latest noted advanced written met step may opened start initial given writes action conflict firstMayPut mayPut couldConflict couldMeet late taken asleep has addend setOf joined lateNow lateBehind lateAlong lateSet readsLeft writesLeft meets wakes sleepsIn unwoken settled sleepers
-seen p v = record { late = lateSet p v; asleep = sleepers (endOf p v) (lateSet p v); alone = any (asleep p v (endOf p v)) (upTo 0 6) }
+unfolding range any all run trace eval accessPlace accessTakes accessPuts accessSets settle beginsWithAccess firstPlace firstTakes firstPuts firstNext pending placeOf takes puts next begin initialWrite noThread freshCell threadOf cellOf place latest noted advanced written met step enabled opened start initial given writes action conflict accessMayPut firstMayPut mayPut has addend setOf joined lateNow lateBehind lateAlong lateSet readsLeft writesLeft meets wakes sleepsIn unwoken settled sleepers
+seen p v = record { late = lateSet p v; asleep = sleepers (endOf p v) (lateSet p v) }
 
 -- what the search finds, and those that fail
 unfoldable pub finds : Program → List Schedule
-unfolding upTo any all run trace none-may ended low past inTurn foundAt foundBy foundFrom eval settle beginsWithAccess firstPlace firstTakes firstPuts firstNext pending placeOf takes puts next begin initialWrite noThread freshCell threadOf cellOf place latest noted advanced written met step may opened start initial given writes action conflict firstMayPut mayPut sameEvent sameRead sameList together sameFlag sameLocal sameHistory silent twin has addend setOf joined lateNow lateBehind lateAlong lateSet readsLeft writesLeft meets wakes sleepsIn unwoken settled sleepers givenUp lookedFor found
+unfolding range any all run trace none-enabled ended low past concatRange foundAt foundBy foundFrom eval accessPlace accessTakes accessPuts accessSets settle beginsWithAccess firstPlace firstTakes firstPuts firstNext pending placeOf takes puts next begin initialWrite noThread freshCell threadOf cellOf place latest noted advanced written met step enabled opened start initial given writes action conflict accessMayPut firstMayPut mayPut sameEvent sameRead sameList together sameFlag sameLocal sameHistory silent twin has addend setOf joined lateNow lateBehind lateAlong lateSet readsLeft writesLeft meets wakes sleepsIn unwoken settled sleepers givenUp lookedFor found
 finds p = found false p none
 
--- two stores at one location beside one elsewhere: behind thread 2's step the other two are late, and only each other's store could wake them
+-- two stores at one location beside one elsewhere: behind thread 2's step the other two are late, and only each other's store could wake
+-- them
 circle : Program
-circle = record { threads = (Store 0 (Constant 1) ∷ []) ∷ (Store 0 (Constant 2) ∷ []) ∷ (Store 1 (Constant 1) ∷ []) ∷ []; groups = [] }
+circle = record {
+  threads =
+      (Memory (Store 0 (Constant 1)) ∷ []) ∷
+      (Memory (Store 0 (Constant 2)) ∷ []) ∷
+      (Memory (Store 1 (Constant 1)) ∷ []) ∷
+      [];
+  groups = [];
+}
 
-in-a-circle : seen circle (2 ∷ []) ≡ record { late = 3; asleep = 3; alone = false }
+in-a-circle : seen circle (2 ∷ []) ≡ record { late = 3; asleep = 3 }
 unfolding seen circle
 in-a-circle = refl
 
@@ -55,9 +65,16 @@ circle-found = refl
 
 -- thread 1 is late behind thread 2's step, but the load left to thread 0 can wake it
 woken : Program
-woken = record { threads = (Store 0 (Constant 1) ∷ Load 0 1 ∷ []) ∷ (Store 1 (Constant 1) ∷ []) ∷ (Store 0 (Constant 2) ∷ []) ∷ []; groups = [] }
+woken = record {
+  threads =
+      (Memory (Store 0 (Constant 1)) ∷ Memory (Load 0 1) ∷ []) ∷
+      (Memory (Store 1 (Constant 1)) ∷ []) ∷
+      (Memory (Store 0 (Constant 2)) ∷ []) ∷
+      [];
+  groups = [];
+}
 
-not-asleep : seen woken (2 ∷ 0 ∷ []) ≡ record { late = 2; asleep = 0; alone = false }
+not-asleep : seen woken (2 ∷ 0 ∷ []) ≡ record { late = 2; asleep = 0 }
 unfolding seen woken
 not-asleep = refl
 
@@ -67,7 +84,13 @@ woken-found = refl
 
 -- of two alike threads that have read the same, the smaller goes first
 pair : Program
-pair = record { threads = (Load 0 0 ∷ Store 0 (Constant 1) ∷ []) ∷ (Load 0 0 ∷ Store 0 (Constant 1) ∷ []) ∷ []; groups = (0 ∷ 1 ∷ []) ∷ [] }
+pair = record {
+  threads =
+      (Memory (Load 0 0) ∷ Memory (Store 0 (Constant 1)) ∷ []) ∷
+      (Memory (Load 0 0) ∷ Memory (Store 0 (Constant 1)) ∷ []) ∷
+      [];
+  groups = (0 ∷ 1 ∷ []) ∷ [];
+}
 
 pair-found : finds pair ≡ (0 ∷ 0 ∷ 1 ∷ 1 ∷ []) ∷ (0 ∷ 1 ∷ 0 ∷ 1 ∷ []) ∷ []
 unfolding finds pair

@@ -6,14 +6,14 @@ use mathlib.Core.List.{[], _∷_}
 use lib.Dec.{eqb, ltb}
 use Rattle.program.specs.Program.{Program}
 use Rattle.schedules.specs.Order.{Schedule}
-use Rattle.sc.specs.State.{State, step, may, start}
-use Rattle.sc.specs.Trail.{Action, action, conflict}
+use Rattle.sc.specs.State.{State, step, enabled, start}
+use Rattle.sc.specs.Actions.{Action, action, conflict}
 use Rattle.survivors.specs.Sets.{has, setOf}
 
 -- whether t is late behind a step a that led to σ: it was late or is smaller than the thread that stepped, is not that thread, and its next
 -- access does not have to stay behind a's
 unfoldable pub lateNow : State → ℕ → Action → ℕ → Bool
-lateNow σ late a t = may σ t && (not (eqb (a .thread) t) && (not (conflict a (action σ t)) && (ltb t (a .thread) || has late t)))
+lateNow σ late a t = enabled σ t && (not (eqb (a .thread) t) && (not (conflict a (action σ t)) && (ltb t (a .thread) || has late t)))
 
 -- the late set behind that step
 unfoldable pub lateBehind : State → ℕ → Action → ℕ

@@ -1,6 +1,6 @@
--- R2 by words: each thread carries one word of 64 bits for its reads, and two threads of one `02` line are twins exactly when their words are
--- equal. A read adds five bits, the number of the step that wrote what it reads; so each location carries the number of the step that wrote
--- it last. A thread that wrote, or whose reads no longer fit, can have no twin: its word is one that no other thread has.
+-- R2 by words: each thread carries one word of 64 bits for its reads, and two threads of one `02` line are twins exactly when their words
+-- are equal. A read adds five bits, the number of the step that wrote what it reads; so each location carries the number of the step that
+-- wrote it last. A thread that wrote, or whose reads no longer fit, can have no twin: its word is one that no other thread has.
 use Prim.Native.Nat.{ℕ, _+_, _*_, _^_}
 use mathlib.Core.Bool.{Bool, true, false, _&&_}
 use mathlib.Core.List.{List, [], _∷_}
@@ -9,7 +9,7 @@ use lib.ListN.{getD, set}
 use Rattle.program.specs.Program.{Program}
 use Rattle.schedules.specs.Order.{Schedule}
 use Rattle.sc.specs.State.{State, place, step, start}
-use Rattle.sc.specs.Trail.{writes}
+use Rattle.sc.specs.Actions.{writes}
 use Rattle.list.specs.ListOf.{together}
 
 -- for each of the eight locations the number of the step that wrote it last, from 1, or 0; for each of the six threads its word

@@ -2,39 +2,28 @@
 -- one. The threads of the set need not be feared: the first of them that steps is late. So late threads that could be woken only by each
 -- other, in a circle, are asleep too.
 use Prim.Native.Nat.{ℕ, zero, suc}
-use mathlib.Core.Bool.{Bool, true, false, not, _&&_, _||_}
+use mathlib.Core.Bool.{Bool, true, false, cond, not, _&&_, _||_}
 use mathlib.Core.List.{List, [], _∷_}
 use lib.Dec.{eqb}
 use Rattle.program.specs.declared.instruction.Instruction.{Instruction}
-use Rattle.program.specs.declared.instruction.Instruction.the-variants.{Store, Load, FetchAdd, CompareSwap, Assign, AddAssign, SkipUnless, Assert}
-use Rattle.schedules.specs.Lists.{upTo, all}
+use Rattle.program.specs.declared.instruction.Instruction.the-variants.{Memory, Alone}
+use Rattle.schedules.specs.Lists.{range, all}
+use Rattle.sc.specs.Local.{accessPlace, accessTakes}
 use Rattle.sc.specs.State.{State, threadOf, place}
-use Rattle.sc.specs.Ahead.{mayPut}
+use Rattle.sc.specs.Ahead.{accessMayPut, mayPut}
 use Rattle.survivors.specs.Sets.{has, setOf, joined}
 
 -- the locations that this code may still read; what a skip may leave out is counted all the same
 unfoldable pub readsLeft : List Instruction → ℕ
 readsLeft [] = 0
-readsLeft (Store l p ∷ is) = readsLeft is
-readsLeft (Load r l ∷ is) = joined l (readsLeft is)
-readsLeft (FetchAdd r l p ∷ is) = joined l (readsLeft is)
-readsLeft (CompareSwap r l e v ∷ is) = joined l (readsLeft is)
-readsLeft (Assign r p ∷ is) = readsLeft is
-readsLeft (AddAssign r p ∷ is) = readsLeft is
-readsLeft (SkipUnless r p n ∷ is) = readsLeft is
-readsLeft (Assert r p ∷ is) = readsLeft is
+readsLeft (Memory a ∷ is) = cond (accessTakes a) (joined (accessPlace a) (readsLeft is)) (readsLeft is)
+readsLeft (Alone o ∷ is) = readsLeft is
 
 -- those that it may still write
 unfoldable pub writesLeft : List Instruction → ℕ
 writesLeft [] = 0
-writesLeft (Store l p ∷ is) = joined l (writesLeft is)
-writesLeft (Load r l ∷ is) = writesLeft is
-writesLeft (FetchAdd r l p ∷ is) = joined l (writesLeft is)
-writesLeft (CompareSwap r l e v ∷ is) = joined l (writesLeft is)
-writesLeft (Assign r p ∷ is) = writesLeft is
-writesLeft (AddAssign r p ∷ is) = writesLeft is
-writesLeft (SkipUnless r p n ∷ is) = writesLeft is
-writesLeft (Assert r p ∷ is) = writesLeft is
+writesLeft (Memory a ∷ is) = cond (accessMayPut a) (joined (accessPlace a) (writesLeft is)) (writesLeft is)
+writesLeft (Alone o ∷ is) = writesLeft is
 
 -- whether code that may still read and write these locations could conflict with an access at l, which could write (w) or only reads
 unfoldable pub meets : ℕ → ℕ → ℕ → Bool → Bool
@@ -48,7 +37,7 @@ wakes σ t u =
 
 -- t is in the set, and no thread outside could wake it
 unfoldable pub sleepsIn : State → ℕ → ℕ → Bool
-sleepsIn σ s t = has s t && all (λ u. has s u || not (wakes σ t u)) (upTo 0 6)
+sleepsIn σ s t = has s t && all (λ u. has s u || not (wakes σ t u)) (range 0 6)
 
 -- what is left of the set when those that some thread outside could wake have gone
 unfoldable pub unwoken : State → ℕ → ℕ

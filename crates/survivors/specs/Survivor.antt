@@ -4,12 +4,12 @@ use mathlib.Core.Path.{_≡_}
 use mathlib.Core.Bool.{false}
 use mathlib.Core.List.{_∷_, _++_}
 use Rattle.program.specs.Program.{Program}
-use Rattle.schedules.specs.Lists.{upTo, any}
+use Rattle.schedules.specs.Lists.{range, any}
 use Rattle.schedules.specs.Order.{Schedule}
 use Rattle.sc.specs.Graph.{endOf}
-use Rattle.sc.specs.Trail.{action}
+use Rattle.sc.specs.Actions.{action}
 use Rattle.list.specs.Rules.{late, taken, twin}
 
 abbrev pub Survives : Program → Schedule → Type 0
 Survives p w = (v : Schedule) (t : ℕ) (z : Schedule) → w ≡ v ++ (t ∷ z) →
-    (late (taken p v) (action (endOf p v) t) ≡ false) × (any (twin p (endOf p v) t) (upTo 0 t) ≡ false)
+    (late (taken p v) (action (endOf p v) t) ≡ false) × (any (twin p (endOf p v) t) (range 0 t) ≡ false)

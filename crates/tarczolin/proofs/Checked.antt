@@ -6,12 +6,12 @@ use Rattle.decoder.specs.declared.file.Verdict.the-variants.{Accepted, Refused}
 use Rattle.program.specs.Decode.{Decoded}
 use Rattle.decoder.specs.Compiled.{answerOf, verdictOf}
 use Rattle.tarczolin.specs.Word as word
-use Rattle.tarczolin.specs.Check.{checked}
+use Rattle.tarczolin.specs.Check.{checkReply}
 
-pub checked-accepted : (a : Answer) (d : Decoded) → answerOf a ≡ d → a .verdict ≡ Accepted → checked d ≡ word.answered 0
-unfolding answerOf verdictOf checked
-checked-accepted a d e v = ap checked (sym e) ∙ rw v
+pub checked-accepted : (a : Answer) (d : Decoded) → answerOf a ≡ d → a .verdict ≡ Accepted → checkReply d ≡ word.answered 0
+unfolding answerOf verdictOf checkReply
+checked-accepted a d e v = ap checkReply (sym e) ∙ rw v
 
-pub checked-refused : (a : Answer) (d : Decoded) (k n : ℕ) → answerOf a ≡ d → a .verdict ≡ Refused k n → checked d ≡ word.refused k n
-unfolding answerOf verdictOf checked
-checked-refused a d k n e v = ap checked (sym e) ∙ rw v
+pub checked-refused : (a : Answer) (d : Decoded) (k n : ℕ) → answerOf a ≡ d → a .verdict ≡ Refused k n → checkReply d ≡ word.refused k n
+unfolding answerOf verdictOf checkReply
+checked-refused a d k n e v = ap checkReply (sym e) ∙ rw v

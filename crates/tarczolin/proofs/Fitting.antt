@@ -21,7 +21,7 @@ use Rattle.sc.specs.Graph.{graph, graphOf}
 use Rattle.sc.specs.Text.{graphText}
 use Rattle.sc.specs.Replay.{Replayed, whole, replay}
 use Rattle.sc.specs.Replay as Replay
-use Rattle.sc.specs.GraphCall.{GraphSaid, texted, refusing, texting, graphAnswer, graphOn, graphFile}
+use Rattle.sc.specs.GraphCall.{GraphResult, texted, refusing, texting, graphAnswer, graphOn, graphFile}
 use Rattle.sc.proofs.Lawful.{at-most-24}
 use Rattle.sc.proofs.SmallRefusals.{replay-within}
 use Rattle.sc.proofs.SmallRefusals as Schedules
@@ -31,29 +31,29 @@ use Rattle.list.specs.Answers.{startOf, continueOf, Violation, fails-first, non
 use Rattle.list.proofs.TheList.{list-exact}
 use Rattle.list.proofs.Answered.{Within, ViolationWithin, start-within, continue-within, violation-within}
 use Rattle.listing.specs.OnFile.{startOn, continueOn, violationOn, countOn, startFile, continueFile, violationFile, countFile}
-use Rattle.listing.specs.RowsCall.{fitting, rowsSaid}
+use Rattle.listing.specs.RowsCall.{fitting, rowsAnswerOf}
 use Rattle.tarczolin.specs.Word.{Fits}
-use Rattle.tarczolin.specs.Check.{checked}
-use Rattle.tarczolin.specs.Graphed.{graphed}
-use Rattle.tarczolin.specs.Listed.{listed, violated}
-use Rattle.tarczolin.specs.Tallied.{tallied}
-use Rattle.tarczolin.specs.Rowed.{rowed}
+use Rattle.tarczolin.specs.Check.{checkReply}
+use Rattle.tarczolin.specs.Graphed.{graphReply}
+use Rattle.tarczolin.specs.Listed.{listed, violationReply}
+use Rattle.tarczolin.specs.Tallied.{countReply}
+use Rattle.tarczolin.specs.ByRows.{rowsReply}
 
 -- a refusal of the program fits every call's word
 pub refusal-fits : (file : List ℕ) (n k : ℕ) → decode file ≡ refused n k → (n < 256) × (k < 2 ^ 48)
 refusal-fits file n k e = let h = rw e at (decode-within file) in (omega arith, omega arith)
 
 -- THE CHECK
-pub check-fits : (file : List ℕ) → Fits (checked (decode file))
-unfolding checked
+pub check-fits : (file : List ℕ) → Fits (checkReply (decode file))
+unfolding checkReply
 check-fits file = go (decode file) refl
   where
-    go : (d : Decoded) → decode file ≡ d → Fits (checked d)
+    go : (d : Decoded) → decode file ≡ d → Fits (checkReply d)
     go (accepted p) e = omega arith
     go (refused n k) e = refusal-fits file n k e
 
 -- THE GRAPH CALL: a text has at most 400 bytes, and is answered only where there is room for 512
-abbrev pub GraphWithin : ℕ → GraphSaid → Type 0
+abbrev pub GraphWithin : ℕ → GraphResult → Type 0
 GraphWithin room (texted t) = (length t ≤ 400) × (512 ≤ room)
 GraphWithin room (refusing n k) = (n < 256) × (k < 2 ^ 48)
 
@@ -73,11 +73,11 @@ graph-within file s room = go (decode file) refl
     go (accepted p) e = by p (accepted-well-formed file p e) (ltb room 512) refl
     go (refused n k) e = refusal-fits file n k e
 
-pub graph-fits : (file : List ℕ) (s : Schedule) (room : ℕ) → Fits (graphed (graphFile file s room))
-unfolding graphed
+pub graph-fits : (file : List ℕ) (s : Schedule) (room : ℕ) → Fits (graphReply (graphFile file s room))
+unfolding graphReply
 graph-fits file s room = go (graphFile file s room) (graph-within file s room)
   where
-    go : (g : GraphSaid) → GraphWithin room g → Fits (graphed g)
+    go : (g : GraphResult) → GraphWithin room g → Fits (graphReply g)
     go (texted t) h = omega arith
     go (refusing n k) h = h
 
@@ -89,8 +89,8 @@ module _ (p : Program) (w : WellFormed p) (out : List ℕ) where
   answer-fits nomore h = tt
   answer-fits (Calls.refused n k) h = (omega arith, omega arith)
 
-  violation-answer-fits : (v : Violation) → ViolationWithin p out v → Fits (violated v)
-  unfolding violated
+  violation-answer-fits : (v : Violation) → ViolationWithin p out v → Fits (violationReply v)
+  unfolding violationReply
   violation-answer-fits (fails-first s) h = omega (arith, at-most-24 p w s (list-exact p s .0 (h .0) .0))
   violation-answer-fits none-fails h = tt
   violation-answer-fits (refused-by n k) h = (omega arith, omega arith)
@@ -115,28 +115,28 @@ module _ (file : List ℕ) where
       go (refused n k) e = refusal-fits file n k e
 
   -- VIOLATION
-  pub violation-fits : (out : List ℕ) → Fits (violated (violationFile file out .0))
-  unfolding violationOn violated
+  pub violation-fits : (out : List ℕ) → Fits (violationReply (violationFile file out .0))
+  unfolding violationOn violationReply
   violation-fits out = go (decode file) refl
     where
-      go : (d : Decoded) → decode file ≡ d → Fits (violated (violationOn d out .0))
+      go : (d : Decoded) → decode file ≡ d → Fits (violationReply (violationOn d out .0))
       go (accepted p) e = violation-answer-fits p (accepted-well-formed file p e) out (violationOf p out .0) (violation-within p out)
       go (refused n k) e = refusal-fits file n k e
 
   -- COUNT
-  pub count-fits : Fits (tallied (countFile file))
-  unfolding countOn tallied
+  pub count-fits : Fits (countReply (countFile file))
+  unfolding countOn countReply
   count-fits = go (decode file) refl
     where
-      go : (d : Decoded) → decode file ≡ d → Fits (tallied (countOn d))
+      go : (d : Decoded) → decode file ≡ d → Fits (countReply (countOn d))
       go (accepted p) e = omega arith
       go (refused n k) e = refusal-fits file n k e
 
   -- THE CALLS BY ROWS: their number fits where the output is shorter than 26 times 2^48 bytes, more than addresses of 48 bits can name
-  pub rows-fit : (o : Option Schedule) (out : List ℕ) → length out < 26 * 2 ^ 48 → Fits (rowed (rowsSaid (decode file) o out))
-  unfolding rowsSaid rowed fitting
+  pub rows-fit : (o : Option Schedule) (out : List ℕ) → length out < 26 * 2 ^ 48 → Fits (rowsReply (rowsAnswerOf (decode file) o out))
+  unfolding rowsAnswerOf rowsReply fitting
   rows-fit o out h = go (decode file) refl
     where
-      go : (d : Decoded) → decode file ≡ d → Fits (rowed (rowsSaid d o out))
+      go : (d : Decoded) → decode file ≡ d → Fits (rowsReply (rowsAnswerOf d o out))
       go (accepted p) e = omega (arith, length-take (length out / 26) (after o (listOf p)))
       go (refused n k) e = refusal-fits file n k e

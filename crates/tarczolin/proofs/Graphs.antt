@@ -4,17 +4,17 @@ use native.Mathlib.Omega.{arith}
 use mathlib.Core.Path.{_≡_, ap}
 use lib.ListN.{length}
 use Rattle.replay.specs.declared.graph_call.GraphAnswer.the-variants.{Written, Refused}
-use Rattle.sc.specs.GraphCall.{GraphSaid, texted, refusing}
-use Rattle.replay.specs.GraphWord.{saidOf}
+use Rattle.sc.specs.GraphCall.{GraphResult, texted, refusing}
+use Rattle.replay.specs.GraphWord.{graphAnswerOf}
 use Rattle.tarczolin.specs.Word as word
-use Rattle.tarczolin.specs.Graphed.{graphed}
+use Rattle.tarczolin.specs.Graphed.{graphReply}
 
-pub graphed-written : (g : GraphSaid) (n : ℕ) → saidOf g ≡ Written n → graphed g ≡ word.answered n
-unfolding saidOf graphed
+pub graphed-written : (g : GraphResult) (n : ℕ) → graphAnswerOf g ≡ Written n → graphReply g ≡ word.answered n
+unfolding graphAnswerOf graphReply
 graphed-written (texted t) n e = let q : length t ≡ n = cc in ap word.answered q
 graphed-written (refusing k m) n e = let z : _≡_ {A = ℕ} 0 1 = cc in absurd (omega arith)
 
-pub graphed-refused : (g : GraphSaid) (n k : ℕ) → saidOf g ≡ Refused n k → graphed g ≡ word.refused n k
-unfolding saidOf graphed
+pub graphed-refused : (g : GraphResult) (n k : ℕ) → graphAnswerOf g ≡ Refused n k → graphReply g ≡ word.refused n k
+unfolding graphAnswerOf graphReply
 graphed-refused (texted t) n k e = let z : _≡_ {A = ℕ} 0 1 = cc in absurd (omega arith)
 graphed-refused (refusing i j) n k e = cc

@@ -9,14 +9,14 @@ use Rattle.lines.proofs.Over.{take-over, drop-over, length-over}
 use Rattle.schedules.specs.Order.{Schedule}
 use Rattle.schedules.specs.Calls.{Answer, found, nomore}
 use Rattle.schedules.specs.Calls as Calls
-use Rattle.sc.specs.GraphCall.{GraphSaid, texted, refusing, graphFile, graphOutput}
+use Rattle.sc.specs.GraphCall.{GraphResult, texted, refusing, graphFile, graphOutput}
 use Rattle.list.specs.Answers.{Violation, fails-first, none-fails, refused-by}
 use Rattle.listing.specs.OnFile.{startFile, continueFile, violationFile}
 use Rattle.listing.specs.Demand3.{InFront}
 use Rattle.listing.proofs.Standing.{start-stands, continue-stands, violation-stands}
 use Rattle.tarczolin.specs.Word.{answered, wordOf, kindIn, restIn}
-use Rattle.tarczolin.specs.Graphed.{graphed}
-use Rattle.tarczolin.specs.Listed.{listed, violated}
+use Rattle.tarczolin.specs.Graphed.{graphReply}
+use Rattle.tarczolin.specs.Listed.{listed, violationReply}
 use Rattle.tarczolin.proofs.Words.{kind-one}
 use Rattle.tarczolin.proofs.Fitting.{GraphWithin, graph-within, graph-fits, start-fits, continue-fits, violation-fits}
 
@@ -30,8 +30,8 @@ listed-found (found s) n e = (s, refl, cc)
 listed-found nomore n e = absurd (let z : _≡_ {A = ℕ} 0 1 = cc in omega arith)
 listed-found (Calls.refused i k) n e = absurd (let z : _≡_ {A = ℕ} 0 1 = cc in omega arith)
 
-violated-first : (v : Violation) (n : ℕ) → violated v ≡ answered n → (s : Schedule) × (v ≡ fails-first s) × (length s ≡ n)
-unfolding violated
+violated-first : (v : Violation) (n : ℕ) → violationReply v ≡ answered n → (s : Schedule) × (v ≡ fails-first s) × (length s ≡ n)
+unfolding violationReply
 violated-first (fails-first s) n e = (s, refl, cc)
 violated-first none-fails n e = absurd (let z : _≡_ {A = ℕ} 0 1 = cc in omega arith)
 violated-first (refused-by i k) n e = absurd (let z : _≡_ {A = ℕ} 0 1 = cc in omega arith)
@@ -53,19 +53,19 @@ module _ (file out : List ℕ) where
       (f .0, f .1, f .2, continue-stands file out (f .0) r (f .1))
 
   -- VIOLATION
-  pub violation-in-output : Stands (wordOf (violated (violationFile file out .0))) out (violationFile file out .1) (λ s. violationFile file out .0 ≡ fails-first s)
+  pub violation-in-output : Stands (wordOf (violationReply (violationFile file out .0))) out (violationFile file out .1) (λ s. violationFile file out .0 ≡ fails-first s)
   violation-in-output e =
-      let k = kind-one (violated (violationFile file out .0)) (violation-fits file out) e in
+      let k = kind-one (violationReply (violationFile file out .0)) (violation-fits file out) e in
       let f = violated-first (violationFile file out .0) _ k in
       (f .0, f .1, f .2, violation-stands file out (f .0) (f .1))
 
   -- THE GRAPH CALL: the text
   pub graph-in-output : (r : Schedule) →
-      Stands (wordOf (graphed (graphFile file r (length out)))) out (graphOutput (graphFile file r (length out)) out) (λ t. graphFile file r (length out) ≡ texted t)
-  unfolding graphed graphOutput
+      Stands (wordOf (graphReply (graphFile file r (length out)))) out (graphOutput (graphFile file r (length out)) out) (λ t. graphFile file r (length out) ≡ texted t)
+  unfolding graphReply graphOutput
   graph-in-output r e =
-      go (graphFile file r (length out)) _ (graph-within file r (length out)) (kind-one (graphed (graphFile file r (length out))) (graph-fits file r (length out)) e)
+      go (graphFile file r (length out)) _ (graph-within file r (length out)) (kind-one (graphReply (graphFile file r (length out))) (graph-fits file r (length out)) e)
     where
-      go : (g : GraphSaid) (n : ℕ) → GraphWithin (length out) g → graphed g ≡ answered n → (t : List ℕ) × (g ≡ texted t) × (length t ≡ n) × InFront t out (graphOutput g out)
+      go : (g : GraphResult) (n : ℕ) → GraphWithin (length out) g → graphReply g ≡ answered n → (t : List ℕ) × (g ≡ texted t) × (length t ≡ n) × InFront t out (graphOutput g out)
       go (texted t) n h q = (t, refl, cc, (take-over t out, drop-over t out, length-over t out (omega arith)))
       go (refusing i k) n h q = absurd (let z : _≡_ {A = ℕ} 0 1 = cc in omega arith)

@@ -5,7 +5,7 @@ pub mod Graphs
 -- What the judge's answer says.
 pub mod Judgements
 -- What the listing's answers say.
-pub mod Told
+pub mod ReplyOf
 -- What the listing's answer to count says.
 pub mod Tallies
 -- A word is read back as what was said.

@@ -2,6 +2,6 @@
 use Rattle.program.specs.Decode.{Decoded, accepted, refused}
 use Rattle.tarczolin.specs.Word as word
 
-unfoldable pub checked : Decoded → word.Said
-checked (accepted p) = word.answered 0
-checked (refused k n) = word.refused k n
+unfoldable pub checkReply : Decoded → word.Reply
+checkReply (accepted p) = word.answered 0
+checkReply (refused k n) = word.refused k n

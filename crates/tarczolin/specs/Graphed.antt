@@ -1,8 +1,8 @@
 -- What the graph call says: answered, with the text's length, or the refusal.
 use lib.ListN.{length}
-use Rattle.sc.specs.GraphCall.{GraphSaid, texted, refusing}
+use Rattle.sc.specs.GraphCall.{GraphResult, texted, refusing}
 use Rattle.tarczolin.specs.Word as word
 
-unfoldable pub graphed : GraphSaid → word.Said
-graphed (texted t) = word.answered (length t)
-graphed (refusing n k) = word.refused n k
+unfoldable pub graphReply : GraphResult → word.Reply
+graphReply (texted t) = word.answered (length t)
+graphReply (refusing n k) = word.refused n k

@@ -3,7 +3,7 @@ use lib.ListN.{length}
 use Rattle.consistent.specs.Answer.{Answer, consistent, inconsistent, refusing}
 use Rattle.tarczolin.specs.Word as word
 
-unfoldable pub judged : Answer → word.Said
+unfoldable pub judged : Answer → word.Reply
 judged (consistent s) = word.answered (length s)
 judged inconsistent = word.nothing
 judged (refusing n k) = word.refused n k

@@ -12,4 +12,4 @@ pub mod Listed
 -- what count says
 pub mod Tallied
 -- what the calls by rows say
-pub mod Rowed
+pub mod ByRows

@@ -7,19 +7,19 @@ use Rattle.list.specs.Answers.{Violation, fails-first, none-fails, refused-by}
 use Rattle.tarczolin.specs.Word as word
 
 -- start and continue
-unfoldable pub listed : Answer → word.Said
+unfoldable pub listed : Answer → word.Reply
 listed (found s) = word.answered (length s)
 listed nomore = word.nothing
 listed (refused n k) = word.refused n k
 
 -- violation
-unfoldable pub violated : Violation → word.Said
-violated (fails-first s) = word.answered (length s)
-violated none-fails = word.nothing
-violated (refused-by n k) = word.refused n k
+unfoldable pub violationReply : Violation → word.Reply
+violationReply (fails-first s) = word.answered (length s)
+violationReply none-fails = word.nothing
+violationReply (refused-by n k) = word.refused n k
 
 -- by the answer as the code gives it
-unfoldable pub toldOf : ListAnswer → word.Said
-toldOf (Found n) = word.answered n
-toldOf NoMore = word.nothing
-toldOf (Refused n k) = word.refused n k
+unfoldable pub replyOf : ListAnswer → word.Reply
+replyOf (Found n) = word.answered n
+replyOf NoMore = word.nothing
+replyOf (Refused n k) = word.refused n k

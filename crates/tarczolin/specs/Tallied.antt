@@ -3,9 +3,9 @@ use Prim.Native.Nat.{ℕ}
 use Rattle.listing.specs.OnFile.{Count, counted, refused-count}
 use Rattle.tarczolin.specs.Word as word
 
-unfoldable pub tallied : Count → word.Said
-tallied (counted c) = word.answered 0
-tallied (refused-count n k) = word.refused n k
+unfoldable pub countReply : Count → word.Reply
+countReply (counted c) = word.answered 0
+countReply (refused-count n k) = word.refused n k
 
 -- the first word: how many are listed; a refusal leaves it as it was
 unfoldable pub listedLater : Count → ℕ → ℕ

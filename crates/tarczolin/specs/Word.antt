@@ -1,23 +1,23 @@
--- What a call says, and the word of 64 bits in which it says it: bits 56 to 63 the kind, bits 48 to 55 a refusal's number, else 0,
--- bits 0 to 47 an answer's length in bytes, 0 where there is none, of rows their number, or a refusal's place. What the calls say fits these
--- bits, so that nothing is lost: of rows where the output is shorter than 26 * 2^48 bytes, of all else whatever is lent.
+-- What a call says, and the word of 64 bits in which it says it: bits 56 to 63 the kind, bits 48 to 55 a refusal's number, else 0, bits 0
+-- to 47 an answer's length in bytes, 0 where there is none, of rows their number, or a refusal's place. What the calls say fits these bits,
+-- so that nothing is lost: of rows where the output is shorter than 26 * 2^48 bytes, of all else whatever is lent.
 use Prim.Native.Nat.{ℕ, _+_, _*_, _/_, _%_, _^_, _<_}
 use mathlib.Core.Bool.{cond}
 use lib.Dec.{eqb}
 
 -- kind 1: answered, with so many bytes; kind 2: no more, none or no; kind 3: refused by a number at a place
-pub data Said : Type 0 where
-  answered : ℕ → Said
-  nothing : Said
-  refused : ℕ → ℕ → Said
+pub data Reply : Type 0 where
+  answered : ℕ → Reply
+  nothing : Reply
+  refused : ℕ → ℕ → Reply
 
-unfoldable pub wordOf : Said → ℕ
+unfoldable pub wordOf : Reply → ℕ
 wordOf (answered n) = 2 ^ 56 + n % 2 ^ 48
 wordOf nothing = 2 * 2 ^ 56
 wordOf (refused k n) = 3 * 2 ^ 56 + k * 2 ^ 48 + n % 2 ^ 48
 
 -- it fits: a length and a place have 48 bits, a number has eight
-abbrev pub Fits : Said → Type 0
+abbrev pub Fits : Reply → Type 0
 Fits (answered n) = n < 2 ^ 48
 Fits nothing = Unit {0}
 Fits (refused k n) = (k < 256) × (n < 2 ^ 48)
@@ -33,5 +33,5 @@ unfoldable pub restIn : ℕ → ℕ
 restIn w = w % 2 ^ 48
 
 -- what a call said, by those three
-unfoldable pub readIn : ℕ → Said
+unfoldable pub readIn : ℕ → Reply
 readIn w = cond (eqb (kindIn w) 1) (answered (restIn w)) (cond (eqb (kindIn w) 2) nothing (refused (numberIn w) (restIn w)))

@@ -5,13 +5,13 @@ use listing::RowsAnswer;
 ghost use mathlib.Core.Path.{_≡_};
 ghost use mathlib.Core.Option.{none, some};
 ghost use Rattle.program.specs.Decode.{decode};
-ghost use Rattle.listing.specs.RowsCall.{rowsSaid, rowsOutput};
+ghost use Rattle.listing.specs.RowsCall.{rowsAnswerOf, rowsOutput};
 ghost use Rattle.tarczolin.specs.Word.{wordOf};
-ghost use Rattle.tarczolin.specs.Rowed.{rowed};
+ghost use Rattle.tarczolin.specs.ByRows.{rowsReply};
 
 // The word of an answer.
-fn rows_told(a: RowsAnswer) -> u64
-    ensures { λ w. ⌜ w ≡ wordOf (rowed a) ⌝ }
+fn rows_word(a: RowsAnswer) -> u64
+    ensures { λ w. ⌜ w ≡ wordOf (rowsReply a) ⌝ }
 {
     match a {
         RowsAnswer::Written(n) => answered(n),
@@ -19,20 +19,22 @@ fn rows_told(a: RowsAnswer) -> u64
     }
 }
 
-// Kind 1 with the number of rows, which stand in front of `out`: the first listed schedules, as many as have room; kind 3 with number and place.
+// Kind 1 with the number of rows, which stand in front of `out`: the first listed schedules, as many as have room; kind 3 with number and
+// place.
 #[no_mangle]
 pub extern "C" fn tarczolin_rows(file: &[u8], out: &mut [u8]) -> u64
-    ensures answer { λ w. ⌜ w ≡ wordOf (rowed (rowsSaid (decode (now (file .entry))) none (now (out .entry)))) ⌝ }
+    ensures answer { λ w. ⌜ w ≡ wordOf (rowsReply (rowsAnswerOf (decode (now (file .entry))) none (now (out .entry)))) ⌝ }
     ensures output { λ w. ⌜ now (out .exit) ≡ rowsOutput (decode (now (file .entry))) none (now (out .entry)) ⌝ }
 {
-    rows_told(listing::first_rows(file, out))
+    rows_word(listing::first_rows(file, out))
 }
 
 // The same for the listed schedules after a given one, which need not be listed nor full.
 #[no_mangle]
 pub extern "C" fn tarczolin_rows_after(file: &[u8], schedule: &[u8], out: &mut [u8]) -> u64
-    ensures answer { λ w. ⌜ w ≡ wordOf (rowed (rowsSaid (decode (now (file .entry))) (some (now (schedule .entry))) (now (out .entry)))) ⌝ }
+    ensures answer { λ w. ⌜ w ≡ wordOf (rowsReply (rowsAnswerOf (decode (now (file .entry))) (some (now (schedule .entry)))
+        (now (out .entry)))) ⌝ }
     ensures output { λ w. ⌜ now (out .exit) ≡ rowsOutput (decode (now (file .entry))) (some (now (schedule .entry))) (now (out .entry)) ⌝ }
 {
-    rows_told(listing::next_rows(file, schedule, out))
+    rows_word(listing::next_rows(file, schedule, out))
 }

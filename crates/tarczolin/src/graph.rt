@@ -6,13 +6,14 @@ ghost use mathlib.Core.Path.{_≡_};
 ghost use lib.ListN.{length};
 ghost use Rattle.sc.specs.GraphCall.{graphFile, graphOutput};
 ghost use Rattle.tarczolin.specs.Word.{wordOf};
-ghost use Rattle.tarczolin.specs.Graphed.{graphed};
+ghost use Rattle.tarczolin.specs.Graphed.{graphReply};
 
 // Kind 1 with the text's length, the text in front of `out`; kind 3 with number and place, and no byte of `out` changed.
 #[no_mangle]
 pub extern "C" fn tarczolin_graph(file: &[u8], schedule: &[u8], out: &mut [u8]) -> u64
-    ensures answer { λ w. ⌜ w ≡ wordOf (graphed (graphFile (now (file .entry)) (now (schedule .entry)) (length (now (out .entry))))) ⌝ }
-    ensures output { λ w. ⌜ now (out .exit) ≡ graphOutput (graphFile (now (file .entry)) (now (schedule .entry)) (length (now (out .entry)))) (now (out .entry)) ⌝ }
+    ensures answer { λ w. ⌜ w ≡ wordOf (graphReply (graphFile (now (file .entry)) (now (schedule .entry)) (length (now (out .entry))))) ⌝ }
+    ensures output { λ w. ⌜ now (out .exit) ≡ graphOutput (graphFile (now (file .entry)) (now (schedule .entry))
+        (length (now (out .entry)))) (now (out .entry)) ⌝ }
 {
     let a = replay::graph(file, schedule, out);
     match a {

@@ -9,7 +9,8 @@ ghost use Rattle.consistent.specs.Answer.{Answer, Judgement, outputAfter};
 ghost use Rattle.tarczolin.specs.Word.{wordOf};
 ghost use Rattle.tarczolin.specs.Judged.{judged};
 
-// Kind 1 for yes, with the least schedule in front of `out` and its length; kind 2 for no; kind 3 with number and place. Only a yes changes `out`.
+// Kind 1 for yes, with the least schedule in front of `out` and its length; kind 2 for no; kind 3 with number and place. Only a yes changes
+// `out`.
 #[no_mangle]
 pub extern "C" fn tarczolin_judge(file: &[u8], graph: &[u8], out: &mut [u8]) -> u64
     ensures { λ w. ⌜ ((a : Answer) × Judgement (now (file .entry)) (now (graph .entry)) (length (now (out .entry))) a

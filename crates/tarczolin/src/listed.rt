@@ -6,11 +6,11 @@ use listing::ListAnswer;
 ghost use mathlib.Core.Path.{_≡_};
 ghost use Rattle.listing.specs.OnFile.{startFile, continueFile, violationFile};
 ghost use Rattle.tarczolin.specs.Word.{wordOf};
-ghost use Rattle.tarczolin.specs.Listed.{listed, violated, toldOf};
+ghost use Rattle.tarczolin.specs.Listed.{listed, violationReply, replyOf};
 
 // The word of an answer.
-fn told(a: ListAnswer) -> u64
-    ensures { λ w. ⌜ w ≡ wordOf (toldOf a) ⌝ }
+fn word_of(a: ListAnswer) -> u64
+    ensures { λ w. ⌜ w ≡ wordOf (replyOf a) ⌝ }
 {
     match a {
         ListAnswer::Found(n) => answered(n),
@@ -25,7 +25,7 @@ pub extern "C" fn tarczolin_start(file: &[u8], out: &mut [u8]) -> u64
     ensures answer { λ w. ⌜ w ≡ wordOf (listed (startFile (now (file .entry)) (now (out .entry)) .0)) ⌝ }
     ensures output { λ w. ⌜ now (out .exit) ≡ startFile (now (file .entry)) (now (out .entry)) .1 ⌝ }
 {
-    told(listing::start(file, out))
+    word_of(listing::start(file, out))
 }
 
 // The same for the least listed schedule after a full one; kind 2 where there is no more.
@@ -34,14 +34,14 @@ pub extern "C" fn tarczolin_continue(file: &[u8], schedule: &[u8], out: &mut [u8
     ensures answer { λ w. ⌜ w ≡ wordOf (listed (continueFile (now (file .entry)) (now (schedule .entry)) (now (out .entry)) .0)) ⌝ }
     ensures output { λ w. ⌜ now (out .exit) ≡ continueFile (now (file .entry)) (now (schedule .entry)) (now (out .entry)) .1 ⌝ }
 {
-    told(listing::continue_from(file, schedule, out))
+    word_of(listing::continue_from(file, schedule, out))
 }
 
 // The same for the first listed schedule that fails; kind 2 where none does.
 #[no_mangle]
 pub extern "C" fn tarczolin_violation(file: &[u8], out: &mut [u8]) -> u64
-    ensures answer { λ w. ⌜ w ≡ wordOf (violated (violationFile (now (file .entry)) (now (out .entry)) .0)) ⌝ }
+    ensures answer { λ w. ⌜ w ≡ wordOf (violationReply (violationFile (now (file .entry)) (now (out .entry)) .0)) ⌝ }
     ensures output { λ w. ⌜ now (out .exit) ≡ violationFile (now (file .entry)) (now (out .entry)) .1 ⌝ }
 {
-    told(listing::violation(file, out))
+    word_of(listing::violation(file, out))
 }

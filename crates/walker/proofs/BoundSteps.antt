@@ -14,9 +14,9 @@ use Rattle.schedules.proofs.Found.{low-none, low-nil, low-cons, past-none, past
 use Rattle.walker.specs.Bounds.{boundAt}
 
 module _ (b : List ℕ) (k : ℕ) where
-  pub low-along : k < length b → low (boundAt true b k) ≡ getD b k 0
+  pub low-tight : k < length b → low (boundAt true b k) ≡ getD b k 0
   unfolding boundAt
-  low-along h = ap (λ (l : List ℕ). low (some l)) (drop-cons b k 0 h) ∙ low-cons (getD b k 0) (drop (suc k) b)
+  low-tight h = ap (λ (l : List ℕ). low (some l)) (drop-cons b k 0 h) ∙ low-cons (getD b k 0) (drop (suc k) b)
 
   pub low-end : length b ≤ k → low (boundAt true b k) ≡ 0
   unfolding boundAt
@@ -26,9 +26,9 @@ module _ (b : List ℕ) (k : ℕ) where
   unfolding boundAt
   low-apart = low-none
 
-  pub past-along : (t : ℕ) → k < length b → boundAt (eqb (getD b k 0) t) b (k + 1) ≡ past (boundAt true b k) t
+  pub past-tight : (t : ℕ) → k < length b → boundAt (eqb (getD b k 0) t) b (k + 1) ≡ past (boundAt true b k) t
   unfolding boundAt
-  past-along t h =
+  past-tight t h =
       let e : suc k ≡ k + 1 = omega arith in
       go (eqb (getD b k 0) t) refl ∙ sym (ap (λ (l : List ℕ). past (some l) t) (drop-cons b k 0 h ∙ ap (λ (j : ℕ). getD b k 0 ∷ drop j b) e))
     where

@@ -28,18 +28,18 @@ pub lines-known : (c : Compiled) (class : List ℕ) → ((t : ℕ) → t < 6 →
 lines-known c class known same = record { same = program-groups c ∙ sym same; known = known }
 
 -- from the start all is found that is listed behind the bound
-behind-none : (p : Program) (only : Bool) (o : Option Schedule) → WellFormed p → foundBehind only p 0 o [] ≡ after o (sought only p)
+behind-none : (p : Program) (failures : Bool) (o : Option Schedule) → WellFormed p → foundBehind failures p 0 o [] ≡ after o (sought failures p)
 unfolding found
-behind-none p only o w = found-exactly p w only o
+behind-none p failures o w = found-exactly p w failures o
 
 pub rooms : (n : ℕ) → (n / 26) * 26 ≤ n
 rooms n = omega arith
 
-pub walk-whole : (p : Program) (only along : Bool) (bound held out : List ℕ) (r : ℕ) → WellFormed p → (n : ℕ) → 0 ≡ n
-    → Adds p (length held / 26) (foundBehind only p n (boundAt along bound n) []) held 0 out r
-    → Shown p (take (length held / 26) (after (boundAt along bound 0) (sought only p))) held out r
+pub walk-whole : (p : Program) (failures tight : Bool) (bound held out : List ℕ) (r : ℕ) → WellFormed p → (n : ℕ) → 0 ≡ n
+    → Adds p (length held / 26) (foundBehind failures p n (boundAt tight bound n) []) held 0 out r
+    → Shown p (take (length held / 26) (after (boundAt tight bound 0) (sought failures p))) held out r
 unfolding rowsOf flatMap
-walk-whole p only along bound held out r w n e a =
+walk-whole p failures tight bound held out r w n e a =
     subst (λ (l : List Schedule). Shown p (take (length held / 26) l) held out r)
-    (ap (λ (k : ℕ). foundBehind only p k (boundAt along bound k) []) (sym e) ∙ behind-none p only (boundAt along bound 0) w)
+    (ap (λ (k : ℕ). foundBehind failures p k (boundAt tight bound k) []) (sym e) ∙ behind-none p failures (boundAt tight bound 0) w)
     (a .shown [] held (rooms (length held)) (omega arith) (record { counted = refl; text = sym (over-nil held) }))

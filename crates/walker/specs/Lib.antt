@@ -1,7 +1,11 @@
 -- What a reader of this crate must believe, in reading order.
 -- listed schedules as rows of bytes in a buffer; for the code
 pub mod Rows
+-- a cursor in the list, and pages of it
+pub mod Cursor
 -- a search's bound, step by step; for the code
 pub mod Bounds
+-- which next steps are tried; for the code
+pub mod Tried
 -- what the search adds to the rows in its output; for the code
 pub mod Walked

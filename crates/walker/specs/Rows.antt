@@ -1,5 +1,5 @@
--- Listed schedules in a lent buffer: a row of 26 bytes for each, one after the other. A row has the number of steps, 1 where the schedule fails
--- and 0 where it does not, and the steps, with zeros behind them up to 24.
+-- Listed schedules in a lent buffer: a row of 26 bytes for each, one after the other. A row has the number of steps, 1 where the schedule
+-- fails and 0 where it does not, and the steps, with zeros behind them up to 24.
 use Prim.Native.Nat.{ℕ}
 use mathlib.Core.Path.{_≡_}
 use mathlib.Core.Bool.{Bool, cond}

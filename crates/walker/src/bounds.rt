@@ -5,10 +5,10 @@ ghost use Rattle.schedules.specs.Search.{low, past};
 ghost use Rattle.walker.specs.Bounds.{boundAt};
 
 // The first thread to try behind k steps.
-pub(crate) fn first_thread(bound: &[u8], along: bool, k: usize) -> u8
-    ensures { λ r. ⌜ r ≡ low (boundAt along (now (bound .entry)) k) ⌝ }
+pub(crate) fn first_thread(bound: &[u8], tight: bool, k: usize) -> u8
+    ensures { λ r. ⌜ r ≡ low (boundAt tight (now (bound .entry)) k) ⌝ }
 {
-    if along {
+    if tight {
         if k < bound.len() {
             return bound[k];
         }
@@ -17,10 +17,10 @@ pub(crate) fn first_thread(bound: &[u8], along: bool, k: usize) -> u8
 }
 
 // Whether the steps are still the bound's own when t is the next behind k.
-pub(crate) fn stays_along(bound: &[u8], along: bool, k: usize, t: u8) -> bool
-    ensures { λ r. ⌜ boundAt r (now (bound .entry)) (k + 1) ≡ past (boundAt along (now (bound .entry)) k) t ⌝ }
+pub(crate) fn stays_tight(bound: &[u8], tight: bool, k: usize, t: u8) -> bool
+    ensures { λ r. ⌜ boundAt r (now (bound .entry)) (k + 1) ≡ past (boundAt tight (now (bound .entry)) k) t ⌝ }
 {
-    if along {
+    if tight {
         if k < bound.len() {
             return bound[k] == t;
         }

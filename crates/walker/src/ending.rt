@@ -1,7 +1,8 @@
 // What the search does at a full schedule.
 use crate::aim::Aim;
+use crate::putting::ROW;
 use crate::putting::put_row;
-use machine::fails;
+use accesses::ThreadState;
 use prefix::Place;
 ghost use mathlib.Core.Path.{_≡_};
 ghost use mathlib.Core.Bool.{true, not, _||_};
@@ -12,20 +13,37 @@ ghost use lib.ListN.{length};
 ghost use Rattle.program.specs.Program.{Program};
 ghost use Rattle.schedules.specs.Order.{Schedule};
 ghost use Rattle.schedules.specs.System.{ended};
-ghost use Rattle.sc.specs.State.{SC};
+ghost use Rattle.sc.specs.State.{State, SC, fails};
 ghost use Rattle.sc.specs.Graph.{endOf};
+ghost use Rattle.machine.specs.Held.{Holds};
+ghost use Rattle.machine.specs.declared.state.Machine.{Machine};
 ghost use Rattle.survivors.specs.Search.{foundBehind};
 ghost use Rattle.prefix.specs.Reached.{Reached};
 ghost use Rattle.walker.specs.Walked.{Adds};
 
 // Whether a schedule that fails or not is looked for.
-fn is_meant(only: bool, f: bool) -> bool
-    ensures { λ r. ⌜ r ≡ (not only || f) ⌝ }
+fn is_meant(failures: bool, f: bool) -> bool
+    ensures { λ r. ⌜ r ≡ (not failures || f) ⌝ }
 {
-    if only {
+    if failures {
         return f;
     }
     true
+}
+
+// Whether an assertion of one of these threads failed.
+fn some_failed(threads: [ThreadState; 6]) -> bool
+    ensures { λ r. ⌜ ((code lengths : List ℕ) (m : Machine) (σ : State) → m .threads ≡ threads → Holds code lengths m σ → r ≡ fails σ) ⌝ }
+{
+    let mut t = 0;
+    while t < 6 {
+        let thread = threads[t];
+        if thread.failed {
+            return true;
+        }
+        t += 1;
+    }
+    false
 }
 
 // Adds its row, if it is looked for and there is room; answers how many rows there are.
@@ -34,17 +52,18 @@ pub(crate) fn at_end(x: Place, a: Aim, out: &mut [u8]) -> usize
     ensures within { λ r. ⌜ r ≤ a .room ⌝ }
     ensures added { λ r. ⌜ ((code lengths class : List ℕ) (threads groups : ℕ) (p : Program) (v : Schedule)
         → Reached code lengths class threads groups x p v → ended SC (endOf p v) ≡ true
-        → Adds p (a .room) (foundBehind (a .only) p (x .steps) none v) (now (out .entry)) (a .rows) (now (out .exit)) r) ⌝ }
+        → Adds p (a .room) (foundBehind (a .failures) p (x .steps) none v) (now (out .entry)) (a .rows) (now (out .exit)) r) ⌝ }
 {
     let rows = a.rows;
     if a.room <= rows {
         return rows;
     }
-    let f = fails(x.machine);
-    if !is_meant(a.only, f) {
+    let threads = x.threads;
+    let f = some_failed(threads);
+    if !is_meant(a.failures, f) {
         return rows;
     }
     let schedule = x.schedule;
-    put_row(&mut out[rows * 26..], schedule, x.steps, f);
+    put_row(&mut out[rows * ROW..], schedule, x.steps, f);
     rows + 1
 }

@@ -1,4 +1,4 @@
-// The search: the listed schedules behind a bound, as rows.
+// The search, and the list by pages.
 
 // What a search is asked for.
 mod aim;
@@ -12,6 +12,17 @@ mod ending;
 mod walking;
 // The listed schedules behind a bound, as rows.
 mod listed;
+// A place in the list.
+mod cursor;
+// The list by pages.
+mod paging;
 
 pub use aim::Aim;
-pub use listed::listed_rows;
+pub use cursor::Cursor;
+pub use cursor::Position;
+pub use cursor::beginning;
+pub use cursor::behind;
+pub use cursor::is_end;
+pub use paging::Page;
+pub use paging::next_page;
+pub use putting::ROW;

@@ -1,5 +1,6 @@
 // The listed schedules of a decoded program behind a bound, as rows in a lent buffer.
 use crate::aim::Aim;
+use crate::putting::ROW;
 use crate::walking::walk;
 use decoder::Compiled;
 use prefix::begun;
@@ -14,18 +15,18 @@ ghost use Rattle.list.specs.Search.{sought};
 ghost use Rattle.walker.specs.Bounds.{boundAt};
 ghost use Rattle.walker.specs.Rows.{Shown};
 
-// Writes the rows of the listed schedules (of those that fail, if only these are wanted) behind the bound, or from the first one on, as many as
-// the output has room for; answers how many.
-pub fn listed_rows(
+// Writes the rows of the listed schedules (of those that fail, if only these are wanted) behind the bound, or from the first one on, as
+// many as the output has room for; answers how many.
+pub(crate) fn listed_rows(
     program: Compiled,
-    only: bool,
+    failures: bool,
     bound: &[u8],
-    along: bool,
+    tight: bool,
     out: &mut [u8],
 ) -> usize
     requires { ⌜ WellFormed (programOf program) ⌝ }
     ensures { λ r. ⌜ Shown (programOf program)
-        (take (length (now (out .entry)) / 26) (after (boundAt along (now (bound .entry)) 0) (sought only (programOf program))))
+        (take (length (now (out .entry)) / 26) (after (boundAt tight (now (bound .entry)) 0) (sought failures (programOf program))))
         (now (out .entry)) (now (out .exit)) r ⌝ }
 {
     let code = program.code;
@@ -35,9 +36,9 @@ pub fn listed_rows(
     let left = left_sets(&code, &lengths);
     let x = begun(&code, &lengths, program.threads);
     let a = Aim {
-        only: only,
-        along: along,
-        room: out.len() / 26,
+        failures: failures,
+        tight: tight,
+        room: out.len() / ROW,
         rows: 0,
     };
     walk(&code, &lengths, &class, &left, x, bound, a, out)

@@ -1,15 +1,18 @@
 // The search: depth first, threads ascending, from a prefix of a run.
 use crate::aim::Aim;
 use crate::bounds::first_thread;
-use crate::bounds::stays_along;
+use crate::bounds::stays_tight;
 use crate::ending::at_end;
-use machine::ended_all;
-use machine::may;
 use prefix::Place;
 use prefix::advanced;
-use prefix::is_late;
+use prefix::is_in;
+use program::STEPS;
+use rows::Code;
 use rules::has_smaller_twin;
 use rules::some_asleep;
+ghost use mathlib.Core.Path.{_≡_};
+ghost use mathlib.Core.Bool.{true};
+ghost use mathlib.Core.List.{List};
 ghost use Prim.Native.Nat.{ℕ, _*_, _<_, _≤_};
 ghost use lib.ListN.{length};
 ghost use Rattle.program.specs.Program.{Program};
@@ -18,11 +21,28 @@ ghost use Rattle.survivors.specs.Search.{foundBehind, foundWith};
 ghost use Rattle.prefix.specs.Reached.{Reached};
 ghost use Rattle.rules.specs.Left.{Left};
 ghost use Rattle.walker.specs.Bounds.{boundAt};
+ghost use Rattle.walker.specs.Tried.{tried};
 ghost use Rattle.walker.specs.Walked.{Adds};
 
-// Adds what is found with t as the next step, unless t has ended or a rule gives that step up.
+// Whether t is tried: it has not ended, is not late, and has no smaller twin.
+fn is_tried(class: &[usize; 6], words: &[u64; 6], live: u8, late: u8, t: u8) -> bool
+    requires { ⌜ t < 6 ⌝ }
+    ensures { λ r. ⌜ ((code lengths : List ℕ) (threads groups : ℕ) (x : Place) (p : Program) (v : Schedule)
+        → Reached code lengths (now (class .entry)) threads groups x p v → x .words ≡ now (words .entry) → x .live ≡ live → x .late ≡ late
+        → r ≡ tried p v t) ⌝ }
+{
+    if !is_in(live, t) {
+        return false;
+    }
+    if is_in(late, t) {
+        return false;
+    }
+    !has_smaller_twin(class, words, t)
+}
+
+// Adds what is found with t, which is tried, as the next step, unless that leaves some asleep for good.
 fn visit(
-    code: &[u8; 1536],
+    code: &Code,
     lengths: &[usize; 6],
     class: &[usize; 6],
     left: &[u8; 192],
@@ -34,29 +54,22 @@ fn visit(
 ) -> usize
     requires { ⌜ ((threads : ℕ) × (groups : ℕ) × (p : Program) × (v : Schedule)
         × Reached (now code) (now lengths) (now class) threads groups x p v)
-        × Left (now code) (now lengths) (now left) × (a .rows ≤ a .room) × (a .room * 26 ≤ length (now out)) × (t < 6) ⌝ }
+        × Left (now code) (now lengths) (now left) × (a .rows ≤ a .room) × (a .room * 26 ≤ length (now out))
+        × ((threads groups : ℕ) (p : Program) (v : Schedule) → Reached (now code) (now lengths) (now class) threads groups x p v
+        → tried p v t ≡ true) ⌝ }
     ensures within { λ r. ⌜ r ≤ a .room ⌝ }
     ensures added { λ r. ⌜ ((threads groups : ℕ) (p : Program) (v : Schedule)
         → Reached (now (code .entry)) (now (lengths .entry)) (now (class .entry)) threads groups x p v
-        → Adds p (a .room) (foundWith (a .only) p (x .steps) (boundAt (a .along) (now (bound .entry)) (x .steps)) v t)
+        → Adds p (a .room) (foundWith (a .failures) p (x .steps) (boundAt (a .tight) (now (bound .entry)) (x .steps)) v t)
         (now (out .entry)) (a .rows) (now (out .exit)) r) ⌝ }
 {
-    if !may(lengths, x.machine, t) {
-        return a.rows;
-    }
-    if is_late(x.late, t) {
-        return a.rows;
-    }
-    if has_smaller_twin(class, x, t) {
-        return a.rows;
-    }
     let next = advanced(code, lengths, x, t);
     if some_asleep(code, lengths, left, next) {
         return a.rows;
     }
     let b = Aim {
-        only: a.only,
-        along: stays_along(bound, a.along, x.steps, t),
+        failures: a.failures,
+        tight: stays_tight(bound, a.tight, x.steps, t),
         room: a.room,
         rows: a.rows,
     };
@@ -65,7 +78,7 @@ fn visit(
 
 // Adds all that is found behind the steps taken.
 pub(crate) fn walk(
-    code: &[u8; 1536],
+    code: &Code,
     lengths: &[usize; 6],
     class: &[usize; 6],
     left: &[u8; 192],
@@ -80,31 +93,33 @@ pub(crate) fn walk(
     ensures within { λ r. ⌜ r ≤ a .room ⌝ }
     ensures added { λ r. ⌜ ((threads groups : ℕ) (p : Program) (v : Schedule)
         → Reached (now (code .entry)) (now (lengths .entry)) (now (class .entry)) threads groups x p v
-        → Adds p (a .room) (foundBehind (a .only) p (x .steps) (boundAt (a .along) (now (bound .entry)) (x .steps)) v)
+        → Adds p (a .room) (foundBehind (a .failures) p (x .steps) (boundAt (a .tight) (now (bound .entry)) (x .steps)) v)
         (now (out .entry)) (a .rows) (now (out .exit)) r) ⌝ }
 {
-    if ended_all(lengths, x.machine) {
-        if a.along {
+    if x.live == 0 {
+        if a.tight {
             return a.rows;
         }
         return at_end(x, a, out);
     }
-    if 24 <= x.steps {
+    if STEPS <= x.steps {
         return a.rows;
     }
     let mut n = a.rows;
-    let mut t = first_thread(bound, a.along, x.steps);
+    let mut t = first_thread(bound, a.tight, x.steps);
     while t < 6 {
         if a.room <= n {
             return n;
         }
-        let b = Aim {
-            only: a.only,
-            along: a.along,
-            room: a.room,
-            rows: n,
-        };
-        n = visit(code, lengths, class, left, x, bound, b, out, t);
+        if is_tried(class, &x.words, x.live, x.late, t) {
+            let b = Aim {
+                failures: a.failures,
+                tight: a.tight,
+                room: a.room,
+                rows: n,
+            };
+            n = visit(code, lengths, class, left, x, bound, b, out, t);
+        }
         t += 1;
     }
     n

@@ -3,7 +3,7 @@ use borrow.Author.Needs.{needs}
 use mathlib.Core.Path.{sym, subst}
 use lib.Seq.{length-take-le}
 use Rattle.explorer.specs.declared.Input.{Input}
-use Rattle.explorer.specs.Pieces.{Within}
+use Rattle.explorer.specs.Reading.{Within}
 use Rattle.explorer.proofs.main.Statement.{statement}
 use Rattle.explorer.proofs.main.Tie as tie
 

@@ -8,12 +8,12 @@ use native.Mathlib.Omega.{arith}
 use lib.ListN.{length, take, length-append}
 use lib.Seq.{length-take-le}
 use Rattle.listing.specs.Printed.{printed}
-use Rattle.explorer.specs.Pieces.{rest, Sound}
+use Rattle.printing.specs.Pieces.{rest, Sound}
 use Rattle.explorer.proofs.print.Statement.{statement}
 use Rattle.explorer.proofs.print.Tie as tie
 
 abbrev Inv-loop : tie.InvT-loop
-Inv-loop file listing₀ out₀ t6 listing out = Sound listing × (length out ≡ 13568) × ((t : List ℕ) × (t ++ rest listing ≡ printed file))
+Inv-loop file listing₀ out₀ t6 listing out = Sound listing × (length out ≡ 13603) × ((t : List ℕ) × (t ++ rest listing ≡ printed file))
 
 abbrev μ-loop : tie.MeasureT-loop
 μ-loop file listing₀ out₀ t6 listing out = length (rest listing)
@@ -27,7 +27,7 @@ slice-aggregate-next c = sym (c .before .loop .inv .1)
 next-requires : tie.Need-next-requires Inv-loop μ-loop
 next-requires c κs =
     let loop = c .before .loop in
-    let n : 13568 ≤ length (loop .out) = omega (arith, loop .inv .1) in (loop .inv .0, n)
+    let n : 13603 ≤ length (loop .out) = omega (arith, loop .inv .1) in (loop .inv .0, n)
 
 -- the piece lies within the buffer
 piece : (c : tie.After-next Inv-loop μ-loop) → c .next .result .length ≤ length (c .next .last .1 .0)

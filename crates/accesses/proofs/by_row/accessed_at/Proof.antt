@@ -3,22 +3,26 @@ use borrow.Author.Needs.{needs}
 use mathlib.Core.Path.{_∙_}
 use borrow.Author.Tests.{eq-eqb, ne-eqb}
 use Rattle.rows.proofs.Rows.{row-store, row-load, row-fetch-add, row-compare-swap}
-use Rattle.sc.specs.Local.{sum32}
+use Rattle.sc.specs.Local.{sum32, accessPlace, accessTakes, accessPuts, accessSets}
+use Rattle.sc.specs.Actions.{given}
 use Rattle.accesses.proofs.HeldRows.{access-none}
 use Rattle.accesses.proofs.by_row.accessed_at.Statement.{statement}
 use Rattle.accesses.proofs.by_row.accessed_at.Tie as tie
 
 returns : tie.Need-returns
+unfolding accessPlace accessTakes accessPuts accessSets given
 returns c = rw (row-store (c .before .before .before .before .before .before .args .code .now) (c .before .before .before .before .before .before .args .row) (c .before .before .before .before .before .before .pre) (c .before .before .before .if1 .taken), c .done .ensures, c .before .value .ensures, c .before .before .operand-at .ensures)
 
 returns-2 : tie.Need-returns-2
-returns-2 c = rw (row-load (c .before .before .before .before .before .before .before .before .before .args .code .now) (c .before .before .before .before .before .before .before .before .before .args .row) (c .before .before .before .before .before .before .before .before .before .pre) (c .before .if2 .taken), c .done2 .ensures, c .before .before .with-register .ensures, c .before .before .before .wide .ensures, c .before .before .before .before .found .ensures)
+unfolding accessPlace accessTakes accessPuts accessSets given
+returns-2 c = rw (row-load (c .before .before .before .before .before .before .before .before .before .args .code .now) (c .before .before .before .before .before .before .before .before .before .args .row) (c .before .before .before .before .before .before .before .before .before .pre) (c .before .if2 .taken), c .done2 .ensures, c .before .before .with-register .ensures, c .before .before .before .wide .ensures .0, c .before .before .before .before .found .ensures)
 
 returns-3 : tie.Need-returns-3
-unfolding sum32
-returns-3 c = rw (row-fetch-add (c .before .before .before .before .before .before .before .before .before .before .before .before .before .args .code .now) (c .before .before .before .before .before .before .before .before .before .before .before .before .before .args .row) (c .before .before .before .before .before .before .before .before .before .before .before .before .before .pre) (c .before .before .before .before .if3 .taken), c .done3 .ensures, c .before .wrapping-add-u32 .ensures, c .before .before .value2 .ensures, c .before .before .before .operand-at2 .ensures, c .before .before .before .before .before .before .with-register .ensures, c .before .before .before .before .before .before .before .wide .ensures, c .before .before .before .before .before .before .before .before .found .ensures)
+unfolding sum32 accessPlace accessTakes accessPuts accessSets given
+returns-3 c = rw (row-fetch-add (c .before .before .before .before .before .before .before .before .before .before .before .before .before .args .code .now) (c .before .before .before .before .before .before .before .before .before .before .before .before .before .args .row) (c .before .before .before .before .before .before .before .before .before .before .before .before .before .pre) (c .before .before .before .before .if3 .taken), c .done3 .ensures, c .before .wrapping-add-u32 .ensures, c .before .before .value2 .ensures, c .before .before .before .operand-at2 .ensures, c .before .before .before .before .before .before .with-register .ensures, c .before .before .before .before .before .before .before .wide .ensures .0, c .before .before .before .before .before .before .before .before .found .ensures)
 
 returns-4 : tie.Need-returns-4
+unfolding accessPlace accessTakes accessPuts accessSets given
 returns-4 c =
     let entry = c .before .before .before .before .before .before .before .before .before .before .before .before .before .before .before .before in
     let pre = entry .pre in
@@ -32,9 +36,10 @@ returns-4 c =
     let if5 = c .before .before .before .if5 in
     let operand-at4 = c .before .before .operand-at4 in
     let value4 = c .before .value4 in
-    rw (row-compare-swap (args .code .now) (args .row) (pre) (if4 .taken), c .done4 .ensures, value4 .ensures, operand-at4 .ensures, with-register .ensures, wide .ensures, found .ensures, eq-eqb _ _ (simp (value3 .ensures, operand-at3 .ensures, found .ensures) at (if5 .taken)))
+    rw (row-compare-swap (args .code .now) (args .row) (pre) (if4 .taken), c .done4 .ensures, value4 .ensures, operand-at4 .ensures, with-register .ensures, wide .ensures .0, found .ensures, eq-eqb _ _ (simp (value3 .ensures, operand-at3 .ensures, found .ensures) at (if5 .taken)))
 
 returns-5 : tie.Need-returns-5
+unfolding accessPlace accessTakes accessPuts accessSets given
 returns-5 c =
     let entry = c .before .before .before .before .before .before .before .before .before .before .before .before .before .before in
     let pre = entry .pre in
@@ -46,7 +51,7 @@ returns-5 c =
     let operand-at3 = c .before .before .before .operand-at3 in
     let value3 = c .before .before .value3 in
     let if5 = c .before .if5 in
-    rw (row-compare-swap (args .code .now) (args .row) (pre) (if4 .taken), c .done5 .ensures, with-register .ensures, wide .ensures, found .ensures, ne-eqb _ _ (simp (value3 .ensures, operand-at3 .ensures, found .ensures) at (if5 .left)))
+    rw (row-compare-swap (args .code .now) (args .row) (pre) (if4 .taken), c .done5 .ensures, with-register .ensures, wide .ensures .0, found .ensures, ne-eqb _ _ (simp (value3 .ensures, operand-at3 .ensures, found .ensures) at (if5 .left)))
 
 returns-6 : tie.Need-returns-6
 returns-6 c =

@@ -1,14 +1,23 @@
 -- The assertion holds or fails.
 use borrow.Author.Needs.{needs}
-use borrow.Author.Tests.{eq-eqb, ne-eqb}
+use mathlib.Core.Path.{sym, ap, _∙_}
+use mathlib.Core.Bool.{Bool, cond}
+use Rattle.sc.specs.Local.{continues, stops, outcome}
+use Rattle.accesses.specs.CarriedOut.{carried}
 use Rattle.accesses.proofs.by_row.asserted.Statement.{statement}
 use Rattle.accesses.proofs.by_row.asserted.Tie as tie
 
 returns : tie.Need-returns
-returns c = rw (eq-eqb _ _ (simp (c .before .before .value .ensures, c .before .before .before .register-at .ensures, c .before .before .before .before .wide .ensures) at (c .before .if1 .taken))) (c .passed .ensures)
+unfolding outcome
+returns c =
+    let args = c .before .before .args in
+    λ t e. c .passed .ensures ∙ ap (λ (b : Bool). carried (args .registers) (cond b (continues (args .registers) 0) stops)) (sym (c .before .if1 .taken) ∙ e)
 
 returns-2 : tie.Need-returns-2
-returns-2 c = rw (ne-eqb _ _ (simp (c .before .before .value .ensures, c .before .before .before .register-at .ensures, c .before .before .before .before .wide .ensures) at (c .before .if1 .left))) (c .failed .ensures)
+unfolding outcome
+returns-2 c =
+    let args = c .before .before .args in
+    λ t e. c .failed .ensures ∙ ap (λ (b : Bool). carried (args .registers) (cond b (continues (args .registers) 0) stops)) (sym (c .before .if1 .left) ∙ e)
 
 pub asserted-spec : {M : Type 1} → statement M
-asserted-spec = tie.close (tie.spec (λ c κs. search needs) (λ c κs. search needs) (λ c κs. search needs) (λ c κs. search needs) returns (λ c κs. search needs) returns-2)
+asserted-spec = tie.close (tie.spec (λ c κs. search needs) returns (λ c κs. search needs) returns-2)

@@ -1,10 +1,12 @@
 -- The operand's value stands in the register.
 use borrow.Author.Needs.{needs}
+use Rattle.sc.specs.Local.{outcome}
 use Rattle.accesses.proofs.by_row.assigned.Statement.{statement}
 use Rattle.accesses.proofs.by_row.assigned.Tie as tie
 
 returns : tie.Need-returns
-returns c = rw (c .passed .ensures, c .before .with-register .ensures, c .before .before .wide .ensures, c .before .before .before .value .ensures)
+unfolding outcome
+returns c = rw (c .passed .ensures, c .before .with-register .ensures, c .before .before .wide .ensures .0, c .before .before .before .value .ensures)
 
 pub assigned-spec : {M : Type 1} → statement M
 assigned-spec = tie.close (tie.spec (λ c κs. search needs) (λ c κs. search needs) (λ c κs. search needs) (λ c κs. search needs) returns)

@@ -1,14 +1,23 @@
 -- Skipped or not.
 use borrow.Author.Needs.{needs}
-use borrow.Author.Tests.{eq-eqb, ne-eqb}
+use mathlib.Core.Path.{sym, ap, _∙_}
+use mathlib.Core.Bool.{Bool, cond}
+use Rattle.sc.specs.Local.{outcome}
+use Rattle.accesses.specs.CarriedOut.{going}
 use Rattle.accesses.proofs.by_row.skipping.Statement.{statement}
 use Rattle.accesses.proofs.by_row.skipping.Tie as tie
 
 returns : tie.Need-returns
-returns c = rw (eq-eqb _ _ (simp (c .before .before .value .ensures, c .before .before .before .register-at .ensures, c .before .before .before .before .wide .ensures) at (c .before .if1 .taken))) (c .passed .ensures)
+unfolding outcome
+returns c =
+    let args = c .before .before .args in
+    λ t e. c .passed .ensures ∙ ap (λ (b : Bool). going (args .registers) (cond b 0 (args .n))) (sym (c .before .if1 .taken) ∙ e)
 
 returns-2 : tie.Need-returns-2
-returns-2 c = rw (ne-eqb _ _ (simp (c .before .before .value .ensures, c .before .before .before .register-at .ensures, c .before .before .before .before .wide .ensures) at (c .before .if1 .left))) (c .passed2 .ensures)
+unfolding outcome
+returns-2 c =
+    let args = c .before .before .args in
+    λ t e. c .passed2 .ensures ∙ ap (λ (b : Bool). going (args .registers) (cond b 0 (args .n))) (sym (c .before .if1 .left) ∙ e)
 
 pub skipping-spec : {M : Type 1} → statement M
-skipping-spec = tie.close (tie.spec (λ c κs. search needs) (λ c κs. search needs) (λ c κs. search needs) (λ c κs. search needs) returns (λ c κs. search needs) returns-2)
+skipping-spec = tie.close (tie.spec (λ c κs. search needs) returns (λ c κs. search needs) returns-2)

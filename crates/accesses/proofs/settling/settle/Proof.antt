@@ -1,12 +1,12 @@
 -- `settle` carries out one instruction after the other. The invariant: settling from where the thread stands gives what settling from the
 -- beginning gives.
 use borrow.Author.Needs.{needs}
-use Prim.Native.Nat.{_≤_, _-_, _+_, _*_}
-use mathlib.Core.Path.{_≡_, refl}
+use Prim.Native.Nat.{_≤_, _-_}
+use mathlib.Core.Path.{_≡_, refl, sym, _∙_}
 use lib.ListN.{drop}
-use Rattle.rows.specs.Rows.{instructionAt, threadCode}
+use Rattle.rows.specs.Rows.{threadCode}
 use Rattle.sc.specs.Local.{settle}
-use Rattle.accesses.proofs.HeldTurns.{loop-ends, loop-stands, loop-fails, loop-goes}
+use Rattle.accesses.proofs.HeldSettling.{loop-ends, loop-stands, loop-fails, loop-goes}
 use Rattle.accesses.proofs.settling.settle.Statement.{statement}
 use Rattle.accesses.proofs.settling.settle.Tie as tie
 
@@ -24,26 +24,28 @@ returns c =
     let args = c .before .before .before .before .args in
     let loop = c .before .before .before .loop in
     let loop-test = c .before .before .loop-test in
-    let turned = c .before .turned in
-    (loop-stands (args .code .now) (args .t) (args .n) _ (loop .i) (loop .rs) (args .done) (loop .inv .0) (loop-test .taken) (instructionAt (args .code .now) (args .t * 16 + loop .i)) (turned .result) refl (turned .ensures) (c .if1 .taken), (search needs, search needs, search needs))
+    (loop-stands (args .code .now) (args .t) (args .n) _ (loop .i) (loop .rs) (args .done) (loop .inv .0) (loop-test .taken) (sym (c .before .is-access .ensures) ∙ c .if1 .taken), (search needs, search needs, search needs))
 
 returns-2 : tie.Need-returns-2 Inv-loop μ-loop
 returns-2 c =
-    let args = c .before .before .before .before .before .args in
-    let loop = c .before .before .before .before .loop in
-    let loop-test = c .before .before .before .loop-test in
-    let turned = c .before .before .turned in
-    (loop-fails (args .code .now) (args .t) (args .n) _ (loop .i) (loop .rs) (args .done) (loop .inv .0) (loop-test .taken) (instructionAt (args .code .now) (args .t * 16 + loop .i)) (turned .result) refl (turned .ensures) (c .if2 .taken), (search needs, search needs, search needs))
+    let args = c .before .before .before .before .before .before .args in
+    let loop = c .before .before .before .before .before .loop in
+    let loop-test = c .before .before .before .before .loop-test in
+    let is-access = c .before .before .before .is-access in
+    let if1 = c .before .before .if1 in
+    let carried-out = c .before .carried-out in
+    (loop-fails (args .code .now) (args .t) (args .n) _ (loop .i) (loop .rs) (args .done) (loop .inv .0) (loop-test .taken) (sym (is-access .ensures) ∙ if1 .left) (carried-out .result) (carried-out .ensures) (c .if2 .taken), (search needs, search needs, search needs))
 
 loop-again : tie.Need-loop-again Inv-loop μ-loop
 loop-again c =
-    let args = c .before .before .before .before .before .before .before .args in
-    let loop = c .before .before .before .before .before .before .loop in
-    let loop-test = c .before .before .before .before .before .loop-test in
-    let turned = c .before .before .before .before .turned in
-    let if1 = c .before .before .before .if1 in
+    let args = c .before .before .before .before .before .before .before .before .args in
+    let loop = c .before .before .before .before .before .before .before .loop in
+    let loop-test = c .before .before .before .before .before .before .loop-test in
+    let is-access = c .before .before .before .before .before .is-access in
+    let if1 = c .before .before .before .before .if1 in
+    let carried-out = c .before .before .before .carried-out in
     let if2 = c .before .before .if2 in
-    (loop-goes (args .code .now) (args .t) (args .n) _ (loop .i) (loop .rs) (args .done) (loop .inv .0) (loop-test .taken) (instructionAt (args .code .now) (args .t * 16 + loop .i)) (turned .result) refl (turned .ensures) (c .wide .result) (if1 .left) (if2 .left) (c .wide .ensures), search needs)
+    (loop-goes (args .code .now) (args .t) (args .n) _ (loop .i) (loop .rs) (args .done) (loop .inv .0) (loop-test .taken) (sym (is-access .ensures) ∙ if1 .left) (carried-out .result) (carried-out .ensures) (c .wide .result) (if2 .left) (c .wide .ensures .0), search needs)
 
 returns-3 : tie.Need-returns-3 Inv-loop μ-loop
 returns-3 c =
@@ -52,4 +54,4 @@ returns-3 c =
     (loop-ends (args .code .now) (args .t) (args .n) _ (loop .i) (loop .rs) (args .done) (loop .inv .0) (c .loop-test .left), (search needs, search needs, search needs))
 
 pub settle-spec : {M : Type 1} → statement M
-settle-spec = tie.close (tie.spec Inv-loop μ-loop loop-holds (λ c. search needs) (λ c. search needs) (λ c κs. search needs) returns returns-2 (λ c κs. search needs) (λ c. search needs) (λ c. search needs) (λ c. search needs) loop-again returns-3)
+settle-spec = tie.close (tie.spec Inv-loop μ-loop loop-holds (λ c. search needs) (λ c. search needs) (λ c κs. search needs) returns (λ c κs. search needs) returns-2 (λ c κs. search needs) (λ c. search needs) (λ c. search needs) (λ c. search needs) loop-again returns-3)

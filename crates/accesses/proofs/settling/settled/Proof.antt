@@ -1,13 +1,9 @@
 -- An access comes at once, or the end does, or other instructions.
 use borrow.Author.Needs.{needs}
-use Prim.Native.Nat.{_+_, _*_}
-use mathlib.Core.Path.{_≡_, refl, sym, ap, _∙_}
+use mathlib.Core.Path.{_≡_, refl, sym, _∙_}
 use lib.ListN.{length}
-use Rattle.rows.specs.Rows.{instructionAt}
-use Rattle.accesses.specs.declared.local.Turn.{Turn}
-use Rattle.accesses.specs.Turns.{turnOf}
-use Rattle.accesses.proofs.HeldRows.{same-four, access-turn}
-use Rattle.accesses.proofs.HeldTurns.{loop-ends, loop-stands}
+use Rattle.accesses.proofs.HeldRows.{same-four}
+use Rattle.accesses.proofs.HeldSettling.{loop-ends, loop-stands}
 use Rattle.accesses.proofs.settling.settled.Statement.{statement}
 use Rattle.accesses.proofs.settling.settled.Tie as tie
 
@@ -16,7 +12,7 @@ returns c =
     let args = c .before .before .before .args in
     let if1 = c .before .before .if1 in
     let is-access = c .before .is-access in
-    (loop-stands (args .code .now) (args .t) (args .n) _ (args .from) (args .registers) (args .done) refl (if1 .taken) (instructionAt (args .code .now) (args .t * 16 + args .from)) (turnOf (instructionAt (args .code .now) (args .t * 16 + args .from)) (args .registers)) refl refl (ap (λ (k : Turn). k .access) (sym (access-turn (instructionAt (args .code .now) (args .t * 16 + args .from)) (args .registers) (sym (is-access .ensures) ∙ c .if2 .taken)))), (search needs, search needs, search needs))
+    (loop-stands (args .code .now) (args .t) (args .n) _ (args .from) (args .registers) (args .done) refl (if1 .taken) (sym (is-access .ensures) ∙ c .if2 .taken), (search needs, search needs, search needs))
 
 returns-2 : tie.Need-returns-2
 returns-2 c =

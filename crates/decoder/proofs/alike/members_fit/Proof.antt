@@ -23,7 +23,7 @@ returns : tie.Need-returns Inv-loop μ-loop
 returns c =
     let c5 = c .before .before .before .before .before in
     λ r held. sym (members-start (c5 .args .code .now) (c5 .args .s) r (c5 .pre .0) held (pairs (c5 .args .line .now)) (c .before .before .field
-    .result) (omega arith) (c .before .before .field .ensures) ∙ rw (sym (c .before .is-free .ensures) ∙ not-true _ (c .if1 .taken)))
+    .result) (omega arith) (c .before .before .field .ensures .0) ∙ rw (sym (c .before .is-free .ensures) ∙ not-true _ (c .if1 .taken)))
 
 loop-holds : tie.Need-loop-holds Inv-loop μ-loop
 loop-holds c =
@@ -33,7 +33,7 @@ loop-holds c =
       search needs,
       λ r held. members-start
           (c5 .args .code .now) (c5 .args .s) r (c5 .pre .0) held (pairs (c5 .args .line .now)) (c .before .before .field .result) (omega arith) (c .before
-          .before .field .ensures) ∙ rw (sym (c .before .is-free .ensures) ∙ not-false _ (c .if1 .left)),
+          .before .field .ensures .0) ∙ rw (sym (c .before .is-free .ensures) ∙ not-false _ (c .if1 .left)),
     )
 
 returns-2 : tie.Need-returns-2 Inv-loop μ-loop
@@ -41,7 +41,7 @@ returns-2 c =
     let c4 = c .before .before .before .before in
     let c10 = c4 .before .before .before .before .before .before in
     λ r held. sym (c4 .loop .inv .3 r held ∙ followers-more (c10 .args .code .now) (c10 .args .s) r (c10 .pre .0) held (pairs (c10 .args .line .now))
-    (c4 .loop .t) (c4 .loop .j) (c .before .before .field2 .result) (omega arith) (c .before .before .field2 .ensures) ∙ rw (sym (c .before .is-free2
+    (c4 .loop .t) (c4 .loop .j) (c .before .before .field2 .result) (omega arith) (c .before .before .field2 .ensures .0) ∙ rw (sym (c .before .is-free2
     .ensures) ∙ not-true _ (c .if2 .taken)))
 
 returns-3 : tie.Need-returns-3 Inv-loop μ-loop
@@ -50,7 +50,7 @@ returns-3 c =
     let c5 = c3 .before .before in
     let c11 = c5 .before .before .before .before .before .before in
     λ r held. sym (c5 .loop .inv .3 r held ∙ followers-more (c11 .args .code .now) (c11 .args .s) r (c11 .pre .0) held (pairs (c11 .args .line .now))
-    (c5 .loop .t) (c5 .loop .j) (c3 .field2 .result) (omega arith) (c3 .field2 .ensures) ∙ rw (
+    (c5 .loop .t) (c5 .loop .j) (c3 .field2 .result) (omega arith) (c3 .field2 .ensures .0) ∙ rw (
       sym (c .before .before .is-free2 .ensures) ∙ not-false
           _ (c .before .if2 .left),
       le-ltb _ _ (c .if3 .taken),
@@ -74,7 +74,7 @@ returns-4 c =
     let c7 = c5 .before .before in
     let c13 = c7 .before .before .before .before .before .before in
     λ r held. sym (c7 .loop .inv .3 r held ∙ followers-more (c13 .args .code .now) (c13 .args .s) r (c13 .pre .0) held (pairs (c13 .args .line .now))
-    (c7 .loop .t) (c7 .loop .j) (c5 .field2 .result) (omega arith) (c5 .field2 .ensures) ∙ rw (
+    (c7 .loop .t) (c7 .loop .j) (c5 .field2 .result) (omega arith) (c5 .field2 .ensures .0) ∙ rw (
       sym (c4 .is-free2 .ensures) ∙ not-false _ (c3 .if2
           .left),
       lt-ltb _ _ (c .before .before .if3 .left),
@@ -93,7 +93,7 @@ loop-again c =
       search needs,
       λ r held. c7 .loop .inv .3 r
           held ∙ followers-more (c13 .args .code .now) (c13 .args .s) r (c13 .pre .0) held (pairs (c13 .args .line .now)) (c7 .loop .t) (c7 .loop .j) (c5
-          .field2 .result) (omega arith) (c5 .field2 .ensures) ∙ rw (
+          .field2 .result) (omega arith) (c5 .field2 .ensures .0) ∙ rw (
             sym (c4 .is-free2 .ensures) ∙ not-false _ (c3 .if2 .left),
             lt-ltb _ _ (c .before
                 .before .if3 .left),

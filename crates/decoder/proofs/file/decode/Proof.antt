@@ -5,8 +5,7 @@ use mathlib.Core.Path.{_≡_, _∙_, sym, refl}
 use native.Mathlib.Omega.{arith}
 use mathlib.Core.List.{List}
 use lib.ListN.{length, drop}
-use Rattle.lines.specs.Split.{lineLength}
-use Rattle.lines.proofs.Split.{line-within}
+use Rattle.lines.proofs.Split.{before-end}
 use Rattle.decoder.proofs.HeldFile.{Progress, too-large, progress-start, progress-bounded, progress-grouped, read-unended, read-broken, read-frame, read-refused, read-more, read-done}
 use Rattle.decoder.proofs.file.decode.Statement.{statement}
 use Rattle.decoder.proofs.file.decode.Tie as tie
@@ -16,10 +15,6 @@ Inv-loop file code₀ rows₀ s₀ at₀ number₀ code rows s at number = Progr
 
 abbrev μ-loop : tie.MeasureT-loop
 μ-loop file code₀ rows₀ s₀ at₀ number₀ code rows s at number = length file - at
-
--- a line ends within the file, so before its end where it does not end there
-before-end : (file : List ℕ) (at end : ℕ) → at < length file → end ≡ at + lineLength (drop at file) → (end ≡ length file → ⊥) → end < length file
-before-end file at end h e ne = let w = line-within file at (omega arith) in omega (arith, ne)
 
 returns : tie.Need-returns Inv-loop μ-loop
 returns c = c .refused .ensures ∙ sym (too-large _ (c .before .if1 .taken))

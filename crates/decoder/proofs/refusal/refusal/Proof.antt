@@ -5,7 +5,7 @@ use mathlib.Core.Path.{_≡_, _∙_, sym, ap}
 use native.Mathlib.Omega.{arith}
 use Rattle.lines.specs.Frame.{pairs}
 use Rattle.program.specs.declared.kind.Kind.{Kind}
-use Rattle.program.specs.Kinds.{kindOf, find, kinds}
+use Rattle.program.specs.Kinds.{kindOf, lookup, kinds}
 use Rattle.program.specs.Frames.{kind}
 use Rattle.decoder.specs.Held.{instructionRefusal}
 use Rattle.decoder.proofs.RefusalByCounts.{too-short, too-long, length-fits, refused-3, refused-4, opening-refused, alike-refused, instruction-refused}
@@ -21,7 +21,7 @@ returns c =
     λ r held. sym (refused-3 r (pairs (c5 .args .line .now)) (too-short (pairs (c5 .args .line .now)) (omega (
       arith,
       ap (λ (k : Kind). k .least) (c
-          .before .before .kind-of .ensures ∙ ap kindOf (c3 .field .ensures)),
+          .before .before .kind-of .ensures ∙ ap kindOf (c3 .field .ensures .0)),
     ))))
 
 returns-2 : tie.Need-returns-2
@@ -33,12 +33,12 @@ returns-2 c =
     λ r held. sym (refused-3 r (pairs (c7 .args .line .now)) (too-long (pairs (c7 .args .line .now)) (omega (
       arith,
       ap (λ (k : Kind). k .most) (c4
-          .kind-of .ensures ∙ ap kindOf (c5 .field .ensures)),
+          .kind-of .ensures ∙ ap kindOf (c5 .field .ensures .0)),
     ))))
 
 in-range-requires : tie.Need-in-range-requires
 unfolding kind
-in-range-requires c κs = c .before .before .before .before .kind-of .ensures ∙ ap kindOf (c .before .before .before .before .before .field .ensures)
+in-range-requires c κs = c .before .before .before .before .kind-of .ensures ∙ ap kindOf (c .before .before .before .before .before .field .ensures .0)
 
 returns-3 : tie.Need-returns-3
 unfolding kind
@@ -49,11 +49,11 @@ returns-3 c =
     λ r held. sym (refused-4 r (pairs (c9 .args .line .now)) (length-fits (pairs (c9 .args .line .now)) (omega (
       arith,
       ap (λ (k : Kind). k .least) (c6
-          .kind-of .ensures ∙ ap kindOf (c7 .field .ensures)),
+          .kind-of .ensures ∙ ap kindOf (c7 .field .ensures .0)),
     )) (omega (
       arith,
       ap (λ (k : Kind). k .most) (c6 .kind-of .ensures ∙ ap kindOf (c7 .field
-          .ensures)),
+          .ensures .0)),
     ))) (sym (c .before .in-range .ensures) ∙ not-true _ (c .if3 .taken)))
 
 returns-4 : tie.Need-returns-4
@@ -64,15 +64,15 @@ returns-4 c =
     let c9 = c8 .before in
     let c11 = c9 .before .before in
     λ r held. c .opening .ensures ∙ opening-refused (c11 .args .code .now) (c11 .args .s) r held (pairs (c11 .args .line .now)) (length-fits (pairs
-    (c11 .args .line .now)) (omega (arith, ap (λ (k : Kind). k .least) (c8 .kind-of .ensures ∙ ap kindOf (c9 .field .ensures)))) (omega (
+    (c11 .args .line .now)) (omega (arith, ap (λ (k : Kind). k .least) (c8 .kind-of .ensures ∙ ap kindOf (c9 .field .ensures .0)))) (omega (
       arith,
       ap (λ
-          (k : Kind). k .most) (c8 .kind-of .ensures ∙ ap kindOf (c9 .field .ensures)),
+          (k : Kind). k .most) (c8 .kind-of .ensures ∙ ap kindOf (c9 .field .ensures .0)),
     ))) (sym (c3 .in-range .ensures) ∙ not-false _ (c .before .before .if3
-    .left)) (sym (c9 .field .ensures) ∙ c .before .if4 .taken)
+    .left)) (sym (c9 .field .ensures .0) ∙ c .before .if4 .taken)
 
 members-fit-requires : tie.Need-members-fit-requires
-unfolding kindOf find kinds
+unfolding kindOf lookup kinds
 members-fit-requires c κs =
     let c8 = c .before .before .before .before .before .before .before .before in
     let c11 = c8 .before .before .before in
@@ -95,9 +95,9 @@ returns-5 c =
     (c13 .args .line .now)) (length-fits (pairs (c13 .args .line .now)) (omega (
       arith,
       ap (λ (k : Kind). k .least) (c10 .kind-of .ensures ∙ ap kindOf
-          (c11 .field .ensures)),
-    )) (omega (arith, ap (λ (k : Kind). k .most) (c10 .kind-of .ensures ∙ ap kindOf (c11 .field .ensures))))) (sym (c5 .in-range
-    .ensures) ∙ not-false _ (c4 .if3 .left)) (sym (c11 .field .ensures) ∙ c .before .before .if5 .taken))
+          (c11 .field .ensures .0)),
+    )) (omega (arith, ap (λ (k : Kind). k .most) (c10 .kind-of .ensures ∙ ap kindOf (c11 .field .ensures .0))))) (sym (c5 .in-range
+    .ensures) ∙ not-false _ (c4 .if3 .left)) (sym (c11 .field .ensures .0) ∙ c .before .before .if5 .taken))
 
 returns-6 : tie.Need-returns-6
 unfolding kind
@@ -111,9 +111,9 @@ returns-6 c =
     (c13 .args .line .now)) (length-fits (pairs (c13 .args .line .now)) (omega (
       arith,
       ap (λ (k : Kind). k .least) (c10 .kind-of .ensures ∙ ap kindOf
-          (c11 .field .ensures)),
-    )) (omega (arith, ap (λ (k : Kind). k .most) (c10 .kind-of .ensures ∙ ap kindOf (c11 .field .ensures))))) (sym (c5 .in-range
-    .ensures) ∙ not-false _ (c4 .if3 .left)) (sym (c11 .field .ensures) ∙ c .before .before .if5 .taken))
+          (c11 .field .ensures .0)),
+    )) (omega (arith, ap (λ (k : Kind). k .most) (c10 .kind-of .ensures ∙ ap kindOf (c11 .field .ensures .0))))) (sym (c5 .in-range
+    .ensures) ∙ not-false _ (c4 .if3 .left)) (sym (c11 .field .ensures .0) ∙ c .before .before .if5 .taken))
 
 returns-7 : tie.Need-returns-7
 unfolding kind
@@ -123,17 +123,17 @@ returns-7 c =
     let c9 = c4 .before .before .before .before .before in
     let c10 = c9 .before in
     let c12 = c10 .before .before in
-    λ r held. c .instruction .ensures ∙ ap (λ (b : ℕ). instructionRefusal b (c12 .args .s)) (c10 .field .ensures) ∙ instruction-refused (c12 .args
+    λ r held. c .instruction .ensures ∙ ap (λ (b : ℕ). instructionRefusal b (c12 .args .s)) (c10 .field .ensures .0) ∙ instruction-refused (c12 .args
     .code .now) (c12 .args .s) r held (pairs (c12 .args .line .now)) (length-fits (pairs (c12 .args .line .now)) (omega (
       arith,
       ap (λ (k : Kind). k
-          .least) (c9 .kind-of .ensures ∙ ap kindOf (c10 .field .ensures)),
+          .least) (c9 .kind-of .ensures ∙ ap kindOf (c10 .field .ensures .0)),
     )) (omega (
       arith,
       ap (λ (k : Kind). k .most) (c9 .kind-of .ensures ∙ ap kindOf
-          (c10 .field .ensures)),
-    ))) (sym (c4 .in-range .ensures) ∙ not-false _ (c3 .if3 .left)) (λ e. c .before .before .if4 .left (c10 .field .ensures ∙
-    e)) (λ e. c .before .if5 .left (c10 .field .ensures ∙ e))
+          (c10 .field .ensures .0)),
+    ))) (sym (c4 .in-range .ensures) ∙ not-false _ (c3 .if3 .left)) (λ e. c .before .before .if4 .left (c10 .field .ensures .0 ∙
+    e)) (λ e. c .before .if5 .left (c10 .field .ensures .0 ∙ e))
 
 pub refusal-spec : {M : Type 1} → statement M
 refusal-spec = tie.close (tie.spec (λ c κs. search needs) (λ c κs. search needs) returns returns-2 in-range-requires returns-3 (λ c κs. search needs) returns-4 members-fit-requires returns-5 returns-6 (λ c κs. search needs) returns-7)

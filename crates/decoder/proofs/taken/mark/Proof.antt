@@ -26,7 +26,7 @@ loop-again c =
     let c3 = c .before .before .before in
     let c5 = c3 .before .before in
     marking (c5 .args .g) (pairs (c5 .args .line .now)) (c3 .loop .c) (c .if1 .c) (c3 .loop .j) (c .before .field .result) _ (c3 .loop .inv .0) (c3
-    .loop .inv .1) (omega arith) (c .before .field .ensures) (⊎-elim (λ w. w .1) (λ w. w .1 ∙ sym (set-out (c3 .loop .c) (c .before .field .result)
+    .loop .inv .1) (omega arith) (c .before .field .ensures .0) (⊎-elim (λ w. w .1) (λ w. w .1 ∙ sym (set-out (c3 .loop .c) (c .before .field .result)
     (c5 .args .g) (omega arith))) (c .if1 .came))
 
 returns : tie.Need-returns Inv-loop μ-loop

@@ -20,7 +20,7 @@ with-read-requires c κs =
     let pre = entry .pre in
     let args = entry .args in
     let field = c .before .field in
-    let x = (read-range (args .n) (pre .few) (pairs (args .line .now)) (pre .known) (pre .range) (is-read (pairs (args .line .now)) (field .result) (field .ensures .0) (c .if1 .taken))) in (omega (arith, x .1, pre .few), omega (arith, x .2))
+    let x = (read-range (args .n) (pre .few) (pairs (args .line .now)) (pre .known) (pre .in-range) (is-read (pairs (args .line .now)) (field .result) (field .ensures .0) (c .if1 .taken))) in (omega (arith, x .1, pre .few), omega (arith, x .2))
 
 returns : tie.Need-returns
 returns c =
@@ -48,7 +48,7 @@ array-write-counts c =
     let field = c .before .before .before .before .before .field in
     let if1 = c .before .before .before .before .if1 in
     let field2 = c .before .before .before .field2 in
-    omega (arith, field2 .ensures .0, (write-range (args .n) (pre .few) (pairs (args .line .now)) (pre .known) (pre .range) (not-read (pairs (args .line .now)) (field .result) (field .ensures .0) (if1 .left))) .1)
+    omega (arith, field2 .ensures .0, (write-range (args .n) (pre .few) (pairs (args .line .now)) (pre .known) (pre .in-range) (not-read (pairs (args .line .now)) (field .result) (field .ensures .0) (if1 .left))) .1)
 
 ordered-requires : tie.Need-ordered-requires
 ordered-requires c κs =
@@ -58,7 +58,7 @@ ordered-requires c κs =
     let field = c .before .before .before .before .before .field in
     let if1 = c .before .before .before .before .if1 in
     let field2 = c .before .before .before .field2 in
-    (pre .size, omega (arith, pre .size, (write-shape (pairs (args .line .now)) (pre .known) (not-read (pairs (args .line .now)) (field .result) (field .ensures .0) (if1 .left))) .2), omega (arith, pre .size, (write-shape (pairs (args .line .now)) (pre .known) (not-read (pairs (args .line .now)) (field .result) (field .ensures .0) (if1 .left))) .1), omega (arith, field2 .ensures .0, (write-range (args .n) (pre .few) (pairs (args .line .now)) (pre .known) (pre .range) (not-read (pairs (args .line .now)) (field .result) (field .ensures .0) (if1 .left))) .1))
+    (pre .size, omega (arith, pre .size, (write-shape (pairs (args .line .now)) (pre .known) (not-read (pairs (args .line .now)) (field .result) (field .ensures .0) (if1 .left))) .2), omega (arith, pre .size, (write-shape (pairs (args .line .now)) (pre .known) (not-read (pairs (args .line .now)) (field .result) (field .ensures .0) (if1 .left))) .1), omega (arith, field2 .ensures .0, (write-range (args .n) (pre .few) (pairs (args .line .now)) (pre .known) (pre .in-range) (not-read (pairs (args .line .now)) (field .result) (field .ensures .0) (if1 .left))) .1))
 
 marked-requires : tie.Need-marked-requires
 marked-requires c κs =
@@ -67,7 +67,7 @@ marked-requires c κs =
     let args = entry .args in
     let field = c .before .before .before .before .before .before .field in
     let if1 = c .before .before .before .before .before .if1 in
-    (pre .size, omega (arith, pre .size, (write-shape (pairs (args .line .now)) (pre .known) (not-read (pairs (args .line .now)) (field .result) (field .ensures .0) (if1 .left))) .2), events-six (args .n) (pre .few) _ ((write-range (args .n) (pre .few) (pairs (args .line .now)) (pre .known) (pre .range) (not-read (pairs (args .line .now)) (field .result) (field .ensures .0) (if1 .left))) .2))
+    (pre .size, omega (arith, pre .size, (write-shape (pairs (args .line .now)) (pre .known) (not-read (pairs (args .line .now)) (field .result) (field .ensures .0) (if1 .left))) .2), events-six (args .n) (pre .few) _ ((write-range (args .n) (pre .few) (pairs (args .line .now)) (pre .known) (pre .in-range) (not-read (pairs (args .line .now)) (field .result) (field .ensures .0) (if1 .left))) .2))
 
 returns-2 : tie.Need-returns-2
 returns-2 c = λ r held pass. let l : length (c .before .before .before .before .before .before .before .before .before .before .args .s .counts) ≡ 8 = search needs in let k : length (c .before .before .before .before .before .before .before .before .before .before .args .s .seen) ≡ 96 = search needs in rw (c .rank .ensures, c .before .marked .ensures, c .before .before .before .before .before .before .field2 .ensures .0) (held-writes (c .before .before .before .before .before .before .before .before .before .before .args .n) (c .before .before .before .before .before .before .before .before .before .before .pre .few) (pairs (c .before .before .before .before .before .before .before .before .before .before .args .line .now)) (c .before .before .before .before .before .before .before .before .before .before .args .s) r held pass (not-read (pairs (c .before .before .before .before .before .before .before .before .before .before .args .line .now)) (c .before .before .before .before .before .before .before .before .field .result) (c .before .before .before .before .before .before .before .before .field .ensures .0) (c .before .before .before .before .before .before .before .if1 .left)) (c .before .before .ordered .result) (rw (← c .before .before .before .before .before .before .field2 .ensures .0) (c .before .before .ordered .ensures)) (c .before .before .before .before .before .before .before .before .before .before .args .size) (c .before .before .before .before .before .before .before .before .before .before .pre .size) l k)

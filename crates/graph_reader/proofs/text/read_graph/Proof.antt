@@ -3,7 +3,8 @@ use borrow.Author.Needs.{needs}
 use Prim.Native.Nat.{_≤_, _-_}
 use native.Mathlib.Omega.{arith}
 use lib.ListN.{length}
-use Rattle.graph_reader.proofs.HeldText.{Progress, progress-start, before-end, read-done, read-unended, read-broken, read-size, read-refused, read-passes, read-more}
+use Rattle.lines.proofs.Split.{before-end}
+use Rattle.graph_reader.proofs.HeldText.{Progress, progress-start, read-done, read-unended, read-broken, read-size, read-refused, read-passes, read-more}
 use Rattle.graph_reader.proofs.text.read_graph.Statement.{statement}
 use Rattle.graph_reader.proofs.text.read_graph.Tie as tie
 

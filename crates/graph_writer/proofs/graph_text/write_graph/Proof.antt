@@ -24,7 +24,7 @@ returns : tie.Need-returns
 returns c =
     let c6 = c .before .before .before .before .before .before in
     let c9 = c6 .before .before .before in
-    notes-written (c9 .args .trail .now) (c9 .args .out .now) _ _ (c9 .args .steps) _ _ (c9 .pre .0) (c6 .write-reads .ensures) (c .before .before
+    notes-written (c9 .args .log .now) (c9 .args .out .now) _ _ (c9 .args .steps) _ _ (c9 .pre .0) (c6 .write-reads .ensures) (c .before .before
     .write-orders .ensures)
 
 pub write-graph-spec : {M : Type 1} → statement M

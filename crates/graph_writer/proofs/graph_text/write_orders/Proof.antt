@@ -6,7 +6,7 @@ use native.Mathlib.Omega.{arith}
 use mathlib.Core.List.{flatMap}
 use lib.ListN.{length}
 use borrow.Rule.Slice.PartMut.{mid-len}
-use Rattle.schedules.specs.Lists.{upTo}
+use Rattle.schedules.specs.Lists.{range}
 use Rattle.graph_writer.specs.NoteText.{orderFramesIn, notesAt, Wrote}
 use Rattle.graph_writer.proofs.WrittenLines.{wrote-within, wrote-more}
 use Rattle.graph_writer.proofs.NotesHeld.{orders-next}
@@ -15,13 +15,13 @@ use Rattle.graph_writer.proofs.graph_text.write_orders.Statement.{state
 use Rattle.graph_writer.proofs.graph_text.write_orders.Tie as tie
 
 abbrev Inv-loop : tie.InvT-loop
-Inv-loop out₀ trail steps at₀ l₀ out at l = (l ≤ 8) × (at ≤ length out) × (length out ≡ length out₀) × Wrote (orderFramesIn l (notesAt trail steps)) out₀ out at
+Inv-loop out₀ log steps at₀ l₀ out at l = (l ≤ 8) × (at ≤ length out) × (length out ≡ length out₀) × Wrote (orderFramesIn l (notesAt log steps)) out₀ out at
 
 abbrev μ-loop : tie.MeasureT-loop
-μ-loop out₀ trail steps at₀ l₀ out at l = 8 - l
+μ-loop out₀ log steps at₀ l₀ out at l = 8 - l
 
 loop-holds : tie.Need-loop-holds Inv-loop μ-loop
-unfolding orderFramesIn flatMap upTo
+unfolding orderFramesIn flatMap range
 loop-holds c = (search needs, search needs, search needs, unwritten _ (c .before .args .out .now) refl)
 
 add-at : tie.Need-add-at Inv-loop μ-loop
@@ -34,7 +34,7 @@ loop-again : tie.Need-loop-again Inv-loop μ-loop
 loop-again c =
     let c5 = c .before .before .before .before .before in
     let c7 = c5 .before .before in
-    let w = wrote-more _ _ _ _ (c5 .loop .out) _ (c5 .loop .at) (c .before .before .write-order .result) (orders-next (notesAt (c7 .args .trail .now)
+    let w = wrote-more _ _ _ _ (c5 .loop .out) _ (c5 .loop .at) (c .before .before .write-order .result) (orders-next (notesAt (c7 .args .log .now)
     (c7 .args .steps)) (c5 .loop .l)) (c5 .loop .inv .3) (c .before .before .write-order .ensures) in let h = wrote-within _ _ _ _ w in (
       search needs,
       omega arith,

@@ -6,7 +6,7 @@ use native.Mathlib.Omega.{arith}
 use mathlib.Core.List.{flatMap}
 use lib.ListN.{length}
 use borrow.Rule.Slice.PartMut.{mid-len}
-use Rattle.schedules.specs.Lists.{upTo}
+use Rattle.schedules.specs.Lists.{range}
 use Rattle.graph_writer.specs.NoteText.{readFramesIn, notesAt, Wrote}
 use Rattle.graph_writer.proofs.WrittenLines.{wrote-within, wrote-more}
 use Rattle.graph_writer.proofs.NotesHeld.{threads-next}
@@ -15,13 +15,13 @@ use Rattle.graph_writer.proofs.graph_text.write_reads.Statement.{statem
 use Rattle.graph_writer.proofs.graph_text.write_reads.Tie as tie
 
 abbrev Inv-loop : tie.InvT-loop
-Inv-loop out₀ trail steps at₀ t₀ out at t = (t ≤ 6) × (at ≤ length out) × (length out ≡ length out₀) × Wrote (readFramesIn t (notesAt trail steps)) out₀ out at
+Inv-loop out₀ log steps at₀ t₀ out at t = (t ≤ 6) × (at ≤ length out) × (length out ≡ length out₀) × Wrote (readFramesIn t (notesAt log steps)) out₀ out at
 
 abbrev μ-loop : tie.MeasureT-loop
-μ-loop out₀ trail steps at₀ t₀ out at t = 6 - t
+μ-loop out₀ log steps at₀ t₀ out at t = 6 - t
 
 loop-holds : tie.Need-loop-holds Inv-loop μ-loop
-unfolding readFramesIn flatMap upTo
+unfolding readFramesIn flatMap range
 loop-holds c = (search needs, search needs, search needs, unwritten _ (c .before .args .out .now) refl)
 
 add-at : tie.Need-add-at Inv-loop μ-loop
@@ -34,7 +34,7 @@ loop-again : tie.Need-loop-again Inv-loop μ-loop
 loop-again c =
     let c5 = c .before .before .before .before .before in
     let c7 = c5 .before .before in
-    let w = wrote-more _ _ _ _ (c5 .loop .out) _ (c5 .loop .at) (c .before .before .write-thread .result) (threads-next (notesAt (c7 .args .trail
+    let w = wrote-more _ _ _ _ (c5 .loop .out) _ (c5 .loop .at) (c .before .before .write-thread .result) (threads-next (notesAt (c7 .args .log
     .now) (c7 .args .steps)) (c5 .loop .t)) (c5 .loop .inv .3) (c .before .before .write-thread .ensures) in let h = wrote-within _ _ _ _ w in (
       search
           needs,

@@ -6,7 +6,7 @@ use native.Mathlib.Omega.{arith}
 use mathlib.Core.List.{flatMap}
 use lib.ListN.{length}
 use borrow.Rule.Slice.PartMut.{mid-len}
-use Rattle.schedules.specs.Lists.{upTo}
+use Rattle.schedules.specs.Lists.{range}
 use Rattle.graph_writer.specs.NoteText.{readsIn, threadFrames, notesAt, Wrote}
 use Rattle.graph_writer.proofs.WrittenLines.{wrote-within, wrote-more}
 use Rattle.graph_writer.proofs.NotesHeld.{thread-next}
@@ -15,13 +15,13 @@ use Rattle.graph_writer.proofs.graph_text.write_thread.Statement.{state
 use Rattle.graph_writer.proofs.graph_text.write_thread.Tie as tie
 
 abbrev Inv-loop : tie.InvT-loop
-Inv-loop out₀ trail steps t at₀ k₀ out at k = (k ≤ steps) × (at ≤ length out) × (length out ≡ length out₀) × Wrote (threadFrames t (readsIn t (notesAt trail k))) out₀ out at
+Inv-loop out₀ log steps t at₀ k₀ out at k = (k ≤ steps) × (at ≤ length out) × (length out ≡ length out₀) × Wrote (threadFrames t (readsIn t (notesAt log k))) out₀ out at
 
 abbrev μ-loop : tie.MeasureT-loop
-μ-loop out₀ trail steps t at₀ k₀ out at k = steps - k
+μ-loop out₀ log steps t at₀ k₀ out at k = steps - k
 
 loop-holds : tie.Need-loop-holds Inv-loop μ-loop
-unfolding threadFrames readsIn notesAt flatMap upTo
+unfolding threadFrames readsIn notesAt flatMap range
 loop-holds c = (search needs, search needs, search needs, unwritten _ (c .before .args .out .now) refl)
 
 add-at : tie.Need-add-at Inv-loop μ-loop
@@ -34,7 +34,7 @@ loop-again : tie.Need-loop-again Inv-loop μ-loop
 loop-again c =
     let c5 = c .before .before .before .before .before in
     let c7 = c5 .before .before in
-    let w = wrote-more _ _ _ _ (c5 .loop .out) _ (c5 .loop .at) (c .before .before .write-read .result) (thread-next (c7 .args .trail .now) (c7 .args
+    let w = wrote-more _ _ _ _ (c5 .loop .out) _ (c5 .loop .at) (c .before .before .write-read .result) (thread-next (c7 .args .log .now) (c7 .args
     .t) (c5 .loop .k)) (c5 .loop .inv .3) (c .before .before .write-read .ensures) in let h = wrote-within _ _ _ _ w in (
       search needs,
       omega arith,

@@ -8,10 +8,10 @@ use Rattle.program.specs.Program.{Program}
 use Rattle.schedules.specs.System.{run}
 use Rattle.sc.specs.State.{SC, start}
 use Rattle.sc.specs.Graph.{Graph}
-use Rattle.judge.specs.HeldYes.{Given}
+use Rattle.allowed.specs.HeldWalk.{Given}
 use Rattle.rounds.proofs.HeldValues.{zeros}
-use Rattle.judge.proofs.WalkChoice.{walk-near, walk-ready}
-use Rattle.judge.proofs.WalkTurns.{Progress, walk-start, walk-on, walk-whole, walk-stops, walk-may, walk-note, walk-more, few-more}
+use Rattle.allowed.proofs.WalkChoice.{walk-near, walk-ready}
+use Rattle.judge.proofs.WalkTurns.{Progress, walk-start, walk-on, walk-whole, walk-stops, walk-enabled, walk-note, walk-more, few-more}
 use Rattle.judge.proofs.walking.walked.Statement.{statement}
 use Rattle.judge.proofs.walking.walked.Tie as tie
 
@@ -53,7 +53,7 @@ step-requires c κs =
     let loop = c .before .before .before .loop in
     let loop-test = c .before .before .loop-test in
     let chosen = c .before .chosen in
-    walk-ready (args .code .now) (args .lengths .now) (args .threads) (args .pairs) (args .places) (pre .0) (pre .1) (loop .m) (loop .counts) (loop .inv .4 (pre .0) (pre .1) (pre .2) .so-far) (walk-on (args .code .now) (args .lengths .now) (args .threads) (args .pairs) (args .places) (pre .0) (pre .1) (pre .2) (loop .m) (loop .made) (loop .counts) (loop .schedule) (loop .k) (loop .inv .4 (pre .0) (pre .1) (pre .2))) (chosen .result) (walk-may (args .code .now) (args .lengths .now) (args .threads) (args .pairs) (args .places) (pre .0) (pre .1) (pre .2) (loop .m) (loop .made) (loop .counts) (loop .schedule) (loop .k) (loop .inv .4 (pre .0) (pre .1) (pre .2)) (chosen .result) (chosen .ensures .1 (pre .0) (pre .1) (loop .inv .4 (pre .0) (pre .1) (pre .2) .so-far) (walk-on (args .code .now) (args .lengths .now) (args .threads) (args .pairs) (args .places) (pre .0) (pre .1) (pre .2) (loop .m) (loop .made) (loop .counts) (loop .schedule) (loop .k) (loop .inv .4 (pre .0) (pre .1) (pre .2)))) (loop-test .taken) (chosen .ensures .0) (c .if1 .left))
+    walk-ready (args .code .now) (args .lengths .now) (args .threads) (args .pairs) (args .places) (pre .0) (pre .1) (loop .m) (loop .counts) (loop .inv .4 (pre .0) (pre .1) (pre .2) .so-far) (walk-on (args .code .now) (args .lengths .now) (args .threads) (args .pairs) (args .places) (pre .0) (pre .1) (pre .2) (loop .m) (loop .made) (loop .counts) (loop .schedule) (loop .k) (loop .inv .4 (pre .0) (pre .1) (pre .2))) (chosen .result) (walk-enabled (args .code .now) (args .lengths .now) (args .threads) (args .pairs) (args .places) (pre .0) (pre .1) (pre .2) (loop .m) (loop .made) (loop .counts) (loop .schedule) (loop .k) (loop .inv .4 (pre .0) (pre .1) (pre .2)) (chosen .result) (chosen .ensures .1 (pre .0) (pre .1) (loop .inv .4 (pre .0) (pre .1) (pre .2) .so-far) (walk-on (args .code .now) (args .lengths .now) (args .threads) (args .pairs) (args .places) (pre .0) (pre .1) (pre .2) (loop .m) (loop .made) (loop .counts) (loop .schedule) (loop .k) (loop .inv .4 (pre .0) (pre .1) (pre .2)))) (loop-test .taken) (chosen .ensures .0) (c .if1 .left))
 
 with-source-requires : tie.Need-with-source-requires Inv-loop μ-loop
 with-source-requires c κs =
@@ -65,7 +65,7 @@ with-source-requires c κs =
     let chosen = c .before .before .before .chosen in
     let if1 = c .before .before .if1 in
     let step = c .before .step in
-    walk-note (args .code .now) (args .lengths .now) (args .threads) (args .pairs) (args .places) (pre .0) (pre .1) (pre .2) (loop .m) (loop .made) (loop .counts) (loop .schedule) (loop .k) (loop .inv .4 (pre .0) (pre .1) (pre .2)) (chosen .result) (chosen .ensures .1 (pre .0) (pre .1) (loop .inv .4 (pre .0) (pre .1) (pre .2) .so-far) (walk-on (args .code .now) (args .lengths .now) (args .threads) (args .pairs) (args .places) (pre .0) (pre .1) (pre .2) (loop .m) (loop .made) (loop .counts) (loop .schedule) (loop .k) (loop .inv .4 (pre .0) (pre .1) (pre .2)))) (loop-test .taken) (chosen .ensures .0) (if1 .left) (step .result) (step .ensures (run SC (start (pre .0)) (loop .inv .4 (pre .0) (pre .1) (pre .2) .so-far)) (loop .inv .4 (pre .0) (pre .1) (pre .2) .holds) (walk-may (args .code .now) (args .lengths .now) (args .threads) (args .pairs) (args .places) (pre .0) (pre .1) (pre .2) (loop .m) (loop .made) (loop .counts) (loop .schedule) (loop .k) (loop .inv .4 (pre .0) (pre .1) (pre .2)) (chosen .result) (chosen .ensures .1 (pre .0) (pre .1) (loop .inv .4 (pre .0) (pre .1) (pre .2) .so-far) (walk-on (args .code .now) (args .lengths .now) (args .threads) (args .pairs) (args .places) (pre .0) (pre .1) (pre .2) (loop .m) (loop .made) (loop .counts) (loop .schedule) (loop .k) (loop .inv .4 (pre .0) (pre .1) (pre .2)))) (loop-test .taken) (chosen .ensures .0) (if1 .left)) (walk-near (args .code .now) (args .lengths .now) (args .threads) (args .pairs) (args .places) (pre .0) (pre .1) (loop .m) (loop .counts) (loop .inv .4 (pre .0) (pre .1) (pre .2) .so-far) (walk-on (args .code .now) (args .lengths .now) (args .threads) (args .pairs) (args .places) (pre .0) (pre .1) (pre .2) (loop .m) (loop .made) (loop .counts) (loop .schedule) (loop .k) (loop .inv .4 (pre .0) (pre .1) (pre .2))) (chosen .result) (walk-may (args .code .now) (args .lengths .now) (args .threads) (args .pairs) (args .places) (pre .0) (pre .1) (pre .2) (loop .m) (loop .made) (loop .counts) (loop .schedule) (loop .k) (loop .inv .4 (pre .0) (pre .1) (pre .2)) (chosen .result) (chosen .ensures .1 (pre .0) (pre .1) (loop .inv .4 (pre .0) (pre .1) (pre .2) .so-far) (walk-on (args .code .now) (args .lengths .now) (args .threads) (args .pairs) (args .places) (pre .0) (pre .1) (pre .2) (loop .m) (loop .made) (loop .counts) (loop .schedule) (loop .k) (loop .inv .4 (pre .0) (pre .1) (pre .2)))) (loop-test .taken) (chosen .ensures .0) (if1 .left))))
+    walk-note (args .code .now) (args .lengths .now) (args .threads) (args .pairs) (args .places) (pre .0) (pre .1) (pre .2) (loop .m) (loop .made) (loop .counts) (loop .schedule) (loop .k) (loop .inv .4 (pre .0) (pre .1) (pre .2)) (chosen .result) (chosen .ensures .1 (pre .0) (pre .1) (loop .inv .4 (pre .0) (pre .1) (pre .2) .so-far) (walk-on (args .code .now) (args .lengths .now) (args .threads) (args .pairs) (args .places) (pre .0) (pre .1) (pre .2) (loop .m) (loop .made) (loop .counts) (loop .schedule) (loop .k) (loop .inv .4 (pre .0) (pre .1) (pre .2)))) (loop-test .taken) (chosen .ensures .0) (if1 .left) (step .result) (step .ensures (run SC (start (pre .0)) (loop .inv .4 (pre .0) (pre .1) (pre .2) .so-far)) (loop .inv .4 (pre .0) (pre .1) (pre .2) .holds) (walk-enabled (args .code .now) (args .lengths .now) (args .threads) (args .pairs) (args .places) (pre .0) (pre .1) (pre .2) (loop .m) (loop .made) (loop .counts) (loop .schedule) (loop .k) (loop .inv .4 (pre .0) (pre .1) (pre .2)) (chosen .result) (chosen .ensures .1 (pre .0) (pre .1) (loop .inv .4 (pre .0) (pre .1) (pre .2) .so-far) (walk-on (args .code .now) (args .lengths .now) (args .threads) (args .pairs) (args .places) (pre .0) (pre .1) (pre .2) (loop .m) (loop .made) (loop .counts) (loop .schedule) (loop .k) (loop .inv .4 (pre .0) (pre .1) (pre .2)))) (loop-test .taken) (chosen .ensures .0) (if1 .left)) (walk-near (args .code .now) (args .lengths .now) (args .threads) (args .pairs) (args .places) (pre .0) (pre .1) (loop .m) (loop .counts) (loop .inv .4 (pre .0) (pre .1) (pre .2) .so-far) (walk-on (args .code .now) (args .lengths .now) (args .threads) (args .pairs) (args .places) (pre .0) (pre .1) (pre .2) (loop .m) (loop .made) (loop .counts) (loop .schedule) (loop .k) (loop .inv .4 (pre .0) (pre .1) (pre .2))) (chosen .result) (walk-enabled (args .code .now) (args .lengths .now) (args .threads) (args .pairs) (args .places) (pre .0) (pre .1) (pre .2) (loop .m) (loop .made) (loop .counts) (loop .schedule) (loop .k) (loop .inv .4 (pre .0) (pre .1) (pre .2)) (chosen .result) (chosen .ensures .1 (pre .0) (pre .1) (loop .inv .4 (pre .0) (pre .1) (pre .2) .so-far) (walk-on (args .code .now) (args .lengths .now) (args .threads) (args .pairs) (args .places) (pre .0) (pre .1) (pre .2) (loop .m) (loop .made) (loop .counts) (loop .schedule) (loop .k) (loop .inv .4 (pre .0) (pre .1) (pre .2)))) (loop-test .taken) (chosen .ensures .0) (if1 .left))))
 
 with-event-requires : tie.Need-with-event-requires Inv-loop μ-loop
 with-event-requires c κs =
@@ -77,7 +77,7 @@ with-event-requires c κs =
     let chosen = c .before .before .before .before .chosen in
     let if1 = c .before .before .before .if1 in
     let step = c .before .before .step in
-    (walk-note (args .code .now) (args .lengths .now) (args .threads) (args .pairs) (args .places) (pre .0) (pre .1) (pre .2) (loop .m) (loop .made) (loop .counts) (loop .schedule) (loop .k) (loop .inv .4 (pre .0) (pre .1) (pre .2)) (chosen .result) (chosen .ensures .1 (pre .0) (pre .1) (loop .inv .4 (pre .0) (pre .1) (pre .2) .so-far) (walk-on (args .code .now) (args .lengths .now) (args .threads) (args .pairs) (args .places) (pre .0) (pre .1) (pre .2) (loop .m) (loop .made) (loop .counts) (loop .schedule) (loop .k) (loop .inv .4 (pre .0) (pre .1) (pre .2)))) (loop-test .taken) (chosen .ensures .0) (if1 .left) (step .result) (step .ensures (run SC (start (pre .0)) (loop .inv .4 (pre .0) (pre .1) (pre .2) .so-far)) (loop .inv .4 (pre .0) (pre .1) (pre .2) .holds) (walk-may (args .code .now) (args .lengths .now) (args .threads) (args .pairs) (args .places) (pre .0) (pre .1) (pre .2) (loop .m) (loop .made) (loop .counts) (loop .schedule) (loop .k) (loop .inv .4 (pre .0) (pre .1) (pre .2)) (chosen .result) (chosen .ensures .1 (pre .0) (pre .1) (loop .inv .4 (pre .0) (pre .1) (pre .2) .so-far) (walk-on (args .code .now) (args .lengths .now) (args .threads) (args .pairs) (args .places) (pre .0) (pre .1) (pre .2) (loop .m) (loop .made) (loop .counts) (loop .schedule) (loop .k) (loop .inv .4 (pre .0) (pre .1) (pre .2)))) (loop-test .taken) (chosen .ensures .0) (if1 .left)) (walk-near (args .code .now) (args .lengths .now) (args .threads) (args .pairs) (args .places) (pre .0) (pre .1) (loop .m) (loop .counts) (loop .inv .4 (pre .0) (pre .1) (pre .2) .so-far) (walk-on (args .code .now) (args .lengths .now) (args .threads) (args .pairs) (args .places) (pre .0) (pre .1) (pre .2) (loop .m) (loop .made) (loop .counts) (loop .schedule) (loop .k) (loop .inv .4 (pre .0) (pre .1) (pre .2))) (chosen .result) (walk-may (args .code .now) (args .lengths .now) (args .threads) (args .pairs) (args .places) (pre .0) (pre .1) (pre .2) (loop .m) (loop .made) (loop .counts) (loop .schedule) (loop .k) (loop .inv .4 (pre .0) (pre .1) (pre .2)) (chosen .result) (chosen .ensures .1 (pre .0) (pre .1) (loop .inv .4 (pre .0) (pre .1) (pre .2) .so-far) (walk-on (args .code .now) (args .lengths .now) (args .threads) (args .pairs) (args .places) (pre .0) (pre .1) (pre .2) (loop .m) (loop .made) (loop .counts) (loop .schedule) (loop .k) (loop .inv .4 (pre .0) (pre .1) (pre .2)))) (loop-test .taken) (chosen .ensures .0) (if1 .left)))), (λ l. let z = loop .inv .3 l in omega (arith, loop-test .taken)))
+    (walk-note (args .code .now) (args .lengths .now) (args .threads) (args .pairs) (args .places) (pre .0) (pre .1) (pre .2) (loop .m) (loop .made) (loop .counts) (loop .schedule) (loop .k) (loop .inv .4 (pre .0) (pre .1) (pre .2)) (chosen .result) (chosen .ensures .1 (pre .0) (pre .1) (loop .inv .4 (pre .0) (pre .1) (pre .2) .so-far) (walk-on (args .code .now) (args .lengths .now) (args .threads) (args .pairs) (args .places) (pre .0) (pre .1) (pre .2) (loop .m) (loop .made) (loop .counts) (loop .schedule) (loop .k) (loop .inv .4 (pre .0) (pre .1) (pre .2)))) (loop-test .taken) (chosen .ensures .0) (if1 .left) (step .result) (step .ensures (run SC (start (pre .0)) (loop .inv .4 (pre .0) (pre .1) (pre .2) .so-far)) (loop .inv .4 (pre .0) (pre .1) (pre .2) .holds) (walk-enabled (args .code .now) (args .lengths .now) (args .threads) (args .pairs) (args .places) (pre .0) (pre .1) (pre .2) (loop .m) (loop .made) (loop .counts) (loop .schedule) (loop .k) (loop .inv .4 (pre .0) (pre .1) (pre .2)) (chosen .result) (chosen .ensures .1 (pre .0) (pre .1) (loop .inv .4 (pre .0) (pre .1) (pre .2) .so-far) (walk-on (args .code .now) (args .lengths .now) (args .threads) (args .pairs) (args .places) (pre .0) (pre .1) (pre .2) (loop .m) (loop .made) (loop .counts) (loop .schedule) (loop .k) (loop .inv .4 (pre .0) (pre .1) (pre .2)))) (loop-test .taken) (chosen .ensures .0) (if1 .left)) (walk-near (args .code .now) (args .lengths .now) (args .threads) (args .pairs) (args .places) (pre .0) (pre .1) (loop .m) (loop .counts) (loop .inv .4 (pre .0) (pre .1) (pre .2) .so-far) (walk-on (args .code .now) (args .lengths .now) (args .threads) (args .pairs) (args .places) (pre .0) (pre .1) (pre .2) (loop .m) (loop .made) (loop .counts) (loop .schedule) (loop .k) (loop .inv .4 (pre .0) (pre .1) (pre .2))) (chosen .result) (walk-enabled (args .code .now) (args .lengths .now) (args .threads) (args .pairs) (args .places) (pre .0) (pre .1) (pre .2) (loop .m) (loop .made) (loop .counts) (loop .schedule) (loop .k) (loop .inv .4 (pre .0) (pre .1) (pre .2)) (chosen .result) (chosen .ensures .1 (pre .0) (pre .1) (loop .inv .4 (pre .0) (pre .1) (pre .2) .so-far) (walk-on (args .code .now) (args .lengths .now) (args .threads) (args .pairs) (args .places) (pre .0) (pre .1) (pre .2) (loop .m) (loop .made) (loop .counts) (loop .schedule) (loop .k) (loop .inv .4 (pre .0) (pre .1) (pre .2)))) (loop-test .taken) (chosen .ensures .0) (if1 .left)))), (λ l. let z = loop .inv .3 l in omega (arith, loop-test .taken)))
 
 loop-again : tie.Need-loop-again Inv-loop μ-loop
 loop-again c = (
@@ -95,7 +95,7 @@ loop-again c = (
       let if1 = c .before .before .before .before .before .before .before .if1 in
       let step = c .before .before .before .before .before .before .step in
       let with-event = c .before .before .before .with-event in
-      few-more (loop .counts) _ _ (loop .k) (loop .inv .1) (walk-note (args .code .now) (args .lengths .now) (args .threads) (args .pairs) (args .places) (pre .0) (pre .1) (pre .2) (loop .m) (loop .made) (loop .counts) (loop .schedule) (loop .k) (loop .inv .4 (pre .0) (pre .1) (pre .2)) (chosen .result) (chosen .ensures .1 (pre .0) (pre .1) (loop .inv .4 (pre .0) (pre .1) (pre .2) .so-far) (walk-on (args .code .now) (args .lengths .now) (args .threads) (args .pairs) (args .places) (pre .0) (pre .1) (pre .2) (loop .m) (loop .made) (loop .counts) (loop .schedule) (loop .k) (loop .inv .4 (pre .0) (pre .1) (pre .2)))) (loop-test .taken) (chosen .ensures .0) (if1 .left) (step .result) (step .ensures (run SC (start (pre .0)) (loop .inv .4 (pre .0) (pre .1) (pre .2) .so-far)) (loop .inv .4 (pre .0) (pre .1) (pre .2) .holds) (walk-may (args .code .now) (args .lengths .now) (args .threads) (args .pairs) (args .places) (pre .0) (pre .1) (pre .2) (loop .m) (loop .made) (loop .counts) (loop .schedule) (loop .k) (loop .inv .4 (pre .0) (pre .1) (pre .2)) (chosen .result) (chosen .ensures .1 (pre .0) (pre .1) (loop .inv .4 (pre .0) (pre .1) (pre .2) .so-far) (walk-on (args .code .now) (args .lengths .now) (args .threads) (args .pairs) (args .places) (pre .0) (pre .1) (pre .2) (loop .m) (loop .made) (loop .counts) (loop .schedule) (loop .k) (loop .inv .4 (pre .0) (pre .1) (pre .2)))) (loop-test .taken) (chosen .ensures .0) (if1 .left)) (walk-near (args .code .now) (args .lengths .now) (args .threads) (args .pairs) (args .places) (pre .0) (pre .1) (loop .m) (loop .counts) (loop .inv .4 (pre .0) (pre .1) (pre .2) .so-far) (walk-on (args .code .now) (args .lengths .now) (args .threads) (args .pairs) (args .places) (pre .0) (pre .1) (pre .2) (loop .m) (loop .made) (loop .counts) (loop .schedule) (loop .k) (loop .inv .4 (pre .0) (pre .1) (pre .2))) (chosen .result) (walk-may (args .code .now) (args .lengths .now) (args .threads) (args .pairs) (args .places) (pre .0) (pre .1) (pre .2) (loop .m) (loop .made) (loop .counts) (loop .schedule) (loop .k) (loop .inv .4 (pre .0) (pre .1) (pre .2)) (chosen .result) (chosen .ensures .1 (pre .0) (pre .1) (loop .inv .4 (pre .0) (pre .1) (pre .2) .so-far) (walk-on (args .code .now) (args .lengths .now) (args .threads) (args .pairs) (args .places) (pre .0) (pre .1) (pre .2) (loop .m) (loop .made) (loop .counts) (loop .schedule) (loop .k) (loop .inv .4 (pre .0) (pre .1) (pre .2)))) (loop-test .taken) (chosen .ensures .0) (if1 .left))))) (with-event .ensures .1) (loop .inv .3),
+      few-more (loop .counts) _ _ (loop .k) (loop .inv .1) (walk-note (args .code .now) (args .lengths .now) (args .threads) (args .pairs) (args .places) (pre .0) (pre .1) (pre .2) (loop .m) (loop .made) (loop .counts) (loop .schedule) (loop .k) (loop .inv .4 (pre .0) (pre .1) (pre .2)) (chosen .result) (chosen .ensures .1 (pre .0) (pre .1) (loop .inv .4 (pre .0) (pre .1) (pre .2) .so-far) (walk-on (args .code .now) (args .lengths .now) (args .threads) (args .pairs) (args .places) (pre .0) (pre .1) (pre .2) (loop .m) (loop .made) (loop .counts) (loop .schedule) (loop .k) (loop .inv .4 (pre .0) (pre .1) (pre .2)))) (loop-test .taken) (chosen .ensures .0) (if1 .left) (step .result) (step .ensures (run SC (start (pre .0)) (loop .inv .4 (pre .0) (pre .1) (pre .2) .so-far)) (loop .inv .4 (pre .0) (pre .1) (pre .2) .holds) (walk-enabled (args .code .now) (args .lengths .now) (args .threads) (args .pairs) (args .places) (pre .0) (pre .1) (pre .2) (loop .m) (loop .made) (loop .counts) (loop .schedule) (loop .k) (loop .inv .4 (pre .0) (pre .1) (pre .2)) (chosen .result) (chosen .ensures .1 (pre .0) (pre .1) (loop .inv .4 (pre .0) (pre .1) (pre .2) .so-far) (walk-on (args .code .now) (args .lengths .now) (args .threads) (args .pairs) (args .places) (pre .0) (pre .1) (pre .2) (loop .m) (loop .made) (loop .counts) (loop .schedule) (loop .k) (loop .inv .4 (pre .0) (pre .1) (pre .2)))) (loop-test .taken) (chosen .ensures .0) (if1 .left)) (walk-near (args .code .now) (args .lengths .now) (args .threads) (args .pairs) (args .places) (pre .0) (pre .1) (loop .m) (loop .counts) (loop .inv .4 (pre .0) (pre .1) (pre .2) .so-far) (walk-on (args .code .now) (args .lengths .now) (args .threads) (args .pairs) (args .places) (pre .0) (pre .1) (pre .2) (loop .m) (loop .made) (loop .counts) (loop .schedule) (loop .k) (loop .inv .4 (pre .0) (pre .1) (pre .2))) (chosen .result) (walk-enabled (args .code .now) (args .lengths .now) (args .threads) (args .pairs) (args .places) (pre .0) (pre .1) (pre .2) (loop .m) (loop .made) (loop .counts) (loop .schedule) (loop .k) (loop .inv .4 (pre .0) (pre .1) (pre .2)) (chosen .result) (chosen .ensures .1 (pre .0) (pre .1) (loop .inv .4 (pre .0) (pre .1) (pre .2) .so-far) (walk-on (args .code .now) (args .lengths .now) (args .threads) (args .pairs) (args .places) (pre .0) (pre .1) (pre .2) (loop .m) (loop .made) (loop .counts) (loop .schedule) (loop .k) (loop .inv .4 (pre .0) (pre .1) (pre .2)))) (loop-test .taken) (chosen .ensures .0) (if1 .left))))) (with-event .ensures .1) (loop .inv .3),
   let args = c .before .before .before .before .before .before .before .before .before .before .before .before .args in
       let loop = c .before .before .before .before .before .before .before .before .before .before .loop in
       let loop-test = c .before .before .before .before .before .before .before .before .before .loop-test in
@@ -104,7 +104,7 @@ loop-again c = (
       let step = c .before .before .before .before .before .before .step in
       let with-source = c .before .before .before .before .with-source in
       let with-event = c .before .before .before .with-event in
-      λ p g X. walk-more (args .code .now) (args .lengths .now) (args .threads) (args .pairs) (args .places) p g X (loop .m) (loop .made) (loop .counts) (loop .schedule) (loop .k) (loop .inv .4 p g X) (chosen .result) (chosen .ensures .1 p g (loop .inv .4 p g X .so-far) (walk-on (args .code .now) (args .lengths .now) (args .threads) (args .pairs) (args .places) p g X (loop .m) (loop .made) (loop .counts) (loop .schedule) (loop .k) (loop .inv .4 p g X))) (loop-test .taken) (chosen .ensures .0) (if1 .left) (step .result) (step .ensures (run SC (start p) (loop .inv .4 p g X .so-far)) (loop .inv .4 p g X .holds) (walk-may (args .code .now) (args .lengths .now) (args .threads) (args .pairs) (args .places) p g X (loop .m) (loop .made) (loop .counts) (loop .schedule) (loop .k) (loop .inv .4 p g X) (chosen .result) (chosen .ensures .1 p g (loop .inv .4 p g X .so-far) (walk-on (args .code .now) (args .lengths .now) (args .threads) (args .pairs) (args .places) p g X (loop .m) (loop .made) (loop .counts) (loop .schedule) (loop .k) (loop .inv .4 p g X))) (loop-test .taken) (chosen .ensures .0) (if1 .left)) (walk-near (args .code .now) (args .lengths .now) (args .threads) (args .pairs) (args .places) p g (loop .m) (loop .counts) (loop .inv .4 p g X .so-far) (walk-on (args .code .now) (args .lengths .now) (args .threads) (args .pairs) (args .places) p g X (loop .m) (loop .made) (loop .counts) (loop .schedule) (loop .k) (loop .inv .4 p g X)) (chosen .result) (walk-may (args .code .now) (args .lengths .now) (args .threads) (args .pairs) (args .places) p g X (loop .m) (loop .made) (loop .counts) (loop .schedule) (loop .k) (loop .inv .4 p g X) (chosen .result) (chosen .ensures .1 p g (loop .inv .4 p g X .so-far) (walk-on (args .code .now) (args .lengths .now) (args .threads) (args .pairs) (args .places) p g X (loop .m) (loop .made) (loop .counts) (loop .schedule) (loop .k) (loop .inv .4 p g X))) (loop-test .taken) (chosen .ensures .0) (if1 .left)))) _ _ (with-event .ensures .0 ∙ rw (with-source .ensures)) (with-event .ensures .1) (loop .inv .0) (loop .inv .1) (loop .inv .2) (λ l. let z = loop .inv .3 l in omega (arith, loop-test .taken)),
+      λ p g X. walk-more (args .code .now) (args .lengths .now) (args .threads) (args .pairs) (args .places) p g X (loop .m) (loop .made) (loop .counts) (loop .schedule) (loop .k) (loop .inv .4 p g X) (chosen .result) (chosen .ensures .1 p g (loop .inv .4 p g X .so-far) (walk-on (args .code .now) (args .lengths .now) (args .threads) (args .pairs) (args .places) p g X (loop .m) (loop .made) (loop .counts) (loop .schedule) (loop .k) (loop .inv .4 p g X))) (loop-test .taken) (chosen .ensures .0) (if1 .left) (step .result) (step .ensures (run SC (start p) (loop .inv .4 p g X .so-far)) (loop .inv .4 p g X .holds) (walk-enabled (args .code .now) (args .lengths .now) (args .threads) (args .pairs) (args .places) p g X (loop .m) (loop .made) (loop .counts) (loop .schedule) (loop .k) (loop .inv .4 p g X) (chosen .result) (chosen .ensures .1 p g (loop .inv .4 p g X .so-far) (walk-on (args .code .now) (args .lengths .now) (args .threads) (args .pairs) (args .places) p g X (loop .m) (loop .made) (loop .counts) (loop .schedule) (loop .k) (loop .inv .4 p g X))) (loop-test .taken) (chosen .ensures .0) (if1 .left)) (walk-near (args .code .now) (args .lengths .now) (args .threads) (args .pairs) (args .places) p g (loop .m) (loop .counts) (loop .inv .4 p g X .so-far) (walk-on (args .code .now) (args .lengths .now) (args .threads) (args .pairs) (args .places) p g X (loop .m) (loop .made) (loop .counts) (loop .schedule) (loop .k) (loop .inv .4 p g X)) (chosen .result) (walk-enabled (args .code .now) (args .lengths .now) (args .threads) (args .pairs) (args .places) p g X (loop .m) (loop .made) (loop .counts) (loop .schedule) (loop .k) (loop .inv .4 p g X) (chosen .result) (chosen .ensures .1 p g (loop .inv .4 p g X .so-far) (walk-on (args .code .now) (args .lengths .now) (args .threads) (args .pairs) (args .places) p g X (loop .m) (loop .made) (loop .counts) (loop .schedule) (loop .k) (loop .inv .4 p g X))) (loop-test .taken) (chosen .ensures .0) (if1 .left)))) _ _ (with-event .ensures .0 ∙ rw (with-source .ensures)) (with-event .ensures .1) (loop .inv .0) (loop .inv .1) (loop .inv .2) (λ l. let z = loop .inv .3 l in omega (arith, loop-test .taken)),
 )
 
 returns-2 : tie.Need-returns-2 Inv-loop μ-loop

@@ -3,7 +3,7 @@ use borrow.Author.Needs.{needs}
 use mathlib.Core.Path.{sym, ap, _∙_}
 use Rattle.decoder.specs.Compiled.{programOf}
 use Rattle.schedules.specs.Calls.{Result}
-use Rattle.listing.specs.Said.{said}
+use Rattle.listing.specs.AnswerOf.{listAnswerOf}
 use Rattle.decoder.proofs.Decoded.{decoded-refused, decoded-accepted, decoded-well-formed}
 use Rattle.listing.proofs.FileCalls.{continue-file, continue-file-refused}
 use Rattle.listing.proofs.calling.continue_from.Statement.{statement}
@@ -13,13 +13,13 @@ continued-requires : tie.Need-continued-requires
 continued-requires c κs = decoded-well-formed (c .before .before .before .before .decode .result) (c .before .before .before .before .before .before .before .before .args .file .now) (c .before .before .before .before .decode .ensures) (c .before .before .enum-told .given .1)
 
 returns : tie.Need-returns
-unfolding said
+unfolding listAnswerOf
 returns c =
     let args = c .before .before .before .before .before .before .before .args in
     let decode = c .before .before .before .decode in
     let v = c .before .v in
     let e = continue-file-refused (args .file .now) (args .schedule .now) (args .out .now) _ _ (decoded-refused (decode .result) (args .file .now) (decode .ensures) _ _ (v .given .1)) in
-    (ap (λ (r : Result). said (r .0)) (sym e), ap (λ (r : Result). r .1) (sym e))
+    (ap (λ (r : Result). listAnswerOf (r .0)) (sym e), ap (λ (r : Result). r .1) (sym e))
 
 returns-2 : tie.Need-returns-2
 returns-2 c =
@@ -28,7 +28,7 @@ returns-2 c =
     let enum-told = c .before .before .before .before .before .enum-told in
     let continued = c .before .before .continued in
     let e = continue-file (args .file .now) (args .schedule .now) (args .out .now) (programOf (decode .result .program)) (decoded-accepted (decode .result) (args .file .now) (decode .ensures) (enum-told .given .1)) in
-    (continued .ensures .0 ∙ ap (λ (r : Result). said (r .0)) e, continued .ensures .1 ∙ ap (λ (r : Result). r .1) e)
+    (continued .ensures .0 ∙ ap (λ (r : Result). listAnswerOf (r .0)) e, continued .ensures .1 ∙ ap (λ (r : Result). r .1) e)
 
 pub continue-from-spec : {M : Type 1} → statement M
 continue-from-spec = tie.close (tie.spec (λ c κs. search needs) (λ c. search needs) (λ c. search needs) continued-requires returns (λ c. search needs) returns-2)

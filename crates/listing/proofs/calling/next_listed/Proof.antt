@@ -5,72 +5,68 @@ use native.Mathlib.Omega.{arith}
 use Rattle.lines.specs.Over.{over}
 use Rattle.decoder.specs.Compiled.{programOf}
 use Rattle.schedules.specs.Calls.{Answer, content}
-use Rattle.walker.specs.Bounds.{boundAt}
-use Rattle.list.specs.Search.{sought}
-use Rattle.schedules.specs.Found.{after}
+use Rattle.walker.specs.Cursor.{remaining}
 use Rattle.schedules.proofs.Offered.{content-found, content-nomore, content-refused}
-use Rattle.listing.specs.Said.{said}
+use Rattle.listing.specs.AnswerOf.{listAnswerOf}
 use Rattle.listing.specs.declared.calling.ListAnswer.{ListAnswer}
 use Rattle.listing.specs.declared.calling.ListAnswer.the-variants.{Found}
 use Rattle.listing.proofs.FirstRow.{first-none}
-use Rattle.listing.proofs.FileCalls.{turn-short, turn-none, turn-some, first-24, first-head, first-length, first-steps}
+use Rattle.listing.proofs.FileCalls.{answer-short, answer-none, answer-some, first-24, first-head, first-length, first-steps}
 use Rattle.listing.proofs.calling.next_listed.Statement.{statement}
 use Rattle.listing.proofs.calling.next_listed.Tie as tie
 
 returns : tie.Need-returns
-unfolding said
+unfolding listAnswerOf
 returns c =
-    let out = c .before .before .before .args .out .now in
-    let e = turn-short out _ (c .if1 .taken) in
-    (ap said (sym e), sym (content-refused 22 0 out) ∙ ap (λ (a : Answer). content a out) (sym e))
+    let out = c .before .before .args .out .now in
+    let e = answer-short out _ (c .if1 .taken) in
+    (ap listAnswerOf (sym e), sym (content-refused 22 0 out) ∙ ap (λ (a : Answer). content a out) (sym e))
 
 returns-2 : tie.Need-returns-2
-unfolding said
+unfolding listAnswerOf
 returns-2 c =
     let args = c .before .before .before .before .before .before .before .args in
-    let if1 = c .before .before .before .before .if1 in
-    let listed-rows = c .before .before .listed-rows in
+    let if1 = c .before .before .before .before .before .if1 in
+    let page = c .before .before .before .next-page in
     let out = args .out .now in
     let p = programOf (args .program) in
-    let l = after (boundAt (args .along) (args .bound .now) 0) (sought (args .only) p) in
-    let e = turn-none out _ (if1 .left) (first-none p _ (listed-rows .last .1 .1 .1 .1 .0) (listed-rows .result) refl l (c .if2 .taken) (listed-rows .ensures)) in
-    (ap said (sym e), sym (content-nomore out) ∙ ap (λ (a : Answer). content a out) (sym e))
+    let l = remaining p (args .failures) (args .cursor) in
+    let e = answer-none out _ (if1 .left) (first-none p _ (page .last .1 .1 .1 .0) (page .result .rows) refl l (c .if2 .taken) (page .ensures .shown)) in
+    (ap listAnswerOf (sym e), sym (content-nomore out) ∙ ap (λ (a : Answer). content a out) (sym e))
 
 put-schedule-requires : tie.Need-put-schedule-requires
 put-schedule-requires c κs =
     let entry = c .before .before .before .before .before .before .before .before .before .before in
     let pre = entry .pre in
     let args = entry .args in
-    let if1 = c .before .before .before .before .before .before .before .if1 in
-    let listed-rows = c .before .before .before .before .before .listed-rows in
+    let if1 = c .before .before .before .before .before .before .before .before .if1 in
+    let page = c .before .before .before .before .before .before .next-page in
     let if2 = c .before .before .before .if2 in
     let wide = c .before .before .wide in
     let p = programOf (args .program) in
-    let o = boundAt (args .along) (args .bound .now) 0 in
-    let row = listed-rows .last .1 .1 .1 .1 .0 in
-    let h = first-24 p _ row (listed-rows .result) refl (args .only) o (pre) (if2 .left) (listed-rows .ensures) in
-    let n = first-length p _ row (listed-rows .result) refl (args .only) o (pre) (if2 .left) (listed-rows .ensures) (wide .result) (wide .ensures) in
+    let row = page .last .1 .1 .1 .0 in
+    let h = first-24 p _ row (page .result .rows) refl (args .failures) (args .cursor) (pre) (if2 .left) (page .ensures .shown) in
+    let n = first-length p _ row (page .result .rows) refl (args .failures) (args .cursor) (pre) (if2 .left) (page .ensures .shown) (wide .result) (wide .ensures .0) in
     (omega (arith, h, n), if1 .left, search needs)
 
 returns-3 : tie.Need-returns-3
-unfolding said
+unfolding listAnswerOf
 returns-3 c =
     let entry = c .before .before .before .before .before .before .before .before .before .before .before .before .before in
     let pre = entry .pre in
     let args = entry .args in
-    let if1 = c .before .before .before .before .before .before .before .before .before .before .if1 in
-    let listed-rows = c .before .before .before .before .before .before .before .before .listed-rows in
+    let if1 = c .before .before .before .before .before .before .before .before .before .before .before .if1 in
+    let page = c .before .before .before .before .before .before .before .before .before .next-page in
     let if2 = c .before .before .before .before .before .before .if2 in
     let wide = c .before .before .before .before .before .wide in
     let put-schedule = c .before .before .put-schedule in
     let out = args .out .now in
     let p = programOf (args .program) in
-    let o = boundAt (args .along) (args .bound .now) 0 in
-    let row = listed-rows .last .1 .1 .1 .1 .0 in
-    let n = first-length p _ row (listed-rows .result) refl (args .only) o (pre) (if2 .left) (listed-rows .ensures) (wide .result) (wide .ensures) in
-    let s = first-steps p _ row (listed-rows .result) refl (args .only) o (pre) (if2 .left) (listed-rows .ensures) (wide .result) (wide .ensures) in
-    let e = turn-some out _ _ (if1 .left) (first-head p _ row (listed-rows .result) refl (args .only) o (pre) (if2 .left) (listed-rows .ensures)) in
-    (ap {B = ListAnswer} (λ k. Found k) n ∙ ap said (sym e), put-schedule .ensures ∙ ap (λ t. over t out) s ∙ sym (content-found _ out) ∙ ap (λ (a : Answer). content a out) (sym e))
+    let row = page .last .1 .1 .1 .0 in
+    let n = first-length p _ row (page .result .rows) refl (args .failures) (args .cursor) (pre) (if2 .left) (page .ensures .shown) (wide .result) (wide .ensures .0) in
+    let s = first-steps p _ row (page .result .rows) refl (args .failures) (args .cursor) (pre) (if2 .left) (page .ensures .shown) (wide .result) (wide .ensures .0) in
+    let e = answer-some out _ _ (if1 .left) (first-head p _ row (page .result .rows) refl (args .failures) (args .cursor) (pre) (if2 .left) (page .ensures .shown)) in
+    (ap {B = ListAnswer} (λ k. Found k) n ∙ ap listAnswerOf (sym e), put-schedule .ensures ∙ ap (λ t. over t out) s ∙ sym (content-found _ out) ∙ ap (λ (a : Answer). content a out) (sym e))
 
 pub next-listed-spec : {M : Type 1} → statement M
 next-listed-spec = tie.close (tie.spec returns (λ c. search needs) (λ c κs. search needs) returns-2 (λ c. search needs) (λ c κs. search needs) put-schedule-requires (λ c. search needs) returns-3)

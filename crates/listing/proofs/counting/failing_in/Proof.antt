@@ -7,9 +7,9 @@ use mathlib.Core.List.{List, []}
 use native.Mathlib.Omega.{arith}
 use lib.ListN.{length, getD, take}
 use Rattle.program.specs.Program.{Program}
-use Rattle.schedules.specs.Lists.{keep}
+use Rattle.schedules.specs.Lists.{filter}
 use Rattle.schedules.specs.Order.{Schedule}
-use Rattle.schedules.proofs.Kept.{keep-length}
+use Rattle.schedules.proofs.Kept.{filter-length}
 use Rattle.list.specs.Answers.{failing}
 use Rattle.walker.specs.Rows.{Shown}
 use Rattle.listing.proofs.CountedRows.{fails-more, fails-same, fails-all}
@@ -19,7 +19,7 @@ use Rattle.listing.proofs.counting.failing_in.Tie as tie
 abbrev Fails : List ℕ → ℕ → ℕ → ℕ → Type 0
 Fails rows n f k =
     (f ≤ k) × (k ≤ n)
-    × ((p : Program) (ss : List Schedule) (held : List ℕ) → Shown p ss held rows n → f ≡ length (keep (failing p) (take k ss)))
+    × ((p : Program) (ss : List Schedule) (held : List ℕ) → Shown p ss held rows n → f ≡ length (filter (failing p) (take k ss)))
 
 more : (rows : List ℕ) (n f f' k : ℕ) → Fails rows n f k → k < n → getD rows (k * 26 + 1) 0 ≡ 1 → f' ≡ f + 1 → Fails rows n f' (k + 1)
 more rows n f f' k v h e q = (omega (arith, q, v .0), omega (arith, h), λ p ss held s. q ∙ fails-more p ss held rows n s k f h e (v .2 p ss held s))
@@ -34,7 +34,7 @@ abbrev μ-loop : tie.MeasureT-loop
 μ-loop rows n failing₀ k₀ f k = n - k
 
 loop-holds : tie.Need-loop-holds Inv-loop μ-loop
-loop-holds c = (omega arith, omega arith, λ p ss held s. omega (arith, keep-length (failing p) []))
+loop-holds c = (omega arith, omega arith, λ p ss held s. omega (arith, filter-length (failing p) []))
 
 loop-again : tie.Need-loop-again Inv-loop μ-loop
 loop-again c =

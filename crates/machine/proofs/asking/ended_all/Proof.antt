@@ -5,7 +5,7 @@ use mathlib.Core.Path.{sym}
 use native.Mathlib.Omega.{arith}
 use lib.ListN.{getD}
 use Rattle.machine.specs.Held.{threadAt}
-use Rattle.machine.proofs.HeldAsking.{one-more, not-ended-held, ended-held}
+use Rattle.machine.proofs.HeldAsking.{one-more, ended-not, ended-yes}
 use Rattle.machine.proofs.asking.ended_all.Statement.{statement}
 use Rattle.machine.proofs.asking.ended_all.Tie as tie
 
@@ -23,7 +23,7 @@ returns c =
     let c4 = c .before .before .before .before in
     let c5 = c4 .before in
     let c6 = c5 .before in
-    λ code σ held. sym (not-ended-held code (c6 .args .lengths .now) (c6 .args .t2) σ held (c5 .loop .t) (c4 .loop-test .taken) (c .if1 .taken))
+    sym (ended-not (c6 .args .lengths .now) (c6 .args .t2) (c5 .loop .t) (c4 .loop-test .taken) (c .if1 .taken))
 
 loop-again : tie.Need-loop-again Inv-loop μ-loop
 loop-again c =
@@ -35,7 +35,7 @@ loop-again c =
     )
 
 returns-2 : tie.Need-returns-2 Inv-loop μ-loop
-returns-2 c = λ code σ held. sym (ended-held code (c .before .before .args .lengths .now) (c .before .before .args .t2) σ held (λ u b. c .before .loop .inv .1 u (omega arith)))
+returns-2 c = sym (ended-yes (c .before .before .args .lengths .now) (c .before .before .args .t2) (λ u b. c .before .loop .inv .1 u (omega arith)))
 
 pub ended-all-spec : {M : Type 1} → statement M
 ended-all-spec = tie.close (tie.spec Inv-loop μ-loop loop-holds (λ c. search needs) (λ c. search needs) (λ c. search needs) (λ c. search needs) returns (λ c. search needs) (λ c. search needs) loop-again returns-2)

@@ -5,7 +5,7 @@ use mathlib.Core.Path.{_≡_, sym}
 use native.Mathlib.Omega.{arith}
 use mathlib.Core.Bool.{false}
 use Rattle.machine.specs.Held.{threadAt}
-use Rattle.machine.proofs.HeldAsking.{one-more, fails-held, fails-not-held}
+use Rattle.machine.proofs.HeldAsking.{one-more, fails-yes, fails-not}
 use Rattle.machine.proofs.asking.fails.Statement.{statement}
 use Rattle.machine.proofs.asking.fails.Tie as tie
 
@@ -22,7 +22,7 @@ returns : tie.Need-returns Inv-loop μ-loop
 returns c =
     let c3 = c .before .before .before in
     let c4 = c3 .before in
-    λ code lengths σ held. sym (fails-held code lengths (c4 .args .t1) σ held (c3 .loop .t) (c .before .before .loop-test .taken) (c .if1 .taken))
+    sym (fails-yes (c4 .args .t1) (c3 .loop .t) (c .before .before .loop-test .taken) (c .if1 .taken))
 
 loop-again : tie.Need-loop-again Inv-loop μ-loop
 loop-again c =
@@ -31,7 +31,7 @@ loop-again c =
     (search needs, λ u b. one-more (λ (u : ℕ). threadAt (c4 .args .t1) u .failed ≡ false) (c3 .loop .t) (c3 .loop .inv .1) (c .if1 .left) u b)
 
 returns-2 : tie.Need-returns-2 Inv-loop μ-loop
-returns-2 c = λ code lengths σ held. sym (fails-not-held code lengths (c .before .before .args .t1) σ held (λ u b. c .before .loop .inv .1 u (omega arith)))
+returns-2 c = sym (fails-not (c .before .before .args .t1) (λ u b. c .before .loop .inv .1 u (omega arith)))
 
 pub fails-spec : {M : Type 1} → statement M
 fails-spec = tie.close (tie.spec Inv-loop μ-loop loop-holds (λ c. search needs) (λ c. search needs) returns (λ c. search needs) (λ c. search needs) loop-again returns-2)

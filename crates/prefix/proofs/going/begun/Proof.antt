@@ -1,18 +1,18 @@
+-- `begun` stands before the first step, with all threads that have an instruction left.
 use borrow.Author.Needs.{needs}
+use mathlib.Core.Path.{refl}
+use Rattle.sc.specs.State.{start}
 use Rattle.prefix.proofs.ReachedStep.{reached-start}
 use Rattle.prefix.proofs.going.begun.Statement.{statement}
 use Rattle.prefix.proofs.going.begun.Tie as tie
-use Rattle.prefix.proofs.going.begun.Reads as reads
-use Rattle.prefix.proofs.going.begun.Lts as lts
-use Rattle.machine.proofs.started.Reads as started-reads
 
--- src/going.rt:32:9
-started-requires : tie.Need-started-requires
-started-requires c κs = search needs
-
--- src/going.rt:27:1
 returns : tie.Need-returns
-returns c = λ class groups p loaded lines. reached-start (c .before .args .code .now) (c .before .args .lengths .now) class (c .before .args .threads) groups (c .started .result) _ p loaded lines (c .started .ensures p loaded)
+returns c =
+    let a = c .before .before .before .before .args in
+    let started = c .before .before .before .started in
+    λ class groups p loaded lines.
+    reached-start (a .code .now) (a .lengths .now) class (a .threads) groups (started .result) _ (c .live-set .result) p loaded lines (started .ensures p loaded)
+    (c .live-set .ensures (a .code .now) (started .result) (start p) refl (started .ensures p loaded))
 
 pub begun-spec : {M : Type 1} → statement M
-begun-spec = tie.close (tie.spec started-requires returns)
+begun-spec = tie.close (tie.spec (λ c κs. search needs) (λ c κs. search needs) returns)

@@ -19,7 +19,7 @@ returns-2 : tie.Need-returns-2
 returns-2 c =
     let a = (c .before .before .before .before .before .args) in
     λ m σ held ek em. late-ended (a .code .now) (a .lengths .now) m σ held (a .u) ((c .before .before .before .before .before .pre) .0) (a .late) (actionOf (a .a)) (a .k) ek
-    (subst (λ (i : ℕ). getD (a .lengths .now) i 0 ≤ a .k .at) ((c .before .before .wide) .ensures) ((c .if2) .taken))
+    (subst (λ (i : ℕ). getD (a .lengths .now) i 0 ≤ a .k .at) ((c .before .before .wide) .ensures .0) ((c .if2) .taken))
 
 returns-3 : tie.Need-returns-3
 returns-3 c =
@@ -29,23 +29,23 @@ returns-3 c =
 add-conflicts-at : tie.Need-add-conflicts-at
 add-conflicts-at c =
     let a = (c .before .before .before .before .before .before .before .before .args) in
-    let l : a .k .at < getD (a .lengths .now) (a .u) 0 = subst (λ (i : ℕ). a .k .at < getD (a .lengths .now) i 0) ((c .before .before .before .before .before .wide) .ensures) ((c .before .before .before .if2) .left) in
+    let l : a .k .at < getD (a .lengths .now) (a .u) 0 = subst (λ (i : ℕ). a .k .at < getD (a .lengths .now) i 0) ((c .before .before .before .before .before .wide) .ensures .0) ((c .before .before .before .if2) .left) in
     let s = (c .before .before .before .before .before .before .before .before .pre) .1 l in
-    omega (arith, (c .before .before .before .before .before .wide) .ensures, (c .before .before .before .before .before .before .before .before .pre) .0, l, s)
+    omega (arith, (c .before .before .before .before .before .wide) .ensures .0, (c .before .before .before .before .before .before .before .before .pre) .0, l, s)
 
 conflicts-at-requires : tie.Need-conflicts-at-requires
 conflicts-at-requires c κs =
     let a = (c .before .before .before .before .before .before .before .before .args) in
-    let l : a .k .at < getD (a .lengths .now) (a .u) 0 = subst (λ (i : ℕ). a .k .at < getD (a .lengths .now) i 0) ((c .before .before .before .before .before .wide) .ensures) ((c .before .before .before .if2) .left) in
+    let l : a .k .at < getD (a .lengths .now) (a .u) 0 = subst (λ (i : ℕ). a .k .at < getD (a .lengths .now) i 0) ((c .before .before .before .before .before .wide) .ensures .0) ((c .before .before .before .if2) .left) in
     let s = (c .before .before .before .before .before .before .before .before .pre) .1 l in
-    omega (arith, (c .before .before .before .before .before .wide) .ensures, (c .before .before .before .before .before .before .before .before .pre) .0, l, s)
+    omega (arith, (c .before .before .before .before .before .wide) .ensures .0, (c .before .before .before .before .before .before .before .before .pre) .0, l, s)
 
 returns-4 : tie.Need-returns-4
 returns-4 c =
     let a = (c .before .before .before .before .before .before .before .before .before .args) in
-    let l : a .k .at < getD (a .lengths .now) (a .u) 0 = subst (λ (i : ℕ). a .k .at < getD (a .lengths .now) i 0) ((c .before .before .before .before .before .before .wide) .ensures) ((c .before .before .before .before .if2) .left) in
+    let l : a .k .at < getD (a .lengths .now) (a .u) 0 = subst (λ (i : ℕ). a .k .at < getD (a .lengths .now) i 0) ((c .before .before .before .before .before .before .wide) .ensures .0) ((c .before .before .before .before .if2) .left) in
     λ m σ held ek em. late-unless (a .code .now) (a .lengths .now) m σ held (a .u) ((c .before .before .before .before .before .before .before .before .before .pre) .0) (a .late) (actionOf (a .a)) (a .k) (a .memory) ek em l ((c .before .before .before .before .before .before .before .if1) .left)
-    (sym ((c .before .before .before .is-before) .ensures) ∙ not-false _ ((c .before .before .if3) .left)) ((c .before .before .before .before .before .before .wide) .result * 16 + a .k .at) (ap (λ (i : ℕ). i * 16 + a .k .at) ((c .before .before .before .before .before .before .wide) .ensures)) ((c .conflicts-at) .result) ((c .conflicts-at) .ensures)
+    (sym ((c .before .before .before .is-before) .ensures) ∙ not-false _ ((c .before .before .if3) .left)) ((c .before .before .before .before .before .before .wide) .result * 16 + a .k .at) (ap (λ (i : ℕ). i * 16 + a .k .at) ((c .before .before .before .before .before .before .wide) .ensures .0)) ((c .conflicts-at) .result) ((c .conflicts-at) .ensures)
 
 pub is-late-behind-spec : {M : Type 1} → statement M
 is-late-behind-spec =

@@ -3,8 +3,8 @@ use borrow.Author.Needs.{needs}
 use mathlib.Core.Path.{_∙_, sym, ap}
 use lib.ListN.{length}
 use Rattle.sc.specs.GraphCall.{graphOutput}
-use Rattle.replay.specs.GraphWord.{saidOf}
-use Rattle.sc.specs.GraphCall.{GraphSaid}
+use Rattle.replay.specs.GraphWord.{graphAnswerOf}
+use Rattle.sc.specs.GraphCall.{GraphResult}
 use Rattle.replay.proofs.GraphCalled.{file-refused, file-well-formed, file-answered}
 use Rattle.replay.proofs.graph_call.graph.Statement.{statement}
 use Rattle.replay.proofs.graph_call.graph.Tie as tie
@@ -17,12 +17,12 @@ graph-of-requires c κs =
     .before .before .enum-told .given .1)
 
 returns : tie.Need-returns
-unfolding saidOf graphOutput
+unfolding graphAnswerOf graphOutput
 returns c =
     let c3 = c .before .before .before in
     let c7 = c3 .before .before .before .before in
     let e = file-refused (c3 .decode .result) (c7 .args .file .now) (c7 .args .schedule .now) (length (c7 .args .out .now)) (c3 .decode .ensures) _ _
-    (c .before .v .given .1) in (ap saidOf (sym e), ap (λ (a : GraphSaid). graphOutput a (c7 .args .out .now)) (sym e))
+    (c .before .v .given .1) in (ap graphAnswerOf (sym e), ap (λ (a : GraphResult). graphOutput a (c7 .args .out .now)) (sym e))
 
 returns-2 : tie.Need-returns-2
 returns-2 c =
@@ -31,9 +31,9 @@ returns-2 c =
     let c11 = c7 .before .before .before .before in
     let e = file-answered (c7 .decode .result) (c11 .args .file .now) (c11 .args .schedule .now) (length (c11 .args .out .now)) (c7 .decode .ensures)
     (c5 .enum-told .given .1) in (
-      c .before .before .graph-of .ensures .0 ∙ ap saidOf e,
+      c .before .before .graph-of .ensures .0 ∙ ap graphAnswerOf e,
       c .before .before .graph-of .ensures .1 ∙ ap (λ (a :
-          GraphSaid). graphOutput a (c11 .args .out .now)) e,
+          GraphResult). graphOutput a (c11 .args .out .now)) e,
     )
 
 pub graph-spec : {M : Type 1} → statement M

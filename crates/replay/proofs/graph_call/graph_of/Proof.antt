@@ -4,21 +4,21 @@ use mathlib.Core.Path.{sym, ap}
 use lib.ListN.{length}
 use Rattle.decoder.specs.Compiled.{programOf}
 use Rattle.sc.specs.GraphCall.{graphOutput}
-use Rattle.replay.specs.GraphWord.{saidOf}
-use Rattle.sc.specs.GraphCall.{GraphSaid}
+use Rattle.replay.specs.GraphWord.{graphAnswerOf}
+use Rattle.sc.specs.GraphCall.{GraphResult}
 use Rattle.machine.proofs.HeldStart.{loaded-compiled}
 use Rattle.replay.proofs.GraphCalled.{graph-short, graph-refused, graph-24, graph-answered}
 use Rattle.replay.proofs.graph_call.graph_of.Statement.{statement}
 use Rattle.replay.proofs.graph_call.graph_of.Tie as tie
 
 returns : tie.Need-returns
-unfolding saidOf graphOutput
+unfolding graphAnswerOf graphOutput
 returns c =
     let args = c .before .before .before .args in
     let e = graph-short (programOf (args .p)) (args .schedule .now) (length (args .out .now)) (c .if1 .taken) in (
-      ap saidOf (sym e),
+      ap graphAnswerOf (sym e),
       ap (λ
-          (a : GraphSaid). graphOutput a (args .out .now)) (sym e),
+          (a : GraphResult). graphOutput a (args .out .now)) (sym e),
     )
 
 replayed-requires : tie.Need-replayed-requires
@@ -39,14 +39,14 @@ write-graph-requires c κs =
     )
 
 returns-2 : tie.Need-returns-2
-unfolding saidOf graphOutput
+unfolding graphAnswerOf graphOutput
 returns-2 c =
     let c3 = c .before .before .before in
     let c8 = c3 .before .before .before .before .before in
     let c11 = c8 .before .before .before in
     let e = graph-refused (c11 .args .p .code) (c11 .args .p .lengths) (programOf (c11 .args .p)) (c11 .args .schedule .now) (c3 .replayed .result)
     (c3 .replayed .ensures (programOf (c11 .args .p)) (loaded-compiled (c11 .args .p) (c11 .pre))) (length (c11 .args .out .now)) (c8 .if1 .left) _ _
-    (c .before .v .given .1) in (ap saidOf (sym e), ap (λ (a : GraphSaid). graphOutput a (c11 .args .out .now)) (sym e))
+    (c .before .v .given .1) in (ap graphAnswerOf (sym e), ap (λ (a : GraphResult). graphOutput a (c11 .args .out .now)) (sym e))
 
 returns-3 : tie.Need-returns-3
 returns-3 c =

@@ -11,7 +11,7 @@ returns c = rw (eq-eqb _ _ (c .if1 .taken))
 
 returns-2 : tie.Need-returns-2
 unfolding locationFits
-returns-2 c = rw (ne-eqb _ _ (c .before .if1 .left), c .field .ensures)
+returns-2 c = rw (ne-eqb _ _ (c .before .if1 .left), c .field .ensures .0)
 
 pub location-fits-spec : {M : Type 1} → statement M
 location-fits-spec = tie.close (tie.spec returns (λ c κs. search needs) returns-2)

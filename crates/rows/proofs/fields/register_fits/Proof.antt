@@ -11,7 +11,7 @@ returns c = rw (eq-eqb _ _ (c .if1 .taken))
 
 returns-2 : tie.Need-returns-2
 unfolding registerFits
-returns-2 c = rw (ne-eqb _ _ (c .before .if1 .left), c .field .ensures)
+returns-2 c = rw (ne-eqb _ _ (c .before .if1 .left), c .field .ensures .0)
 
 pub register-fits-spec : {M : Type 1} → statement M
 register-fits-spec = tie.close (tie.spec returns (λ c κs. search needs) returns-2)

@@ -1,52 +1,52 @@
 -- `kind_of` finds the row of the table that its first byte names.
 use borrow.Author.Needs.{needs}
-use Rattle.program.specs.Kinds.{kindOf, find, kinds}
+use Rattle.program.specs.Kinds.{kindOf, lookup, kinds}
 use borrow.Author.Tests.{ne-eqb}
 use Rattle.rows.proofs.kinds.kind_of.Statement.{statement}
 use Rattle.rows.proofs.kinds.kind_of.Tie as tie
 
 returns : tie.Need-returns
-unfolding kindOf find kinds
+unfolding kindOf lookup kinds
 returns c = rw (c .before .if1 .taken) (c .bare .ensures)
 
 returns-2 : tie.Need-returns-2
-unfolding kindOf find kinds
+unfolding kindOf lookup kinds
 returns-2 c = rw (c .before .if2 .taken) (c .bare2 .ensures)
 
 returns-3 : tie.Need-returns-3
-unfolding kindOf find kinds
+unfolding kindOf lookup kinds
 returns-3 c = rw (c .before .if3 .taken) (c .plain .ensures)
 
 returns-4 : tie.Need-returns-4
-unfolding kindOf find kinds
+unfolding kindOf lookup kinds
 returns-4 c = rw (c .before .if4 .taken) (c .plain2 .ensures)
 
 returns-5 : tie.Need-returns-5
-unfolding kindOf find kinds
+unfolding kindOf lookup kinds
 returns-5 c = rw (c .before .if5 .taken) (c .plain3 .ensures)
 
 returns-6 : tie.Need-returns-6
-unfolding kindOf find kinds
+unfolding kindOf lookup kinds
 returns-6 c = rw (c .before .if6 .taken) (c .plain4 .ensures)
 
 returns-7 : tie.Need-returns-7
-unfolding kindOf find kinds
+unfolding kindOf lookup kinds
 returns-7 c = rw (c .before .if7 .taken) (c .plain5 .ensures)
 
 returns-8 : tie.Need-returns-8
-unfolding kindOf find kinds
+unfolding kindOf lookup kinds
 returns-8 c = rw (c .before .if8 .taken) (c .plain6 .ensures)
 
 returns-9 : tie.Need-returns-9
-unfolding kindOf find kinds
+unfolding kindOf lookup kinds
 returns-9 c = rw (c .if9 .taken)
 
 returns-10 : tie.Need-returns-10
-unfolding kindOf find kinds
+unfolding kindOf lookup kinds
 returns-10 c = rw (c .before .if10 .taken) (c .plain7 .ensures)
 
 returns-11 : tie.Need-returns-11
-unfolding kindOf find kinds
+unfolding kindOf lookup kinds
 returns-11 c =
     let c3 = c .before .before .before in
     let c4 = c3 .before in

@@ -10,7 +10,7 @@ use Rattle.rows.proofs.row.skip_at.Tie as tie
 returns : tie.Need-returns
 returns c =
     let c4 = c .before .before .before .before in
-    c .wide .ensures ∙ sym (one-skip _ (row-first (c4 .args .code .now) (c4 .args .row) ∙ c .before .before .if1 .taken) ∙ row-byte (c4 .args .code
+    c .wide .ensures .0 ∙ sym (one-skip _ (row-first (c4 .args .code .now) (c4 .args .row) ∙ c .before .before .if1 .taken) ∙ row-byte (c4 .args .code
     .now) (c4 .args .row) 7 (lit< tt))
 
 returns-2 : tie.Need-returns-2

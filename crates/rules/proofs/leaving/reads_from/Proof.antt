@@ -1,43 +1,23 @@
--- `reads_from` tells by the kind of instruction.
+-- `reads_from` adds the location where the row's access is of that sort.
 use borrow.Author.Needs.{needs}
-use Prim.Native.Nat.{ℕ}
-use mathlib.Core.Path.{ap, _∙_}
-use Rattle.survivors.specs.Sets.{joined}
-use Rattle.survivors.specs.Sleepers.{readsLeft}
+use mathlib.Core.Path.{sym, _∙_}
+use Rattle.rows.specs.Rows.{instructionAt}
+use Rattle.rules.proofs.WhatIsLeft.{reads-more, reads-same}
 use Rattle.rules.proofs.leaving.reads_from.Statement.{statement}
 use Rattle.rules.proofs.leaving.reads_from.Tie as tie
 
 returns : tie.Need-returns
-unfolding readsLeft
-returns c = λ is e. rw ((c .enum-told) .given .1) e
+returns c =
+    let args = c .before .before .before .before .args in
+    let test = c .before .before .before .is-reader in
+    let location-at = c .before .location-at in
+    λ is e. reads-more (instructionAt (args .code .now) (args .row)) is (args .set) (location-at .result) (c .with-location .result)
+    (sym (test .ensures) ∙ c .before .before .if1 .taken) (location-at .ensures) e (c .with-location .ensures)
 
 returns-2 : tie.Need-returns-2
-unfolding readsLeft
-returns-2 c = λ is e. rw ((c .before .before .i) .given .1) ((c .with-location) .ensures ∙ ap (joined _) e)
-
-returns-3 : tie.Need-returns-3
-unfolding readsLeft
-returns-3 c = λ is e. rw ((c .before .before .i2) .given .1) ((c .with-location2) .ensures ∙ ap (joined _) e)
-
-returns-4 : tie.Need-returns-4
-unfolding readsLeft
-returns-4 c = λ is e. rw ((c .before .before .i3) .given .1) ((c .with-location3) .ensures ∙ ap (joined _) e)
-
-returns-5 : tie.Need-returns-5
-unfolding readsLeft
-returns-5 c = λ is e. rw ((c .enum-told2) .given .1) e
-
-returns-6 : tie.Need-returns-6
-unfolding readsLeft
-returns-6 c = λ is e. rw ((c .enum-told3) .given .1) e
-
-returns-7 : tie.Need-returns-7
-unfolding readsLeft
-returns-7 c = λ is e. rw ((c .enum-told4) .given .1) e
-
-returns-8 : tie.Need-returns-8
-unfolding readsLeft
-returns-8 c = λ is e. rw ((c .enum-told5) .given .1) e
+returns-2 c =
+    let args = c .before .before .args in
+    λ is e. reads-same (instructionAt (args .code .now) (args .row)) is (args .set) (sym (c .before .is-reader .ensures) ∙ c .if1 .left) e
 
 pub reads-from-spec : {M : Type 1} → statement M
-reads-from-spec = tie.close (tie.spec (λ c. search needs) (λ c. search needs) (λ c κs. search needs) (λ c. search needs) (λ c κs. search needs) (λ c. search needs) (λ c κs. search needs) (λ c. search needs) (λ c. search needs) (λ c. search needs) (λ c. search needs) returns returns-2 returns-3 returns-4 returns-5 returns-6 returns-7 returns-8)
+reads-from-spec = tie.close (tie.spec (λ c κs. search needs) (λ c κs. search needs) (λ c κs. search needs) returns returns-2)

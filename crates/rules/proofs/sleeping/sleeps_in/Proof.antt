@@ -5,7 +5,7 @@ use Prim.Native.Nat.{ℕ, _-_, _+_, _≤_}
 use mathlib.Core.Path.{_≡_, refl, sym, ap, _∙_}
 use mathlib.Core.Bool.{Bool, not, _||_}
 use native.Mathlib.Omega.{arith}
-use Rattle.schedules.specs.Lists.{upTo, all}
+use Rattle.schedules.specs.Lists.{range, all}
 use Rattle.sc.specs.State.{State, Thread, threadOf, place}
 use Rattle.sc.specs.Ahead.{mayPut}
 use Rattle.survivors.specs.Sets.{has}
@@ -17,7 +17,7 @@ use Rattle.rules.proofs.sleeping.sleeps_in.Tie as tie
 
 abbrev Inv-loop : tie.InvT-loop
 Inv-loop code lengths left at set t a u₀ u =
-    (u ≤ 6) × ((σ : State) → Rests code lengths at σ → Left code lengths left → all (λ k. has set k || not (wakes σ t k)) (upTo 0 6) ≡ all (λ k. has set k || not (wakes σ t k)) (upTo u (6 - u)))
+    (u ≤ 6) × ((σ : State) → Rests code lengths at σ → Left code lengths left → all (λ k. has set k || not (wakes σ t k)) (range 0 6) ≡ all (λ k. has set k || not (wakes σ t k)) (range u (6 - u)))
 
 abbrev μ-loop : tie.MeasureT-loop
 μ-loop code lengths left at set t a u₀ u = 6 - u
@@ -26,7 +26,7 @@ returns : tie.Need-returns Inv-loop μ-loop
 returns c = let a = (c .before .before .args) in λ σ rests left. sleeps-out σ (a .set) (a .t) (sym ((c .before .is-in) .ensures) ∙ not-true _ ((c .if1) .taken))
 
 access-of-requires : tie.Need-access-of-requires Inv-loop μ-loop
-access-of-requires c κs = (omega (arith, (c .wide) .ensures, (c .before .before .before .pre) .0), (c .before .before .before .pre) .1)
+access-of-requires c κs = (omega (arith, (c .wide) .ensures .0, (c .before .before .before .pre) .0), (c .before .before .before .pre) .1)
 
 loop-holds : tie.Need-loop-holds Inv-loop μ-loop
 loop-holds c = (search needs, λ σ rests holds. refl)
@@ -41,7 +41,7 @@ returns-2 c =
     λ σ rests left.
     let s = (c .before .before .before .before .access-of) .ensures σ rests in
     let q = quiet-held (a .code .now) (a .lengths .now) (a .at .now) σ rests (a .t) ((c .before .before .before .before .before .before .before .before .pre) .0) (a .set) u ((c .before .before .before .before .access-of) .result .location) ((c .before .before .before .before .access-of) .result .writer) ((c .before .before .loop-test) .taken)
-    (s .0 ∙ ap (place σ) ((c .before .before .before .before .before .wide) .ensures)) (s .1 ∙ ap (λ (i : ℕ). mayPut (threadOf σ i .local)) ((c .before .before .before .before .before .wide) .ensures)) in
+    (s .0 ∙ ap (place σ) ((c .before .before .before .before .before .wide) .ensures .0)) (s .1 ∙ ap (λ (i : ℕ). mayPut (threadOf σ i .local)) ((c .before .before .before .before .before .wide) .ensures .0)) in
     sleeps-by σ (a .set) (a .t) _ (sym ((c .before .before .before .before .before .before .before .is-in) .ensures) ∙ not-false _ ((c .before .before .before .before .before .before .if1) .left))
     ((c .before .before .before .loop) .inv .1 σ rests left ∙ all-fails (λ k. has (a .set) k || not (wakes σ (a .t) k)) u (6 - u) (omega (arith, (c .before .before .loop-test) .taken)) (sym q ∙ sym ((c .before .is-quiet) .ensures (a .code .now) left) ∙ not-true _ ((c .if2) .taken)))
 
@@ -53,10 +53,10 @@ loop-again c =
       λ σ rests holds.
           let s = (c .before .before .before .before .access-of) .ensures σ rests in
           let q = quiet-held (a .code .now) (a .lengths .now) (a .at .now) σ rests (a .t) ((c .before .before .before .before .before .before .before .before .pre) .0) (a .set) u ((c .before .before .before .before .access-of) .result .location) ((c .before .before .before .before .access-of) .result .writer) ((c .before .before .loop-test) .taken)
-          (s .0 ∙ ap (place σ) ((c .before .before .before .before .before .wide) .ensures)) (s .1 ∙ ap (λ (i : ℕ). mayPut (threadOf σ i .local)) ((c .before .before .before .before .before .wide) .ensures)) in
+          (s .0 ∙ ap (place σ) ((c .before .before .before .before .before .wide) .ensures .0)) (s .1 ∙ ap (λ (i : ℕ). mayPut (threadOf σ i .local)) ((c .before .before .before .before .before .wide) .ensures .0)) in
           let n : 6 - u - 1 ≡ 6 - (u + 1) = omega arith in
           (c .before .before .before .loop) .inv .1 σ rests holds ∙ all-further (λ k. has (a .set) k || not (wakes σ (a .t) k)) u (6 - u) (omega (arith, (c .before .before .loop-test) .taken)) (sym q ∙ sym ((c .before .is-quiet) .ensures (a .code .now) holds) ∙ not-false _ ((c .if2) .left))
-          ∙ ap (λ (j : ℕ). all (λ k. has (a .set) k || not (wakes σ (a .t) k)) (upTo (u + 1) j)) n,
+          ∙ ap (λ (j : ℕ). all (λ k. has (a .set) k || not (wakes σ (a .t) k)) (range (u + 1) j)) n,
     )
 
 returns-3 : tie.Need-returns-3 Inv-loop μ-loop

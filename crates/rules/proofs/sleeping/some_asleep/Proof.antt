@@ -20,46 +20,46 @@ abbrev μ-loop : tie.MeasureT-loop
 
 returns : tie.Need-returns Inv-loop μ-loop
 returns c =
-    let a = c .before .before .args in
+    let a = c .before .args in
     λ class threads groups p v r.
-    round-none (endOf p v) (a .x .late) (c .if1 .taken) (sleepers (endOf p v) (lateSet p v)) (asleep-first (a .code .now) (a .lengths .now) class threads groups (a .x) p v r)
+    round-none (endOf p v) (a .t4 .late) (c .if1 .taken) (sleepers (endOf p v) (lateSet p v)) (asleep-first (a .code .now) (a .lengths .now) class threads groups (a .t4) p v r)
 
 loop-holds : tie.Need-loop-holds Inv-loop μ-loop
-loop-holds c = let a = (c .before .before .before .before .before .before .before .before .before .args) in let q = (c .before .before .before .before .before .before .before .before .before .pre) in (late-small (a .code .now) (a .lengths .now) (q .0) (q .1) (q .2) (a .x) (q .3) (q .4) (q .5), λ σ rests. refl)
+loop-holds c = let a = (c .before .before .before .before .before .before .before .args) in let q = (c .before .before .before .before .before .before .before .pre) in (late-small (a .code .now) (a .lengths .now) (q .0) (q .1) (q .2) (a .t4) (q .3) (q .4) (q .5), λ σ rests. refl)
 
 unwoken-requires : tie.Need-unwoken-requires Inv-loop μ-loop
-unwoken-requires c κs = let a = (c .before .before .before .before .before .before .before .before .before .before .before .before .args) in let q = (c .before .before .before .before .before .before .before .before .before .before .before .before .pre) in counters-short (a .code .now) (a .lengths .now) (q .0) (q .1) (q .2) (a .x) (q .3) (q .4) (q .5)
+unwoken-requires c κs = let a = (c .before .before .before .before .before .before .before .before .before .before .args) in let q = (c .before .before .before .before .before .before .before .before .before .before .pre) in counters-short (a .code .now) (a .lengths .now) (q .0) (q .1) (q .2) (a .t4) (q .3) (q .4) (q .5)
 
 returns-2 : tie.Need-returns-2 Inv-loop μ-loop
 returns-2 c =
-    let a = (c .before .before .before .before .before .before .before .before .before .before .before .before .before .before .args) in
+    let a = (c .before .before .before .before .before .before .before .before .before .before .before .before .args) in
     λ class threads groups p v r.
-    let rests = counters-rest (a .code .now) (a .lengths .now) class threads groups (a .x) p v r in
-    round-still (endOf p v) ((c .before .before .before .before .loop) .set) ((c .before .unwoken) .result) ((c .before .before .before .before .loop) .inv .0) ((c .before .unwoken) .ensures (endOf p v) rests ((c .before .before .before .before .before .before .before .before .before .before .before .before .before .before .pre) .6)) ((c .if2) .taken) ((c .before .before .before .loop-test) .taken) (sleepers (endOf p v) (lateSet p v))
-    (asleep-first (a .code .now) (a .lengths .now) class threads groups (a .x) p v r ∙ (c .before .before .before .before .loop) .inv .1 (endOf p v) rests)
+    let rests = counters-rest (a .code .now) (a .lengths .now) class threads groups (a .t4) p v r in
+    round-still (endOf p v) ((c .before .before .before .before .loop) .set) ((c .before .unwoken) .result) ((c .before .before .before .before .loop) .inv .0) ((c .before .unwoken) .ensures (endOf p v) rests ((c .before .before .before .before .before .before .before .before .before .before .before .before .pre) .6)) ((c .if2) .taken) ((c .before .before .before .loop-test) .taken) (sleepers (endOf p v) (lateSet p v))
+    (asleep-first (a .code .now) (a .lengths .now) class threads groups (a .t4) p v r ∙ (c .before .before .before .before .loop) .inv .1 (endOf p v) rests)
 
 loop-less : tie.Need-loop-less Inv-loop μ-loop
 loop-less c =
-    let a = (c .before .before .before .before .before .before .before .before .before .before .before .before .before .before .args) in
-    let q = (c .before .before .before .before .before .before .before .before .before .before .before .before .before .before .pre) in
-    let rests = counters-rest (a .code .now) (a .lengths .now) (q .0) (q .1) (q .2) (a .x) (q .3) (q .4) (q .5) in
+    let a = (c .before .before .before .before .before .before .before .before .before .before .before .before .args) in
+    let q = (c .before .before .before .before .before .before .before .before .before .before .before .before .pre) in
+    let rests = counters-rest (a .code .now) (a .lengths .now) (q .0) (q .1) (q .2) (a .t4) (q .3) (q .4) (q .5) in
     round-falls (endOf (q .3) (q .4)) ((c .before .before .before .before .loop) .set) ((c .before .unwoken) .result) ((c .before .before .before .before .loop) .inv .0) ((c .before .unwoken) .ensures (endOf (q .3) (q .4)) rests (q .6)) ((c .if2) .left)
 
 loop-again : tie.Need-loop-again Inv-loop μ-loop
 loop-again c =
-    let a = (c .before .before .before .before .before .before .before .before .before .before .before .before .before .before .args) in
-    let q = (c .before .before .before .before .before .before .before .before .before .before .before .before .before .before .pre) in
-    let rests = counters-rest (a .code .now) (a .lengths .now) (q .0) (q .1) (q .2) (a .x) (q .3) (q .4) (q .5) in (
+    let a = (c .before .before .before .before .before .before .before .before .before .before .before .before .args) in
+    let q = (c .before .before .before .before .before .before .before .before .before .before .before .before .pre) in
+    let rests = counters-rest (a .code .now) (a .lengths .now) (q .0) (q .1) (q .2) (a .t4) (q .3) (q .4) (q .5) in (
       round-below (endOf (q .3) (q .4)) ((c .before .before .before .before .loop) .set) ((c .before .unwoken) .result) ((c .before .before .before .before .loop) .inv .0) ((c .before .unwoken) .ensures (endOf (q .3) (q .4)) rests (q .6)),
       λ σ rest. round-on σ ((c .before .before .before .before .loop) .set) ((c .before .unwoken) .result) ((c .before .before .before .before .loop) .inv .0) ((c .before .unwoken) .ensures σ rest (q .6)) ((c .if2) .left) _ ((c .before .before .before .before .loop) .inv .1 σ rest),
     )
 
 returns-3 : tie.Need-returns-3 Inv-loop μ-loop
 returns-3 c =
-    let a = (c .before .before .before .before .before .before .before .before .before .before .before .args) in
+    let a = (c .before .before .before .before .before .before .before .before .before .args) in
     λ class threads groups p v r.
-    let rests = counters-rest (a .code .now) (a .lengths .now) class threads groups (a .x) p v r in
-    round-none (endOf p v) ((c .before .loop) .set) ((c .loop-test) .left) (sleepers (endOf p v) (lateSet p v)) (asleep-first (a .code .now) (a .lengths .now) class threads groups (a .x) p v r ∙ (c .before .loop) .inv .1 (endOf p v) rests)
+    let rests = counters-rest (a .code .now) (a .lengths .now) class threads groups (a .t4) p v r in
+    round-none (endOf p v) ((c .before .loop) .set) ((c .loop-test) .left) (sleepers (endOf p v) (lateSet p v)) (asleep-first (a .code .now) (a .lengths .now) class threads groups (a .t4) p v r ∙ (c .before .loop) .inv .1 (endOf p v) rests)
 
 pub some-asleep-spec : {M : Type 1} → statement M
 some-asleep-spec = tie.close (tie.spec Inv-loop μ-loop returns (λ c. search needs) (λ c. search needs) (λ c. search needs) (λ c. search needs) (λ c. search needs) (λ c. search needs) loop-holds unwoken-requires returns-2 loop-less loop-again returns-3)

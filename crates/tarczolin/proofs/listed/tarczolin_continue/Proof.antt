@@ -3,15 +3,15 @@ use borrow.Author.Needs.{needs}
 use mathlib.Core.Path.{_∙_, ap}
 use Rattle.listing.specs.declared.calling.ListAnswer.{ListAnswer}
 use Rattle.tarczolin.specs.Word.{wordOf}
-use Rattle.tarczolin.specs.Listed.{toldOf}
-use Rattle.tarczolin.proofs.Told.{told-said}
+use Rattle.tarczolin.specs.Listed.{replyOf}
+use Rattle.tarczolin.proofs.ReplyOf.{word-answer}
 use Rattle.tarczolin.proofs.listed.tarczolin_continue.Statement.{statement}
 use Rattle.tarczolin.proofs.listed.tarczolin_continue.Tie as tie
 
 returns : tie.Need-returns
 returns c =
     let a = c .before .before .before .continue-from in
-    (c .told .ensures ∙ ap (λ (x : ListAnswer). wordOf (toldOf x)) (a .ensures .0) ∙ ap wordOf (told-said _), a .ensures .1)
+    (c .word-of .ensures ∙ ap (λ (x : ListAnswer). wordOf (replyOf x)) (a .ensures .0) ∙ ap wordOf (word-answer _), a .ensures .1)
 
 pub tarczolin-continue-spec : {M : Type 1} → statement M
 tarczolin-continue-spec = tie.close (tie.spec (λ c κs. search needs) (λ c κs. search needs) (λ c. search needs) returns)

@@ -1,14 +1,14 @@
 -- `first_thread` reads the bound's next byte while the steps are its own.
 use borrow.Author.Needs.{needs}
 use mathlib.Core.Path.{sym}
-use Rattle.walker.proofs.BoundSteps.{low-along, low-end, low-apart}
+use Rattle.walker.proofs.BoundSteps.{low-tight, low-end, low-apart}
 use Rattle.walker.proofs.bounds.first_thread.Statement.{statement}
 use Rattle.walker.proofs.bounds.first_thread.Tie as tie
 
 returns : tie.Need-returns
 returns c =
     let a = c .before .before .before .args in
-    rw (c .before .before .if1 .taken) (sym (low-along (a .bound .now) (a .k) (c .before .if2 .taken)))
+    rw (c .before .before .if1 .taken) (sym (low-tight (a .bound .now) (a .k) (c .before .if2 .taken)))
 
 returns-2 : tie.Need-returns-2
 returns-2 c = let a = c .before .before .args in rw (c .before .if1 .taken) (sym (low-end (a .bound .now) (a .k) (c .if2 .left)))

@@ -1,10 +1,11 @@
 -- `at_end` writes the schedule's row, if it is looked for.
 use borrow.Author.Needs.{needs}
 use borrow.Author.Tests.{not-true, not-false}
-use mathlib.Core.Path.{_≡_, sym, _∙_}
+use mathlib.Core.Path.{_≡_, refl, sym, _∙_}
 use Rattle.sc.specs.Graph.{endOf}
 use Rattle.list.specs.Answers.{failing}
 use Rattle.survivors.proofs.Search.{behind-end, behind-passed}
+use Rattle.prefix.specs.Reached.{machineOf}
 use Rattle.walker.specs.Rows.{rowOf}
 use Rattle.walker.proofs.AddedRows.{adds-none, adds-full, adds-one}
 use Rattle.walker.proofs.ending.at_end.Statement.{statement}
@@ -19,12 +20,12 @@ returns c =
 returns-2 : tie.Need-returns-2
 unfolding failing
 returns-2 c =
-    let entry = c .before .before .before .before .before .before in
+    let entry = c .before .before .before .before .before .before .before in
     let a = entry .args in (
       entry .pre .1,
       λ code lengths class threads groups p v at e.
           adds-none p (a .a .room) _ (a .out .now) (a .a .rows)
-          (behind-passed (a .a .only) p (a .x .steps) v (c .before .before .fails .result) e (sym (c .before .before .fails .ensures code lengths (endOf p v) (at .holds))) (sym (c .before .is-meant .ensures) ∙ not-true _ (c .if2 .taken))),
+          (behind-passed (a .a .failures) p (a .x .steps) v (c .before .before .some-failed .result) e (sym (c .before .before .some-failed .ensures code lengths (machineOf (a .x) (at .last)) (endOf p v) refl (at .holds))) (sym (c .before .is-meant .ensures) ∙ not-true _ (c .if2 .taken))),
     )
 
 returns-3 : tie.Need-returns-3
@@ -32,13 +33,13 @@ unfolding failing rowOf
 returns-3 c = (
   search needs,
   λ code lengths class threads groups p v at e.
-      let entry = c .before .before .before .before .before .before .before .before .before .before .before in
+      let entry = c .before .before .before .before .before .before .before .before .before .before .before .before in
       let a = entry .args in
-      let f : failing p v ≡ c .before .before .before .before .before .before .before .fails .result = sym (c .before .before .before .before .before .before .before .fails .ensures code lengths (endOf p v) (at .holds)) in
+      let f : failing p v ≡ c .before .before .before .before .before .before .before .some-failed .result = sym (c .before .before .before .before .before .before .before .some-failed .ensures code lengths (machineOf (a .x) (at .last)) (endOf p v) refl (at .holds)) in
       let w = at .schedule in
       adds-one p (a .a .room) _ v (a .out .now) (c .before .before .put-row .last .0) (a .a .rows)
-      (behind-end (a .a .only) p (a .x .steps) v (c .before .before .before .before .before .before .before .fails .result) e f (sym (c .before .before .before .before .before .before .is-meant .ensures) ∙ not-false _ (c .before .before .before .before .before .if2 .left)))
-      (c .before .before .before .before .before .before .before .before .if1 .left) (c .before .before .put-row .ensures ∙ rw (w, f)),
+      (behind-end (a .a .failures) p (a .x .steps) v (c .before .before .before .before .before .before .before .some-failed .result) e f (sym (c .before .before .before .before .before .before .is-meant .ensures) ∙ not-false _ (c .before .before .before .before .before .if2 .left)))
+      (c .before .before .before .before .before .before .before .before .before .if1 .left) (c .before .before .put-row .ensures ∙ rw (w, f)),
 )
 
 pub at-end-spec : {M : Type 1} → statement M

@@ -36,7 +36,7 @@ returns c =
     let loaded = loaded-compiled program w in
     let lines = lines-known program (c .before .before .before .before .before .before .before .before .before .before .before .before .before .before .known-lines .result) (c .before .before .before .before .before .before .before .before .before .before .before .before .before .before .known-lines .ensures .0) (c .before .before .before .before .before .before .before .before .before .before .before .before .before .before .known-lines .ensures .1) in
     let reached = c .before .before .before .before .before .before .before .before .begun .ensures (c .before .before .before .before .before .before .before .before .before .before .before .before .before .before .known-lines .result) (program .groups) (programOf program) loaded lines in
-    walk-whole (programOf program) (a .only) (a .along) (a .bound .now) (a .out .now) _ _ w _ (reached .counted)
+    walk-whole (programOf program) (a .failures) (a .tight) (a .bound .now) (a .out .now) _ _ w _ (reached .counted)
     (c .before .before .walk .ensures .1 (program .threads) (program .groups) (programOf program) [] reached)
 
 pub listed-rows-spec : {M : Type 1} → statement M

@@ -1,9 +1,9 @@
 -- `visit` and `walk` call each other, with one step fewer left each time round. `walk`'s invariant: what the threads from t on add completes
 -- the whole.
 use borrow.Author.Needs.{needs}
-use borrow.Author.Tests.{not-true, not-false}
 use Prim.Native.Nat.{ℕ, _<_, _≤_, _-_, _+_}
 use mathlib.Core.Path.{_≡_, refl, sym, _∙_}
+use mathlib.Core.Logic.{⊎-elim}
 use mathlib.Core.List.{[], _∷_, _++_}
 use native.Mathlib.Omega.{arith}
 use lib.ListN.{length}
@@ -11,25 +11,23 @@ use borrow.Fn.Kinds.{In}
 use borrow.Fn.PlainCycle.{Measures, is, falls, and}
 use Rattle.sc.specs.Graph.{endOf}
 use Rattle.survivors.proofs.Search.{behind-stuck}
-use Rattle.prefix.proofs.ReachedStep.{reached-most}
+use Rattle.prefix.proofs.ReachedStep.{reached-most, reached-ended, reached-going}
 use Rattle.walker.specs.Bounds.{boundAt}
 use Rattle.walker.proofs.AddedRows.{adds-none, adds-same}
-use Rattle.walker.proofs.WalkTurns.{visit-ended, visit-late, visit-twin, visit-asleep, visit-less, visit-on, bound-met, bound-apart, Rest, rest-start, rest-next, rest-over, rest-full}
+use Rattle.walker.proofs.TriedSteps.{tried-enabled}
+use Rattle.walker.proofs.WalkTurns.{visit-asleep, visit-less, visit-on, bound-met, bound-apart, Rest, rest-start, turn-taken, turn-skipped, rest-over, rest-full}
 use Rattle.walker.proofs.walking.visit.Reads as visit
 use Rattle.walker.proofs.walking.visit.Kinds as visit-kinds
 use Rattle.walker.proofs.walking.+visit+walk.Lts-visit as visit-lts
 use Rattle.walker.proofs.walking.walk.Reads as walk
 use Rattle.walker.proofs.walking.walk.Kinds as walk-kinds
 use Rattle.walker.proofs.walking.+visit+walk.Lts-walk as walk-lts
-use Rattle.machine.proofs.ended_all.Reads as ended-all-reads
-use Rattle.machine.proofs.may.Reads as may-reads
 use Rattle.prefix.proofs.advanced.Reads as advanced-reads
-use Rattle.prefix.proofs.is_late.Reads as is-late-reads
 use Rattle.rules.proofs.some_asleep.Reads as some-asleep-reads
-use Rattle.rules.proofs.has_smaller_twin.Reads as has-smaller-twin-reads
 use Rattle.walker.proofs.bounds.first_thread.Reads as first-thread-reads
-use Rattle.walker.proofs.bounds.stays_along.Reads as stays-along-reads
+use Rattle.walker.proofs.bounds.stays_tight.Reads as stays-tight-reads
 use Rattle.walker.proofs.ending.at_end.Reads as at-end-reads
+use Rattle.walker.proofs.walking.is_tried.Reads as is-tried-reads
 use Rattle.walker.proofs.walking.+visit+walk.{statement}
 use Rattle.walker.proofs.walking.+visit+walk.Tie.{close}
 
@@ -52,201 +50,169 @@ abbrev walk-below : ℕ → In 6 walk-kinds.ps
 walk-below t = and 6 walk-kinds.ps (falls 6 walk-kinds.ps _<_ μ-walk t) walk.Pre
 
 abbrev visit-callees : ℕ → visit-lts.Claims
-visit-callees t = (
-  may-reads.Asked,
-  may-reads.Learnt,
-  is-late-reads.Asked,
-  is-late-reads.Learnt,
-  has-smaller-twin-reads.Asked,
-  has-smaller-twin-reads.Learnt,
-  advanced-reads.Asked,
-  advanced-reads.Learnt,
-  some-asleep-reads.Asked,
-  some-asleep-reads.Learnt,
-  stays-along-reads.Asked,
-  stays-along-reads.Learnt,
-  walk-below t,
-  walk.Post,
-)
+visit-callees t = (advanced-reads.Asked, advanced-reads.Learnt, some-asleep-reads.Asked, some-asleep-reads.Learnt, stays-tight-reads.Asked, stays-tight-reads.Learnt, walk-below t, walk.Post)
 
 abbrev walk-callees : ℕ → walk-lts.Claims
-walk-callees t = (ended-all-reads.Asked, ended-all-reads.Learnt, at-end-reads.Asked, at-end-reads.Learnt, first-thread-reads.Asked, first-thread-reads.Learnt, visit-below t, visit.Post)
+walk-callees t = (at-end-reads.Asked, at-end-reads.Learnt, first-thread-reads.Asked, first-thread-reads.Learnt, is-tried-reads.Asked, is-tried-reads.Learnt, visit-below t, visit.Post)
 
 -- ---- visit
-
-visit-returns : (t : ℕ) → visit-lts.Need-returns (visit-callees t) (visit-at t) visit.Post
-visit-returns t c =
-    let entry = c .before .before .before .before in
-    let pre = entry .pre in
-    let a = entry .args in (
-      pre .1 .2,
-      λ threads groups p v at. adds-none p (a .a .room) _ (a .out .now) (a .a .rows) (visit-ended (a .code .now) (a .lengths .now) (a .class .now) threads groups (a .x) p v at (a .a .only) (boundAt (a .a .along) (a .bound .now) (a .x .steps)) (a .t) (sym (c .before .may .ensures (a .code .now) (endOf p v) (at .holds)) ∙ not-true _ (c .if1 .taken))),
-    )
-
-visit-returns-2 : (t : ℕ) → visit-lts.Need-returns-2 (visit-callees t) (visit-at t) visit.Post
-visit-returns-2 t c =
-    let entry = c .before .before .before .before .before .before in
-    let pre = entry .pre in
-    let a = entry .args in (
-      pre .1 .2,
-      λ threads groups p v at. adds-none p (a .a .room) _ (a .out .now) (a .a .rows) (visit-late (a .code .now) (a .lengths .now) (a .class .now) threads groups (a .x) p v at (a .a .only) (boundAt (a .a .along) (a .bound .now) (a .x .steps)) (a .t) (sym (c .before .before .before .may .ensures (a .code .now) (endOf p v) (at .holds)) ∙ not-false _ (c .before .before .if1 .left)) (sym (c .before .is-late .ensures) ∙ c .if2 .taken)),
-    )
-
-visit-returns-3 : (t : ℕ) → visit-lts.Need-returns-3 (visit-callees t) (visit-at t) visit.Post
-visit-returns-3 t c =
-    let entry = c .before .before .before .before .before .before .before .before in
-    let pre = entry .pre in
-    let a = entry .args in (
-      pre .1 .2,
-      λ threads groups p v at. adds-none p (a .a .room) _ (a .out .now) (a .a .rows) (visit-twin (a .code .now) (a .lengths .now) (a .class .now) threads groups (a .x) p v at (a .a .only) (boundAt (a .a .along) (a .bound .now) (a .x .steps)) (a .t) (sym (c .before .before .before .before .before .may .ensures (a .code .now) (endOf p v) (at .holds)) ∙ not-false _ (c .before .before .before .before .if1 .left)) (sym (c .before .has-smaller-twin .ensures (a .code .now) (a .lengths .now) threads groups p v at) ∙ c .if3 .taken)),
-    )
-
 visit-advanced-requires : (t : ℕ) → visit-lts.Need-advanced-requires (visit-callees t) (visit-at t) visit.Post
 visit-advanced-requires t c κs =
-    let entry = c .before .before .before .before .before .before .before .before in
+    let entry = c .before .before in
     let pre = entry .pre in
     let a = entry .args in
     let e = pre .1 .0 in
-    (a .class .now, e .0, e .1, e .2, e .3, e .4, (sym (c .before .before .before .before .before .may .ensures (a .code .now) (endOf (e .2) (e .3)) (e .4 .holds)) ∙ not-false _ (c .before .before .before .before .if1 .left)))
+    (a .class .now, e .0, e .1, e .2, e .3, e .4, tried-enabled (e .2) (e .3) (a .t) (pre .1 .4 (e .0) (e .1) (e .2) (e .3) (e .4)))
 
 visit-some-asleep-requires : (t : ℕ) → visit-lts.Need-some-asleep-requires (visit-callees t) (visit-at t) visit.Post
 visit-some-asleep-requires t c κs =
-    let entry = c .before .before .before .before .before .before .before .before .before in
+    let entry = c .before .before .before in
     let pre = entry .pre in
     let a = entry .args in
     let e = pre .1 .0 in
     (a .class .now, e .0, e .1, e .2, e .3 ++ (a .t ∷ []), c .advanced .ensures (a .class .now) (e .0) (e .1) (e .2) (e .3) (e .4), pre .1 .1)
 
-visit-returns-4 : (t : ℕ) → visit-lts.Need-returns-4 (visit-callees t) (visit-at t) visit.Post
-visit-returns-4 t c =
-    let entry = c .before .before .before .before .before .before .before .before .before .before .before in
+visit-returns : (t : ℕ) → visit-lts.Need-returns (visit-callees t) (visit-at t) visit.Post
+visit-returns t c =
+    let entry = c .before .before .before .before .before in
     let pre = entry .pre in
     let a = entry .args in (
       pre .1 .2,
-      λ threads groups p v at. adds-none p (a .a .room) _ (a .out .now) (a .a .rows) (visit-asleep (a .code .now) (a .lengths .now) (a .class .now) threads groups (a .x) p v at (a .a .only) (boundAt (a .a .along) (a .bound .now) (a .x .steps)) (a .t) (sym (c .before .before .before .before .before .before .before .before .may .ensures (a .code .now) (endOf p v) (at .holds)) ∙ not-false _ (c .before .before .before .before .before .before .before .if1 .left)) (sym (c .before .some-asleep .ensures (a .class .now) threads groups p (v ++ (a .t ∷ [])) (c .before .before .advanced .ensures (a .class .now) threads groups p v at)) ∙ c .if4 .taken)),
+      λ threads groups p v at. adds-none p (a .a .room) _ (a .out .now) (a .a .rows)
+          (visit-asleep (a .code .now) (a .lengths .now) (a .class .now) threads groups (a .x) p v at (a .a .failures) (boundAt (a .a .tight) (a .bound .now) (a .x .steps)) (a .t) (pre .1 .4 threads groups p v at)
+          (sym (c .before .some-asleep .ensures (a .class .now) threads groups p (v ++ (a .t ∷ [])) (c .before .before .advanced .ensures (a .class .now) threads groups p v at)) ∙ c .if1 .taken)),
     )
 
 visit-walk-requires : (t : ℕ) → visit-lts.Need-walk-requires (visit-callees t) (visit-at t) visit.Post
 visit-walk-requires t c κs =
-    let entry = c .before .before .before .before .before .before .before .before .before .before .before .before .before in
+    let entry = c .before .before .before .before .before .before .before in
     let pre = entry .pre in
     let a = entry .args in
     let e = pre .1 .0 in
-    let next = c .before .before .before .before .advanced .ensures (a .class .now) (e .0) (e .1) (e .2) (e .3) (e .4) in (
-      omega (arith, pre .0, visit-less (a .code .now) (a .lengths .now) (a .class .now) (e .0) (e .1) (a .x) (e .2) (e .3) (e .4) (a .a .only) (boundAt (a .a .along) (a .bound .now) (a .x .steps)) (a .t) (sym (c .before .before .before .before .before .before .before .before .before .before .may .ensures (a .code .now) (endOf (e .2) (e .3)) (e .4 .holds)) ∙ not-false _ (c .before .before .before .before .before .before .before .before .before .if1 .left)) (c .before .before .before .before .advanced .result) next),
+    let advanced = c .before .before .before .before .advanced in
+    let next = advanced .ensures (a .class .now) (e .0) (e .1) (e .2) (e .3) (e .4) in (
+      omega (arith, pre .0, visit-less (a .code .now) (a .lengths .now) (a .class .now) (e .0) (e .1) (a .x) (e .2) (e .3) (e .4) (a .a .failures) (boundAt (a .a .tight) (a .bound .now) (a .x .steps)) (a .t) (pre .1 .4 (e .0) (e .1) (e .2) (e .3) (e .4)) (advanced .result) next),
       ((e .0, e .1, e .2, e .3 ++ (a .t ∷ []), next), pre .1 .1, pre .1 .2, pre .1 .3),
     )
 
-visit-returns-5 : (t : ℕ) → visit-lts.Need-returns-5 (visit-callees t) (visit-at t) visit.Post
-visit-returns-5 t c =
-    let entry = c .before .before .before .before .before .before .before .before .before .before .before .before .before .before .before .before in
+visit-returns-2 : (t : ℕ) → visit-lts.Need-returns-2 (visit-callees t) (visit-at t) visit.Post
+visit-returns-2 t c =
+    let entry = c .before .before .before .before .before .before .before .before .before .before in
     let pre = entry .pre in
     let a = entry .args in
+    let advanced = c .before .before .before .before .before .before .before .advanced in
+    let still = c .before .before .before .before .stays-tight in
     let walked = c .before .before .walk in (
       walked .ensures .0,
       λ threads groups p v at.
-          let next = c .before .before .before .before .before .before .before .advanced .ensures (a .class .now) threads groups p v at in
+          let next = advanced .ensures (a .class .now) threads groups p v at in
           adds-same p (a .a .room) _ _ (a .out .now) _ (a .a .rows) _
-          (visit-on (a .code .now) (a .lengths .now) (a .class .now) threads groups (a .x) p v at (a .a .only) (boundAt (a .a .along) (a .bound .now) (a .x .steps)) (a .t) (sym (c .before .before .before .before .before .before .before .before .before .before .before .before .before .may .ensures (a .code .now) (endOf p v) (at .holds)) ∙ not-false _ (c .before .before .before .before .before .before .before .before .before .before .before .before .if1 .left)) (c .before .before .before .before .before .before .before .advanced .result) next
-          (sym (c .before .before .before .before .before .before .before .before .before .before .before .is-late .ensures) ∙ c .before .before .before .before .before .before .before .before .before .before .if2 .left)
-          (sym (c .before .before .before .before .before .before .before .before .before .has-smaller-twin .ensures (a .code .now) (a .lengths .now) threads groups p v at) ∙ c .before .before .before .before .before .before .before .before .if3 .left)
-          (sym (c .before .before .before .before .before .before .some-asleep .ensures (a .class .now) threads groups p (v ++ (a .t ∷ [])) next) ∙ c .before .before .before .before .before .if4 .left)
-          (c .before .before .before .before .stays-along .result) (a .bound .now) (c .before .before .before .before .stays-along .ensures))
+          (visit-on (a .code .now) (a .lengths .now) (a .class .now) threads groups (a .x) p v at (a .a .failures) (boundAt (a .a .tight) (a .bound .now) (a .x .steps)) (a .t) (pre .1 .4 threads groups p v at) (advanced .result) next
+          (sym (c .before .before .before .before .before .before .some-asleep .ensures (a .class .now) threads groups p (v ++ (a .t ∷ [])) next) ∙ c .before .before .before .before .before .if1 .left)
+          (still .result) (a .bound .now) (still .ensures))
           (walked .ensures .1 threads groups p (v ++ (a .t ∷ [])) next),
     )
 
 -- ---- walk
 abbrev walk-Inv-loop : walk-lts.InvT-loop
-walk-Inv-loop code lengths class left x bound a out₀ n₀ t₀ out n t =
-    (n ≤ a .room) × (length out ≡ length out₀) × Rest code lengths class (a .only) x (boundAt (a .along) bound (x .steps)) out₀ (a .room) (a .rows) out n t
+walk-Inv-loop code lengths class left bound a out₀ x n₀ t₀ out n t =
+    (n ≤ a .room) × (length out ≡ length out₀) × Rest code lengths class (a .failures) x (boundAt (a .tight) bound (x .steps)) out₀ (a .room) (a .rows) out n t
 
 abbrev walk-μ-loop : walk-lts.MeasureT-loop
-walk-μ-loop code lengths class left x bound a out₀ n₀ t₀ out n t = 6 - t
+walk-μ-loop code lengths class left bound a out₀ x n₀ t₀ out n t = 6 - t
 
 walk-returns : (t : ℕ) → walk-lts.Need-returns (walk-callees t) (walk-at t) walk.Post walk-Inv-loop walk-μ-loop
 walk-returns t c =
-    let entry = c .before .before .before .before .before in
+    let entry = c .before .before .before .before in
     let pre = entry .pre in
     let a = entry .args in (
       pre .1 .2,
-      λ threads groups p v at. rw (c .if2 .taken) (adds-none p (a .a .room) _ (a .out .now) (a .a .rows) (bound-met (a .a .only) p (a .x .steps) v (a .bound .now) (sym (c .before .before .ended-all .ensures (a .code .now) (endOf p v) (at .holds)) ∙ c .before .if1 .taken))),
+      λ threads groups p v at. rw (c .if2 .taken) (adds-none p (a .a .room) _ (a .out .now) (a .a .rows)
+          (bound-met (a .a .failures) p (a .t5 .steps) v (a .bound .now) (reached-ended (a .code .now) (a .lengths .now) (a .class .now) threads groups (a .t5) p v at (c .before .if1 .taken)))),
     )
 
 walk-at-end-requires : (t : ℕ) → walk-lts.Need-at-end-requires (walk-callees t) (walk-at t) walk.Post walk-Inv-loop walk-μ-loop
 walk-at-end-requires t c κs =
-    let entry = c .before .before .before .before .before .before in
+    let entry = c .before .before .before .before .before in
     let pre = entry .pre in
     let a = entry .args in
     let e = pre .1 .0 in
-    (reached-most (a .code .now) (a .lengths .now) (a .class .now) (e .0) (e .1) (a .x) (e .2) (e .3) (e .4), pre .1 .2, pre .1 .3)
+    (reached-most (a .code .now) (a .lengths .now) (a .class .now) (e .0) (e .1) (a .t5) (e .2) (e .3) (e .4), pre .1 .2, pre .1 .3)
 
 walk-returns-2 : (t : ℕ) → walk-lts.Need-returns-2 (walk-callees t) (walk-at t) walk.Post walk-Inv-loop walk-μ-loop
 walk-returns-2 t c =
-    let entry = c .before .before .before .before .before .before .before .before .before in
-    let pre = entry .pre in
-    let a = entry .args in (
-      c .before .before .at-end .ensures .0,
+    let entry = c .before .before .before .before .before .before .before .before in
+    let a = entry .args in
+    let at-end = c .before .before .at-end in (
+      at-end .ensures .0,
       λ threads groups p v at.
-          rw (c .before .before .before .before .if2 .left) (adds-same p (a .a .room) _ _ (a .out .now) _ (a .a .rows) _ (bound-apart (a .a .only) p (a .x .steps) v (a .bound .now))
-          (c .before .before .at-end .ensures .1 (a .code .now) (a .lengths .now) (a .class .now) threads groups p v at (sym (c .before .before .before .before .before .before .ended-all .ensures (a .code .now) (endOf p v) (at .holds)) ∙ c .before .before .before .before .before .if1 .taken))),
+          rw (c .before .before .before .before .if2 .left) (adds-same p (a .a .room) _ _ (a .out .now) _ (a .a .rows) _ (bound-apart (a .a .failures) p (a .t5 .steps) v (a .bound .now))
+          (at-end .ensures .1 (a .code .now) (a .lengths .now) (a .class .now) threads groups p v at (reached-ended (a .code .now) (a .lengths .now) (a .class .now) threads groups (a .t5) p v at (c .before .before .before .before .before .if1 .taken)))),
     )
 
 walk-returns-3 : (t : ℕ) → walk-lts.Need-returns-3 (walk-callees t) (walk-at t) walk.Post walk-Inv-loop walk-μ-loop
 walk-returns-3 t c =
-    let entry = c .before .before .before .before .before .before in
+    let entry = c .before .before .before .before in
     let pre = entry .pre in
     let a = entry .args in (
       pre .1 .2,
-      λ threads groups p v at. adds-none p (a .a .room) _ (a .out .now) (a .a .rows) (behind-stuck (a .a .only) p (a .x .steps) v (boundAt (a .a .along) (a .bound .now) (a .x .steps)) (sym (c .before .before .before .ended-all .ensures (a .code .now) (endOf p v) (at .holds)) ∙ c .before .before .if1 .left) (c .if3 .taken)),
+      λ threads groups p v at. adds-none p (a .a .room) _ (a .out .now) (a .a .rows)
+          (behind-stuck (a .a .failures) p (a .t5 .steps) v (boundAt (a .a .tight) (a .bound .now) (a .t5 .steps)) (reached-going (a .code .now) (a .lengths .now) (a .class .now) threads groups (a .t5) p v at (c .before .if1 .left)) (c .if3 .taken)),
     )
 
 walk-loop-holds : (t : ℕ) → walk-lts.Need-loop-holds (walk-callees t) (walk-at t) walk.Post walk-Inv-loop walk-μ-loop
 walk-loop-holds t c =
-    let entry = c .before .before .before .before .before .before .before in
+    let entry = c .before .before .before .before .before in
     let pre = entry .pre in
     let a = entry .args in (
       pre .1 .2,
       refl,
-      rest-start (a .code .now) (a .lengths .now) (a .class .now) (a .a .only) (a .x) (boundAt (a .a .along) (a .bound .now) (a .x .steps)) (a .out .now) (a .a .room) (a .a .rows) (c .first-thread .result) (λ threads groups p v at. sym (c .before .before .before .before .ended-all .ensures (a .code .now) (endOf p v) (at .holds)) ∙ c .before .before .before .if1 .left) (c .before .if3 .left) (c .first-thread .ensures),
+      rest-start (a .code .now) (a .lengths .now) (a .class .now) (a .a .failures) (a .t5) (boundAt (a .a .tight) (a .bound .now) (a .t5 .steps)) (a .out .now) (a .a .room) (a .a .rows) (c .first-thread .result)
+          (λ threads groups p v at. reached-going (a .code .now) (a .lengths .now) (a .class .now) threads groups (a .t5) p v at (c .before .before .if1 .left)) (c .before .if3 .left) (c .first-thread .ensures),
     )
 
 walk-returns-4 : (t : ℕ) → walk-lts.Need-returns-4 (walk-callees t) (walk-at t) walk.Post walk-Inv-loop walk-μ-loop
 walk-returns-4 t c =
-    let entry = c .before .before .before .before .before .before .before .before .before .before .before in
-    let pre = entry .pre in
+    let entry = c .before .before .before .before .before .before .before .before .before in
     let a = entry .args in
     let loop = c .before .before .before .loop in
-    (loop .inv .0, rest-full (a .code .now) (a .lengths .now) (a .class .now) (a .a .only) (a .x) (boundAt (a .a .along) (a .bound .now) (a .x .steps)) (a .out .now) (a .a .room) (a .a .rows) (loop .out) (loop .n) (loop .t) (c .if4 .taken) (loop .inv .2))
+    (loop .inv .0, rest-full (a .code .now) (a .lengths .now) (a .class .now) (a .a .failures) (a .t5) (boundAt (a .a .tight) (a .bound .now) (a .t5 .steps)) (a .out .now) (a .a .room) (a .a .rows) (loop .out) (loop .n) (loop .t) (c .if4 .taken) (loop .inv .2))
+
+walk-is-tried-requires : (t : ℕ) → walk-lts.Need-is-tried-requires (walk-callees t) (walk-at t) walk.Post walk-Inv-loop walk-μ-loop
+walk-is-tried-requires t c κs = c .before .before .before .before .loop-test .taken
 
 walk-visit-requires : (t : ℕ) → walk-lts.Need-visit-requires (walk-callees t) (walk-at t) walk.Post walk-Inv-loop walk-μ-loop
 walk-visit-requires t c κs =
-    let entry = c .before .before .before .before .before .before .before .before .before .before .before .before in
+    let entry = c .before .before .before .before .before .before .before .before .before .before .before .before .before .before in
     let pre = entry .pre in
     let a = entry .args in
-    let loop = c .before .before .before .before .loop in
-    (omega (arith, pre .0), (pre .1 .0, pre .1 .1, loop .inv .0, omega (arith, pre .1 .3, loop .inv .1), c .before .before .before .loop-test .taken))
+    let loop = c .before .before .before .before .before .before .before .before .loop in
+    let asked = c .before .before .is-tried in (
+      omega (arith, pre .0),
+      (pre .1 .0, pre .1 .1, loop .inv .0, omega (arith, pre .1 .3, loop .inv .1), λ threads groups p v at. sym (asked .ensures (a .code .now) (a .lengths .now) threads groups (a .t5) p v at refl refl refl) ∙ c .before .if5 .taken),
+    )
 
+-- with a step that is tried, and with one that is not
 walk-loop-again : (t : ℕ) → walk-lts.Need-loop-again (walk-callees t) (walk-at t) walk.Post walk-Inv-loop walk-μ-loop
 walk-loop-again t c =
-    let entry = c .before .before .before .before .before .before .before .before .before .before .before .before .before .before .before in
-    let pre = entry .pre in
-    let a = entry .args in
+    let a = c .before .before .before .before .before .before .before .before .before .before .before .before .before .args in
     let loop = c .before .before .before .before .before .before .before .loop in
-    let visited = c .before .before .visit in (
-      visited .ensures .0,
-      c .before .out2 .given ∙ loop .inv .1,
-      rest-next (a .code .now) (a .lengths .now) (a .class .now) (a .a .only) (a .x) (boundAt (a .a .along) (a .bound .now) (a .x .steps)) (a .out .now) (a .a .room) (a .a .rows) (loop .out) _ (loop .n) _ (loop .t) (c .before .before .before .before .before .before .loop-test .taken) (loop .inv .2) (visited .ensures .1),
-    )
+    let in-loop = c .before .before .before .before .before .before .loop-test .taken in
+    ⊎-elim
+    (λ w. turn-taken (a .code .now) (a .lengths .now) (a .class .now) (a .a .failures) (a .t5) (boundAt (a .a .tight) (a .bound .now) (a .t5 .steps)) (a .out .now) (a .a .room) (a .a .rows) (loop .out) _ (c .if5 .out) (loop .n) _ (c .if5 .n) (loop .t) in-loop (loop .inv .1) (loop .inv .2)
+    (w .2 .ensures .0) (w .3 .given) (w .2 .ensures .1) (w .5) (w .6))
+    (λ w. turn-skipped (a .code .now) (a .lengths .now) (a .class .now) (a .a .failures) (a .t5) (boundAt (a .a .tight) (a .bound .now) (a .t5 .steps)) (a .out .now) (a .a .room) (a .a .rows) (loop .out) (c .if5 .out) (loop .n) (c .if5 .n) (loop .t) in-loop (loop .inv .0) (loop .inv .1) (loop .inv .2)
+    (λ threads groups p v at. sym (c .before .is-tried .ensures (a .code .now) (a .lengths .now) threads groups (a .t5) p v at refl refl refl) ∙ w .0 .left) (w .1) (w .2))
+    (c .if5 .came)
 
 walk-returns-5 : (t : ℕ) → walk-lts.Need-returns-5 (walk-callees t) (walk-at t) walk.Post walk-Inv-loop walk-μ-loop
 walk-returns-5 t c =
-    let entry = c .before .before .before .before .before .before .before .before .before in
-    let pre = entry .pre in
+    let entry = c .before .before .before .before .before .before .before in
     let a = entry .args in
     let loop = c .before .loop in
-    (loop .inv .0, rest-over (a .code .now) (a .lengths .now) (a .class .now) (a .a .only) (a .x) (boundAt (a .a .along) (a .bound .now) (a .x .steps)) (a .out .now) (a .a .room) (a .a .rows) (loop .out) (loop .n) (loop .t) (c .loop-test .left) (loop .inv .2))
+    (loop .inv .0, rest-over (a .code .now) (a .lengths .now) (a .class .now) (a .a .failures) (a .t5) (boundAt (a .a .tight) (a .bound .now) (a .t5 .steps)) (a .out .now) (a .a .room) (a .a .rows) (loop .out) (loop .n) (loop .t) (c .loop-test .left) (loop .inv .2))
 
 pub +visit+walk-spec : {M : Type 1} → statement M
 +visit+walk-spec = close μ-visit μ-walk
-    (λ t. visit-lts.spec (visit-callees t) (visit-at t) visit.Post (λ c κs. search needs) (visit-returns t) (λ c κs. search needs) (visit-returns-2 t) (λ c κs. search needs) (visit-returns-3 t) (visit-advanced-requires t) (visit-some-asleep-requires t) (visit-returns-4 t) (λ c κs. search needs) (visit-walk-requires t) (λ c. search needs) (visit-returns-5 t))
-    (λ t. walk-lts.spec (walk-callees t) (walk-at t) walk.Post walk-Inv-loop walk-μ-loop (λ c κs. search needs) (walk-returns t) (walk-at-end-requires t) (λ c. search needs) (walk-returns-2 t) (walk-returns-3 t) (λ c κs. search needs) (walk-loop-holds t) (λ c. search needs) (walk-returns-4 t) (walk-visit-requires t) (λ c. search needs) (λ c. search needs) (walk-loop-again t) (λ c. search needs) (walk-returns-5 t))
+    (λ t. visit-lts.spec (visit-callees t) (visit-at t) visit.Post (visit-advanced-requires t) (visit-some-asleep-requires t) (visit-returns t) (λ c κs. search needs) (visit-walk-requires t) (λ c. search needs) (visit-returns-2 t))
+    (λ t. walk-lts.spec (walk-callees t) (walk-at t) walk.Post walk-Inv-loop walk-μ-loop (walk-returns t) (walk-at-end-requires t) (λ c. search needs) (walk-returns-2 t) (walk-returns-3 t) (λ c κs. search needs) (walk-loop-holds t) (λ c. search needs) (walk-returns-4 t) (walk-is-tried-requires t) (walk-visit-requires t) (λ c. search needs) (λ c. search needs) (walk-loop-again t) (λ c. search needs) (walk-returns-5 t))

@@ -1,0 +1,68 @@
+// The least thread whose next access the graph allows.
+use crate::allowing::allowed;
+use machine::Machine;
+use machine::enabled;
+use machine::step;
+use rows::Code;
+ghost use mathlib.Core.Path.{_≡_};
+ghost use Prim.Native.Nat.{ℕ, _<_, _≤_};
+ghost use lib.ListN.{getD};
+ghost use Rattle.program.specs.Program.{Program};
+ghost use Rattle.schedules.specs.Order.{Schedule};
+ghost use Rattle.schedules.specs.System.{run};
+ghost use Rattle.sc.specs.State.{SC, start};
+ghost use Rattle.sc.specs.Graph.{Graph};
+ghost use Rattle.consistent.specs.Consistent.{locationOf};
+ghost use Rattle.consistent.proofs.RoundValues.{values};
+ghost use Rattle.consistent.proofs.Walk.{fits};
+ghost use Rattle.allowed.specs.HeldWalk.{Walking, threadOr, nextOf};
+
+// Whether thread t may step and the graph allows its next access.
+fn may_go(
+    code: &Code,
+    lengths: &[usize; 6],
+    threads: usize,
+    pairs: [u8; 576],
+    places: [u8; 96],
+    m: Machine,
+    counts: [usize; 8],
+    t: u8,
+) -> bool
+    requires { ⌜ ((l : ℕ) → getD counts l 0 < 24) × ((p : Program) × (g : Graph) × (s : Schedule)
+        × Walking (now code) (now lengths) threads pairs places p g m counts s) ⌝ }
+    ensures { λ r. ⌜ ((p : Program) (g : Graph) (s : Schedule)
+        → Walking (now (code .entry)) (now (lengths .entry)) threads pairs places p g m counts s
+        → r ≡ fits g (locationOf p (values p g 24)) (run SC (start p) s) t) ⌝ }
+{
+    if !enabled(lengths, m, t) {
+        return false;
+    }
+    let s = step(code, lengths, m, t);
+    let note = s.note;
+    allowed(pairs, places, threads, m, counts, note)
+}
+
+// That thread, or 6 if there is none.
+pub fn chosen(
+    code: &Code,
+    lengths: &[usize; 6],
+    threads: usize,
+    pairs: [u8; 576],
+    places: [u8; 96],
+    m: Machine,
+    counts: [usize; 8],
+) -> u8
+    requires { ⌜ ((l : ℕ) → getD counts l 0 < 24) × ((p : Program) × (g : Graph) × (s : Schedule)
+        × Walking (now code) (now lengths) threads pairs places p g m counts s) ⌝ }
+    ensures { λ r. ⌜ (r ≤ 6) × ((p : Program) (g : Graph) (s : Schedule)
+        → Walking (now (code .entry)) (now (lengths .entry)) threads pairs places p g m counts s → threadOr r ≡ nextOf p g s) ⌝ }
+{
+    let mut t = 0u8;
+    while t < 6 {
+        if may_go(code, lengths, threads, pairs, places, m, counts, t) {
+            return t;
+        }
+        t += 1;
+    }
+    6
+}

@@ -1,0 +1,11 @@
+-- `power` reads the table.
+use borrow.Author.Needs.{needs}
+use Rattle.prefix.proofs.Bits.{power-six}
+use Rattle.prefix.proofs.sets.power.Statement.{statement}
+use Rattle.prefix.proofs.sets.power.Tie as tie
+
+returns : tie.Need-returns
+returns c = power-six (c .args .t) (c .pre)
+
+pub power-spec : {M : Type 1} → statement M
+power-spec = tie.close (tie.spec (λ c. search needs) returns)

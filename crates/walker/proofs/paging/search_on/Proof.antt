@@ -1,0 +1,135 @@
+-- `search_on` searches behind the cursor's bytes, and reads the next cursor off the last row.
+use borrow.Author.Needs.{needs}
+use Prim.Native.Nat.{ℕ, _*_, _≤_}
+use mathlib.Core.Path.{_≡_, refl, sym, ap}
+use mathlib.Core.List.{List}
+use native.Mathlib.Omega.{arith}
+use lib.ListN.{length, take}
+use lib.Seq.{length-take-le}
+use Rattle.decoder.specs.Compiled.{programOf}
+use Rattle.walker.specs.declared.cursor.Cursor.{Cursor}
+use Rattle.walker.specs.Cursor.{isEnd}
+use Rattle.walker.proofs.CursorLaws.{first-24}
+use Rattle.walker.proofs.PageLaws.{page-ended, page-none, last-few, last-within, page-full}
+use Rattle.walker.proofs.paging.search_on.Statement.{statement}
+use Rattle.walker.proofs.paging.search_on.Tie as tie
+
+array-share-prefix-schedule : tie.Need-array-share-prefix-schedule
+array-share-prefix-schedule c =
+    let s : length (c .before .before .before .args .cursor .schedule) ≡ 24 = search needs in
+    omega (arith, s, c .at-most-24 .ensures)
+
+slice-aggregate-listed-rows : tie.Need-slice-aggregate-listed-rows
+slice-aggregate-listed-rows c =
+    let s : length (c .before .before .before .before .args .cursor .schedule) ≡ 24 = search needs in
+    sym (length-take-le _ _ (omega (arith, s, c .before .at-most-24 .ensures)))
+
+-- the cursor, and its bytes as the search got them
+abbrev cursor : (c : tie.After-out) → Cursor
+cursor c = c .before .before .before .before .before .before .before .args .cursor
+
+bytes : (c : tie.After-out) → take (c .before .before .before .before .at-most-24 .result) (cursor c .schedule) ≡ take (cursor c .steps) (cursor c .schedule)
+bytes c =
+    let s : length (cursor c .schedule) ≡ 24 = search needs in
+    first-24 (cursor c .schedule) (cursor c .steps) _ s (c .before .before .before .before .at-most-24 .ensures)
+
+returns : tie.Need-returns
+returns c =
+    let d = c .before .before .before in
+    let entry = d .before .before .before .before .before .before .before in
+    let a = entry .args in
+    page-ended (programOf (a .program)) (entry .pre .0) (a .failures) (a .tight) (a .cursor) _ (a .out .now) _ _ (entry .pre .1) (bytes d) (d .before .listed-rows .ensures)
+    (c .end .result) (ap isEnd (c .end .ensures)) (c .before .if1 .taken)
+
+returns-2 : tie.Need-returns-2
+returns-2 c =
+    let d = c .before .before .before in
+    let entry = d .before .before .before .before .before .before .before in
+    let a = entry .args in
+    page-none (programOf (a .program)) (entry .pre .0) (a .failures) (a .tight) (a .cursor) _ (a .out .now) _ _ (entry .pre .1) (bytes d) (d .before .listed-rows .ensures)
+    (c .before .if1 .left) (c .if2 .taken)
+
+-- the rows lie within the output
+abbrev rows : (c : tie.Else2) → ℕ
+rows c = c .before .before .before .before .listed-rows .result
+
+abbrev held : (c : tie.Else2) → List ℕ
+held c = c .before .before .before .before .before .before .before .before .before .before .args .out .now
+
+abbrev later : (c : tie.Else2) → List ℕ
+later c = c .before .before .before .before .listed-rows .last .1 .1 .1 .1 .0
+
+within : (c : tie.Else2) → (rows c * 26 ≤ length (held c)) × (length (later c) ≡ length (held c))
+within c =
+    let d = c .before .before .before in
+    let entry = d .before .before .before .before .before .before .before in
+    let a = entry .args in
+    last-within (programOf (a .program)) (entry .pre .0) (a .failures) (a .tight) (a .cursor) _ (a .out .now) _ _ (entry .pre .1) (bytes d) (d .before .listed-rows .ensures)
+    (c .before .if1 .left) (c .if2 .left)
+
+few : (c : tie.After-wide) → c .wide .result ≤ 24
+few c =
+    let b = c .before .before in
+    let d = b .before .before .before in
+    let entry = d .before .before .before .before .before .before .before in
+    let a = entry .args in
+    last-few (programOf (a .program)) (entry .pre .0) (a .failures) (a .tight) (a .cursor) _ (a .out .now) _ _ (entry .pre .1) (bytes d) (d .before .listed-rows .ensures)
+    (b .before .if1 .left) (b .if2 .left) (c .wide .result) (c .wide .ensures .0)
+
+mul-at : tie.Need-mul-at
+mul-at c = let h = within c .0 in search needs
+
+slice-read-wide : tie.Need-slice-read-wide
+slice-read-wide c = omega (arith, within (c .before) .0, within (c .before) .1, c .before .if2 .left)
+
+add-behind : tie.Need-add-behind
+add-behind c = let h = within (c .before .before) .0 in search needs
+
+add-behind-2 : tie.Need-add-behind-2
+add-behind-2 c = let h = within (c .before .before) .0 in search needs
+
+add-behind-3 : tie.Need-add-behind-3
+add-behind-3 c =
+    let h = within (c .before .before) .0 in
+    let k = few c in
+    search needs
+
+part-behind-end : tie.Need-part-behind-end
+part-behind-end c = omega (arith, within (c .before .before .before) .0, within (c .before .before .before) .1, few (c .before), c .before .before .before .if2 .left)
+
+returns-3 : tie.Need-returns-3
+returns-3 c =
+    let w = c .before .before .before .wide in
+    let b = c .before .before .before .before .before in
+    let d = b .before .before .before in
+    let entry = d .before .before .before .before .before .before .before in
+    let a = entry .args in
+    page-full (programOf (a .program)) (entry .pre .0) (a .failures) (a .tight) (a .cursor) _ (a .out .now) _ _ (entry .pre .1) (bytes d) (d .before .listed-rows .ensures)
+    (b .before .if1 .left) (b .if2 .left) (w .result) _ (c .behind .result) (w .ensures .0) refl (c .behind .ensures (programOf (a .program)) (a .failures) (entry .pre .0))
+
+pub search-on-spec : {M : Type 1} → statement M
+search-on-spec =
+    tie.close
+    (tie.spec
+    (λ c κs. search needs)
+    array-share-prefix-schedule
+    slice-aggregate-listed-rows
+    (λ c κs. search needs)
+    (λ c κs. search needs)
+    (λ c. search needs)
+    returns
+    (λ c. search needs)
+    returns-2
+    (λ c. search needs)
+    mul-at
+    slice-read-wide
+    (λ c κs. search needs)
+    add-behind
+    add-behind-2
+    add-behind-3
+    (λ c. search needs)
+    (λ c. search needs)
+    part-behind-end
+    (λ c κs. search needs)
+    (λ c. search needs)
+    returns-3)
