@@ -122,7 +122,8 @@ fn names_in_columns_page_messages_and_disasm() {
     assert!(columns.contains("#0   consumer  load tail -> filled = 2                 second fetch_add #0\n"), "{columns}");
     assert!(columns.contains("!!   consumer  assert item == 7 FAILS: item = 0\n"));
     let page = run(&["show", form, "--html", "-"]).out;
-    for words in [">consumer</text>", "load slot1 -&gt; item = 0", "<td>first store #1</td>", "✗ assert item", "#0 load tail: 2"]
+    for words in
+        [">consumer</text>", "load slot1 -&gt; item = 0", "<div>first store #1</div></td>", "✗ assert item", "#0 load tail: 2"]
     {
         assert!(page.contains(words), "{words}");
     }

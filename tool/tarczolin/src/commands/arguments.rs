@@ -86,6 +86,15 @@ impl Arguments {
         self.option(name).is_some()
     }
 
+    /// Are these given together? Only one of them can be.
+    pub fn one_of_these(&self, names: &[&str]) -> Result<(), Error> {
+        let given: Vec<&str> = names.iter().filter(|name| self.flag(name)).copied().collect();
+        match given.as_slice() {
+            [] | [_] => Ok(()),
+            _ => Err(Error::usage(format!("{} cannot be given together", given.join(" and ")))),
+        }
+    }
+
     /// The value of an option that is a number from 1 to some limit; 1 where it is not given.
     pub fn number(&self, name: &str, most: u64) -> Result<u64, Error> {
         let Some(value) = self.option(name) else { return Ok(1) };

@@ -45,12 +45,16 @@ impl<'a> Choice<'a> {
 }
 
 pub fn run(arguments: &Arguments) -> Result<End, Error> {
+    arguments.one_of_these(&["--html", "--svg", "--json"])?;
     let choice = Choice::of(arguments)?;
     let names = arguments.names()?;
     let is_schedule = |word: &&str| *word == "-" || word.bytes().all(|c| c.is_ascii_hexdigit());
     if names.len() > 1 && names[1..].iter().all(is_schedule) {
         let (name, schedule) = arguments.file_and_schedule()?;
         let schedule = schedule.ok_or(Error::Words)?;
+        if arguments.flag("--from") || arguments.flag("--only") {
+            return Err(Error::usage("--from and --only choose from the list, and a schedule names one execution"));
+        }
         return asked(&Question::of("show", arguments, name), |question| one(question, &choice, &schedule));
     }
     if names.len() > 1 && (choice.html.is_some() || choice.svg.is_some()) {
@@ -59,29 +63,40 @@ pub fn run(arguments: &Arguments) -> Result<End, Error> {
     each("show", arguments, |question| shown(question, &choice))
 }
 
-fn shown(question: &Question, choice: &Choice) -> Result<End, Error> {
+/// A page never takes the place of the program that it shows.
+fn overwrites_nothing(question: &Question, choice: &Choice) -> Result<(), Error> {
     if choice.html.is_some_and(|page| page != "-" && input::is_input(page, question.file)) {
         let message = "the page would overwrite the program that it shows; name another file behind --html";
         return Err(Error::usage(format!("{}: {message}", called(question.file))));
     }
+    Ok(())
+}
+
+fn shown(question: &Question, choice: &Choice) -> Result<End, Error> {
+    overwrites_nothing(question, choice)?;
     let source = question.source()?;
     let list = List::of(&source, false).expect("the file is accepted");
     let walk = |each: &mut dyn FnMut(u64, &Listed) -> io::Result<()>| walk(&list, choice, each);
     match (choice.html, choice.svg) {
-        (Some(page), _) => pages::page(&list, called(question.file), page, walk),
-        (_, Some(folder)) => pages::drawings(&list, folder, walk),
+        (Some(page), _) => pages::page(&pages::of_list(&list, called(question.file), walk), page),
+        (_, Some(folder)) => pages::drawings(&pages::of_list(&list, called(question.file), walk), folder),
         _ => to_standard_output(question, &list, choice),
     }
 }
 
 /// One execution by its schedule.
 fn one(question: &Question, choice: &Choice, schedule: &[u8]) -> Result<End, Error> {
+    overwrites_nothing(question, choice)?;
     let source = question.source()?;
     let list = List::of(&source, false).expect("the file is accepted");
     let refused = |r| refusal::of_schedule(&source.name, &source.file, &source.names, schedule, r);
     let execution = Execution::replayed(&source.file, &list.program, schedule).map_err(refused)?;
     let found = End::of_failing(execution.fails as u64);
-    question.answer_text(columns(&execution, choice.by), record::execution(&execution), found)
+    match (choice.html, choice.svg) {
+        (Some(page), _) => pages::page(&pages::of_one(called(question.file), execution), page),
+        (_, Some(folder)) => pages::drawings(&pages::of_one(called(question.file), execution), folder),
+        _ => question.answer_text(columns(&execution, choice.by), record::execution(&execution), found),
+    }
 }
 
 /// Walks the whole list and counts it; hands each chosen execution with its position to `each`, until that fails.
