@@ -7,6 +7,8 @@ use crate::program::{Program, LOCATIONS, REGISTERS};
 #[derive(Clone, Debug, PartialEq, Eq)]
 pub enum Condition {
     Equal(Value, Value),
+    /// Of every end, or of none.
+    Always(bool),
     /// Some thread fails, or this one.
     Fails(Option<u8>),
     Not(Box<Condition>),
@@ -45,6 +47,7 @@ impl Condition {
     pub fn holds(&self, end: &Final) -> bool {
         match self {
             Condition::Equal(a, b) => a.of(end) == b.of(end),
+            Condition::Always(holds) => *holds,
             Condition::Fails(None) => end.fails(),
             Condition::Fails(Some(t)) => end.failed[*t as usize].is_some(),
             Condition::Not(inner) => !inner.holds(end),
@@ -122,10 +125,11 @@ impl Reader<'_> {
             return if self.take(")") { Ok(inner) } else { Err(Error::usage("--where: ) is missing")) };
         }
         let word = self.word()?;
-        match word.strip_suffix("fails").map(|thread| thread.strip_suffix('.').unwrap_or(thread)) {
-            Some("") => return Ok(Condition::Fails(None)),
-            Some(thread) if word.ends_with(".fails") => return Ok(Condition::Fails(Some(self.thread(thread)?))),
-            _ => {}
+        let compared = self.tokens.first().is_some_and(|token| ["=", "==", "!="].contains(&token.as_str()));
+        if !compared {
+            if let Some(condition) = self.by_itself(&word)? {
+                return Ok(condition);
+            }
         }
         let left = self.value(&word)?;
         let differs = self.take("!=");
@@ -135,6 +139,18 @@ impl Reader<'_> {
         let right = self.word()?;
         let equal = Condition::Equal(left, self.value(&right)?);
         Ok(if differs { Condition::Not(Box::new(equal)) } else { equal })
+    }
+
+    /// A word that is a condition without a comparison: `fails`, `T2.fails`, `true`, `false`.
+    fn by_itself(&self, word: &str) -> Result<Option<Condition>, Error> {
+        Ok(match word {
+            "fails" => Some(Condition::Fails(None)),
+            "true" | "false" => Some(Condition::Always(word == "true")),
+            _ => match word.strip_suffix(".fails") {
+                Some(thread) => Some(Condition::Fails(Some(self.thread(thread)?))),
+                None => None,
+            },
+        })
     }
 
     fn thread(&self, word: &str) -> Result<u8, Error> {
