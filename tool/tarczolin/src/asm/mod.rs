@@ -1,5 +1,4 @@
 //! The text form of a program: a statement a line, translated to the lines of the program file.
-mod near;
 mod parse;
 mod resolve;
 mod statement;
@@ -20,7 +19,6 @@ use symbols::Symbols;
 use threads::Threads;
 use wrong::{Wrong, Wrongs};
 
-pub use near::near;
 pub use words::constant;
 pub use write::text;
 

@@ -1,7 +1,7 @@
 //! What is allowed and looks like a slip.
-use super::near::one_off;
 use super::statement::{Statement, Word};
 use super::wrong::Wrong;
+use crate::near::one_off;
 use std::collections::BTreeMap;
 
 /// How often a location is read and written, and its first use.

@@ -1,7 +1,8 @@
 //! Questions about the end of an execution: `tail=2 & T2.r1=0`, `fails | !(consumer.item = 7)`.
 use super::end::Final;
-use crate::asm::{constant, near};
+use crate::asm::constant;
 use crate::error::Error;
+use crate::near::hint;
 use crate::program::{Program, LOCATIONS, REGISTERS};
 
 #[derive(Clone, Debug, PartialEq, Eq)]
@@ -179,7 +180,7 @@ impl Reader<'_> {
     }
 
     fn unknown(&self, what: &str, word: &str, known: Vec<String>) -> Error {
-        let hint = near(word, known.iter().map(String::as_str)).map_or(String::new(), |other| format!("; is it {other}?"));
+        let hint = hint(word, known.iter().map(String::as_str));
         Error::usage(format!("--where: there is no {what} {word}{hint}"))
     }
 }
