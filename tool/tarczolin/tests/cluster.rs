@@ -84,6 +84,18 @@ fn list_goes_on_behind_a_schedule() {
     assert_eq!(rest[rest.len() - 1], format!("51{:016x}{:016x}", 1432, 1));
 }
 
+/// A bound with a thread that the program has not is a slip: nothing would be listed behind it.
+#[test]
+fn bounds_name_threads_of_the_program() {
+    for command in ["list", "count"] {
+        for option in ["--after", "--until"] {
+            let ran = run(&[command, "examples/whole.hex", option, "0003"]);
+            let said = format!("tarczolin: {option}: there is no thread 03; the program has 3\n");
+            assert_eq!((ran.status, ran.out.as_str(), ran.err), (2, "", said));
+        }
+    }
+}
+
 #[test]
 fn join_sees_what_is_missing() {
     let folder = folder("cluster-join");
@@ -96,6 +108,12 @@ fn join_sees_what_is_missing() {
     assert_eq!(run(&["join", &front, &back]).out, whole);
     let wrong = run(&["join", &back, &front]);
     assert!(wrong.status == 2 && wrong.err.contains("does not go on with the list"), "{}", wrong.err);
+    let wrong = run(&["join", "/dev/zero"]);
+    assert!(
+        wrong.status == 2 && wrong.err.len() < 200 && wrong.err.contains("does not go on with the list: ???"),
+        "{}",
+        wrong.err
+    );
     let wrong = run(&["join", &short, &back]);
     assert!(wrong.status == 2 && wrong.err.contains("cut short"), "{}", wrong.err);
 }

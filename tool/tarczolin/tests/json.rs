@@ -3,6 +3,8 @@ mod common;
 
 use common::json::{fits, parse, Value};
 use common::{folder, run, run_with};
+use std::collections::BTreeSet;
+use tarczolin::commands::all;
 use tarczolin_tests::files::read;
 
 const QUEUE: &str = "examples/queue-broken.asm";
@@ -59,6 +61,14 @@ fn every_command_fits_the_schema() {
         let (ended, found) = held(words, input);
         assert_eq!((ended, found.len()), (status, objects), "{words:?}: {found:?}");
     }
+    let commands: BTreeSet<&str> =
+        cases.iter().map(|(words, ..)| words[0]).chain(["asm", "import-litmus", "export-litmus"]).collect();
+    let known: BTreeSet<&str> =
+        all().iter().filter(|known| known.options.iter().any(|o| o.name == "--json")).map(|c| c.name).collect();
+    assert_eq!(commands, known, "every command that has --json");
+    let litmus = held(&["export-litmus", pair], b"").1[0].get("text").cloned();
+    let Some(Value::Text(litmus)) = litmus else { panic!("{litmus:?}") };
+    assert!(held(&["import-litmus", "-"], litmus.as_bytes()).1[0].get("text").is_some());
     let (_, found) = held(&["asm", QUEUE], b"");
     assert_eq!(found[0].get("text"), Some(&Value::Text(run(&["asm", QUEUE]).out)));
     assert!(held(&["judge", pair, "-"], b"400001ffff\n41000000\n41010100\n").1[0].get("why").is_some());
@@ -89,4 +99,7 @@ fn several_files() {
         ran.out.starts_with("==> examples/whole.hex <==\n5000000102\n")
             && ran.out.contains("==> examples/empty-thread.hex <==\n5000\n")
     );
+    let refused = run(&["list", "examples/accesses-25-refused.hex", "examples/empty-thread.hex"]);
+    let headed = "==> examples/accesses-25-refused.hex <==\n5206001b\n==> examples/empty-thread.hex <==\n5000\n";
+    assert!(refused.status == 2 && refused.out.starts_with(headed), "{}", refused.out);
 }

@@ -95,6 +95,15 @@ fn warnings() {
     assert_eq!(quiet.err, "", "slot0 and slot1 are meant to differ");
 }
 
+/// A byte order mark and carriage returns, as some editors write them; a sign inside of a number.
+#[test]
+fn what_editors_leave() {
+    let ran = run_with(&["check", "-"], b"\xef\xbb\xbfthread\r\n  store x 1\r\n  r0 = load x\r\n");
+    assert_eq!((ran.status, ran.out.as_str(), ran.err.as_str()), (0, "accepted\n", ""));
+    let ran = run_with(&["check", "-"], b"\xef\xbb\xbfthread\n  r0 = 0x-5\n");
+    assert!(ran.status == 2 && ran.err.contains(":2:8: 0x-5 is no number of 32 bits"), "{}", ran.err);
+}
+
 /// Every command takes a text as it is, by the name of its file or by what stands in it.
 #[test]
 fn every_command_takes_a_text() {

@@ -9,8 +9,13 @@ use crate::output;
 use std::io;
 use std::path::Path;
 
-/// A walk over the chosen executions of a list, which counts the whole of it.
-type Walked = (Counts, io::Result<()>);
+/// A walk over the chosen executions of a list, which counts the whole of it: what was counted, whether all was written, and
+/// whether Ctrl-C cut it short.
+pub struct Walked {
+    pub counts: Counts,
+    pub written: io::Result<()>,
+    pub cut: bool,
+}
 
 /// An execution of the list, ready to be shown.
 pub fn execution<'a>(list: &'a List, position: u64, listed: &Listed) -> Execution<'a> {
@@ -22,19 +27,22 @@ pub fn of_list<'a>(
     list: &'a List,
     name: &'a str,
     walk: impl FnOnce(&mut dyn FnMut(u64, &Listed) -> io::Result<()>) -> Walked,
-) -> Page<'a> {
+) -> Result<Page<'a>, Error> {
     let mut pick = Pick::default();
-    let (listed, _) = walk(&mut |position, listed| {
+    let Walked { counts: listed, cut, .. } = walk(&mut |position, listed| {
         pick.add(position, listed);
         Ok(())
     });
+    if cut {
+        return Err(Error::Interrupted(listed));
+    }
     let left_out = pick.left_out();
     let executions = pick.picked().iter().map(|(position, listed)| execution(list, *position, listed)).collect();
     let page = Page { name, program: &list.program, listed: Some(listed), executions, left_out };
     if let Some(left_out) = page.tell_left_out() {
         eprintln!("tarczolin: {left_out}");
     }
-    page
+    Ok(page)
 }
 
 /// A page of one execution.

@@ -1,6 +1,7 @@
 //! show: executions in two columns, as a page, or drawn. Totals and exit status are those of the whole list.
 use super::arguments::Arguments;
-use super::pages;
+use super::pages::{self, Walked};
+use super::piece;
 use super::record;
 use super::reply::{asked, each, Question};
 use crate::ask::{Counts, Listed};
@@ -78,8 +79,8 @@ fn shown(question: &Question, choice: &Choice) -> Result<End, Error> {
     let list = List::of(&source, false).expect("the file is accepted");
     let walk = |each: &mut dyn FnMut(u64, &Listed) -> io::Result<()>| walk(&list, choice, each);
     match (choice.html, choice.svg) {
-        (Some(page), _) => pages::page(&pages::of_list(&list, called(question.file), walk), page),
-        (_, Some(folder)) => pages::drawings(&pages::of_list(&list, called(question.file), walk), folder),
+        (Some(page), _) => pages::page(&pages::of_list(&list, called(question.file), walk)?, page),
+        (_, Some(folder)) => pages::drawings(&pages::of_list(&list, called(question.file), walk)?, folder),
         _ => to_standard_output(question, &list, choice),
     }
 }
@@ -99,30 +100,34 @@ fn one(question: &Question, choice: &Choice, schedule: &[u8]) -> Result<End, Err
     }
 }
 
-/// Walks the whole list and counts it; hands each chosen execution with its position to `each`, until that fails.
-fn walk(list: &List, choice: &Choice, each: &mut dyn FnMut(u64, &Listed) -> io::Result<()>) -> (Counts, io::Result<()>) {
-    let mut counts = Counts::default();
+/// Walks the whole list and counts it; hands each chosen execution with its position to `each`, until that fails or Ctrl-C.
+fn walk(list: &List, choice: &Choice, each: &mut dyn FnMut(u64, &Listed) -> io::Result<()>) -> Walked {
+    tarczolin_sys::note_interrupts();
+    let mut walked = Walked { counts: Counts::default(), written: Ok(()), cut: false };
     let mut progress = Progress::default();
-    let mut done = Ok(());
     list.walk(None, |listed| {
-        counts.add(listed);
-        let chosen = counts.listed >= choice.from && (listed.fails || !choice.failing_only);
-        if chosen {
-            progress.give_way();
-            done = each(counts.listed, listed);
+        walked.cut = tarczolin_sys::was_interrupted();
+        if walked.cut {
+            return true;
         }
-        progress.tell(counts, || jobs::share(&list.program, &listed.schedule));
-        done.is_err()
+        walked.counts.add(listed.fails);
+        let position = walked.counts.listed;
+        if position >= choice.from && (listed.fails || !choice.failing_only) {
+            progress.give_way();
+            walked.written = each(position, listed);
+        }
+        progress.tell(walked.counts, || Some(jobs::share(&list.program, &listed.schedule)));
+        walked.written.is_err()
     });
     progress.hide();
-    (counts, done)
+    walked
 }
 
 fn to_standard_output(question: &Question, list: &List, choice: &Choice) -> Result<End, Error> {
     let mut out = output::standard();
     let mut shown = 0;
     let headed = if question.json { Ok(()) } else { out.write_all(question.heading().as_bytes()) };
-    let (counts, written) = walk(list, choice, &mut |position, listed| {
+    let Walked { counts, written, cut } = walk(list, choice, &mut |position, listed| {
         let blank = if shown > 0 { "\n" } else { "" };
         shown += 1;
         let execution = pages::execution(list, position, listed);
@@ -133,6 +138,9 @@ fn to_standard_output(question: &Question, list: &List, choice: &Choice) -> Resu
     });
     let written = headed.and(written).and_then(|()| {
         let Counts { listed, failing } = counts;
+        if cut {
+            return out.flush();
+        }
         if question.json {
             out.write_all(question.object([("listed", listed.into()), ("failing", failing.into())]).as_bytes())?;
         } else if shown == 0 {
@@ -140,5 +148,8 @@ fn to_standard_output(question: &Question, list: &List, choice: &Choice) -> Resu
         }
         out.flush()
     });
-    output::ended(written, End::of_failing(counts.failing))
+    if cut {
+        piece::tell_interrupted(counts, Some(format!("--from {}", counts.listed + 1)));
+    }
+    output::ended(written, if cut { End::of_cut(counts.failing) } else { End::of_failing(counts.failing) })
 }

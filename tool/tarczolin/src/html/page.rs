@@ -43,7 +43,7 @@ impl Page<'_> {
             return format!("one execution by its schedule, {} failing", all.failing);
         }
         let part = format!("; {} of them, {} failing", shown.listed, shown.failing);
-        format!("{} executions, {} failing{}", all.listed, all.failing, if self.is_part() { &part } else { "" })
+        format!("{}, {} failing{}", executions(all.listed), all.failing, if self.is_part() { &part } else { "" })
     }
 
     /// How many were chosen and have no place, in words; none where all have one.
@@ -75,8 +75,7 @@ impl Page<'_> {
     /// How many executions there are, how many of them stand here, and a way to each.
     fn summary(&self) -> String {
         let Counts { listed, failing } = self.all();
-        let what =
-            if self.listed.is_some() { format!("{listed} executions") } else { "One execution by its schedule".to_string() };
+        let what = if self.listed.is_some() { executions(listed) } else { "One execution by its schedule".to_string() };
         let mut text = format!("<p class=\"summary\">{what}, <b>{failing} failing</b>.");
         if self.is_part() {
             let Counts { listed, failing } = self.shown();
@@ -93,6 +92,12 @@ impl Page<'_> {
         }
         text + "</nav>\n"
     }
+}
+
+/// So many, in words.
+fn executions(number: u64) -> String {
+    let word = if number == 1 { "execution" } else { "executions" };
+    format!("{number} {word}")
 }
 
 /// What chooses among executions, threads and locations, and the keys.

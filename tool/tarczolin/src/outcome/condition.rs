@@ -1,7 +1,6 @@
 //! Questions about the end of an execution: `tail=2 & T2.r1=0`, `fails | !(consumer.item = 7)`.
 use super::end::Final;
 use crate::asm::constant;
-use crate::error::Error;
 use crate::near::hint;
 use crate::program::{Program, LOCATIONS, REGISTERS};
 
@@ -36,12 +35,12 @@ impl Value {
 
 impl Condition {
     /// Reads a condition; names are those of the program.
-    pub fn of(text: &str, program: &Program) -> Result<Condition, Error> {
+    pub fn of(text: &str, program: &Program) -> Result<Condition, String> {
         let mut reader = Reader { tokens: tokens(text)?, program };
         let condition = reader.either()?;
         match reader.tokens.first() {
             None => Ok(condition),
-            Some(token) => Err(Error::usage(format!("--where: the condition has ended; {token} is too much"))),
+            Some(token) => Err(format!("the condition has ended; {token} is too much")),
         }
     }
 
@@ -59,7 +58,7 @@ impl Condition {
 }
 
 /// The words and signs of a condition.
-fn tokens(text: &str) -> Result<Vec<String>, Error> {
+fn tokens(text: &str) -> Result<Vec<String>, String> {
     let mut tokens: Vec<String> = Vec::new();
     let mut inside = false;
     for c in text.chars() {
@@ -70,7 +69,7 @@ fn tokens(text: &str) -> Result<Vec<String>, Error> {
             _ if word || "()&|".contains(c) => tokens.push(c.to_string()),
             '=' if matches!(tokens.last().map(String::as_str), Some("=" | "!")) => tokens.last_mut().expect("one").push(c),
             '=' | '!' => tokens.push(c.to_string()),
-            _ => return Err(Error::usage(format!("--where: the character {c} has no meaning here"))),
+            _ => return Err(format!("the character {c} has no meaning here")),
         }
         inside = word;
     }
@@ -91,17 +90,17 @@ impl Reader<'_> {
         found
     }
 
-    fn word(&mut self) -> Result<String, Error> {
+    fn word(&mut self) -> Result<String, String> {
         match self.tokens.first() {
             Some(token) if token.starts_with(|c: char| c.is_ascii_alphanumeric() || "_-".contains(c)) => {
                 Ok(self.tokens.remove(0))
             }
-            Some(token) => Err(Error::usage(format!("--where: a location, a register or a number is expected, not {token}"))),
-            None => Err(Error::usage("--where: a location, a register or a number is missing")),
+            Some(token) => Err(format!("a location, a register or a number is expected, not {token}")),
+            None => Err("a location, a register or a number is missing".to_string()),
         }
     }
 
-    fn either(&mut self) -> Result<Condition, Error> {
+    fn either(&mut self) -> Result<Condition, String> {
         let mut left = self.both()?;
         while self.take("|") {
             left = Condition::Or(Box::new(left), Box::new(self.both()?));
@@ -109,7 +108,7 @@ impl Reader<'_> {
         Ok(left)
     }
 
-    fn both(&mut self) -> Result<Condition, Error> {
+    fn both(&mut self) -> Result<Condition, String> {
         let mut left = self.single()?;
         while self.take("&") {
             left = Condition::And(Box::new(left), Box::new(self.single()?));
@@ -117,13 +116,13 @@ impl Reader<'_> {
         Ok(left)
     }
 
-    fn single(&mut self) -> Result<Condition, Error> {
+    fn single(&mut self) -> Result<Condition, String> {
         if self.take("!") {
             return Ok(Condition::Not(Box::new(self.single()?)));
         }
         if self.take("(") {
             let inner = self.either()?;
-            return if self.take(")") { Ok(inner) } else { Err(Error::usage("--where: ) is missing")) };
+            return if self.take(")") { Ok(inner) } else { Err(") is missing".to_string()) };
         }
         let word = self.word()?;
         let compared = self.tokens.first().is_some_and(|token| ["=", "==", "!="].contains(&token.as_str()));
@@ -135,7 +134,7 @@ impl Reader<'_> {
         let left = self.value(&word)?;
         let differs = self.take("!=");
         if !differs && !self.take("=") && !self.take("==") {
-            return Err(Error::usage(format!("--where: = or != is expected behind {word}")));
+            return Err(format!("= or != is expected behind {word}"));
         }
         let right = self.word()?;
         let equal = Condition::Equal(left, self.value(&right)?);
@@ -143,7 +142,7 @@ impl Reader<'_> {
     }
 
     /// A word that is a condition without a comparison: `fails`, `T2.fails`, `true`, `false`.
-    fn by_itself(&self, word: &str) -> Result<Option<Condition>, Error> {
+    fn by_itself(&self, word: &str) -> Result<Option<Condition>, String> {
         Ok(match word {
             "fails" => Some(Condition::Fails(None)),
             "true" | "false" => Some(Condition::Always(word == "true")),
@@ -154,16 +153,16 @@ impl Reader<'_> {
         })
     }
 
-    fn thread(&self, word: &str) -> Result<u8, Error> {
+    fn thread(&self, word: &str) -> Result<u8, String> {
         let names = &self.program.names;
         let called = |t: &u8| names.thread(*t) == word || format!("T{t}") == word;
         let found = self.program.numbers().find(called);
         found.ok_or_else(|| self.unknown("thread", word, self.program.numbers().map(|t| names.thread(t)).collect()))
     }
 
-    fn value(&self, word: &str) -> Result<Value, Error> {
+    fn value(&self, word: &str) -> Result<Value, String> {
         if let Some(number) = constant(word) {
-            return number.map(Value::Number).map_err(|message| Error::usage(format!("--where: {message}")));
+            return number.map(Value::Number);
         }
         let names = &self.program.names;
         if let Some((thread, register)) = word.split_once('.') {
@@ -179,8 +178,8 @@ impl Reader<'_> {
         found.map(Value::Location).ok_or_else(|| self.unknown("location", word, known()))
     }
 
-    fn unknown(&self, what: &str, word: &str, known: Vec<String>) -> Error {
+    fn unknown(&self, what: &str, word: &str, known: Vec<String>) -> String {
         let hint = hint(word, known.iter().map(String::as_str));
-        Error::usage(format!("--where: there is no {what} {word}{hint}"))
+        format!("there is no {what} {word}{hint}")
     }
 }
