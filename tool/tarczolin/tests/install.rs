@@ -82,6 +82,18 @@ fn make_install() {
     assert!(config.contains(concat!("Version: ", env!("CARGO_PKG_VERSION"), "\n")), "{config}");
 }
 
+/// A library that was built elsewhere is taken as it is: nothing is proved, and the kit is not called.
+#[test]
+fn a_library_from_elsewhere() {
+    let at = folder("from").join("lib/libtarczolin.a").display().to_string();
+    let _ = std::fs::remove_file(&at);
+    let made = shell(&format!("make -s library LIBRARY_FROM=target/staticlib/libtarczolin.a LIBRARY={at}"));
+    assert!(made.status.success() && made.stdout.is_empty(), "{}", String::from_utf8_lossy(&made.stderr));
+    assert!(std::fs::read(&at).unwrap() == read("target/staticlib/libtarczolin.a"));
+    let tool = String::from_utf8(shell("make -n tool LIBRARY_FROM=/usr/local/lib/libtarczolin.a").stdout).unwrap();
+    assert!(!tool.contains("rt ") && tool.contains("install -D -m 644 /usr/local/lib/libtarczolin.a "), "{tool}");
+}
+
 #[test]
 fn make_alone_says_what_there_is() {
     let said = String::from_utf8(shell("make -s").stdout).unwrap();

@@ -91,6 +91,13 @@ fn warnings() {
     assert!(said[0].contains("4:9: warning: slto is written only here, and there is slot"), "{}", said[0]);
     assert!(said[1].contains("5:13: warning: head is read and never written"), "{}", said[1]);
     assert!(said[2].contains("6:1: warning: no jump goes to end"), "{}", said[2]);
+    let twice = run_with(&["check", "-"], b"thread\n  store slot 7\n  n = load slto\n").err;
+    assert!(
+        twice.contains("3:12: warning: slto is read and never written; is it slot?") && twice.lines().count() == 3,
+        "{twice}"
+    );
+    let short = run_with(&["check", "-"], b"thread\n  store x 1\n  n = load y\nthread\n  store y 1\n  n = load x\n");
+    assert_eq!(short.err, "", "x and y are meant to differ");
     let quiet = run(&["check", "examples/queue-broken.asm"]);
     assert_eq!(quiet.err, "", "slot0 and slot1 are meant to differ");
 }
