@@ -4,7 +4,7 @@ mod common;
 use common::json::{fits, parse, Value};
 use common::{folder, run, run_with};
 use std::collections::BTreeSet;
-use tarczolin::commands::all;
+use tarczolin::commands::{all, Command};
 use tarczolin_tests::files::read;
 
 const QUEUE: &str = "examples/queue-broken.asm";
@@ -61,17 +61,26 @@ fn every_command_fits_the_schema() {
         let (ended, found) = held(words, input);
         assert_eq!((ended, found.len()), (status, objects), "{words:?}: {found:?}");
     }
-    let commands: BTreeSet<&str> =
-        cases.iter().map(|(words, ..)| words[0]).chain(["asm", "import-litmus", "export-litmus"]).collect();
-    let known: BTreeSet<&str> =
-        all().iter().filter(|known| known.options.iter().any(|o| o.name == "--json")).map(|c| c.name).collect();
-    assert_eq!(commands, known, "every command that has --json");
-    let litmus = held(&["export-litmus", pair], b"").1[0].get("text").cloned();
-    let Some(Value::Text(litmus)) = litmus else { panic!("{litmus:?}") };
-    assert!(held(&["import-litmus", "-"], litmus.as_bytes()).1[0].get("text").is_some());
-    let (_, found) = held(&["asm", QUEUE], b"");
-    assert_eq!(found[0].get("text"), Some(&Value::Text(run(&["asm", QUEUE]).out)));
+    let commands: BTreeSet<&str> = cases.iter().map(|(words, ..)| words[0]).chain(TEXTS).collect();
+    let has_json = |command: &&&Command| command.options.iter().any(|option| option.name == "--json");
+    assert_eq!(commands, all().iter().filter(has_json).map(|command| command.name).collect(), "every command that has --json");
     assert!(held(&["judge", pair, "-"], b"400001ffff\n41000000\n41010100\n").1[0].get("why").is_some());
+}
+
+/// The commands that answer by a text, beside disasm.
+const TEXTS: [&str; 3] = ["asm", "import-litmus", "export-litmus"];
+
+/// The text of an answer is what the words are.
+#[test]
+fn texts() {
+    let text = |words: &[&str], input: &[u8]| match held(words, input).1[0].get("text") {
+        Some(Value::Text(text)) => text.clone(),
+        other => panic!("{other:?}"),
+    };
+    let litmus = run(&["export-litmus", "examples/store-load-pair.hex"]).out;
+    for (command, input) in TEXTS.iter().zip(["thread\n  fail\n", &litmus, "01\n110000\n"]) {
+        assert_eq!(text(&[command, "-"], input.as_bytes()), run_with(&[command, "-"], input.as_bytes()).out, "{command}");
+    }
 }
 
 #[test]

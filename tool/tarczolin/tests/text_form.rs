@@ -102,6 +102,16 @@ fn warnings() {
     assert_eq!(quiet.err, "", "slot0 and slot1 are meant to differ");
 }
 
+/// A statement that would pass the limit of a thread, and a jump backwards: errors that say so.
+#[test]
+fn what_instructions_cannot_do() {
+    let ran = run_with(&["check", "-"], format!("thread\n{}", "  fail\n".repeat(9)).as_bytes());
+    let said = ":10:3: this is instruction number 17 of its thread; a thread has at most 16; the statement takes 2\n";
+    assert!(ran.status == 2 && ran.err.contains(said), "{}", ran.err);
+    let ran = run_with(&["check", "-"], b"thread\nagain:\n  n = load x\n  if n == 0 goto again\n");
+    assert!(ran.status == 2 && ran.err.contains(":4:18: again stands above, in line 2: jumps go forward only"), "{}", ran.err);
+}
+
 /// A byte order mark and carriage returns, as some editors write them; a sign inside of a number.
 #[test]
 fn what_editors_leave() {

@@ -95,7 +95,7 @@ fn drawn_arrow(names: &Names, arrow: &Arrow, layout: &Layout) -> String {
 /// Along the source's row to the track, down to the target's row, and to the target's side.
 fn path(arrow: &Arrow, layout: &Layout) -> String {
     let (track, [out, into]) = (layout.track(arrow), drawn(arrow.order).2);
-    let right = arrow.from_the_right();
+    let right = arrow.comes_from_the_right();
     let (end, y2) = (layout.side(arrow.to.t, right), layout.y(arrow.to) + into);
     let turn = track + if right { -CORNER } else { CORNER };
     let last = format!("V{:.1}Q{track:.1} {y2:.1} {turn:.1} {y2:.1}H{end:.1}", y2 - CORNER);

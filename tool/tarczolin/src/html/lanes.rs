@@ -35,16 +35,16 @@ pub struct Lanes {
 impl Arrow {
     /// The lane that it runs down, on the side of the target's column from which it comes.
     pub fn lane(&self) -> usize {
-        self.to.t as usize + self.from_the_right() as usize
+        self.to.t as usize + self.comes_from_the_right() as usize
     }
 
     /// Does it come to its target from the right? So does one from the target's own thread.
-    pub fn from_the_right(&self) -> bool {
+    pub fn comes_from_the_right(&self) -> bool {
         self.from.is_some_and(|from| from.t >= self.to.t)
     }
 
     fn bundle(&self) -> Bundle {
-        Bundle { from_the_right: self.from_the_right(), order: self.order, from: self.from }
+        Bundle { from_the_right: self.comes_from_the_right(), order: self.order, from: self.from }
     }
 }
 
