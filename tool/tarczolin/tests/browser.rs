@@ -7,6 +7,7 @@ use std::process::Command;
 
 /// Six threads with long names and values, as much as a program holds.
 const WIDE: &str = include_str!("browser/wide.asm");
+const SCHEDULE: &str = "00030401020105030400020505000200040301040502";
 
 /// A page of a program, a script behind it.
 fn page(name: &str, words: &[&str], input: &str, script: &str) -> PathBuf {
@@ -42,14 +43,13 @@ fn title(profile: &str, words: &[&str], page: &Path) -> String {
 #[ignore = "needs chromium"]
 fn laid_out_in_a_browser() {
     let script = include_str!("browser/laid_out.js");
-    let schedule = "00030401020105030400020505000200040301040502";
     let cases: [(&str, &[&str], &str); 6] = [
         ("queue", &["examples/queue-broken.asm"], "6"),
         ("lock", &["tests/programs/000-ttaslock-3.hex"], "108"),
         ("four", &["tests/programs/000-fais-array-4.hex", "--from", "1"], "24"),
         ("five", &["tests/programs/000-fais-5.hex"], "120"),
         ("six", &["examples/six-stores.hex"], "1"),
-        ("wide", &["-", schedule], "1"),
+        ("wide", &["-", SCHEDULE], "1"),
     ];
     for (name, words, executions) in cases {
         let page = page(name, words, WIDE, script);
@@ -82,7 +82,7 @@ fn pages(name: &str, page: &Path) -> usize {
     String::from_utf8_lossy(&bytes).matches("/Type /Page\n").count()
 }
 
-/// All executions are printed, those that a filter hides too.
+/// All executions are printed, those that a filter hides too, and one of 22 steps on one sheet behind that of the program.
 #[test]
 #[ignore = "needs chromium"]
 fn printed_by_a_browser() {
@@ -91,4 +91,5 @@ fn printed_by_a_browser() {
     let hide = "document.querySelectorAll('section').forEach(section => { section.hidden = true; });";
     let filtered = pages("filtered", &page("printed-filtered", &words, "", hide));
     assert!(whole == filtered && whole >= 4, "{whole} pages, and {filtered} where all are hidden");
+    assert_eq!(pages("wide", &page("printed-wide", &["-", SCHEDULE], WIDE, "")), 2);
 }

@@ -15,11 +15,18 @@ pub fn section(execution: &Execution) -> String {
     let rows = rows(execution);
     format!(
         "<section id=\"e{name}\" class=\"{class}\">\n<h2>{title} <span class=\"verdict\">{verdict}</span> \
-         <span class=\"schedule\">schedule {schedule}</span></h2>\n<div class=\"both\">\n{}{}</div>\n{}</section>\n",
+         <span class=\"schedule\">schedule {schedule}</span></h2>\n<div class=\"both\" style=\"--print:{:.2}\">\n{}{}</div>\n{}</section>\n",
+        on_paper(rows.len()),
         table(execution, &rows),
         drawing::svg(execution, &rows),
         end(execution)
     )
+}
+
+/// How large it is printed: so that it fits a sheet of A4 on its side, which has room for 1,180 pixels by 560 at this size.
+fn on_paper(rows: usize) -> f64 {
+    const LARGEST: f64 = 0.84;
+    LARGEST.min(560.0 / (HEAD + ROW * rows) as f64)
 }
 
 /// The values at the end.
