@@ -61,6 +61,7 @@ pub struct Mark {
 pub fn called(name: &str) -> &str {
     match name {
         "-" => "standard input",
+        "" => "a file without a name",
         _ => name,
     }
 }
@@ -113,7 +114,7 @@ impl fmt::Display for Error {
         match self {
             Error::Usage(message) => f.write_str(message),
             Error::Words => f.write_str("too few or too many words"),
-            Error::File { name, cause } => write!(f, "{name}: {cause}"),
+            Error::File { name, cause } => write!(f, "{}: {cause}", called(name)),
             Error::TooLong { name, most } => write!(f, "{name}: the text is longer than {most} bytes, and no more are read"),
             Error::Refused(refused) => refused.fmt(f),
             Error::Text { name, marks } => {

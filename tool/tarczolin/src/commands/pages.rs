@@ -63,6 +63,9 @@ pub fn page(page: &Page, to: &str) -> Result<End, Error> {
 
 /// Writes a drawing of each execution into a folder: `2.svg`, or `2-fails.svg`.
 pub fn drawings(page: &Page, folder: &str) -> Result<End, Error> {
+    if Path::new(folder).exists() && !Path::new(folder).is_dir() {
+        return Err(Error::usage(format!("--svg takes a folder, and {folder} is none")));
+    }
     let written = std::fs::create_dir_all(folder).and_then(|()| {
         page.executions.iter().try_for_each(|execution| {
             let fails = if execution.fails { "-fails" } else { "" };

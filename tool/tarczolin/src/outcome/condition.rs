@@ -66,6 +66,8 @@ fn tokens(text: &str) -> Result<Vec<String>, String> {
         match c {
             _ if c.is_whitespace() => {}
             _ if word && inside => tokens.last_mut().expect("begun").push(c),
+            // && and || are the same as & and |
+            '&' | '|' if tokens.last().is_some_and(|last| *last == c.to_string()) => {}
             _ if word || "()&|".contains(c) => tokens.push(c.to_string()),
             '=' if matches!(tokens.last().map(String::as_str), Some("=" | "!")) => tokens.last_mut().expect("one").push(c),
             '=' | '!' => tokens.push(c.to_string()),
