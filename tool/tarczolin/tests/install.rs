@@ -46,6 +46,29 @@ fn c_and_cpp() {
     }
 }
 
+/// The README's own lines build and run: in a folder that has what the repository has, so that nothing is written beside it.
+#[test]
+fn the_build_lines_of_the_readme() {
+    let at = folder("build_lines");
+    for name in ["include", "examples", "target", "tool", "tests", "Cargo.toml", "Cargo.lock"] {
+        let _ = std::os::unix::fs::symlink(std::fs::canonicalize(path(name)).unwrap(), at.join(name));
+    }
+    let readme = text("README.md").replace('\n', " ");
+    let line = |front: &str| {
+        let from = readme.find(&format!("`{front}")).unwrap_or_else(|| panic!("{front}")) + 1;
+        readme[from..].split('`').next().unwrap().to_string()
+    };
+    let folder = at.display();
+    for (build, said) in [
+        (line("cc -Iinclude") + " && ./first < examples/queue-broken.hex", "00000102020201\n"),
+        (line("c++ -x c++") + " && ./first < examples/queue-broken.hex", "00000102020201\n"),
+        (line("cargo run --offline"), "[00, 00, 01, 02, 02, 02, 01]\n"),
+    ] {
+        let ran = shell(&format!("cd {folder} && export CARGO_TARGET_DIR={folder}/cargo && {build}"));
+        assert_eq!(String::from_utf8_lossy(&ran.stdout), said, "{build}: {}", String::from_utf8_lossy(&ran.stderr));
+    }
+}
+
 /// Every name of a call in the header is in the library, and the constants are those of the Rust wrapper.
 #[test]
 fn the_header_fits() {
