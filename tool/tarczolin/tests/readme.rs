@@ -2,6 +2,7 @@
 mod common;
 
 use common::tool;
+use std::io::{BufRead, BufReader, Read};
 use std::path::Path;
 use std::process::{Command, Stdio};
 use tarczolin::commands::all;
@@ -104,10 +105,14 @@ fn without_numbers(line: &str) -> String {
 #[test]
 fn progress_and_interrupt_as_shown() {
     let mut command = tool(&["list", "examples/long.asm"]);
-    let child = command.env("TARCZOLIN_PROGRESS", "100").stdout(Stdio::null()).stderr(Stdio::piped()).spawn().unwrap();
-    std::thread::sleep(std::time::Duration::from_millis(900));
+    let mut child = command.env("TARCZOLIN_PROGRESS", "50").stdout(Stdio::null()).stderr(Stdio::piped()).spawn().unwrap();
+    let mut told = BufReader::new(child.stderr.take().unwrap());
+    let mut err = String::new();
+    // Ctrl-C behind the first line of progress
+    told.read_line(&mut err).unwrap();
     assert!(Command::new("kill").args(["-INT", &child.id().to_string()]).status().unwrap().success());
-    let err = String::from_utf8(child.wait_with_output().unwrap().stderr).unwrap();
+    told.read_to_string(&mut err).unwrap();
+    assert_eq!(child.wait().unwrap().code(), Some(2), "{err}");
     let printed: Vec<String> = err.lines().map(without_numbers).collect();
     for front in ["    tarczolin: 1171456 listed", "    tarczolin: interrupted: "] {
         let readme = readme();
