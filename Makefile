@@ -3,7 +3,8 @@
 # make check FILE=F      is F a program file? prints accepted, or the refusal's number, place, line and reason
 # make list FILE=F       the list of F, or its refusal, as the listing program prints it
 # make explorer          the listing program itself: target/bin/explorer
-# make tool              builds the command: target/cargo/release/tarczolin
+# make tool              builds the command: target/cargo/release/tarczolin; LIBRARY_FROM=L takes the library L, proved elsewhere
+# make library           builds and proves the static library: target/staticlib/libtarczolin.a
 # make install PREFIX=P  the command, the library, the header, pkg-config, the manual page, completions, below P (DESTDIR before it)
 # make bench             times of the library beside plain Rust
 # make fuzz SECONDS=N    random bytes to every call, for so long
@@ -19,7 +20,7 @@ SOURCES = crates.txt $(shell find crates -name '*.rt' -o -name '*.antt')
 VALGRIND = valgrind --quiet --error-exitcode=9 --leak-check=full --show-leak-kinds=definite --errors-for-leak-kinds=definite \
   --trace-children=yes --log-file=$(CURDIR)/target/valgrind/%p.log
 
-.PHONY: help test check list explorer tool install bench fuzz valgrind
+.PHONY: help test check list explorer tool library install bench fuzz valgrind
 
 help:
 	@sed -n 's/^# make/make/p' Makefile
@@ -35,6 +36,8 @@ list: $(EXPLORER)
 	@$(EXPLORER) < $(FILE)
 
 explorer: $(EXPLORER)
+
+library: $(LIBRARY)
 
 tool: $(LIBRARY)
 	@$(CARGO) build $(QUIET) --bin tarczolin
@@ -68,8 +71,15 @@ valgrind: $(LIBRARY)
 	@TEST_SHARE=100 FUZZ_SECONDS=20 CARGO_TARGET_X86_64_UNKNOWN_LINUX_GNU_RUNNER='$(VALGRIND)' $(CARGO) test $(QUIET) --workspace
 	@cat target/valgrind/*.log; test -z "$$(cat target/valgrind/*.log)" && echo 'valgrind reports nothing'
 
+# a library that was built, and so proved, elsewhere, or before; make test proves anew in any case
+ifdef LIBRARY_FROM
+.PHONY: $(LIBRARY)
+$(LIBRARY):
+	@install -D -m 644 $(LIBRARY_FROM) $(LIBRARY)
+else
 $(LIBRARY): $(SOURCES)
 	@rt staticlib tarczolin
+endif
 
 $(EXPLORER): $(SOURCES)
 	@rt check explorer

@@ -231,7 +231,7 @@ def browser(tally):
     if shutil.which('chromium') is None:
         tally.note('not run: the page in a browser, since there is no chromium here')
         return
-    tests = cargo_tests(tally, CARGO_TEST[:-1] + ['--package', 'tarczolin', '--test', 'page', '--', '--ignored'])
+    tests = cargo_tests(tally, CARGO_TEST[:-1] + ['--package', 'tarczolin', '--test', 'browser', '--', '--ignored'])
     if tests.passed + tests.failed != len(tally.pins['ignored']):
         tally.fail(f'{tests.passed + tests.failed} tests in a browser, and pins.txt names {len(tally.pins["ignored"])}')
 

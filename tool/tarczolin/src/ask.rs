@@ -51,10 +51,19 @@ pub fn check(file: &[u8]) -> Result<(), Refusal> {
 }
 
 impl Counts {
-    /// One more listed schedule.
-    pub fn add(&mut self, listed: &Listed) {
+    /// One more listed schedule, which fails or not.
+    pub fn add(&mut self, fails: bool) {
         self.listed += 1;
-        self.failing += listed.fails as u64;
+        self.failing += fails as u64;
+    }
+}
+
+impl std::ops::Add for Counts {
+    type Output = Counts;
+
+    fn add(mut self, other: Counts) -> Counts {
+        self += other;
+        self
     }
 }
 

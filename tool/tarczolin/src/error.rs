@@ -1,5 +1,5 @@
 //! Why a command was not carried out, and how that is said.
-use crate::ask::Refusal;
+use crate::ask::{Counts, Refusal};
 use crate::json::{list, object, Json};
 use std::fmt;
 use std::io;
@@ -18,8 +18,12 @@ pub enum Error {
     Refused(Refused),
     /// What is wrong with a program in the text form.
     Text { name: String, marks: Vec<Mark> },
+    /// A condition behind --where that does not fit the program of this file.
+    Condition { name: String, message: String },
     /// A litmus test or a program that does not fit the other form.
     Unfit { name: String, message: String },
+    /// Ctrl-C, while a page or drawings were made: so much had been listed, and nothing is written.
+    Interrupted(Counts),
     /// Standard output cannot be written.
     Output(io::Error),
     /// Standard output was closed from the start.
@@ -57,6 +61,7 @@ pub struct Mark {
 pub fn called(name: &str) -> &str {
     match name {
         "-" => "standard input",
+        "" => "a file without a name",
         _ => name,
     }
 }
@@ -71,12 +76,13 @@ impl Error {
     /// The error for programs: its kind, its message, and the places that it tells of.
     pub fn json(&self) -> Json {
         let kind = match self {
-            Error::Usage(_) | Error::Words => "usage",
+            Error::Usage(_) | Error::Words | Error::Condition { .. } => "usage",
             Error::File { .. } => "file",
             Error::TooLong { .. } => "too-long",
             Error::Refused(_) => "refused",
             Error::Text { .. } => "text",
             Error::Unfit { .. } => "unfit",
+            Error::Interrupted(_) => "interrupted",
             Error::Output(_) | Error::Closed => "output",
         };
         let (number, place) = match self {
@@ -108,14 +114,18 @@ impl fmt::Display for Error {
         match self {
             Error::Usage(message) => f.write_str(message),
             Error::Words => f.write_str("too few or too many words"),
-            Error::File { name, cause } => write!(f, "{name}: {cause}"),
+            Error::File { name, cause } => write!(f, "{}: {cause}", called(name)),
             Error::TooLong { name, most } => write!(f, "{name}: the text is longer than {most} bytes, and no more are read"),
             Error::Refused(refused) => refused.fmt(f),
             Error::Text { name, marks } => {
                 let marks: Vec<String> = marks.iter().map(|mark| mark.told(name)).collect();
                 f.write_str(&marks.join("\n"))
             }
+            Error::Condition { name, message } => write!(f, "{name}: --where: {message}"),
             Error::Unfit { name, message } => write!(f, "{name}: {message}"),
+            Error::Interrupted(Counts { listed, failing }) => {
+                write!(f, "interrupted: {listed} listed, {failing} failing so far; nothing is written")
+            }
             Error::Output(cause) => write!(f, "the output cannot be written: {cause}"),
             Error::Closed => f.write_str("standard output is closed; there is nowhere to write the answer"),
         }

@@ -66,6 +66,11 @@ impl<'a> Execution<'a> {
         Ok(Execution { program, position: None, schedule, at_once, steps, graph, fails, memory, registers })
     }
 
+    /// What it is called on a page: its place in the list, or its schedule.
+    pub fn name(&self) -> String {
+        self.position.map_or(self.schedule.to_string(), |position| position.to_string())
+    }
+
     /// The location of an access that the execution did.
     pub fn location(&self, event: Event) -> u8 {
         self.steps.iter().find(|step| step.done.event == event).map_or(0, |step| step.done.location)

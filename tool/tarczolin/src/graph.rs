@@ -17,7 +17,7 @@ pub struct Graph {
 }
 
 /// An edge of the graph and its order.
-#[derive(Clone, Copy, Debug, PartialEq, Eq)]
+#[derive(Clone, Copy, Debug, PartialEq, Eq, PartialOrd, Ord)]
 pub enum Order {
     Program,
     ReadsFrom,

@@ -33,16 +33,16 @@ fn every() -> Duration {
     given.map_or(SAID, Duration::from_millis)
 }
 
-/// The line of progress.
-fn line(counts: Counts, seconds: f64, share: f64) -> String {
+/// The line of progress; the share stands there where it is known.
+fn line(counts: Counts, seconds: f64, share: Option<f64>) -> String {
     let rate = counts.listed as f64 / seconds;
-    let percent = share * 100.0;
-    format!("{} listed, {} failing, {rate:.0} a second, {percent:.1} % of the range", counts.listed, counts.failing)
+    let share = share.map_or(String::new(), |share| format!(", {:.1} % of the range", share * 100.0));
+    format!("{} listed, {} failing, {rate:.0} a second{share}", counts.listed, counts.failing)
 }
 
 impl Progress {
     /// Tells how far the list is, now and then; the share is asked for only then.
-    pub fn tell(&mut self, counts: Counts, share: impl FnOnce() -> f64) {
+    pub fn tell(&mut self, counts: Counts, share: impl FnOnce() -> Option<f64>) {
         if self.told.elapsed() >= self.every {
             let line = line(counts, self.began.elapsed().as_secs_f64(), share());
             self.write(&line);
@@ -106,6 +106,7 @@ mod tests {
     #[test]
     fn listed_failing_rate_and_share() {
         let wanted = "3000 listed, 7 failing, 2000 a second, 12.5 % of the range";
-        assert_eq!(line(Counts { listed: 3000, failing: 7 }, 1.5, 0.125), wanted);
+        assert_eq!(line(Counts { listed: 3000, failing: 7 }, 1.5, Some(0.125)), wanted);
+        assert_eq!(line(Counts { listed: 3000, failing: 7 }, 1.5, None), "3000 listed, 7 failing, 2000 a second");
     }
 }

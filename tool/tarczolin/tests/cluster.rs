@@ -23,7 +23,10 @@ fn joined(name: &str, program: &[u8], pieces: usize, make: &str) -> (String, Str
          tarczolin join $(seq -f piece-%g $(wc -l < cuts)) > list; tarczolin list program.hex > whole"
     );
     let done = Command::new("bash").args(["-c", &script]).current_dir(&folder).output().unwrap();
-    assert!(done.stderr.is_empty(), "{}", String::from_utf8_lossy(&done.stderr));
+    // here nothing has to be fetched from another machine, and GNU parallel says so
+    let told = String::from_utf8_lossy(&done.stderr)
+        .replace("parallel: Warning: --return ignored as there are no remote --sshlogin.\n", "");
+    assert!(told.trim().is_empty(), "{told}");
     let text = |name: &str| std::fs::read_to_string(folder.join(name)).unwrap();
     (text("list"), text("whole"))
 }
@@ -48,9 +51,12 @@ fn pieces_by_gnu_parallel() {
         println!("not run: GNU parallel is not installed here");
         return;
     }
-    let make = "seq $(wc -l < cuts) | parallel --will-cite -j 2 './piece {} > piece-{}; true'";
-    let (list, whole) = joined("parallel", &program(), 12, make);
-    assert!(list == whole);
+    let document = String::from_utf8(read("docs/CLUSTER.md")).unwrap();
+    let line = document.lines().find_map(|line| line.strip_prefix("    seq 64 | parallel ")).expect("the line");
+    let here = line.replace("host1,host2", "2/:");
+    let make = format!("export PARALLEL=--will-cite; seq $(wc -l < cuts) | parallel {here}");
+    let (list, whole) = joined("parallel", &program(), 12, &make);
+    assert!(list == whole && line.contains("host1,host2"));
 }
 
 #[test]
@@ -84,6 +90,18 @@ fn list_goes_on_behind_a_schedule() {
     assert_eq!(rest[rest.len() - 1], format!("51{:016x}{:016x}", 1432, 1));
 }
 
+/// A bound with a thread that the program has not is a slip: nothing would be listed behind it.
+#[test]
+fn bounds_name_threads_of_the_program() {
+    for command in ["list", "count"] {
+        for option in ["--after", "--until"] {
+            let ran = run(&[command, "examples/whole.hex", option, "0003"]);
+            let said = format!("tarczolin: {option}: there is no thread 03; the program has 3\n");
+            assert_eq!((ran.status, ran.out.as_str(), ran.err), (2, "", said));
+        }
+    }
+}
+
 #[test]
 fn join_sees_what_is_missing() {
     let folder = folder("cluster-join");
@@ -96,6 +114,12 @@ fn join_sees_what_is_missing() {
     assert_eq!(run(&["join", &front, &back]).out, whole);
     let wrong = run(&["join", &back, &front]);
     assert!(wrong.status == 2 && wrong.err.contains("does not go on with the list"), "{}", wrong.err);
+    let wrong = run(&["join", "/dev/zero"]);
+    assert!(
+        wrong.status == 2 && wrong.err.len() < 200 && wrong.err.contains("does not go on with the list: ???"),
+        "{}",
+        wrong.err
+    );
     let wrong = run(&["join", &short, &back]);
     assert!(wrong.status == 2 && wrong.err.contains("cut short"), "{}", wrong.err);
 }

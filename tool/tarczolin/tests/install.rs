@@ -46,6 +46,29 @@ fn c_and_cpp() {
     }
 }
 
+/// The README's own lines build and run: in a folder that has what the repository has, so that nothing is written beside it.
+#[test]
+fn the_build_lines_of_the_readme() {
+    let at = folder("build_lines");
+    for name in ["include", "examples", "target", "tool", "tests", "Cargo.toml", "Cargo.lock"] {
+        let _ = std::os::unix::fs::symlink(std::fs::canonicalize(path(name)).unwrap(), at.join(name));
+    }
+    let readme = text("README.md").replace('\n', " ");
+    let line = |front: &str| {
+        let from = readme.find(&format!("`{front}")).unwrap_or_else(|| panic!("{front}")) + 1;
+        readme[from..].split('`').next().unwrap().to_string()
+    };
+    let folder = at.display();
+    for (build, said) in [
+        (line("cc -Iinclude") + " && ./first < examples/queue-broken.hex", "00000102020201\n"),
+        (line("c++ -x c++") + " && ./first < examples/queue-broken.hex", "00000102020201\n"),
+        (line("cargo run --offline"), "[00, 00, 01, 02, 02, 02, 01]\n"),
+    ] {
+        let ran = shell(&format!("cd {folder} && export CARGO_TARGET_DIR={folder}/cargo && {build}"));
+        assert_eq!(String::from_utf8_lossy(&ran.stdout), said, "{build}: {}", String::from_utf8_lossy(&ran.stderr));
+    }
+}
+
 /// Every name of a call in the header is in the library, and the constants are those of the Rust wrapper.
 #[test]
 fn the_header_fits() {
@@ -80,6 +103,18 @@ fn make_install() {
     let config = std::fs::read_to_string(format!("{to}/usr/lib/pkgconfig/tarczolin.pc")).unwrap();
     assert!(config.contains("Libs: -L${prefix}/lib -ltarczolin\n") && config.contains("prefix=/usr\n"), "{config}");
     assert!(config.contains(concat!("Version: ", env!("CARGO_PKG_VERSION"), "\n")), "{config}");
+}
+
+/// A library that was built elsewhere is taken as it is: nothing is proved, and the kit is not called.
+#[test]
+fn a_library_from_elsewhere() {
+    let at = folder("from").join("lib/libtarczolin.a").display().to_string();
+    let _ = std::fs::remove_file(&at);
+    let made = shell(&format!("make -s library LIBRARY_FROM=target/staticlib/libtarczolin.a LIBRARY={at}"));
+    assert!(made.status.success() && made.stdout.is_empty(), "{}", String::from_utf8_lossy(&made.stderr));
+    assert!(std::fs::read(&at).unwrap() == read("target/staticlib/libtarczolin.a"));
+    let tool = String::from_utf8(shell("make -n tool LIBRARY_FROM=/usr/local/lib/libtarczolin.a").stdout).unwrap();
+    assert!(!tool.contains("rt ") && tool.contains("install -D -m 644 /usr/local/lib/libtarczolin.a "), "{tool}");
 }
 
 #[test]

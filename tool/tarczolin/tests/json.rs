@@ -3,6 +3,8 @@ mod common;
 
 use common::json::{fits, parse, Value};
 use common::{folder, run, run_with};
+use std::collections::BTreeSet;
+use tarczolin::commands::{all, Command};
 use tarczolin_tests::files::read;
 
 const QUEUE: &str = "examples/queue-broken.asm";
@@ -59,9 +61,26 @@ fn every_command_fits_the_schema() {
         let (ended, found) = held(words, input);
         assert_eq!((ended, found.len()), (status, objects), "{words:?}: {found:?}");
     }
-    let (_, found) = held(&["asm", QUEUE], b"");
-    assert_eq!(found[0].get("text"), Some(&Value::Text(run(&["asm", QUEUE]).out)));
+    let commands: BTreeSet<&str> = cases.iter().map(|(words, ..)| words[0]).chain(TEXTS).collect();
+    let has_json = |command: &&&Command| command.options.iter().any(|option| option.name == "--json");
+    assert_eq!(commands, all().iter().filter(has_json).map(|command| command.name).collect(), "every command that has --json");
     assert!(held(&["judge", pair, "-"], b"400001ffff\n41000000\n41010100\n").1[0].get("why").is_some());
+}
+
+/// The commands that answer by a text, beside disasm.
+const TEXTS: [&str; 3] = ["asm", "import-litmus", "export-litmus"];
+
+/// The text of an answer is what the words are.
+#[test]
+fn texts() {
+    let text = |words: &[&str], input: &[u8]| match held(words, input).1[0].get("text") {
+        Some(Value::Text(text)) => text.clone(),
+        other => panic!("{other:?}"),
+    };
+    let litmus = run(&["export-litmus", "examples/store-load-pair.hex"]).out;
+    for (command, input) in TEXTS.iter().zip(["thread\n  fail\n", &litmus, "01\n110000\n"]) {
+        assert_eq!(text(&[command, "-"], input.as_bytes()), run_with(&[command, "-"], input.as_bytes()).out, "{command}");
+    }
 }
 
 #[test]
@@ -89,4 +108,7 @@ fn several_files() {
         ran.out.starts_with("==> examples/whole.hex <==\n5000000102\n")
             && ran.out.contains("==> examples/empty-thread.hex <==\n5000\n")
     );
+    let refused = run(&["list", "examples/accesses-25-refused.hex", "examples/empty-thread.hex"]);
+    let headed = "==> examples/accesses-25-refused.hex <==\n5206001b\n==> examples/empty-thread.hex <==\n5000\n";
+    assert!(refused.status == 2 && refused.out.starts_with(headed), "{}", refused.out);
 }

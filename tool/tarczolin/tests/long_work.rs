@@ -46,6 +46,49 @@ fn interrupted_list_tells_from_where_to_go_on() {
     }
 }
 
+/// show tells from which place it goes on; a page that is not whole is not written.
+#[test]
+fn interrupted_show() {
+    let (status, out, err) = interrupted(&["show", "-"]);
+    assert_eq!(status, Some(2), "{err}");
+    let shown = out.matches("execution ").count();
+    let said = format!("interrupted: {shown} listed, 0 failing so far; go on with --from {}", shown + 1);
+    assert!(err.lines().last().unwrap().ends_with(&said), "{shown}: {err}");
+    let page = common::folder("long_work").join("page.html");
+    let _ = std::fs::remove_file(&page);
+    let (status, _, err) = interrupted(&["show", "-", "--html", &page.display().to_string()]);
+    assert!(status == Some(2) && err.contains("failing so far; nothing is written"), "{err}");
+    assert!(!page.exists());
+}
+
+/// Of several files those behind the one that was interrupted are not begun.
+#[test]
+fn interrupted_between_files() {
+    let (status, _, err) = interrupted(&["list", "-", "examples/whole.hex"]);
+    assert!(status == Some(2) && err.ends_with("not begun: examples/whole.hex\n"), "{err}");
+}
+
+/// Joining tells how far it is too.
+#[test]
+fn progress_of_join() {
+    let list = run_with(&["list", "-"], &lines(&format!("01 {} 01 {}", "10000000000001 ".repeat(8), "110000 ".repeat(8)))).out;
+    let mut child = tool(&["join", "-"])
+        .env("TARCZOLIN_PROGRESS", "1")
+        .stdin(Stdio::piped())
+        .stdout(Stdio::piped())
+        .stderr(Stdio::piped())
+        .spawn()
+        .unwrap();
+    let mut stdin = child.stdin.take().unwrap();
+    let text = list.clone();
+    let writer = std::thread::spawn(move || stdin.write_all(text.as_bytes()).unwrap());
+    let output = child.wait_with_output().unwrap();
+    writer.join().unwrap();
+    assert!(String::from_utf8(output.stdout).unwrap() == list);
+    let told = String::from_utf8(output.stderr).unwrap();
+    assert!(told.contains(" listed, 0 failing, ") && told.contains(" a second\n"), "{told}");
+}
+
 #[test]
 fn interrupted_count_and_outcomes() {
     let (status, out, err) = interrupted(&["count", "-", "--jobs", "2"]);

@@ -56,6 +56,21 @@ fn conditions() {
     assert!(run(&["outcomes", QUEUE, "--where", "tial = 2"]).err.contains("is it tail?"));
 }
 
+/// An end without a step; words that hold of every end; and a name that only some of several files have.
+#[test]
+fn small_ends_and_several_files() {
+    let ran = run_with(&["outcomes", "-"], b"01\n");
+    assert_eq!(ran.out, "outcome 1: 1 listed, first (no step)\n\n1 outcome, 1 listed, 0 failing\n");
+    assert_eq!(run(&["outcomes", QUEUE, "--where", "true & !false"]).status, 1);
+    let named = b"thread\n  store true 1\n  store fails 1\n";
+    assert_eq!(run_with(&["outcomes", "-", "--where", "true = 1 & fails != 0 & !fails"], named).status, 1);
+    let files = ["examples/whole.hex", QUEUE];
+    let ran = run(&[&["outcomes"], &files[..], &["--where", "tail = 2"]].concat());
+    assert_eq!(ran.status, 2);
+    assert_eq!(ran.err, "tarczolin: examples/whole.hex: --where: there is no location tail\n");
+    assert!(ran.out.starts_with(&format!("==> {QUEUE} <==\noutcome 1: ")), "{}", ran.out);
+}
+
 /// Only one of two alike executions is listed, and the other can happen as well.
 #[test]
 fn alike_threads_exchanged() {

@@ -1,9 +1,8 @@
-//! The page of show --html: what stands in it, and how a browser lays it out.
+//! The page of show --html: what stands in it.
 mod common;
 
 use common::run;
 use std::path::PathBuf;
-use std::process::Command;
 
 /// A folder for the pages of these tests.
 fn folder() -> PathBuf {
@@ -15,7 +14,7 @@ fn page(name: &str, program: &str, words: &[&str]) -> (PathBuf, String) {
     let at = folder().join(format!("{name}.html"));
     let file = at.display().to_string();
     let ran = run(&[&["show", program, "--html", &file], words].concat());
-    assert!(ran.out.contains(" executions, "), "{ran:?}");
+    assert!(ran.out.contains(" execution"), "{ran:?}");
     let text = std::fs::read_to_string(&at).unwrap();
     (at, text)
 }
@@ -48,8 +47,11 @@ fn columns_and_graph() {
     assert!(text.contains("<select id=\"thread\"><option value=\"\">all</option><option value=\"0\">T0</option>"));
     assert!(text.contains("keys: <kbd>n</kbd> next"));
     let second = text.split("<section ").find(|part| part.starts_with("id=\"e2\"")).unwrap();
-    assert!(second.contains("<td>load x2 -&gt; r1 = 0</td><td>initial</td>"), "{second}");
-    assert!(second.contains("<td>load x1 -&gt; r1 = 7</td><td>T0 store #1</td>"));
+    for cells in ["load x2 -&gt; r1 = 0 | initial", "load x1 -&gt; r1 = 7 | T0 store #1"] {
+        let cell = |words: &str| format!("<td title=\"{words}\"><div>{words}</div></td>");
+        let [step, seen] = [0, 1].map(|k| cell(cells.split(" | ").nth(k).unwrap()));
+        assert!(second.contains(&(step + &seen)), "{cells} in {second}");
+    }
     assert!(second.contains("assert r1 == 7 FAILS: r1 = 0"));
     // seven steps and one failed assertion; two, two and three steps of the threads follow each other
     assert_eq!((count(second, "<g class=\"step"), count(second, "<g class=\"failed\" ")), (7, 1));
@@ -106,6 +108,30 @@ fn self_contained() {
     assert_eq!(count(&text, "url("), count(&text, "url(#"), "only arrow heads of the page itself");
 }
 
+/// One execution by its schedule: a page and a drawing of it alone, and nothing of a list is said.
+#[test]
+fn one_execution() {
+    let (_, text) = page("one", "examples/queue-broken.asm", &["00000102020201"]);
+    balanced(&text);
+    assert_eq!((count(&text, "<section "), count(&text, "<svg class=\"graph\"")), (1, 1));
+    assert!(text.contains("One execution by its schedule, <b>1 failing</b>."));
+    let at = folder().join("drawn");
+    let ran = run(&["show", "examples/queue-broken.asm", "00000102020201", "--svg", &at.display().to_string()]);
+    assert_eq!(ran.status, 1, "{}", ran.err);
+    assert!(std::fs::read_to_string(at.join("00000102020201-fails.svg")).unwrap().contains(">consumer</text>"));
+    let ran = run(&["show", "examples/queue-broken.asm", "00000102020201", "--only", "failing"]);
+    assert!(ran.status == 2 && ran.err.contains("a schedule names one execution"), "{}", ran.err);
+    for words in
+        [["show", "--html", "--svg"], ["show", "--svg", "--json"], ["graph", "--dot", "--svg"], ["graph", "--dot", "--json"]]
+    {
+        let [command, one, other] = words;
+        let value = |option| ["--html", "--svg"].contains(&option) && command == "show";
+        let given = |option| if value(option) { vec![option, "x"] } else { vec![option] };
+        let ran = run(&[&[command, "examples/queue-broken.asm", "00000102020201"][..], &given(one), &given(other)].concat());
+        assert!(ran.status == 2 && ran.err.contains("cannot be given together"), "{words:?}: {}", ran.err);
+    }
+}
+
 #[test]
 fn chosen_executions() {
     let (_, text) = page("failing", "examples/queue-broken.hex", &["--only", "failing", "--from", "4"]);
@@ -115,51 +141,4 @@ fn chosen_executions() {
     assert!(count(&text, "<section ") == 500 && text.contains("left out of the page"));
     let ran = run(&["show", "examples/whole.hex", "--html", "no/such/folder/page.html"]);
     assert!(ran.status == 2 && ran.err.contains("no/such/folder/page.html"));
-}
-
-/// Looks at the page as laid out: it writes the names of what is wrong into the page's title.
-const LOOK: &str = "<script>
-const wrong = [];
-const box = e => e.getBoundingClientRect();
-for (const section of document.querySelectorAll('section')) {
-  for (const g of section.querySelectorAll('g')) {
-    const [rect, text] = [g.querySelector('rect'), g.querySelector('text')].map(box);
-    if (text.left < rect.left || text.right > rect.right) wrong.push('words wider than their box: ' + g.textContent);
-  }
-  const rows = [...section.querySelectorAll('tr')].slice(1).map(box);
-  const boxes = [...section.querySelectorAll('g rect')].map(box);
-  if (rows.length !== boxes.length) wrong.push('rows and boxes differ in number');
-  rows.forEach((row, k) => {
-    const off = Math.abs((row.top + row.bottom - boxes[k].top - boxes[k].bottom) / 2);
-    if (off > 4) wrong.push('row ' + k + ' is ' + off + ' off its box');
-  });
-}
-document.title = 'LOOKED ' + (wrong.join('; ') || 'well');
-</script>";
-
-fn chromium(words: &[String]) -> String {
-    let profile = format!("--user-data-dir={}", folder().join("profile").display());
-    let output = Command::new("chromium")
-        .args(["--headless", "--no-sandbox", "--disable-gpu", "--disable-dev-shm-usage", "--window-size=1600,1200", &profile])
-        .args(words)
-        .output()
-        .expect("chromium starts");
-    String::from_utf8_lossy(&output.stdout).into_owned()
-}
-
-/// In a browser: words fit their boxes, rows of the columns stand beside those of the drawing, and something is drawn.
-#[test]
-#[ignore = "needs chromium"]
-fn laid_out_in_a_browser() {
-    for (name, program) in [("queue-seen", "examples/queue-broken.hex"), ("lock-seen", "tests/programs/000-ttaslock-3.hex")] {
-        let (at, text) = page(name, program, &[]);
-        let looked = folder().join(format!("{name}-looked.html"));
-        std::fs::write(&looked, text.replace("</body>", &format!("{LOOK}</body>"))).unwrap();
-        let dom = chromium(&["--dump-dom".to_string(), format!("file://{}", looked.display())]);
-        assert!(dom.contains("<title>LOOKED well</title>"), "{:?}", dom.split("<title>").nth(1).map(|t| &t[..t.len().min(300)]));
-        let picture = folder().join(format!("{name}.png"));
-        chromium(&[format!("--screenshot={}", picture.display()), format!("file://{}", at.display())]);
-        let bytes = std::fs::read(&picture).expect("a picture").len();
-        assert!(bytes > 30_000, "a picture of {bytes} bytes shows nothing");
-    }
 }

@@ -91,8 +91,34 @@ fn warnings() {
     assert!(said[0].contains("4:9: warning: slto is written only here, and there is slot"), "{}", said[0]);
     assert!(said[1].contains("5:13: warning: head is read and never written"), "{}", said[1]);
     assert!(said[2].contains("6:1: warning: no jump goes to end"), "{}", said[2]);
+    let twice = run_with(&["check", "-"], b"thread\n  store slot 7\n  n = load slto\n").err;
+    assert!(
+        twice.contains("3:12: warning: slto is read and never written; is it slot?") && twice.lines().count() == 3,
+        "{twice}"
+    );
+    let short = run_with(&["check", "-"], b"thread\n  store x 1\n  n = load y\nthread\n  store y 1\n  n = load x\n");
+    assert_eq!(short.err, "", "x and y are meant to differ");
     let quiet = run(&["check", "examples/queue-broken.asm"]);
     assert_eq!(quiet.err, "", "slot0 and slot1 are meant to differ");
+}
+
+/// A statement that would pass the limit of a thread, and a jump backwards: errors that say so.
+#[test]
+fn what_instructions_cannot_do() {
+    let ran = run_with(&["check", "-"], format!("thread\n{}", "  fail\n".repeat(9)).as_bytes());
+    let said = ":10:3: this is instruction number 17 of its thread; a thread has at most 16; the statement takes 2\n";
+    assert!(ran.status == 2 && ran.err.contains(said), "{}", ran.err);
+    let ran = run_with(&["check", "-"], b"thread\nagain:\n  n = load x\n  if n == 0 goto again\n");
+    assert!(ran.status == 2 && ran.err.contains(":4:18: again stands above, in line 2: jumps go forward only"), "{}", ran.err);
+}
+
+/// A byte order mark and carriage returns, as some editors write them; a sign inside of a number.
+#[test]
+fn what_editors_leave() {
+    let ran = run_with(&["check", "-"], b"\xef\xbb\xbfthread\r\n  store x 1\r\n  r0 = load x\r\n");
+    assert_eq!((ran.status, ran.out.as_str(), ran.err.as_str()), (0, "accepted\n", ""));
+    let ran = run_with(&["check", "-"], b"\xef\xbb\xbfthread\n  r0 = 0x-5\n");
+    assert!(ran.status == 2 && ran.err.contains(":2:8: 0x-5 is no number of 32 bits"), "{}", ran.err);
 }
 
 /// Every command takes a text as it is, by the name of its file or by what stands in it.
@@ -122,7 +148,8 @@ fn names_in_columns_page_messages_and_disasm() {
     assert!(columns.contains("#0   consumer  load tail -> filled = 2                 second fetch_add #0\n"), "{columns}");
     assert!(columns.contains("!!   consumer  assert item == 7 FAILS: item = 0\n"));
     let page = run(&["show", form, "--html", "-"]).out;
-    for words in [">consumer</text>", "load slot1 -&gt; item = 0", "<td>first store #1</td>", "✗ assert item", "#0 load tail: 2"]
+    for words in
+        [">consumer</text>", "load slot1 -&gt; item = 0", "<div>first store #1</div></td>", "✗ assert item", "#0 load tail: 2"]
     {
         assert!(page.contains(words), "{words}");
     }

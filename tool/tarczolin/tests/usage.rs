@@ -3,45 +3,39 @@ mod common;
 
 use common::run;
 use std::process::Command;
+use tarczolin::commands::all;
 
-const COMMANDS: [&str; 14] = [
-    "list",
-    "count",
-    "violation",
-    "outcomes",
-    "show",
-    "check",
-    "graph",
-    "judge",
-    "cuts",
-    "join",
-    "asm",
-    "disasm",
-    "import-litmus",
-    "export-litmus",
-];
+/// The names in the parser's table.
+fn names() -> Vec<&'static str> {
+    let names: Vec<&str> = all().iter().map(|command| command.name).collect();
+    assert!(names.len() == 17 && names.contains(&"outcomes") && names.contains(&"completions"));
+    names
+}
 
 #[test]
 fn help_of_each_command() {
     let all = run(&["help"]).out;
-    for command in COMMANDS {
+    for command in names() {
         let help = run(&[command, "-h"]);
         assert_eq!((help.status, help.err.as_str()), (0, ""));
         assert!(
-            help.out.starts_with(&format!("usage: tarczolin {command} ")) && help.out.contains("\nexample: tarczolin "),
+            help.out.starts_with(&format!("usage: tarczolin {command}")) && help.out.contains("\nexample: tarczolin "),
             "{}",
             help.out
         );
         assert_eq!(run(&[command, "--help"]), help);
-        assert!(all.contains(&format!("\n  {command} ")), "{all}");
+        assert_eq!(run(&["help", command]), help);
+        assert!(all.contains(&format!("\n  {command}")), "{all}");
     }
+    assert_eq!(run(&["--help"]).out, all);
+    assert!(run(&["help", "lits"]).err.contains("there is no command lits; is it list?"));
 }
 
 #[test]
 fn versions() {
     let version = run(&["--version"]);
     assert_eq!((version.status, version.out.as_str()), (0, concat!("tarczolin ", env!("CARGO_PKG_VERSION"), "\n")));
-    for command in COMMANDS {
+    for command in names() {
         assert_eq!(run(&[command, "--version"]), version);
     }
 }
@@ -53,31 +47,63 @@ fn suggestions() {
     assert!(err(&["list", "x", "--job", "2"]).contains("there is no option --job here; is it --jobs?"));
     assert!(err(&["list", "x", "--json=1"]).contains("--json takes no value"));
     assert!(err(&["frobnicate"]).contains("there is no command frobnicate\n"));
+    assert!(err(&["version"]).contains("is it --version?") && err(&["import"]).contains("is it import-litmus?"));
+    assert!(err(&["list", "x", "-jobs", "2"]).contains("there is no option -jobs here; is it --jobs?"));
+    assert!(err(&["list", "-x"]).contains("there is no option -x here; a file whose name begins so stands behind --"));
+    assert!(err(&["man", "x"]).contains("usage: tarczolin man\n"));
+    assert!(err(&["completions", "tcsh"]).contains("usage: tarczolin completions bash|zsh|fish\n"));
 }
 
 /// Behind -- a word is a file, whatever it looks like.
 #[test]
 fn the_end_of_options() {
-    let ran = run(&["check", "--", "--json"]);
-    assert!(ran.status == 2 && ran.err.contains("--json: "), "{}", ran.err);
+    for name in ["--json", "-h", "-x"] {
+        let ran = run(&["check", "--", name]);
+        assert!(ran.status == 2 && ran.err.contains(&format!("{name}: No such file")), "{}", ran.err);
+    }
     assert_eq!(run(&["check", "--json", "--", "examples/whole.hex"]).status, 0);
 }
 
+/// The words behind a name in a line of a script.
+fn behind<'a>(text: &'a str, front: &str) -> Vec<&'a str> {
+    let line = text.lines().find_map(|line| line.trim().strip_prefix(front)).unwrap_or_else(|| panic!("{front} in {text}"));
+    line.trim_end_matches(";;").split([' ', '\'']).filter(|word| !word.is_empty()).collect()
+}
+
+/// The manual page and the completions have every command and every option of the parser's table, and no other.
 #[test]
-fn manual_page_and_completions() {
-    let man = run(&["man"]).out;
-    assert!(
-        man.starts_with(".TH TARCZOLIN 1\n")
-            && COMMANDS.iter().all(|command| man.contains(&format!(".B {} ", command.replace('-', "\\-"))))
-    );
+fn every_command_and_option_is_listed() {
+    let man = run(&["man"]).out.replace("\\-", "-");
+    let [bash, zsh, fish] = ["bash", "zsh", "fish"].map(|shell| run(&["completions", shell]).out);
+    assert_eq!(behind(&bash, "[ \"$COMP_CWORD\" -eq 1 ] && words="), names());
+    for command in all() {
+        let name = command.name;
+        let options: Vec<&str> = command.all_options().map(|option| option.name).collect();
+        let dashed = |words: Vec<&'static str>| words.into_iter().filter(|word| word.starts_with("--")).collect::<Vec<_>>();
+        let (bash, zsh): (&'static str, &'static str) = (bash.clone().leak(), zsh.clone().leak());
+        assert_eq!(dashed(behind(bash, &format!("{name}) words="))), options, "bash");
+        assert_eq!(dashed(behind(zsh, &format!("{name}) compadd -- "))), options, "zsh");
+        assert!(zsh.contains(&format!("\n  '{name}:")), "zsh: {name}");
+        assert!(fish.contains(&format!("__fish_use_subcommand -a {name} ")), "fish: {name}");
+        let of_fish = fish.lines().filter(|line| line.contains(&format!("'__fish_seen_subcommand_from {name}' -l ")));
+        let of_fish: Vec<String> =
+            of_fish.map(|line| format!("--{}", line.split(" -l ").nth(1).unwrap().split(' ').next().unwrap())).collect();
+        assert_eq!(of_fish, options, "fish");
+        let page = man.split(".TP\n.B ").find(|part| part.starts_with(&command.usage())).unwrap_or_else(|| panic!("man: {name}"));
+        let of_man: Vec<&str> = page.lines().filter_map(|line| line.strip_prefix("--")?.split(':').next()).collect();
+        assert_eq!(of_man, options.iter().map(|option| &option[2..]).collect::<Vec<_>>(), "man: {name}");
+        assert!(page.contains(command.about) && page.contains(&format!("Example: {}", command.example)), "man: {name}");
+    }
+}
+
+#[test]
+fn completions_complete() {
     let bash = run(&["completions", "bash"]).out;
     let script = format!(
-        "{bash}\nCOMP_WORDS=(tarczolin li); COMP_CWORD=1; _tarczolin; echo \"${{COMPREPLY[*]}}\"\n\
-                          COMP_WORDS=(tarczolin list --j); COMP_CWORD=2; _tarczolin; echo \"${{COMPREPLY[*]}}\""
+        "{bash}\ntried() {{ COMP_WORDS=(tarczolin $1); COMP_CWORD=$((${{#COMP_WORDS[@]}} - 1)); _tarczolin; echo \"${{COMPREPLY[*]}}\"; }}\n\
+         tried li; tried 'list --j'; tried 'completions z'; tried 'help outc'"
     );
     let done = Command::new("bash").args(["-c", &script]).current_dir("/").output().unwrap();
-    assert_eq!(String::from_utf8_lossy(&done.stdout), "list\n--jobs --json\n");
+    assert_eq!(String::from_utf8_lossy(&done.stdout), "list\n--jobs --json\nzsh\noutcomes\n");
     assert!(run(&["completions", "zsh"]).out.starts_with("#compdef tarczolin\n"));
-    assert!(run(&["completions", "fish"]).out.contains("complete -c tarczolin -n __fish_use_subcommand -a outcomes"));
-    assert_eq!(run(&["completions", "tcsh"]).status, 2);
 }

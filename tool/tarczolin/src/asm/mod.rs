@@ -1,5 +1,4 @@
 //! The text form of a program: a statement a line, translated to the lines of the program file.
-mod near;
 mod parse;
 mod resolve;
 mod statement;
@@ -20,7 +19,6 @@ use symbols::Symbols;
 use threads::Threads;
 use wrong::{Wrong, Wrongs};
 
-pub use near::near;
 pub use words::constant;
 pub use write::text;
 
@@ -34,6 +32,7 @@ pub struct Assembled {
 
 /// The program file of a text, or all that is wrong with it. The library itself says whether the program is accepted.
 pub fn assemble(text: &[u8]) -> Result<Assembled, Vec<Mark>> {
+    let text = unmarked(text);
     let (statements, unread) = parse::statements(text);
     let mut wrong = Wrongs::of_lines(text, unread);
     let symbols = Symbols::of(&statements, &mut wrong);
@@ -54,10 +53,15 @@ pub fn assemble(text: &[u8]) -> Result<Assembled, Vec<Mark>> {
 
 /// Does this content begin as the text form does? A program file has digits only.
 pub fn is_text(bytes: &[u8]) -> bool {
-    let lines = bytes.split(|&c| c == b'\n').map(<[u8]>::trim_ascii);
+    let lines = unmarked(bytes).split(|&c| c == b'\n').map(<[u8]>::trim_ascii);
     let first = lines.into_iter().find(|line| !line.is_empty() && !line.starts_with(b"#"));
     let word = first.and_then(|line| line.split(|c| !c.is_ascii_alphanumeric() && *c != b'_').next());
     word.is_some_and(|word| words::KEYWORDS.iter().any(|keyword| keyword.as_bytes() == word))
+}
+
+/// A text without the byte order mark that some editors put in front.
+fn unmarked(text: &[u8]) -> &[u8] {
+    text.strip_prefix(b"\xef\xbb\xbf").unwrap_or(text)
 }
 
 /// A place in a text, with its line for the eye.

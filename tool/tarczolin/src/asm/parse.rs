@@ -1,9 +1,9 @@
 //! Statements of the text form, line by line. What is wrong with a line does not hide what is wrong with the others.
-use super::near::near;
 use super::statement::{Jump, Kind, Statement, Test, Word};
 use super::tokens::{tokens, Token};
 use super::words::{self, KEYWORDS};
 use super::wrong::Wrong;
+use crate::near::near;
 
 /// The statements of a text, and what is wrong with its lines. Empty lines and remarks are left out.
 pub fn statements(text: &[u8]) -> (Vec<Statement>, Vec<Wrong>) {

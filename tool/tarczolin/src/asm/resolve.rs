@@ -1,9 +1,9 @@
 //! The code of one thread with numbers in place of names.
-use super::near::near;
 use super::statement::{Jump, Kind, Statement, Test, Word};
 use super::symbols::Symbols;
 use super::words;
 use super::wrong::Wrongs;
+use crate::near::hint;
 use crate::program::{Instruction, Operand, REGISTERS};
 use std::collections::BTreeMap;
 
@@ -175,7 +175,7 @@ impl Line<'_, '_> {
             return format!("; {name} is given a value only below");
         }
         let known = registers.keys().chain(symbols.constants.keys()).map(String::as_str);
-        near(name, known).map_or(String::new(), |other| format!("; is it {other}?"))
+        hint(name, known)
     }
 
     fn jump(&mut self, to: &Jump) -> usize {
@@ -201,7 +201,7 @@ impl Line<'_, '_> {
             }
             None if self.wrong.may_be_said(name) => {}
             None => {
-                let hint = near(name, self.scope.labels.keys().copied()).map_or(String::new(), |l| format!("; is it {l}?"));
+                let hint = hint(name, self.scope.labels.keys().copied());
                 self.wrong.add(self.statement, word, format!("there is no label {name} in this thread{hint}"));
             }
         }

@@ -1,7 +1,7 @@
 //! What is allowed and looks like a slip.
-use super::near::one_off;
 use super::statement::{Statement, Word};
 use super::wrong::Wrong;
+use crate::near::one_off;
 use std::collections::BTreeMap;
 
 /// How often a location is read and written, and its first use.
@@ -11,10 +11,10 @@ struct Use<'a> {
     first: (&'a Statement, &'a Word),
 }
 
-/// Are these the same but for digits? `slot0` and `slot1` are meant to differ.
-fn numbered_alike(a: &str, b: &str) -> bool {
+/// Does one of these look like the other mistyped? Short names, as `x` and `y`, are meant to differ, and so are `slot0` and `slot1`.
+fn look_alike(a: &str, b: &str) -> bool {
     let letters = |word: &str| word.chars().filter(|c| !c.is_ascii_digit()).collect::<String>();
-    letters(a) == letters(b)
+    a.len().min(b.len()) > 2 && one_off(a, b) && letters(a) != letters(b)
 }
 
 fn uses(statements: &[Statement]) -> BTreeMap<&str, Use<'_>> {
@@ -34,11 +34,12 @@ pub fn of_locations(statements: &[Statement]) -> Vec<Wrong> {
     let all = uses(statements);
     let mut warnings = Vec::new();
     for (name, Use { reads, writes, first: (statement, word) }) in &all {
-        let like = all.keys().find(|other| one_off(name, other) && !numbered_alike(name, other));
+        let like = all.keys().find(|other| look_alike(name, other));
         let message = match (writes, like) {
             (0, Some(other)) => format!("{name} is read and never written; is it {other}?"),
             (0, None) => format!("{name} is read and never written: it stays 0"),
-            (1, Some(other)) if *reads == 0 || all[other].writes + all[other].reads > 1 => {
+            // one that is never written has a warning of its own
+            (1, Some(other)) if all[other].writes > 0 && (*reads == 0 || all[other].writes + all[other].reads > 1) => {
                 format!("{name} is written only here, and there is {other}; is it the same?")
             }
             _ => continue,

@@ -46,10 +46,12 @@ pub fn constant(word: &str) -> Option<Result<u32, String>> {
         return None;
     }
     let value = match digits.strip_prefix("0x") {
-        Some(digits) => i64::from_str_radix(digits, 16),
-        None => digits.parse(),
+        // from_str_radix would take a sign as well
+        Some(digits) if digits.starts_with(['-', '+']) => None,
+        Some(digits) => i64::from_str_radix(digits, 16).ok(),
+        None => digits.parse().ok(),
     };
-    let value = value.ok().map(|value| if negative { -value } else { value });
+    let value = value.map(|value| if negative { -value } else { value });
     let fits = value.filter(|value| (-(1 << 31)..1 << 32).contains(value));
     Some(fits.map(|value| value as u32).ok_or_else(|| format!("{word} is no number of 32 bits")))
 }

@@ -1,6 +1,6 @@
 //! The words behind a command: files and options. `--` ends the options.
+use super::meant::meant;
 use super::opt::Opt;
-use crate::asm::near;
 use crate::error::Error;
 use crate::hex;
 use crate::input;
@@ -22,7 +22,7 @@ impl Arguments {
                 all.words.extend(words.cloned());
                 break;
             }
-            if !word.starts_with("--") {
+            if word == "-" || !word.starts_with('-') {
                 all.words.push(word.clone());
                 continue;
             }
@@ -61,6 +61,15 @@ impl Arguments {
         Ok(words)
     }
 
+    /// The only word, or none; more are bad usage.
+    pub fn at_most_one(&self) -> Result<Option<&str>, Error> {
+        match self.words.as_slice() {
+            [] => Ok(None),
+            [word] => Ok(Some(word)),
+            _ => Err(Error::Words),
+        }
+    }
+
     /// The first word, and the schedule that the others write, if there are any.
     pub fn file_and_schedule(&self) -> Result<(&str, Option<Vec<u8>>), Error> {
         match self.words.split_first() {
@@ -86,11 +95,21 @@ impl Arguments {
         self.option(name).is_some()
     }
 
+    /// Are these given together? Only one of them can be.
+    pub fn one_of_these(&self, names: &[&str]) -> Result<(), Error> {
+        let given: Vec<&str> = names.iter().filter(|name| self.flag(name)).copied().collect();
+        match given.as_slice() {
+            [] | [_] => Ok(()),
+            _ => Err(Error::usage(format!("{} cannot be given together", given.join(" and ")))),
+        }
+    }
+
     /// The value of an option that is a number from 1 to some limit; 1 where it is not given.
     pub fn number(&self, name: &str, most: u64) -> Result<u64, Error> {
         let Some(value) = self.option(name) else { return Ok(1) };
         let number = value.parse().ok().filter(|number| (1..=most).contains(number));
-        number.ok_or_else(|| Error::usage(format!("{name} takes a number from 1 to {most}, not {value}")))
+        let range = if most == u64::MAX { "on".to_string() } else { format!("to {most}") };
+        number.ok_or_else(|| Error::usage(format!("{name} takes a number from 1 {range}, not {value}")))
     }
 
     /// The value of an option that is a schedule of at most 24 steps.
@@ -114,6 +133,7 @@ fn schedule(digits: &[u8]) -> Result<Vec<u8>, Error> {
 }
 
 fn unknown(name: &str, known: &[Opt]) -> Error {
-    let hint = near(name, known.iter().map(|option| option.name)).map_or(String::new(), |other| format!("; is it {other}?"));
+    let hint = meant(name, known.iter().map(|option| option.name));
+    let hint = if hint.is_empty() { "; a file whose name begins so stands behind --" } else { &hint };
     Error::usage(format!("there is no option {name} here{hint}"))
 }

@@ -1,6 +1,6 @@
 //! What a command is: its name, its words, its options, and what is said about it.
 use super::arguments::Arguments;
-use super::opt::Opt;
+use super::opt::{Opt, EVERYWHERE};
 use crate::end::End;
 use crate::error::Error;
 
@@ -21,6 +21,12 @@ impl Command {
             Some(value) => format!(" [{} {value}]", option.name),
             None => format!(" [{}]", option.name),
         };
-        format!("{} {}{}", self.name, self.words, self.options.iter().map(shown).collect::<String>())
+        let words = if self.words.is_empty() { String::new() } else { format!(" {}", self.words) };
+        format!("{}{words}{}", self.name, self.options.iter().map(shown).collect::<String>())
+    }
+
+    /// Its own options, and those that every command has.
+    pub fn all_options(&self) -> impl Iterator<Item = &Opt> {
+        self.options.iter().chain(&EVERYWHERE)
     }
 }

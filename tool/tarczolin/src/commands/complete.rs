@@ -1,29 +1,36 @@
 //! Completions for shells, made of the table of commands.
 use super::command::Command;
-use crate::error::Error;
 use std::fmt::Write;
 
-pub fn script(commands: &[Command], words: &[String]) -> Result<String, Error> {
-    match words {
-        [shell] if shell == "bash" => Ok(bash(commands)),
-        [shell] if shell == "zsh" => Ok(zsh(commands)),
-        [shell] if shell == "fish" => Ok(fish(commands)),
-        _ => Err(Error::usage("usage: tarczolin completions bash|zsh|fish")),
+/// The script for a shell, if it is one of the three.
+pub fn script(commands: &[&Command], shell: &str) -> Option<String> {
+    match shell {
+        "bash" => Some(bash(commands)),
+        "zsh" => Some(zsh(commands)),
+        "fish" => Some(fish(commands)),
+        _ => None,
     }
 }
 
-fn names(commands: &[Command]) -> String {
+fn names(commands: &[&Command]) -> String {
     commands.iter().map(|command| command.name).collect::<Vec<_>>().join(" ")
 }
 
-fn options(command: &Command) -> String {
-    command.options.iter().map(|option| option.name).collect::<Vec<_>>().join(" ")
+/// The words that may follow a command: its options, and where it takes one of a few words these.
+fn followers(command: &Command, commands: &[&Command]) -> String {
+    let words = match command.words {
+        "[COMMAND]" => names(commands),
+        words if words.contains('|') => words.replace('|', " "),
+        _ => String::new(),
+    };
+    let options = command.all_options().map(|option| option.name).collect::<Vec<_>>().join(" ");
+    format!("{words} {options}").trim_start().to_string()
 }
 
-fn bash(commands: &[Command]) -> String {
+fn bash(commands: &[&Command]) -> String {
     let mut text = String::from("_tarczolin() {\n  local word=${COMP_WORDS[COMP_CWORD]} words\n  case ${COMP_WORDS[1]} in\n");
     for command in commands {
-        writeln!(text, "    {}) words='{}' ;;", command.name, options(command)).expect("text grows");
+        writeln!(text, "    {}) words='{}' ;;", command.name, followers(command, commands)).expect("text grows");
     }
     write!(text, "    *) words='' ;;\n  esac\n  [ \"$COMP_CWORD\" -eq 1 ] && words='{}'\n", names(commands)).expect("text grows");
     text += "  COMPREPLY=($(compgen -W \"$words\" -- \"$word\"))\n";
@@ -31,24 +38,24 @@ fn bash(commands: &[Command]) -> String {
     text + "}\ncomplete -o filenames -F _tarczolin tarczolin\n"
 }
 
-fn zsh(commands: &[Command]) -> String {
+fn zsh(commands: &[&Command]) -> String {
     let mut text = String::from("#compdef tarczolin\nlocal -a commands\ncommands=(\n");
     for command in commands {
         writeln!(text, "  '{}:{}'", command.name, command.about.replace(['\'', ':'], "")).expect("text grows");
     }
     text += ")\nif (( CURRENT == 2 )); then\n  _describe command commands\n  return\nfi\ncase $words[2] in\n";
     for command in commands {
-        writeln!(text, "  {}) compadd -- {} ;;", command.name, options(command)).expect("text grows");
+        writeln!(text, "  {}) compadd -- {} ;;", command.name, followers(command, commands)).expect("text grows");
     }
     text + "esac\n_files\n"
 }
 
-fn fish(commands: &[Command]) -> String {
+fn fish(commands: &[&Command]) -> String {
     let mut text = String::new();
     for command in commands {
         let about = command.about.replace('\'', "");
         writeln!(text, "complete -c tarczolin -n __fish_use_subcommand -a {} -d '{about}'", command.name).expect("text grows");
-        for option in command.options {
+        for option in command.all_options() {
             let (name, about) = (option.name.trim_start_matches('-'), option.about.replace('\'', ""));
             let value = if option.value.is_some() { " -r" } else { "" };
             let seen = format!("'__fish_seen_subcommand_from {}'", command.name);

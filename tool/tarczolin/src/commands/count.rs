@@ -20,7 +20,7 @@ fn counted(question: &Question, piece: &Piece) -> Result<End, Error> {
         let counts = waiting(|| ask::count(&source.file)).expect("the file is accepted");
         return told(question, counts, false);
     }
-    let list = piece.list(List::of(&source, false).expect("the file is accepted"));
+    let list = piece.list(List::of(&source, false).expect("the file is accepted"))?;
     let found = piece::walk(&list, piece.jobs, |_| Ok(()));
     piece::tell_cut(&found);
     told(question, found.counts, found.cut)

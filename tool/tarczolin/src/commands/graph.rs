@@ -11,6 +11,7 @@ use crate::program::Program;
 use crate::{ask, dot, output, refusal};
 
 pub fn run(arguments: &Arguments) -> Result<End, Error> {
+    arguments.one_of_these(&["--dot", "--svg", "--json"])?;
     let (name, schedule) = arguments.file_and_schedule()?;
     let schedule = schedule.ok_or(Error::Words)?;
     asked(&Question::of("graph", arguments, name), |question| graph(question, arguments, &schedule))

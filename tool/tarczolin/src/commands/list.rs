@@ -16,7 +16,7 @@ pub fn run(arguments: &Arguments) -> Result<End, Error> {
 
 fn listed(question: &Question, piece: &Piece) -> Result<End, Error> {
     let source = question.source().inspect_err(|error| refused(question, error))?;
-    let list = piece.list(List::of(&source, true).expect("the file is accepted"));
+    let list = piece.list(List::of(&source, true).expect("the file is accepted"))?;
     let mut out = output::standard();
     let headed = if question.json { Ok(()) } else { out.write_all(question.heading().as_bytes()) };
     let found = piece::walk(&list, piece.jobs, |part| {
@@ -37,7 +37,8 @@ fn refused(question: &Question, error: &Error) {
     if let (Error::Refused(Refused { subject: Subject::File(_), refusal, .. }), false) = (error, question.json) {
         let place = (refusal.place as u16).to_be_bytes();
         // a pipe that is closed changes nothing: the refusal is told on standard error
-        let _ = output::answer(hex::line(&[0x52, refusal.number, place[0], place[1]]), End::Refused);
+        let line = hex::line(&[0x52, refusal.number, place[0], place[1]]);
+        let _ = output::answer(question.heading() + &line, End::Refused);
     }
 }
 

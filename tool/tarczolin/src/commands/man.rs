@@ -6,7 +6,7 @@ fn escaped(text: &str) -> String {
     text.replace('\\', "\\e").replace('-', "\\-")
 }
 
-pub fn page(commands: &[Command]) -> String {
+pub fn page(commands: &[&Command]) -> String {
     let mut text = String::from(
         ".TH TARCZOLIN 1\n.SH NAME\ntarczolin \\- explores the executions of small concurrent programs\n.SH SYNOPSIS\n\
          .B tarczolin\nCOMMAND ..\n.SH DESCRIPTION\nLists, counts, shows and judges the executions of a program under sequential \
@@ -14,7 +14,7 @@ pub fn page(commands: &[Command]) -> String {
     );
     for command in commands {
         write!(text, ".TP\n.B {}\n{}\n", escaped(&command.usage()), escaped(command.about)).expect("text grows");
-        for option in command.options {
+        for option in command.all_options() {
             write!(text, ".br\n{}: {}\n", escaped(option.name), escaped(option.about)).expect("text grows");
         }
         write!(text, ".br\nExample: {}\n", escaped(command.example)).expect("text grows");

@@ -62,8 +62,9 @@ impl Outcomes {
 
 fn outcomes(question: &Question, piece: &Piece, condition: Option<&str>) -> Result<End, Error> {
     let source = question.source()?;
-    let list = piece.list(List::of(&source, true).expect("the file is accepted"));
-    let condition = condition.map(|text| Condition::of(text, &list.program)).transpose()?;
+    let list = piece.list(List::of(&source, true).expect("the file is accepted"))?;
+    let condition = condition.map(|text| Condition::of(text, &list.program)).transpose();
+    let condition = condition.map_err(|message| Error::Condition { name: source.name.clone(), message })?;
     let mut all = Outcomes::default();
     let found = piece::walk(&list, piece.jobs, |part| {
         part.listed.iter().for_each(|listed| all.add(&list.program, listed));
@@ -110,6 +111,7 @@ fn told(question: &Question, list: &List, number: u64, outcome: &Outcome, exchan
     }
     let by = if exchanged { ", with alike threads exchanged" } else { "" };
     let failed: String = failures.iter().map(|failure| format!("fails      {failure}\n")).collect();
+    let first = if first.is_empty() { "(no step)".to_string() } else { first.to_string() };
     format!("outcome {number}: {listed} listed, first {first}{by}\n{}{failed}\n", end_lines(&execution))
 }
 
@@ -125,5 +127,6 @@ fn last_line(question: &Question, found: &Found, outcomes: u64, matched: Option<
         ]);
     }
     let matching = matched.map_or(String::new(), |matched| format!(", {matched} matching"));
-    format!("{outcomes} outcomes, {} listed, {} failing{matching}\n", counts.listed, counts.failing)
+    let word = if outcomes == 1 { "outcome" } else { "outcomes" };
+    format!("{outcomes} {word}, {} listed, {} failing{matching}\n", counts.listed, counts.failing)
 }

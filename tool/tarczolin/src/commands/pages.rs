@@ -1,4 +1,4 @@
-//! Executions of a list as a page, or each as a drawing of its own.
+//! Executions as a page, or each as a drawing of its own.
 use crate::ask::{Counts, Listed};
 use crate::end::End;
 use crate::error::Error;
@@ -9,43 +9,51 @@ use crate::output;
 use std::io;
 use std::path::Path;
 
-/// A walk over the chosen executions of a list, which counts the whole of it.
-type Walked = (Counts, io::Result<()>);
+/// A walk over the chosen executions of a list, which counts the whole of it: what was counted, whether all was written, and
+/// whether Ctrl-C cut it short.
+pub struct Walked {
+    pub counts: Counts,
+    pub written: io::Result<()>,
+    pub cut: bool,
+}
 
 /// An execution of the list, ready to be shown.
 pub fn execution<'a>(list: &'a List, position: u64, listed: &Listed) -> Execution<'a> {
     Execution::of(list.file, &list.program, position, listed).expect("a listed schedule of an accepted file is full")
 }
 
-/// What comes onto a page.
-fn page_of<'a>(
+/// What comes onto a page of the list; what is left out is told.
+pub fn of_list<'a>(
     list: &'a List,
     name: &'a str,
     walk: impl FnOnce(&mut dyn FnMut(u64, &Listed) -> io::Result<()>) -> Walked,
-) -> Page<'a> {
+) -> Result<Page<'a>, Error> {
     let mut pick = Pick::default();
-    let (listed, _) = walk(&mut |position, listed| {
+    let Walked { counts: listed, cut, .. } = walk(&mut |position, listed| {
         pick.add(position, listed);
         Ok(())
     });
+    if cut {
+        return Err(Error::Interrupted(listed));
+    }
     let left_out = pick.left_out();
     let executions = pick.picked().iter().map(|(position, listed)| execution(list, *position, listed)).collect();
-    let page = Page { name, program: &list.program, listed, executions, left_out };
+    let page = Page { name, program: &list.program, listed: Some(listed), executions, left_out };
     if let Some(left_out) = page.tell_left_out() {
         eprintln!("tarczolin: {left_out}");
     }
-    page
+    Ok(page)
+}
+
+/// A page of one execution.
+pub fn of_one<'a>(name: &'a str, execution: Execution<'a>) -> Page<'a> {
+    let (program, left_out) = (execution.program, Counts::default());
+    Page { name, program, listed: None, executions: vec![execution], left_out }
 }
 
 /// Writes a page.
-pub fn page(
-    list: &List,
-    name: &str,
-    to: &str,
-    walk: impl FnOnce(&mut dyn FnMut(u64, &Listed) -> io::Result<()>) -> Walked,
-) -> Result<End, Error> {
-    let page = page_of(list, name, walk);
-    let found = End::of_failing(page.listed.failing);
+pub fn page(page: &Page, to: &str) -> Result<End, Error> {
+    let found = End::of_failing(page.all().failing);
     if to == "-" {
         return output::answer(page.text(), found);
     }
@@ -54,19 +62,17 @@ pub fn page(
 }
 
 /// Writes a drawing of each execution into a folder: `2.svg`, or `2-fails.svg`.
-pub fn drawings(
-    list: &List,
-    folder: &str,
-    walk: impl FnOnce(&mut dyn FnMut(u64, &Listed) -> io::Result<()>) -> Walked,
-) -> Result<End, Error> {
-    let page = page_of(list, "", walk);
+pub fn drawings(page: &Page, folder: &str) -> Result<End, Error> {
+    if Path::new(folder).exists() && !Path::new(folder).is_dir() {
+        return Err(Error::usage(format!("--svg takes a folder, and {folder} is none")));
+    }
     let written = std::fs::create_dir_all(folder).and_then(|()| {
         page.executions.iter().try_for_each(|execution| {
             let fails = if execution.fails { "-fails" } else { "" };
-            let name = format!("{}{fails}.svg", execution.position.unwrap_or(0));
+            let name = format!("{}{fails}.svg", execution.name());
             std::fs::write(Path::new(folder).join(name), html::drawing(execution))
         })
     });
     written.map_err(|cause| Error::File { name: folder.to_string(), cause })?;
-    output::answer(format!("{}, in {folder}\n", page.counts()), End::of_failing(page.listed.failing))
+    output::answer(format!("{}, in {folder}\n", page.counts()), End::of_failing(page.all().failing))
 }

@@ -41,9 +41,16 @@ impl Piece {
         self.after.is_none() && self.until.is_none()
     }
 
-    /// The list, no more of it than the piece.
-    pub fn list<'a>(&self, list: List<'a>) -> List<'a> {
-        List { after: self.after, until: self.until, ..list }
+    /// The list, no more of it than the piece, whose bounds have no other threads than the program.
+    pub fn list<'a>(&self, list: List<'a>) -> Result<List<'a>, Error> {
+        let threads = list.program.threads.len();
+        for (option, bound) in [(AFTER, &self.after), (UNTIL, &self.until)] {
+            let other = bound.iter().flat_map(|bound| bound.iter()).find(|t| **t as usize >= threads);
+            if let Some(t) = other {
+                return Err(Error::usage(format!("{}: there is no thread {t:02x}; the program has {threads}", option.name)));
+            }
+        }
+        Ok(List { after: self.after, until: self.until, ..list })
     }
 }
 
@@ -60,7 +67,7 @@ pub fn walk(list: &List, jobs: usize, mut each: impl FnMut(&Part) -> io::Result<
         progress.give_way();
         each(&part)?;
         let last = found.last;
-        progress.tell(found.counts, || last.map_or(0.0, |last| jobs::share(&list.program, &last)));
+        progress.tell(found.counts, || last.map(|last| jobs::share(&list.program, &last)));
         Ok(())
     });
     progress.hide();
@@ -71,8 +78,13 @@ pub fn walk(list: &List, jobs: usize, mut each: impl FnMut(&Part) -> io::Result<
 /// Says how far a walk came that Ctrl-C cut short, and from where it can go on.
 pub fn tell_cut(found: &Found) {
     if found.cut {
-        let Counts { listed, failing } = found.counts;
-        let further = found.last.map_or(String::new(), |last| format!("; go on with --after {last}"));
-        eprintln!("tarczolin: interrupted: {listed} listed, {failing} failing so far{further}");
+        tell_interrupted(found.counts, found.last.map(|last| format!("--after {last}")));
     }
+}
+
+/// Says what was found until Ctrl-C, and by which words it goes on.
+pub fn tell_interrupted(counts: Counts, words: Option<String>) {
+    let Counts { listed, failing } = counts;
+    let further = words.map_or(String::new(), |words| format!("; go on with {words}"));
+    eprintln!("tarczolin: interrupted: {listed} listed, {failing} failing so far{further}");
 }

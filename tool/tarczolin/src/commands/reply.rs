@@ -83,9 +83,13 @@ impl<'a> Question<'a> {
 pub fn each(command: &'static str, arguments: &Arguments, ask: impl Fn(&Question) -> Result<End, Error>) -> Result<End, Error> {
     let names = arguments.names()?;
     let mut end = End::Answered;
-    for name in &names {
+    for (k, name) in names.iter().enumerate() {
         let question = Question { several: names.len() > 1, ..Question::of(command, arguments, name) };
         end = end.max(asked(&question, &ask)?);
+        if tarczolin_sys::was_interrupted() && k + 1 < names.len() {
+            eprintln!("tarczolin: not begun: {}", names[k + 1..].join(", "));
+            break;
+        }
     }
     Ok(end)
 }

@@ -1,6 +1,7 @@
 //! show: executions in two columns, as a page, or drawn. Totals and exit status are those of the whole list.
 use super::arguments::Arguments;
-use super::pages;
+use super::pages::{self, Walked};
+use super::piece;
 use super::record;
 use super::reply::{asked, each, Question};
 use crate::ask::{Counts, Listed};
@@ -45,12 +46,16 @@ impl<'a> Choice<'a> {
 }
 
 pub fn run(arguments: &Arguments) -> Result<End, Error> {
+    arguments.one_of_these(&["--html", "--svg", "--json"])?;
     let choice = Choice::of(arguments)?;
     let names = arguments.names()?;
     let is_schedule = |word: &&str| *word == "-" || word.bytes().all(|c| c.is_ascii_hexdigit());
     if names.len() > 1 && names[1..].iter().all(is_schedule) {
         let (name, schedule) = arguments.file_and_schedule()?;
         let schedule = schedule.ok_or(Error::Words)?;
+        if arguments.flag("--from") || arguments.flag("--only") {
+            return Err(Error::usage("--from and --only choose from the list, and a schedule names one execution"));
+        }
         return asked(&Question::of("show", arguments, name), |question| one(question, &choice, &schedule));
     }
     if names.len() > 1 && (choice.html.is_some() || choice.svg.is_some()) {
@@ -59,55 +64,70 @@ pub fn run(arguments: &Arguments) -> Result<End, Error> {
     each("show", arguments, |question| shown(question, &choice))
 }
 
-fn shown(question: &Question, choice: &Choice) -> Result<End, Error> {
+/// A page never takes the place of the program that it shows.
+fn overwrites_nothing(question: &Question, choice: &Choice) -> Result<(), Error> {
     if choice.html.is_some_and(|page| page != "-" && input::is_input(page, question.file)) {
         let message = "the page would overwrite the program that it shows; name another file behind --html";
         return Err(Error::usage(format!("{}: {message}", called(question.file))));
     }
+    Ok(())
+}
+
+fn shown(question: &Question, choice: &Choice) -> Result<End, Error> {
+    overwrites_nothing(question, choice)?;
     let source = question.source()?;
     let list = List::of(&source, false).expect("the file is accepted");
     let walk = |each: &mut dyn FnMut(u64, &Listed) -> io::Result<()>| walk(&list, choice, each);
     match (choice.html, choice.svg) {
-        (Some(page), _) => pages::page(&list, called(question.file), page, walk),
-        (_, Some(folder)) => pages::drawings(&list, folder, walk),
+        (Some(page), _) => pages::page(&pages::of_list(&list, called(question.file), walk)?, page),
+        (_, Some(folder)) => pages::drawings(&pages::of_list(&list, called(question.file), walk)?, folder),
         _ => to_standard_output(question, &list, choice),
     }
 }
 
 /// One execution by its schedule.
 fn one(question: &Question, choice: &Choice, schedule: &[u8]) -> Result<End, Error> {
+    overwrites_nothing(question, choice)?;
     let source = question.source()?;
     let list = List::of(&source, false).expect("the file is accepted");
     let refused = |r| refusal::of_schedule(&source.name, &source.file, &source.names, schedule, r);
     let execution = Execution::replayed(&source.file, &list.program, schedule).map_err(refused)?;
     let found = End::of_failing(execution.fails as u64);
-    question.answer_text(columns(&execution, choice.by), record::execution(&execution), found)
+    match (choice.html, choice.svg) {
+        (Some(page), _) => pages::page(&pages::of_one(called(question.file), execution), page),
+        (_, Some(folder)) => pages::drawings(&pages::of_one(called(question.file), execution), folder),
+        _ => question.answer_text(columns(&execution, choice.by), record::execution(&execution), found),
+    }
 }
 
-/// Walks the whole list and counts it; hands each chosen execution with its position to `each`, until that fails.
-fn walk(list: &List, choice: &Choice, each: &mut dyn FnMut(u64, &Listed) -> io::Result<()>) -> (Counts, io::Result<()>) {
-    let mut counts = Counts::default();
+/// Walks the whole list and counts it; hands each chosen execution with its position to `each`, until that fails or Ctrl-C.
+fn walk(list: &List, choice: &Choice, each: &mut dyn FnMut(u64, &Listed) -> io::Result<()>) -> Walked {
+    tarczolin_sys::note_interrupts();
+    let mut walked = Walked { counts: Counts::default(), written: Ok(()), cut: false };
     let mut progress = Progress::default();
-    let mut done = Ok(());
     list.walk(None, |listed| {
-        counts.add(listed);
-        let chosen = counts.listed >= choice.from && (listed.fails || !choice.failing_only);
-        if chosen {
-            progress.give_way();
-            done = each(counts.listed, listed);
+        walked.cut = tarczolin_sys::was_interrupted();
+        if walked.cut {
+            return true;
         }
-        progress.tell(counts, || jobs::share(&list.program, &listed.schedule));
-        done.is_err()
+        walked.counts.add(listed.fails);
+        let position = walked.counts.listed;
+        if position >= choice.from && (listed.fails || !choice.failing_only) {
+            progress.give_way();
+            walked.written = each(position, listed);
+        }
+        progress.tell(walked.counts, || Some(jobs::share(&list.program, &listed.schedule)));
+        walked.written.is_err()
     });
     progress.hide();
-    (counts, done)
+    walked
 }
 
 fn to_standard_output(question: &Question, list: &List, choice: &Choice) -> Result<End, Error> {
     let mut out = output::standard();
     let mut shown = 0;
     let headed = if question.json { Ok(()) } else { out.write_all(question.heading().as_bytes()) };
-    let (counts, written) = walk(list, choice, &mut |position, listed| {
+    let Walked { counts, written, cut } = walk(list, choice, &mut |position, listed| {
         let blank = if shown > 0 { "\n" } else { "" };
         shown += 1;
         let execution = pages::execution(list, position, listed);
@@ -118,6 +138,9 @@ fn to_standard_output(question: &Question, list: &List, choice: &Choice) -> Resu
     });
     let written = headed.and(written).and_then(|()| {
         let Counts { listed, failing } = counts;
+        if cut {
+            return out.flush();
+        }
         if question.json {
             out.write_all(question.object([("listed", listed.into()), ("failing", failing.into())]).as_bytes())?;
         } else if shown == 0 {
@@ -125,5 +148,8 @@ fn to_standard_output(question: &Question, list: &List, choice: &Choice) -> Resu
         }
         out.flush()
     });
-    output::ended(written, End::of_failing(counts.failing))
+    if cut {
+        piece::tell_interrupted(counts, Some(format!("--from {}", counts.listed + 1)));
+    }
+    output::ended(written, if cut { End::of_cut(counts.failing) } else { End::of_failing(counts.failing) })
 }

@@ -1,88 +1,51 @@
 //! Where things stand in a drawing.
-use crate::execution::{Execution, Step};
+use super::lanes::{Arrow, Lanes};
+use super::rows::{words, Row};
 use crate::graph::Event;
-use crate::machine::{Done, Failure};
-use crate::program::{number, Instruction, Names, Program};
+use crate::program::{Names, Program};
 use std::collections::BTreeMap;
 
 /// The height of a row and of the head above the rows, for the table and for the drawing, in pixels.
-pub const ROW: usize = 38;
+pub const ROW: usize = 46;
 pub const HEAD: usize = 70;
-/// The space between two threads, for arrows.
-const LANE: f64 = 84.0;
-/// The width of a character in a box.
-const CHARACTER: f64 = 7.3;
+/// The width of a character in a box, and the space beside the words.
+const CHARACTER: f64 = 6.7;
+const PADDING: f64 = 8.0;
+/// A drawing is no wider, so that it fits a window of 1,280 pixels beside the columns; words that do not fit are cut.
+const FIT: f64 = 768.0;
 
-/// A row: a step, or an assertion that failed.
-pub enum Row<'a> {
-    Failure(u8, Failure),
-    Step(&'a Step),
-}
-
-/// The rows of an execution, in order.
-pub fn rows<'e>(execution: &'e Execution) -> Vec<Row<'e>> {
-    let mut rows: Vec<Row> = execution.at_once.iter().map(|(t, failed)| Row::Failure(*t, *failed)).collect();
-    for step in &execution.steps {
-        rows.push(Row::Step(step));
-        rows.extend(step.done.failure.map(|failed| Row::Failure(step.done.event.t, failed)));
-    }
-    rows
-}
-
-/// What a row is about, for the page's filter: its thread, and the location of a step.
-pub fn data(row: &Row) -> String {
-    match row {
-        Row::Failure(t, _) => format!("data-t=\"{t}\""),
-        Row::Step(step) => format!("data-t=\"{}\" data-l=\"{}\"", step.done.event.t, step.done.location),
-    }
-}
-
-/// The words in a box: the access's number, and what it did, shorter than in the columns.
-pub fn words(names: &Names, done: &Done) -> String {
-    format!("#{} {}", done.event.i, label(names, done))
-}
-
-fn label(names: &Names, done: &Done) -> String {
-    let l = names.location(done.location);
-    let found = number(done.found.unwrap_or(0));
-    match (done.instruction, done.left) {
-        (Instruction::Load { .. }, _) => format!("load {l}: {found}"),
-        (Instruction::Store { .. }, Some(left)) => format!("store {l} = {}", number(left)),
-        (instruction, Some(left)) => format!("{} {l}: {found} → {}", instruction.access().unwrap_or(""), number(left)),
-        (instruction, None) => format!("{} {l}: {found} kept", instruction.access().unwrap_or("")),
-    }
-}
-
-/// The boxes of a drawing: a column a thread, as wide as its longest words.
+/// The boxes of a drawing: a column a thread, as wide as its longest words, and lanes for arrows beside them.
 pub struct Layout {
     /// The middle of each event's row.
     y: BTreeMap<Event, f64>,
     /// The middle of each thread's column, and half the width of its boxes.
     columns: Vec<(f64, f64)>,
+    lanes: Lanes,
+    /// The left edge of each lane.
+    edges: Vec<f64>,
     pub width: f64,
     pub height: f64,
 }
 
 impl Layout {
-    pub fn of(program: &Program, rows: &[Row]) -> Layout {
-        let mut y = BTreeMap::new();
-        let mut longest: Vec<usize> = program.numbers().map(|t| program.names.thread(t).chars().count().max(11)).collect();
-        for (k, row) in rows.iter().enumerate() {
-            if let Row::Step(step) = row {
-                let Event { t, .. } = step.done.event;
-                y.insert(step.done.event, middle(k));
-                let characters = words(&program.names, &step.done).chars().count();
-                longest[t as usize] = characters.max(longest[t as usize]);
-            }
+    pub fn of(program: &Program, rows: &[Row], arrows: &[Arrow]) -> Layout {
+        let places = rows.iter().enumerate().filter_map(|(k, row)| Some((row.event()?, k)));
+        let places: BTreeMap<Event, usize> = places.collect();
+        let threads = program.threads.len();
+        let lanes = Lanes::of(arrows, threads, |event| places[&event] + 1);
+        let free = FIT - (0..=threads).map(|lane| lanes.width(lane)).sum::<f64>();
+        let widths = shared(longest(&program.names, threads, rows), free);
+        let (mut columns, mut edges, mut width) = (Vec::new(), Vec::new(), 0.0);
+        for (t, column) in widths.iter().enumerate() {
+            edges.push(width);
+            width += lanes.width(t);
+            columns.push((width + column / 2.0, column / 2.0));
+            width += column;
         }
-        let mut columns = Vec::new();
-        let mut width = LANE;
-        for characters in longest {
-            let half = (characters as f64 * CHARACTER + 14.0) / 2.0;
-            columns.push((width + half, half));
-            width += 2.0 * half + LANE;
-        }
-        Layout { y, columns, width, height: (HEAD + ROW * rows.len() + 6) as f64 }
+        edges.push(width);
+        width += lanes.width(threads);
+        let y = places.into_iter().map(|(event, k)| (event, middle(k))).collect();
+        Layout { y, columns, lanes, edges, width, height: (HEAD + ROW * rows.len() + 6) as f64 }
     }
 
     /// The middle of a thread's column.
@@ -95,9 +58,56 @@ impl Layout {
         self.columns[t as usize].1
     }
 
+    /// The right or the left side of a thread's boxes.
+    pub fn side(&self, t: u8, right: bool) -> f64 {
+        self.x(t) + if right { self.half(t) } else { -self.half(t) }
+    }
+
     pub fn y(&self, event: Event) -> f64 {
         self.y[&event]
     }
+
+    /// Where an arrow runs down.
+    pub fn track(&self, arrow: &Arrow) -> f64 {
+        self.edges[arrow.lane()] + self.lanes.place(arrow)
+    }
+
+    /// Words as they fit a thread's column.
+    pub fn fitted(&self, t: u8, words: &str) -> String {
+        let room = ((2.0 * self.half(t) - PADDING) / CHARACTER) as usize;
+        if words.chars().count() <= room {
+            return words.to_string();
+        }
+        words.chars().take(room.saturating_sub(1)).chain(['…']).collect()
+    }
+}
+
+/// The width that each thread's words take.
+fn longest(names: &Names, threads: usize, rows: &[Row]) -> Vec<f64> {
+    let mut longest: Vec<usize> = (0..threads as u8).map(|t| names.thread(t).chars().count().max(6)).collect();
+    for row in rows {
+        let most = words(names, row).map(|line| line.chars().count()).into_iter().max().unwrap_or(0);
+        let of = &mut longest[row.thread() as usize];
+        *of = most.max(*of);
+    }
+    longest.into_iter().map(|characters| (characters as f64 * CHARACTER + PADDING + 4.0).ceil()).collect()
+}
+
+/// The widths where they fit together; else each as it is where it is no more than its share of what the others leave.
+fn shared(mut widths: Vec<f64>, free: f64) -> Vec<f64> {
+    let mut open: Vec<usize> = (0..widths.len()).collect();
+    let mut left = free;
+    while !open.is_empty() {
+        let share = left / open.len() as f64;
+        let (small, large): (Vec<usize>, Vec<usize>) = open.iter().partition(|&&t| widths[t] <= share);
+        if small.is_empty() {
+            large.iter().for_each(|&t| widths[t] = share.floor());
+            break;
+        }
+        left -= small.iter().map(|&t| widths[t]).sum::<f64>();
+        open = large;
+    }
+    widths
 }
 
 /// The middle of a row.

@@ -14,7 +14,7 @@ pub struct Pick {
 
 impl Pick {
     pub fn add(&mut self, position: u64, listed: &Listed) {
-        self.chosen.add(listed);
+        self.chosen.add(listed.fails);
         let kept = if listed.fails { &mut self.failing } else { &mut self.others };
         if kept.len() < MOST {
             kept.push((position, *listed));

@@ -1,23 +1,32 @@
 //! One execution: a header, the two columns, and the drawing beside them.
 use super::drawing;
 use super::escape::escaped;
-use super::layout::{data, rows, Row, HEAD, ROW};
+use super::layout::{HEAD, ROW};
+use super::rows::{rows, Row};
 use crate::execution::Execution;
 use std::fmt::Write;
 
 pub fn section(execution: &Execution) -> String {
     let (class, verdict) = if execution.fails { ("fails", "fails") } else { ("holds", "does not fail") };
-    let position = execution.position.unwrap_or(0);
+    let name = execution.name();
+    let title = if execution.position.is_some() { format!("Execution {name}") } else { "Execution".to_string() };
     let steps: Vec<String> = execution.schedule.iter().map(|t| format!("<span class=\"t{t}\">{t:02x}</span>")).collect();
     let schedule = if steps.is_empty() { "no step".to_string() } else { steps.join(" ") };
     let rows = rows(execution);
     format!(
-        "<section id=\"e{position}\" class=\"{class}\">\n<h2>Execution {position} <span class=\"verdict\">{verdict}</span> \
-         <span class=\"schedule\">schedule {schedule}</span></h2>\n<div class=\"both\">\n{}{}</div>\n{}</section>\n",
+        "<section id=\"e{name}\" class=\"{class}\">\n<h2>{title} <span class=\"verdict\">{verdict}</span> \
+         <span class=\"schedule\">schedule {schedule}</span></h2>\n<div class=\"both\" style=\"--print:{:.2}\">\n{}{}</div>\n{}</section>\n",
+        on_paper(rows.len()),
         table(execution, &rows),
         drawing::svg(execution, &rows),
         end(execution)
     )
+}
+
+/// How large it is printed: so that it fits a sheet of A4 on its side, which has room for 1,180 pixels by 560 at this size.
+fn on_paper(rows: usize) -> f64 {
+    const LARGEST: f64 = 0.84;
+    LARGEST.min(560.0 / (HEAD + ROW * rows) as f64)
 }
 
 /// The values at the end.
@@ -27,30 +36,31 @@ fn end(execution: &Execution) -> String {
     format!("<p class=\"end\">at the end: {}</p>\n", escaped(&all.join(", ")))
 }
 
-/// The two columns. Rows are as high as those of the drawing.
+/// The two columns. Rows are as high as those of the drawing: a cell has room for three lines, and says all where a pointer rests.
 fn table(execution: &Execution, rows: &[Row]) -> String {
-    let thread = |t: u8| escaped(&execution.program.names.thread(t));
     let mut text = format!(
         "<table>\n<tr style=\"height:{HEAD}px\"><th class=\"number\"></th><th></th><th>step</th><th>its read saw</th></tr>\n"
     );
     for row in rows {
-        write!(text, "<tr style=\"height:{ROW}px\" {}", data(row)).expect("text grows");
-        match row {
+        let t = row.thread();
+        let thread = cell(&format!(" class=\"t{t}\""), &execution.program.names.thread(t));
+        let (class, cells) = match row {
             Row::Failure(t, failed) => {
-                let (words, name) = (escaped(&execution.failure(*t, failed)), thread(*t));
-                writeln!(text, " class=\"failure\"><td></td><td class=\"t{t}\">{name}</td><td colspan=\"2\">{words}</td></tr>")
+                let words = cell(" colspan=\"2\"", &execution.failure(*t, failed));
+                (" class=\"failure\"", format!("<td></td>{thread}{words}"))
             }
             Row::Step(step) => {
-                let (event, words) = (step.done.event, escaped(&execution.access(&step.done)));
-                let seen = step.source.map_or(String::new(), |seen| escaped(&execution.source(&seen)));
-                let (t, i, name) = (event.t, event.i, thread(event.t));
-                writeln!(
-                    text,
-                    "><td class=\"number\">#{i}</td><td class=\"t{t}\">{name}</td><td>{words}</td><td>{seen}</td></tr>"
-                )
+                let number = format!("<td class=\"number\">#{}</td>", step.done.event.i);
+                let seen = step.source.map_or(String::new(), |seen| execution.source(&seen));
+                ("", format!("{number}{thread}{}{}", cell("", &execution.access(&step.done)), cell("", &seen)))
             }
-        }
-        .expect("text grows");
+        };
+        writeln!(text, "<tr style=\"height:{ROW}px\" {}{class}>{cells}</tr>", row.data()).expect("text grows");
     }
     text + "</table>\n"
+}
+
+fn cell(attributes: &str, words: &str) -> String {
+    let words = escaped(words);
+    format!("<td{attributes} title=\"{words}\"><div>{words}</div></td>")
 }

@@ -47,7 +47,7 @@ impl Part {
     }
 
     pub fn add(&mut self, list: &List, listed: &Listed) {
-        self.counts.add(listed);
+        self.counts.add(listed.fails);
         self.last = Some(listed.schedule);
         if listed.fails && self.first_failing.is_none() {
             self.first_failing = Some(listed.schedule);

@@ -1,7 +1,7 @@
 //! From a program to a litmus test.
 use crate::program::{Instruction, Operand, Program};
 
-const REGISTERS: [&str; 4] = ["EAX", "EBX", "ECX", "EDX"];
+const REGISTERS: [&str; 6] = ["EAX", "EBX", "ECX", "EDX", "ESI", "EDI"];
 
 /// The test of this name, or what does not fit, in words.
 pub fn export(name: &str, program: &Program) -> Result<String, String> {
@@ -16,23 +16,37 @@ pub fn export(name: &str, program: &Program) -> Result<String, String> {
     Ok(text + "exists (true)\n")
 }
 
+/// The registers of a thread: by their names where all of them are x86's, else by their numbers.
+fn registers(program: &Program, t: u8) -> Vec<String> {
+    let named: Vec<String> = (0..4).map(|r| program.names.register(t, r).to_uppercase()).collect();
+    let fit = program.registers(t).iter().all(|r| REGISTERS.contains(&named[*r as usize].as_str()));
+    if fit {
+        named
+    } else {
+        REGISTERS.iter().map(ToString::to_string).collect()
+    }
+}
+
 /// A thread: its name, and its instructions.
 fn column(program: &Program, t: u8) -> Result<Vec<String>, String> {
+    let registers = registers(program, t);
     let mut cells = vec![format!("P{t}")];
     for instruction in &program.threads[t as usize] {
-        cells.extend(made(program, t, instruction)?);
+        let unfit = || format!("{} has no place in a litmus test", program.names.instruction(t, instruction));
+        cells.extend(made(program, &registers, instruction).ok_or_else(unfit)?);
     }
     Ok(cells)
 }
 
-fn made(program: &Program, t: u8, instruction: &Instruction) -> Result<Vec<String>, String> {
-    let register = |r: u8| REGISTERS[r as usize];
+/// The cells of an instruction, if it fits.
+fn made(program: &Program, registers: &[String], instruction: &Instruction) -> Option<Vec<String>> {
+    let register = |r: u8| registers[r as usize].as_str();
     let operand = |p: Operand| match p {
         Operand::Constant(value) => format!("${value}"),
         Operand::Register(r) => register(r).to_string(),
     };
     let location = |l: u8| program.names.location(l);
-    Ok(match *instruction {
+    Some(match *instruction {
         Instruction::Store { l, p } => vec![format!("MOV [{}],{}", location(l), operand(p))],
         Instruction::Load { r, l } => vec![format!("MOV {},[{}]", register(r), location(l))],
         Instruction::Set { r, p } => vec![format!("MOV {},{}", register(r), operand(p))],
@@ -42,6 +56,10 @@ fn made(program: &Program, t: u8, instruction: &Instruction) -> Result<Vec<Strin
             let set = (p != Operand::Register(r)).then(|| format!("MOV {},{}", register(r), operand(p)));
             set.into_iter().chain([add]).collect()
         }
-        _ => return Err(format!("{} has no place in a litmus test", program.names.instruction(t, instruction))),
+        // it compares with EAX, and leaves the old value there
+        Instruction::CompareSwap { r, l, e: Operand::Register(e), v: Operand::Register(v) } if e == r && register(r) == "EAX" => {
+            vec![format!("LOCK CMPXCHG [{}],{}", location(l), register(v))]
+        }
+        _ => return None,
     })
 }

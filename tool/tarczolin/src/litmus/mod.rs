@@ -1,4 +1,5 @@
 //! Litmus tests for x86, as herd reads them: the part that fits, to the text form and back.
+mod condition;
 mod export;
 mod import;
 

@@ -1,12 +1,14 @@
 //! Questions about the end of an execution: `tail=2 & T2.r1=0`, `fails | !(consumer.item = 7)`.
 use super::end::Final;
-use crate::asm::{constant, near};
-use crate::error::Error;
+use crate::asm::constant;
+use crate::near::hint;
 use crate::program::{Program, LOCATIONS, REGISTERS};
 
 #[derive(Clone, Debug, PartialEq, Eq)]
 pub enum Condition {
     Equal(Value, Value),
+    /// Of every end, or of none.
+    Always(bool),
     /// Some thread fails, or this one.
     Fails(Option<u8>),
     Not(Box<Condition>),
@@ -33,18 +35,19 @@ impl Value {
 
 impl Condition {
     /// Reads a condition; names are those of the program.
-    pub fn of(text: &str, program: &Program) -> Result<Condition, Error> {
+    pub fn of(text: &str, program: &Program) -> Result<Condition, String> {
         let mut reader = Reader { tokens: tokens(text)?, program };
         let condition = reader.either()?;
         match reader.tokens.first() {
             None => Ok(condition),
-            Some(token) => Err(Error::usage(format!("--where: the condition has ended; {token} is too much"))),
+            Some(token) => Err(format!("the condition has ended; {token} is too much")),
         }
     }
 
     pub fn holds(&self, end: &Final) -> bool {
         match self {
             Condition::Equal(a, b) => a.of(end) == b.of(end),
+            Condition::Always(holds) => *holds,
             Condition::Fails(None) => end.fails(),
             Condition::Fails(Some(t)) => end.failed[*t as usize].is_some(),
             Condition::Not(inner) => !inner.holds(end),
@@ -55,7 +58,7 @@ impl Condition {
 }
 
 /// The words and signs of a condition.
-fn tokens(text: &str) -> Result<Vec<String>, Error> {
+fn tokens(text: &str) -> Result<Vec<String>, String> {
     let mut tokens: Vec<String> = Vec::new();
     let mut inside = false;
     for c in text.chars() {
@@ -63,10 +66,12 @@ fn tokens(text: &str) -> Result<Vec<String>, Error> {
         match c {
             _ if c.is_whitespace() => {}
             _ if word && inside => tokens.last_mut().expect("begun").push(c),
+            // && and || are the same as & and |
+            '&' | '|' if tokens.last().is_some_and(|last| *last == c.to_string()) => {}
             _ if word || "()&|".contains(c) => tokens.push(c.to_string()),
             '=' if matches!(tokens.last().map(String::as_str), Some("=" | "!")) => tokens.last_mut().expect("one").push(c),
             '=' | '!' => tokens.push(c.to_string()),
-            _ => return Err(Error::usage(format!("--where: the character {c} has no meaning here"))),
+            _ => return Err(format!("the character {c} has no meaning here")),
         }
         inside = word;
     }
@@ -87,17 +92,17 @@ impl Reader<'_> {
         found
     }
 
-    fn word(&mut self) -> Result<String, Error> {
+    fn word(&mut self) -> Result<String, String> {
         match self.tokens.first() {
             Some(token) if token.starts_with(|c: char| c.is_ascii_alphanumeric() || "_-".contains(c)) => {
                 Ok(self.tokens.remove(0))
             }
-            Some(token) => Err(Error::usage(format!("--where: a location, a register or a number is expected, not {token}"))),
-            None => Err(Error::usage("--where: a location, a register or a number is missing")),
+            Some(token) => Err(format!("a location, a register or a number is expected, not {token}")),
+            None => Err("a location, a register or a number is missing".to_string()),
         }
     }
 
-    fn either(&mut self) -> Result<Condition, Error> {
+    fn either(&mut self) -> Result<Condition, String> {
         let mut left = self.both()?;
         while self.take("|") {
             left = Condition::Or(Box::new(left), Box::new(self.both()?));
@@ -105,7 +110,7 @@ impl Reader<'_> {
         Ok(left)
     }
 
-    fn both(&mut self) -> Result<Condition, Error> {
+    fn both(&mut self) -> Result<Condition, String> {
         let mut left = self.single()?;
         while self.take("&") {
             left = Condition::And(Box::new(left), Box::new(self.single()?));
@@ -113,40 +118,53 @@ impl Reader<'_> {
         Ok(left)
     }
 
-    fn single(&mut self) -> Result<Condition, Error> {
+    fn single(&mut self) -> Result<Condition, String> {
         if self.take("!") {
             return Ok(Condition::Not(Box::new(self.single()?)));
         }
         if self.take("(") {
             let inner = self.either()?;
-            return if self.take(")") { Ok(inner) } else { Err(Error::usage("--where: ) is missing")) };
+            return if self.take(")") { Ok(inner) } else { Err(") is missing".to_string()) };
         }
         let word = self.word()?;
-        match word.strip_suffix("fails").map(|thread| thread.strip_suffix('.').unwrap_or(thread)) {
-            Some("") => return Ok(Condition::Fails(None)),
-            Some(thread) if word.ends_with(".fails") => return Ok(Condition::Fails(Some(self.thread(thread)?))),
-            _ => {}
+        let compared = self.tokens.first().is_some_and(|token| ["=", "==", "!="].contains(&token.as_str()));
+        if !compared {
+            if let Some(condition) = self.by_itself(&word)? {
+                return Ok(condition);
+            }
         }
         let left = self.value(&word)?;
         let differs = self.take("!=");
         if !differs && !self.take("=") && !self.take("==") {
-            return Err(Error::usage(format!("--where: = or != is expected behind {word}")));
+            return Err(format!("= or != is expected behind {word}"));
         }
         let right = self.word()?;
         let equal = Condition::Equal(left, self.value(&right)?);
         Ok(if differs { Condition::Not(Box::new(equal)) } else { equal })
     }
 
-    fn thread(&self, word: &str) -> Result<u8, Error> {
+    /// A word that is a condition without a comparison: `fails`, `T2.fails`, `true`, `false`.
+    fn by_itself(&self, word: &str) -> Result<Option<Condition>, String> {
+        Ok(match word {
+            "fails" => Some(Condition::Fails(None)),
+            "true" | "false" => Some(Condition::Always(word == "true")),
+            _ => match word.strip_suffix(".fails") {
+                Some(thread) => Some(Condition::Fails(Some(self.thread(thread)?))),
+                None => None,
+            },
+        })
+    }
+
+    fn thread(&self, word: &str) -> Result<u8, String> {
         let names = &self.program.names;
         let called = |t: &u8| names.thread(*t) == word || format!("T{t}") == word;
         let found = self.program.numbers().find(called);
         found.ok_or_else(|| self.unknown("thread", word, self.program.numbers().map(|t| names.thread(t)).collect()))
     }
 
-    fn value(&self, word: &str) -> Result<Value, Error> {
+    fn value(&self, word: &str) -> Result<Value, String> {
         if let Some(number) = constant(word) {
-            return number.map(Value::Number).map_err(|message| Error::usage(format!("--where: {message}")));
+            return number.map(Value::Number);
         }
         let names = &self.program.names;
         if let Some((thread, register)) = word.split_once('.') {
@@ -162,8 +180,8 @@ impl Reader<'_> {
         found.map(Value::Location).ok_or_else(|| self.unknown("location", word, known()))
     }
 
-    fn unknown(&self, what: &str, word: &str, known: Vec<String>) -> Error {
-        let hint = near(word, known.iter().map(String::as_str)).map_or(String::new(), |other| format!("; is it {other}?"));
-        Error::usage(format!("--where: there is no {what} {word}{hint}"))
+    fn unknown(&self, what: &str, word: &str, known: Vec<String>) -> String {
+        let hint = hint(word, known.iter().map(String::as_str));
+        format!("there is no {what} {word}{hint}")
     }
 }

@@ -24,13 +24,23 @@ fn threads(frames: &[Frame]) -> Vec<Vec<Instruction>> {
     threads
 }
 
+/// What a file may be that is no program file by its first line.
+fn other_form(file: &[u8]) -> &'static str {
+    let first = line_at(file, 1).trim_ascii();
+    match first {
+        _ if first.starts_with(b"X86") => "; this is a litmus test: import-litmus makes a program of it",
+        _ if first.eq_ignore_ascii_case(b"thread") => "; a program in the text form begins with thread, by small letters",
+        _ => "",
+    }
+}
+
 /// The sentence about a refusal of a program file.
 pub fn sentence(file: &[u8], refusal: Refusal) -> String {
     let frame = hex::bytes(line_at(file, refusal.place)).unwrap_or_default();
     let before = before(file, refusal.place);
     match refusal.number {
         1 => format!("the file is longer than {FILE_LIMIT} bytes, the most that a program file may have"),
-        2 => line::sentence(file, refusal.place),
+        2 => line::sentence(file, refusal.place) + other_form(file),
         3 => fields::kind(&frame),
         4 => fields::range(&frame),
         5 if before.iter().any(|f| matches!(f, Frame::Alike(_))) => {

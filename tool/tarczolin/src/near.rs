@@ -22,6 +22,11 @@ pub fn near<'a>(word: &str, known: impl IntoIterator<Item = &'a str>) -> Option<
     known.into_iter().find(|other| one_off(word, other))
 }
 
+/// What a word may have been meant to be, to stand behind a message; nothing where no word is near.
+pub fn hint<'a>(word: &str, known: impl IntoIterator<Item = &'a str>) -> String {
+    near(word, known).map_or(String::new(), |other| format!("; is it {other}?"))
+}
+
 #[cfg(test)]
 mod tests {
     use super::*;
