@@ -1,8 +1,9 @@
 -- The permutations of six are a group: each has its inverse among them, and composition acts as one after the other.
 use mathlib.Core.Path.{_≡_, refl, sym, ap, ap₂, subst, _∙_}
 use mathlib.Core.Bool.{Bool, true, false, true≢false, false≢true}
-use mathlib.Core.List.{List, [], _∷_, map, List·Memᴰ, List·Memᴰ·head, List·Memᴰ·tail, Memᴰ·map, Memᴰ·of-map}
-use Prim.Native.Nat.{ℕ, zero, suc, _+_, _/_, _%_, _<_, _≤_}
+use mathlib.Core.Logic.{⊎-elim}
+use mathlib.Core.List.{List, [], _∷_, map, List·Memᴰ, List·Memᴰ·head, List·Memᴰ·tail, List·Memᴰ·cases-cons, List·Memᴰ·not-nil, Memᴰ·of-map}
+use Prim.Native.Nat.{ℕ, zero, suc, _+_, _%_, _<_, _≤_}
 use native.Mathlib.Omega.{arith}
 use native.Mathlib.Decide.{decLt}
 use native.Mathlib.Nat.{not-suc-le-zero, le-of-suc-le-suc}
@@ -11,10 +12,10 @@ use lib.ListN.{length, getD, List·getD-map, List·getD-eq-default, length-map}
 use lib.Seq.{ext-getD}
 use borrow.Author.Tests.{eqb-true, eq-eqb, ltb-true}
 use Rattle.schedules.specs.Lists.{range, both, any, all, Distinct}
-use Rattle.schedules.specs.Permutations.{Permutation, permutations, factorial, dropAt, arranged, permutationOf, moved, inverse, compose}
-use Rattle.schedules.proofs.Lists.{both-left, both-right, in-range, of-range, any-no, all-at}
+use Rattle.schedules.specs.Permutations.{Permutation, permutations, permutationOf, moved, inverse, compose}
+use Rattle.schedules.proofs.Lists.{both-left, both-right, any-no, all-at}
 use Rattle.schedules.proofs.Permutations.{permutations-complete}
-use Rattle.schedules.proofs.Numbered.{numbered, sameNumbers, distinctb, permutationb, invertible, all-invertible}
+use Rattle.schedules.proofs.Numbered.{permutations-length, sameNumbers, distinctb, permutationb, invertible, all-invertible}
 
 -- what the tests say
 same-numbers : (xs ys : List ℕ) → sameNumbers xs ys ≡ true → xs ≡ ys
@@ -37,7 +38,7 @@ distinct-is (x ∷ xs) e = go (any (eqb x) xs) refl (λ k. distinct-is xs k)
     go true q ih = absurd (false≢true (rw (q, distinctb) at e))
     go false q ih = ((λ m. true≢false (sym (eq-eqb x x refl) ∙ any-no (eqb x) xs x q m)), ih (rw (q, distinctb) at e))
 
-permutation-is : (π : List ℕ) → permutationb π ≡ true → Permutation π
+pub permutation-is : (π : List ℕ) → permutationb π ≡ true → Permutation π
 unfolding permutationb
 permutation-is π e =
     let r = both-right (eqb (length π) 6) _ e in
@@ -48,15 +49,20 @@ permutation-is π e =
     }
 
 -- reading inside a list: the default does not matter, and what is read is a member
-pub getD-any : (l : List ℕ) (i d e : ℕ) → i < length l → getD l i d ≡ getD l i e
+pub getD-any : {A : Type 0} (l : List A) (i : ℕ) (d e : A) → i < length l → getD l i d ≡ getD l i e
 getD-any [] i d e h = absurd (not-suc-le-zero h)
 getD-any (x ∷ xs) zero d e h = refl
 getD-any (x ∷ xs) (suc i) d e h = getD-any xs i d e (le-of-suc-le-suc h)
 
-getD-member : (l : List ℕ) (i d : ℕ) → i < length l → List·Memᴰ (getD l i d) l
+getD-member : {A : Type 0} (l : List A) (i : ℕ) (d : A) → i < length l → List·Memᴰ (getD l i d) l
 getD-member [] i d h = absurd (not-suc-le-zero h)
 getD-member (x ∷ xs) zero d h = List·Memᴰ·head refl
 getD-member (x ∷ xs) (suc i) d h = List·Memᴰ·tail (getD-member xs i d (le-of-suc-le-suc h))
+
+-- and each member can be read
+member-at : {A : Type 0} (l : List A) (x d : A) → List·Memᴰ x l → (i : ℕ) × (i < length l) × (getD l i d ≡ x)
+member-at [] x d m = absurd (List·Memᴰ·not-nil m)
+member-at (y ∷ ys) x d m = ⊎-elim (λ (e : x ≡ y). (zero, omega arith, sym e)) (λ (k : List·Memᴰ x ys). let r = member-at ys x d k in (suc (r .0), omega (arith, r .1), r .2)) (List·Memᴰ·cases-cons m)
 
 -- composition acts as one after the other
 pub compose-moved : (ρ π : List ℕ) → length ρ ≤ length π → (x : ℕ) → moved (compose ρ π) x ≡ moved ρ (moved π x)
@@ -155,33 +161,17 @@ identity-member = permutations-complete (0 ∷ 1 ∷ 2 ∷ 3 ∷ 4 ∷ 5 ∷ [])
 
 -- EVERY PERMUTATION HAS ITS NUMBER, and every number a permutation
 pub number-of : (π : List ℕ) → List·Memᴰ π permutations → (k : ℕ) × (k < 720) × (permutationOf k ≡ π)
+unfolding permutationOf
 number-of π m =
-    let r = Memᴰ·of-map permutationOf (range 0 720) (subst (List·Memᴰ π) (sym numbered) m) in
-    (r .0, of-range 0 720 (r .0) (r .1) .1, r .2)
-
--- only the digits count, and they are the same modulo 720
-arranged-same : (n k j : ℕ) → ((i : ℕ) → i < n → k / factorial (suc i) % suc (suc i) ≡ j / factorial (suc i) % suc (suc i)) → (xs : List ℕ) → arranged n k xs ≡ arranged n j xs
-unfolding arranged
-arranged-same zero k j h xs = refl
-arranged-same (suc n) k j h xs = rw (h n (omega arith)) (ap {B = List ℕ} (λ l. getD xs (j / factorial (suc n) % suc (suc n)) 0 ∷ l) (arranged-same n k j (λ i m. h i (omega arith)) (dropAt (j / factorial (suc n) % suc (suc n)) xs)))
-
-digit-rest : (k i : ℕ) → i < 5 → k / factorial (suc i) % suc (suc i) ≡ k % 720 / factorial (suc i) % suc (suc i)
-unfolding factorial
-digit-rest k zero h = omega arith
-digit-rest k (suc zero) h = omega arith
-digit-rest k (suc (suc zero)) h = omega arith
-digit-rest k (suc (suc (suc zero))) h = omega arith
-digit-rest k (suc (suc (suc (suc zero)))) h = omega arith
-digit-rest k (suc (suc (suc (suc (suc i))))) h = absurd (omega arith)
+    let r = member-at permutations π [] m in
+    let h : r .0 < 720 = omega (arith, r .1, permutations-length) in
+    let e : r .0 % 720 ≡ r .0 = omega (arith, h) in
+    (r .0, h, ap (λ (i : ℕ). getD permutations i []) e ∙ r .2)
 
 pub number-rest : (k : ℕ) → permutationOf k ≡ permutationOf (k % 720)
 unfolding permutationOf
-number-rest k = arranged-same 5 k (k % 720) (λ i h. digit-rest k i h) (range 0 6)
-
--- the first number is the identity's
-pub number-none : permutationOf 0 ≡ range 0 6
-unfolding permutationOf arranged factorial dropAt range
-number-none = refl
+number-rest k = let e : k % 720 ≡ k % 720 % 720 = omega arith in ap (λ (i : ℕ). getD permutations i []) e
 
 pub numbered-member : (k : ℕ) → List·Memᴰ (permutationOf k) permutations
-numbered-member k = rw (number-rest k) (subst (List·Memᴰ (permutationOf (k % 720))) numbered (Memᴰ·map permutationOf (in-range 0 720 (k % 720) (omega arith) (omega arith))))
+unfolding permutationOf
+numbered-member k = getD-member permutations (k % 720) [] (omega (arith, permutations-length))

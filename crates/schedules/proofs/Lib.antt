@@ -49,15 +49,13 @@ pub mod Permutations
 pub mod Numbered
 -- inverse, composition, and the permutation of every number
 pub mod Group
--- permutations with neighbouring numbers share their first places
-pub mod Places
+-- a table of permutations, each packed in one number: one test, and that the table is then the list
+pub mod Packed
 -- the definitions as a loop in code meets them, one turn at a time
 pub mod Loops
 -- the least order of a run's actions, one action at a time
 pub mod LeastOrder
 -- comparing two schedules place by place, as the code does
 pub mod Comparing
--- a permutation worked out in place, as the code does
-pub mod InPlace
 -- a small step system, computed
 pub mod Example

@@ -192,6 +192,28 @@ module _ {A : Type 0} (less : A → A → Bool) where
         rest : {v w : A} (z : A) (zs : List A) → ((k : A) → List·Memᴰ k zs → less w k ≡ true) → v ≡ w → less v z ≡ true → List·Memᴰ z (w ∷ zs) → List·Memᴰ z zs
         rest {v} {w} z zs h e q m = ⊎-elim (λ (i : z ≡ w). absurd (true≢false (sym q ∙ ap₂ less e i ∙ irreflexive w))) (λ (k : List·Memᴰ z zs). k) (List·Memᴰ·cases-cons m)
 
+    -- an ascending list whose members another one has is no longer than that one, and the same where it is as long
+    pub ascends-within : (xs ys : List A) → Ascends less xs → Ascends less ys → ((x : A) → List·Memᴰ x xs → List·Memᴰ x ys) → (length xs ≤ length ys) × (length ys ≤ length xs → xs ≡ ys)
+    ascends-within [] [] a b f = (omega arith, λ h. refl)
+    ascends-within [] (y ∷ ys) a b f = (omega arith, λ h. absurd (omega arith))
+    ascends-within (x ∷ xs) [] a b f = absurd (List·Memᴰ·not-nil (f x (List·Memᴰ·head refl)))
+    ascends-within (x ∷ xs) (y ∷ ys) a b f = go (List·Memᴰ·cases-cons (f x (List·Memᴰ·head refl))) (λ g. ascends-within xs ys (a .1) (b .1) g) (λ g. ascends-within (x ∷ xs) ys a (b .1) g)
+      where
+        behind : (z : A) → (z ≡ y → ⊥) → List·Memᴰ z (y ∷ ys) → List·Memᴰ z ys
+        behind z ne m = ⊎-elim (λ (e : z ≡ y). absurd (ne e)) (λ (k : List·Memᴰ z ys). k) (List·Memᴰ·cases-cons m)
+
+        later : List·Memᴰ x ys → (z : A) → List·Memᴰ z (x ∷ xs) → z ≡ y → ⊥
+        later m z k e = ⊎-elim (λ (q : z ≡ x). true≢false (sym (b .0 x m) ∙ ap (less y) (sym q ∙ e) ∙ irreflexive y))
+            (λ (n : List·Memᴰ z xs). true≢false (sym (a .0 z n) ∙ ap (less x) e ∙ asymmetric y x (b .0 x m))) (List·Memᴰ·cases-cons k)
+
+        go : (x ≡ y) ⊎ List·Memᴰ x ys → (((z : A) → List·Memᴰ z xs → List·Memᴰ z ys) → (length xs ≤ length ys) × (length ys ≤ length xs → xs ≡ ys)) →
+            (((z : A) → List·Memᴰ z (x ∷ xs) → List·Memᴰ z ys) → (length (x ∷ xs) ≤ length ys) × (length ys ≤ length (x ∷ xs) → x ∷ xs ≡ ys)) →
+            (length (x ∷ xs) ≤ length (y ∷ ys)) × (length (y ∷ ys) ≤ length (x ∷ xs) → _≡_ {A = List A} (x ∷ xs) (y ∷ ys))
+        go (inl e) both-rest rest =
+            let r = both-rest (λ z m. behind z (λ q. true≢false (sym (a .0 z m) ∙ ap (less x) (q ∙ sym e) ∙ irreflexive x)) (f z (List·Memᴰ·tail m))) in
+            (omega (arith, r .0), λ h. ap₂ {C = List A} (λ z zs. z ∷ zs) e (r .1 (omega arith)))
+        go (inr m) both-rest rest = let r = rest (λ z k. behind z (later m z k) (f z k)) in (omega (arith, r .0), λ h. absurd (omega (arith, r .0, h)))
+
 -- so many numbers
 pub range-length : (a n : ℕ) → length (range a n) ≡ n
 unfolding range

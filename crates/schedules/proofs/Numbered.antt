@@ -1,18 +1,23 @@
 -- Computed tests over all 720 permutations, kept in this one file because they take their time.
 use mathlib.Core.Path.{_≡_, refl}
 use mathlib.Core.Bool.{Bool, true, false}
-use mathlib.Core.List.{List, [], _∷_, map}
+use mathlib.Core.List.{List, [], _∷_}
 use Prim.Native.Nat.{ℕ}
 use lib.Dec.{eqb, ltb}
 use lib.ListN.{length}
 use Rattle.schedules.specs.Lists.{range, both, any, all}
 use Rattle.schedules.specs.Fulls.{fronts}
-use Rattle.schedules.specs.Permutations.{without, each, permsOf, permutations, factorial, dropAt, arranged, permutationOf, placeIn, inverse, compose}
+use Rattle.schedules.specs.Permutations.{without, each, permsOf, permutations, permutationOf, placeIn, inverse, compose}
 
--- the numbers give the list
-pub numbered : map permutationOf (range 0 720) ≡ permutations
-unfolding range fronts without each permsOf permutations factorial dropAt arranged permutationOf
-numbered = refl
+-- so many
+pub permutations-length : length permutations ≡ 720
+unfolding range fronts without each permsOf permutations
+permutations-length = refl
+
+-- the first number is the identity's
+pub number-none : permutationOf 0 ≡ range 0 6
+unfolding range fronts without each permsOf permutations permutationOf
+number-none = refl
 
 -- tests that compute
 unfoldable pub sameNumbers : List ℕ → List ℕ → Bool

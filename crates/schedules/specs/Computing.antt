@@ -14,9 +14,8 @@ use Rattle.schedules.specs.Search.{low, past}
 use Rattle.schedules.specs.Found.{after, concatRange, foundAt, foundBy, foundFrom}
 use Rattle.schedules.specs.Greedy.{greedy}
 use Rattle.schedules.specs.Orders.{trace, nextOf, clear, clearOf, ready, takeOut, leastOrder}
-use Rattle.schedules.specs.Permutations.{without, each, permsOf, permutations, factorial, dropAt, arranged, permutationOf, bring}
-use Rattle.schedules.specs.Permutations.{placeIn, inverse, compose}
+use Rattle.schedules.specs.Permutations.{without, each, permsOf, permutations, permutationOf, unpacked, placeIn, inverse, compose}
 
 unfoldable pub computing : List (List ℕ)
-unfolding range both any all filter find headOf less run none-enabled ended fronts branch fullsFrom fulls firstsFrom firsts listOf next offer answerTo over content last left due served member low past after concatRange foundAt foundBy foundFrom greedy trace nextOf clear clearOf ready takeOut leastOrder without each permsOf permutations factorial dropAt arranged permutationOf bring placeIn inverse compose
+unfolding range both any all filter find headOf less run none-enabled ended fronts branch fullsFrom fulls firstsFrom firsts listOf next offer answerTo over content last left due served member low past after concatRange foundAt foundBy foundFrom greedy trace nextOf clear clearOf ready takeOut leastOrder without each permsOf permutations permutationOf unpacked placeIn inverse compose
 computing = permutations

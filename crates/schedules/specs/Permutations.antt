@@ -1,6 +1,6 @@
--- The permutations of six, each as the list of where 0, 1, .. 5 go: all of them ascending, by recursion, and each from its number, 0 to
--- 719, by divisions. A number from 720 on gives the permutation of its rest modulo 720.
-use Prim.Native.Nat.{ℕ, zero, suc, _*_, _/_, _%_, _<_}
+-- The permutations of six, each as the list of where 0, 1, .. 5 go: all of them ascending, each number in turn in front of what can be made
+-- of the rest, numbered from 0 to 719 in that order. A number from 720 on gives the permutation of its rest modulo 720.
+use Prim.Native.Nat.{ℕ, zero, suc, _/_, _%_, _<_}
 use mathlib.Core.Path.{_≡_}
 use mathlib.Core.Bool.{true, false}
 use mathlib.Core.List.{List, [], _∷_, _++_, map, List·Memᴰ}
@@ -34,31 +34,13 @@ permsOf (suc n) xs = each (λ l. permsOf n l) xs xs
 unfoldable pub permutations : List (List ℕ)
 permutations = permsOf 6 (range 0 6)
 
--- 1 * 2 * .. * n
-unfoldable pub factorial : ℕ → ℕ
-factorial zero = 1
-factorial (suc n) = suc n * factorial n
-
--- a list without what stands at place i
-unfoldable pub dropAt : ℕ → List ℕ → List ℕ
-dropAt i [] = []
-dropAt zero (x ∷ xs) = xs
-dropAt (suc i) (x ∷ xs) = x ∷ dropAt i xs
-
--- the list in which n places are chosen one after the other, by the digits of k in base 1!, 2!, .., and the rest stands behind
-unfoldable pub arranged : ℕ → ℕ → List ℕ → List ℕ
-arranged zero k xs = xs
-arranged (suc n) k xs = getD xs (k / factorial (suc n) % suc (suc n)) 0 ∷ arranged n k (dropAt (k / factorial (suc n) % suc (suc n)) xs)
-
--- the permutation with number k
+-- the permutation with number k, the k-th of them
 unfoldable pub permutationOf : ℕ → List ℕ
-permutationOf k = arranged 5 k (range 0 6)
+permutationOf k = getD permutations (k % 720) []
 
--- the same in place: what stands d places behind place i is moved to place i
-unfoldable pub bring : ℕ → ℕ → List ℕ → List ℕ
-bring zero d xs = getD xs d 0 ∷ dropAt d xs
-bring (suc i) d [] = []
-bring (suc i) d (x ∷ xs) = x ∷ bring i d xs
+-- a permutation out of one number: a hexadecimal digit for each place, the most significant first
+unfoldable pub unpacked : ℕ → List ℕ
+unpacked r = r / 1048576 % 16 ∷ r / 65536 % 16 ∷ r / 4096 % 16 ∷ r / 256 % 16 ∷ r / 16 % 16 ∷ r % 16 ∷ []
 
 -- where a number goes; six and above stay
 abbrev pub moved : List ℕ → ℕ → ℕ

@@ -1,10 +1,12 @@
-// Schedules of any step system: their order, and permutations from their numbers. What the crates above cite beside these two calls are the
-// definitions and laws on lists of steps, in specs/ and proofs/.
+// Schedules of any step system: their order, and the permutations of six. What the crates above cite beside these calls are the definitions
+// and laws on lists of steps, in specs/ and proofs/.
 
 // Two schedules compared.
 mod comparison;
-// A permutation of six from its number.
+// The permutations of six: a table, and each by its number.
 mod by_number;
 
 pub use by_number::permutation;
+pub use by_number::permutation_table;
+pub use by_number::unpacked;
 pub use comparison::less;
