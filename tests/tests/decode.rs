@@ -79,10 +79,11 @@ fn library_and_oracle_agree() {
         return;
     }
     assert!(seen.files >= 200_000 && seen.accepted >= 50_000);
-    for number in 1..=9 {
+    assert!(!seen.refused.contains_key(&9), "9 never occurs");
+    for number in 1..=8 {
         assert!(seen.refused[&number] >= 1_000, "refusal {number}: {:?}", seen.refused);
-        // the place of 1 and 9 is always 0
-        let places = if number == 1 || number == 9 { 1 } else { 20 };
+        // the place of 1 is always 0
+        let places = if number == 1 { 1 } else { 20 };
         assert!(seen.places[&number].len() >= places, "places of refusal {number}");
     }
     for length in [0, 1, 4095, 4096, 4097] {
@@ -96,7 +97,7 @@ fn library_and_oracle_agree() {
 /// Each damage reached the refusal it aims at, and those at a limit were also accepted.
 fn damages_do_what_they_say(seen: &Seen) {
     use Damage::*;
-    assert!((1..=9).all(|number| seen.of(Nothing, number) == 0), "a file without damage is accepted");
+    assert!((1..=8).all(|number| seen.of(Nothing, number) == 0), "a file without damage is accepted");
     let aims = [
         (LostLastNewline, 2),
         (Capital, 2),
@@ -119,12 +120,26 @@ fn damages_do_what_they_say(seen: &Seen) {
         (AlikeTwice, 8),
         (AlikeCode, 8),
         (AlikeLength, 3),
-        (Empty, 9),
+        (Threadless, 8),
     ];
     for (damage, number) in aims {
         assert!(seen.of(damage, number) >= 500, "{damage:?} reached {number} {} times", seen.of(damage, number));
     }
-    for damage in [Field, Operand, SwappedLines, Threads, Instructions, Accesses, Skip, AlikeMember, AlikeCode, AlikeLength] {
+    let not_always = [
+        Field,
+        Operand,
+        SwappedLines,
+        Threads,
+        Instructions,
+        Accesses,
+        Skip,
+        AlikeMember,
+        AlikeCode,
+        AlikeLength,
+        Empty,
+        Threadless,
+    ];
+    for damage in not_always {
         assert!(seen.passed(damage) >= 100, "{damage:?} was accepted {} times", seen.passed(damage));
     }
 }

@@ -18,6 +18,7 @@ fn expect(name: &str, file: &[u8], answer: Answer) {
 fn examples_of_document_01() {
     let names = [
         "empty-thread",
+        "no-thread",
         "whole",
         "whole-without-02",
         "load-add-store",
@@ -67,7 +68,8 @@ fn decided_readings() {
     let twelve = format!("01 23000000000001 {}", loads(12));
     let six = "01 ".repeat(6);
     let table: Vec<(&str, Vec<u8>, Answer)> = vec![
-        ("1: empty file", vec![], Answer::Refused(9, 0)),
+        ("1: empty file", vec![], ACCEPTED),
+        ("33: 02 in a file without threads", lines("020001 020102"), Answer::Refused(8, 1)),
         ("2: 02 before any thread", lines("020001"), Answer::Refused(8, 1)),
         ("3: one member", lines("01 01 0200"), Answer::Refused(3, 3)),
         ("3: seven members", lines(&format!("{six} 0200010203040506")), Answer::Refused(3, 7)),

@@ -45,6 +45,16 @@ fn the_example_of_document_01() {
     assert_eq!(printed(&read("examples/whole.hex")), lines(output));
 }
 
+/// Nothing on standard input, as a pipe and as a file: the program of no thread.
+#[test]
+fn nothing_on_standard_input() {
+    let output = lines("5000 5100000000000000010000000000000000");
+    assert_eq!(printed(b""), output);
+    let read = started(Stdio::null()).wait_with_output().unwrap();
+    assert_eq!((read.stdout, read.status.success()), (output, true));
+    assert_eq!(printed(&lines("020001")), lines("52080001"), "02 names threads that are not there");
+}
+
 #[test]
 fn every_program_of_the_repository() {
     let mut files = 0;

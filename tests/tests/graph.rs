@@ -102,7 +102,7 @@ impl Seen {
                 Some(refusal.number)
             }
         };
-        if number.is_none_or(|n| n > 9) {
+        if number.is_none_or(|n| n > 8) {
             *self.outputs.entry(output).or_default() += 1;
         }
         found
@@ -171,7 +171,7 @@ fn refused_file(random: &mut Random, seen: &mut Seen, program: &Program) {
     let schedule = schedule::schedule(random, program, kind);
     let output = random.below(2 * GRAPH);
     let found = seen.ask(random, &file, &schedule, output);
-    if found.is_err_and(|r| r.number <= 9) {
+    if found.is_err_and(|r| r.number <= 8) {
         seen.refused_files[(output >= GRAPH) as usize] += 1;
     }
 }
@@ -203,7 +203,7 @@ fn reached(seen: &Seen) {
     }
     assert!(seen.pairs >= 150_000 && seen.texts >= 40_000 && seen.lengths.len() >= 200);
     assert!(seen.lengths.first() == Some(&0) && seen.lengths.last() >= Some(&350), "texts of no bytes and of almost 400");
-    for number in 1..=9 {
+    for number in 1..=8 {
         assert!(seen.refused[&number] >= 100, "refusal {number}");
     }
     for (number, least, places) in [(20, 10_000, 25), (21, 3_000, 24), (22, 20_000, 1)] {

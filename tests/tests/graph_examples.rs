@@ -21,7 +21,7 @@ fn ask(random: &mut Random, file: &[u8], schedule: &[u8], output: usize) -> Foun
 fn every_short_schedule() {
     let mut random = Random::new(12);
     let (mut answered, mut refused) = (0, 0);
-    for name in ["store-load-pair", "load-add-store", "load-assert-beside-store", "empty-thread"] {
+    for name in ["store-load-pair", "load-add-store", "load-assert-beside-store", "empty-thread", "no-thread"] {
         let file = read(&format!("examples/{name}.hex"));
         let mut schedules = vec![vec![]];
         for k in 0.. {
@@ -32,7 +32,7 @@ fn every_short_schedule() {
             }
         }
     }
-    assert_eq!((answered, refused), (6 + 6 + 2 + 1, 4 * 5461 - 15));
+    assert_eq!((answered, refused), (6 + 6 + 2 + 1 + 1, 5 * 5461 - 16));
 }
 
 /// Outputs of every length, with a schedule that is answered, refused by 20, and by 21.
@@ -69,6 +69,9 @@ fn examples_of_document_01() {
     expect("the pair", &pair, &[0, 1, 0, 1], 512, shown("4000010100 4001010000 41000000 41010100"));
     expect("the pair", &pair, &[1, 1, 0, 0], 512, shown("4000010100 400101ffff 41000000 41010100"));
     expect("no steps", &example("empty-thread"), &[], 512, shown(""));
+    expect("no thread", &example("no-thread"), &[], 512, shown(""));
+    expect("no thread, and a step", &example("no-thread"), &[0], 512, refusal(20, 0));
+    expect("no thread, and no room", &example("no-thread"), &[0], 511, refusal(22, 0));
     expect("whole", &example("whole"), &[2, 0, 1], 512, shown("4001000000 400200ffff 41000000"));
     let swaps = example("compare-and-swap-3");
     expect("a failed swap only reads", &swaps, &[1, 0, 2], 512, shown("4000000100 400100ffff 4002000100 41000100"));

@@ -154,7 +154,7 @@ fn refused_file(random: &mut Random, seen: &mut Seen, program: &Program) {
     let found = judge(&file, &text, output);
     hold(random, &file, &text, output, &found);
     seen.note(&found);
-    if found.is_err_and(|r| r.number <= 9) {
+    if found.is_err_and(|r| r.number <= 8) {
         seen.refused_files[(output >= SCHEDULE) as usize] += 1;
     }
 }
@@ -165,7 +165,7 @@ fn reached(seen: &Seen) {
     }
     assert!(seen.texts >= 100_000 && seen.yes >= 20_000 && seen.no >= 20_000);
     assert!(seen.cycles >= 2_000 && seen.not_least >= 5_000 && seen.changed_yes >= 2_000 && seen.of_24 >= 300);
-    for number in 1..=9 {
+    for number in 1..=8 {
         assert!(seen.refused[&number] >= 30, "refusal {number}");
     }
     assert!(seen.refused[&22] >= 20_000 && seen.short_and_refused >= 5_000 && seen.refused_files.iter().all(|n| *n >= 1_000));

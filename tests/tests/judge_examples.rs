@@ -80,6 +80,10 @@ fn decided_readings() {
         expect(name, PAIR, &lines(text), 24, answer);
     }
     expect("30: no lines and no events", "01", b"", 24, yes(&[]));
+    expect("no lines and no thread", "", b"", 24, yes(&[]));
+    expect("no lines, no thread and no room", "", b"", 23, refusal(22, 0));
+    expect("a read of no thread", "", b"400000ffff\n", 24, refusal(32, 1));
+    expect("a write of no thread", "", b"41000000\n", 24, refusal(32, 1));
     expect("30: no last 0a", PAIR, b"400001ffff", 24, refusal(30, 1));
     expect("30: a lone 0a", PAIR, b"\n", 24, refusal(30, 1));
     let circle = "01 110000 10010100000000 01 110001 10000100000000";

@@ -292,5 +292,5 @@ fn reached(seen: &Seen) {
     for (number, least) in [(20, 2_000), (21, 1_000), (22, 20_000)] {
         assert!(seen.refused[&number] >= least, "refusal {number}");
     }
-    assert!((1..=9).all(|number| seen.refused[&number] >= 30));
+    assert!((1..=8).all(|number| seen.refused[&number] >= 30));
 }

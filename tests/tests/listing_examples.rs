@@ -52,8 +52,9 @@ type Case<'a> = (&'a str, &'a [&'a [u8]], &'a [&'a [u8]]);
 
 #[test]
 fn known_lists() {
-    let all: [Case; 13] = [
+    let all: [Case; 14] = [
         ("empty-thread", &[&[]], &[]),
+        ("no-thread", &[&[]], &[]),
         ("whole", &[&[0, 1, 2], &[1, 0, 2], &[1, 2, 0]], &[]),
         ("whole-without-02", &[&[0, 1, 2], &[1, 0, 2], &[1, 2, 0], &[2, 0, 1]], &[]),
         ("load-add-store", &[&[0, 0, 1, 1], &[0, 1, 0, 1], &[0, 1, 1, 0], &[1, 1, 0, 0]], &[]),
@@ -102,7 +103,7 @@ fn decided_readings() {
 /// Outputs of every length, for each call.
 #[test]
 fn every_output() {
-    for name in ["whole", "load-assert-beside-store", "empty-thread"] {
+    for name in ["whole", "load-assert-beside-store", "empty-thread", "no-thread"] {
         let file = example(name);
         let first = oracle::start(&file, 24).unwrap().unwrap();
         for output in (0..=64).chain([512, 4096]) {

@@ -120,7 +120,7 @@ fn rows_are_those_of_start_and_continue() {
 #[test]
 fn no_step() {
     let mut random = Random::new(84);
-    for (words, fails) in [("01", 0), ("01 23000000000001", 1)] {
+    for (words, fails) in [("", 0), ("01", 0), ("01 23000000000001", 1)] {
         let file = lines(words);
         let row = [vec![0, fails], vec![0; SCHEDULE]].concat();
         assert_eq!(oracle::rows(&file, None, ROW), Ok(row.clone()));

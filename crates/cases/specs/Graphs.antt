@@ -1,7 +1,7 @@
--- Document 01's two graph texts: for each the frames of the program's file, the frames of the text, and the judge's answer.
+-- Document 01's two graph texts, and the empty one: for each the frames of the program's file and of the text, and the judge's answer.
 use mathlib.Core.List.{List, [], _∷_}
 use Rattle.consistent.specs.Answer.{Answer, consistent, inconsistent}
-use Rattle.cases.specs.Rows.{Frame, buffering}
+use Rattle.cases.specs.Rows.{Frame, nothing, buffering}
 
 pub record Graph : Type 0 where
   pub file : List Frame
@@ -25,3 +25,7 @@ one = record {
       ∷ (0x41 ∷ 1 ∷ 1 ∷ 0 ∷ []) ∷ [];
   answer = consistent (0 ∷ 0 ∷ 1 ∷ 1 ∷ []);
 }
+
+-- request c: the empty text of a program without threads: yes, with no steps
+abbrev pub blank : Graph
+blank = record { file = nothing .file; text = []; answer = consistent [] }

@@ -55,6 +55,10 @@ counts n k = 0x51 ∷ 0 ∷ 0 ∷ 0 ∷ 0 ∷ 0 ∷ 0 ∷ 0 ∷ n ∷ 0 ∷ 0 �
 abbrev pub empty : Row
 empty = record { file = thread ∷ []; prints = passes [] ∷ counts 1 0 ∷ [] }
 
+-- request c: the file of 0 bytes
+abbrev pub nothing : Row
+nothing = record { file = []; prints = passes [] ∷ counts 1 0 ∷ [] }
+
 -- P 2: the whole case, a store beside two loads declared alike; and without its `02` line
 abbrev storeLoads : List Frame
 storeLoads = thread ∷ store 0 (constant 1) ∷ thread ∷ load 0 0 ∷ thread ∷ load 0 0 ∷ []

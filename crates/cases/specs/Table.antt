@@ -1,5 +1,5 @@
--- The table of the ten P cases, lists and graphs together: each file, as bytes, is printed as its row says, byte for byte, and each graph
--- text, as bytes, is answered as its row says. One computed test for all.
+-- The table of the ten P cases and of the file of 0 bytes, lists and graphs together: each file, as bytes, is printed as its row says, byte
+-- for byte, and each graph text, as bytes, is answered as its row says. One computed test for all.
 use Prim.Native.Nat.{ℕ}
 use mathlib.Core.Path.{_≡_, refl}
 use mathlib.Core.Bool.{Bool, true, false}
@@ -29,9 +29,9 @@ use Rattle.consistent.proofs.TextExamples.{answering}
 use Rattle.list.specs.ListOf.{together, permits, permitted, renames, alikeBy, alike, listOf}
 use Rattle.list.specs.Answers.{failing, countOf}
 use Rattle.listing.specs.Printed.{bytesOf, flag, scheduleFrame, countFrame, printedFrames, printed}
-use Rattle.cases.specs.Rows.{Row, empty, whole, wholeApart, increments, incrementsAlike, swaps, swapsAlike, adds, addsAlike}
+use Rattle.cases.specs.Rows.{Row, empty, nothing, whole, wholeApart, increments, incrementsAlike, swaps, swapsAlike, adds, addsAlike}
 use Rattle.cases.specs.Rows.{buffering, asserting}
-use Rattle.cases.specs.Graphs.{Graph, neither, one}
+use Rattle.cases.specs.Graphs.{Graph, neither, one, blank}
 
 -- what a proof names to compute what is printed
 unfoldable pub computed : List ℕ → List ℕ
@@ -43,11 +43,11 @@ pub data Case : Type 0 where
   lists : Row → Case
   judges : Graph → Case
 
--- P 1 to P 10, in this order; where a P case has two programs, both
+-- P 1 to P 10, in this order; where a P case has two programs, both; then the file of 0 bytes and its graph
 abbrev pub cases : List Case
 cases =
     lists empty ∷ lists whole ∷ lists wholeApart ∷ lists increments ∷ lists incrementsAlike ∷ lists swaps ∷ lists swapsAlike ∷ lists adds
-    ∷ lists addsAlike ∷ lists buffering ∷ judges neither ∷ judges one ∷ lists asserting ∷ []
+    ∷ lists addsAlike ∷ lists buffering ∷ judges neither ∷ judges one ∷ lists asserting ∷ lists nothing ∷ judges blank ∷ []
 
 -- what the walk answers, with an output of 24 bytes: by a law the one right answer
 unfoldable pub judged : Graph → Answer

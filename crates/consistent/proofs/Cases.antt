@@ -13,7 +13,6 @@ use Rattle.consistent.proofs.Judged.{judge-yes, judge-no}
 buffering-formed : WellFormed buffering
 unfolding accesses allAccesses
 buffering-formed = record {
-  one = omega arith;
   six = omega arith;
   sixteen = (omega arith, (omega arith, tt));
   access-24 = omega arith;

@@ -1,7 +1,7 @@
--- After the last line: no thread, a skip too far, or the program.
+-- After the last line: a skip too far, or the program.
 use Prim.Native.Nat.{ℕ}
 use native.Mathlib.Omega.{arith}
-use mathlib.Core.Path.{_≡_, _∙_, sym}
+use mathlib.Core.Path.{_≡_}
 use mathlib.Core.List.{List}
 use lib.ListN.{length}
 use borrow.Author.Tests.{eq-eqb, ne-eqb}
@@ -23,16 +23,12 @@ module _ (code rows : List ℕ) (s : Counts) (r : Reading) (bounded : Bounded s)
     };
   }
 
-  pub finish-none : s .threads ≡ 0 → finish r ≡ refused 9 0
+-- what comes of the first skip that goes too far
+module _ (r : Reading) (k : ℕ) (e : k ≡ firstFarSkip (r .threads)) where
+  pub finish-far : (k ≡ 0 → ⊥) → finish r ≡ refused 7 k
   unfolding finish
-  finish-none e = rw (eq-eqb (length (r .threads)) 0 (sym (held .threads) ∙ e))
+  finish-far far = rw (← e, ne-eqb k 0 far)
 
-  pub finish-far : (k : ℕ) → (s .threads ≡ 0 → ⊥) → k ≡ firstFarSkip (r .threads) → (k ≡ 0 → ⊥) → finish r ≡ refused 7 k
+  pub finish-program : k ≡ 0 → finish r ≡ accepted (programIn r)
   unfolding finish
-  finish-far k some e far =
-      rw (ne-eqb (length (r .threads)) 0 (λ z. some (held .threads ∙ z)), ← e, ne-eqb k 0 far)
-
-  pub finish-program : (k : ℕ) → (s .threads ≡ 0 → ⊥) → k ≡ firstFarSkip (r .threads) → k ≡ 0 → finish r ≡ accepted (programIn r)
-  unfolding finish
-  finish-program k some e near =
-      rw (ne-eqb (length (r .threads)) 0 (λ z. some (held .threads ∙ z)), ← e, eq-eqb k 0 near)
+  finish-program near = rw (← e, eq-eqb k 0 near)

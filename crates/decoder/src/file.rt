@@ -55,9 +55,6 @@ fn finished(code: Code, rows: [usize; 96], s: Counts) -> Answer
     requires { ⌜ Bounded s ⌝ }
     ensures { λ a. ⌜ ((r : Reading) → Holds code s r → Lined rows r → Grouped r → answerOf a ≡ finish r) ⌝ }
 {
-    if s.threads == 0 {
-        return refused(9, 0);
-    }
     let lengths = s.lengths;
     let k = far_skip(&code, &rows, s.threads, lengths);
     if k != 0 {

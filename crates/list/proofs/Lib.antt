@@ -10,6 +10,8 @@ pub mod Swapped
 pub mod Twins
 -- the list is document 01's
 pub mod TheList
+-- the list of a program without threads
+pub mod NoThread
 -- it is the list of sequential consistency as a memory model, and so are the calls' answers
 pub mod AsModel
 -- what the calls can answer: members of the list, and small refusals

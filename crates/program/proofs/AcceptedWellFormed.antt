@@ -7,7 +7,7 @@ use mathlib.Core.List.{List, [], _∷_}
 use mathlib.Core.Option.{Option, none, some}
 use lib.ListN.{length}
 use lib.Dec.{eqb, ltb}
-use borrow.Author.Tests.{eqb-true, eqb-false}
+use borrow.Author.Tests.{eqb-true}
 use Rattle.lines.specs.Frame.{frame, Bytes}
 use Rattle.lines.specs.TextLines.{TextLine, split, frameOf}
 use Rattle.program.specs.Program.{Program}
@@ -31,11 +31,9 @@ refused-else false k n d p e = let z : _≡_ {A = ℕ} 0 1 = cc in absurd (omega
 finish-well-formed : (r : Reading) (p : Program) → Sound r → finish r ≡ accepted p → WellFormed p
 unfolding finish
 finish-well-formed r p s e =
-    let a = refused-first (eqb (length (r .threads)) 0) 9 0 _ p e in
-    let b = refused-else (eqb (firstFarSkip (r .threads)) 0) 7 (firstFarSkip (r .threads)) (accepted (programIn r)) p (a .1) in
-    let same : programIn r ≡ p = let q = b .1 in cc in
-    let some-thread : 1 ≤ length (r .threads) = omega (arith, eqb-false (length (r .threads)) 0 (a .0)) in
-    subst WellFormed same (sound-well-formed r s some-thread (eqb-true (firstFarSkip (r .threads)) 0 (b .0)))
+    let a = refused-else (eqb (firstFarSkip (r .threads)) 0) 7 (firstFarSkip (r .threads)) (accepted (programIn r)) p e in
+    let same : programIn r ≡ p = let q = a .1 in cc in
+    subst WellFormed same (sound-well-formed r s (eqb-true (firstFarSkip (r .threads)) 0 (a .0)))
 
 line-bytes : (l : TextLine) (f : Frame) → frameOf l ≡ some f → Bytes f
 unfolding frameOf

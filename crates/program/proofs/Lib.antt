@@ -4,6 +4,8 @@
 pub mod AcceptedWellFormed
 -- refusals of a file are small: number and place
 pub mod Places
+-- the file of 0 bytes, and that 9 refuses no file
+pub mod NoThread
 -- the table of kinds, as rules for every first byte
 pub mod KindTable
 -- which frames skip

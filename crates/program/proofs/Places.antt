@@ -1,4 +1,4 @@
--- Refusals of a program file are small: the number is at most 9, and the place at most 4,096, since a file of so many bytes has no more lines.
+-- Refusals of a program file are small: the number is at most 8, and the place at most 4,096, since a file of so many bytes has no more lines.
 use Prim.Native.Nat.{ℕ, suc, _+_, _≤_}
 use native.Mathlib.Omega.{arith}
 use mathlib.Core.Path.{_≡_, refl}
@@ -14,10 +14,10 @@ use Rattle.program.specs.Decode.{Placed, Reading, fresh, threadAt, lastT
 use Rattle.program.specs.WellFormed.{Everywhere}
 use Rattle.program.proofs.Everywhere.{everywhere-getD, everywhere-append, everywhere-set}
 
--- no number above 9, no place above m
+-- no number above 8, no place above m
 abbrev pub Within : ℕ → Decoded → Type 0
 Within m (accepted p) = Unit {0}
-Within m (refused n k) = (n ≤ 9) × (k ≤ m)
+Within m (refused n k) = (n ≤ 8) × (k ≤ m)
 
 -- a text has no more lines than bytes
 prepend-length : (c : ℕ) (ls : List TextLine) → length (prepend c ls) ≤ suc (length ls)
@@ -39,7 +39,7 @@ split-length [] = omega arith
 split-length (c ∷ cs) = omega (arith, before-length c (split cs), split-length cs)
 
 -- the numbers by which a line is refused
-small : (a b c d e : Bool) → cond (not a) 3 (cond (not b) 4 (cond (not c) 5 (cond (not d) 6 (cond (not e) 8 0)))) ≤ 9
+small : (a b c d e : Bool) → cond (not a) 3 (cond (not b) 4 (cond (not c) 5 (cond (not d) 6 (cond (not e) 8 0)))) ≤ 8
 small true true true true true = omega arith
 small true true true true false = omega arith
 small true true true false e = omega arith
@@ -47,7 +47,7 @@ small true true false d e = omega arith
 small true false c d e = omega arith
 small false b c d e = omega arith
 
-small-number : (r : Reading) (f : Frame) → frameRefusal r f ≤ 9
+small-number : (r : Reading) (f : Frame) → frameRefusal r f ≤ 8
 unfolding frameRefusal
 small-number r f = small (known f) (inRange f) (inPlace r f) (withinLimits r f) (alikeFits r f)
 
@@ -96,12 +96,11 @@ after-up-to m n f r h u = go (opens f) (declares f)
 
 finish-within : (m : ℕ) (r : Reading) → UpTo m r → Within m (finish r)
 unfolding finish
-finish-within m r u = go (eqb (length (r .threads)) 0) (eqb (firstFarSkip (r .threads)) 0)
+finish-within m r u = go (eqb (firstFarSkip (r .threads)) 0)
   where
-    go : (a b : Bool) → Within m (cond a (refused 9 0) (cond b (accepted (programIn r)) (refused 7 (firstFarSkip (r .threads)))))
-    go true b = (omega arith, omega arith)
-    go false true = tt
-    go false false = (omega arith, first-up-to m (r .threads) u)
+    go : (b : Bool) → Within m (cond b (accepted (programIn r)) (refused 7 (firstFarSkip (r .threads))))
+    go true = tt
+    go false = (omega arith, first-up-to m (r .threads) u)
 
 lines-within : (m n : ℕ) (ls : List TextLine) (r : Reading) → n + length ls ≤ suc m → UpTo m r → Within m (readLines n ls r)
 unfolding readLines

@@ -1,4 +1,4 @@
--- The program that was read is well formed, if it has a thread and no skip goes beyond its thread's end.
+-- The program that was read is well formed, if no skip goes beyond its thread's end.
 use Prim.Native.Nat.{ℕ, _≤_}
 use native.Mathlib.Omega.{arith}
 use mathlib.Core.Path.{_≡_, refl, sym, ap, _∙_}
@@ -87,12 +87,11 @@ alike-group r g a =
       equal = λ t u mt mu. equal-code (r .threads) t u (a .equal t u mt mu);
     }
 
-pub sound-well-formed : (r : Reading) → Sound r → 1 ≤ length (r .threads) → firstFarSkip (r .threads) ≡ 0 → WellFormed (programIn r)
+pub sound-well-formed : (r : Reading) → Sound r → firstFarSkip (r .threads) ≡ 0 → WellFormed (programIn r)
 unfolding programIn instructionsOf
-sound-well-formed r s h e =
+sound-well-formed r s e =
     let n = length-map (r .threads) instructionsOf in
     record {
-      one = omega arith;
       six = omega (arith, s .six);
       sixteen = everywhere-map (λ (c : List Placed). length c ≤ 16) (λ (c : List Instruction). length c ≤ 16) instructionsOf short (r .threads) (s .sixteen);
       access-24 = rw (all-accesses-same (r .threads) (all-instructions (r .threads) (s .good))) (s .access-24);

@@ -1,5 +1,6 @@
--- Program files: document 01's "Program file" with its refusals 1 to 9. 1 comes first; then the lines in order, each by 2, 3, 4, 5, 6, 8;
--- then 9; then 7 at the earliest line. A file that gets none of these is an accepted program.
+-- Program files: document 01's "Program file" with its refusals 1 to 8.
+-- 1 comes first; then the lines in order, each by 2, 3, 4, 5, 6, 8; then 7 at the earliest line. A file that gets none of these is an
+-- accepted program, also one without a thread.
 use Prim.Native.Nat.{ℕ, _+_, _-_}
 use mathlib.Core.Bool.{Bool, true, false, cond, not, _&&_, _||_}
 use mathlib.Core.List.{List, [], _∷_, _++_, map}
@@ -127,10 +128,7 @@ pub data Decoded : Type 0 where
   refused : ℕ → ℕ → Decoded
 
 unfoldable pub finish : Reading → Decoded
-finish r =
-    cond (eqb (length (r .threads)) 0) (refused 9 0)
-    (cond (eqb (firstFarSkip (r .threads)) 0) (accepted (programIn r))
-    (refused 7 (firstFarSkip (r .threads))))
+finish r = cond (eqb (firstFarSkip (r .threads)) 0) (accepted (programIn r)) (refused 7 (firstFarSkip (r .threads)))
 
 -- the lines from number n on; refusal 2: a line that is empty, odd, without its 0a, or has another character
 unfoldable pub readLines : ℕ → List TextLine → Reading → Decoded

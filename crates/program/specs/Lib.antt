@@ -5,7 +5,7 @@ pub mod Program
 pub mod Kinds
 -- what a frame says
 pub mod Frames
--- program files, line by line, with refusals 1 to 9
+-- program files, line by line, with refusals 1 to 8
 pub mod Decode
 -- what holds of every accepted program
 pub mod WellFormed

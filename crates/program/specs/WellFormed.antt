@@ -1,4 +1,4 @@
--- What holds of every accepted program: the limits, ranges and groups that refusals 4 to 9 leave.
+-- What holds of every accepted program: the limits, ranges and groups that refusals 4 to 8 leave.
 use Prim.Native.Nat.{ℕ, suc, _+_, _≤_, _<_, _^_}
 use mathlib.Core.Path.{_≡_}
 use mathlib.Core.List.{List, [], _∷_, List·Memᴰ}
@@ -87,7 +87,6 @@ Apart [] = Unit {0}
 Apart (g ∷ gs) = Everywhere (λ h. (t : ℕ) → List·Memᴰ t g → List·Memᴰ t h → ⊥) gs × Apart gs
 
 pub record WellFormed (p : Program) : Type 0 where
-  pub one : 1 ≤ length (p .threads)
   pub six : length (p .threads) ≤ 6
   pub sixteen : Everywhere (λ c. length c ≤ 16) (p .threads)
   pub access-24 : allAccesses (p .threads) ≤ 24

@@ -1,4 +1,4 @@
-// Program files: what they say and when they are refused (document 01's "Program file", refusals 1 to 9). Definitions and laws; no
+// Program files: what they say and when they are refused (document 01's "Program file", refusals 1 to 8). Definitions and laws; no
 // functions.
 
 // Limits of a program.

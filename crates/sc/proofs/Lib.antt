@@ -36,6 +36,8 @@ pub mod Failing
 pub mod Halted
 -- full schedules in document 01's words
 pub mod Ended
+-- a program without threads: its one full schedule
+pub mod NoThread
 -- T3(b): full schedules with one graph do the same steps, end in the same state, and the least is found from any
 pub mod Reading
 pub mod Determined

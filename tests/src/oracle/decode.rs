@@ -206,7 +206,7 @@ impl Reader {
     }
 }
 
-/// The program that a file holds, or its refusal: 1; then lines in order, each by 2, 3, 4, 5, 6, 8; then 9; then 7.
+/// The program that a file holds, or its refusal: 1; then lines in order, each by 2, 3, 4, 5, 6, 8; then 7. A file without a thread is a program.
 pub fn decode(file: &[u8]) -> Result<Program, Refusal> {
     if file.len() > FILE_LIMIT {
         return refused(1, 0);
@@ -219,9 +219,6 @@ pub fn decode(file: &[u8]) -> Result<Program, Refusal> {
         let Some(end) = rest.iter().position(|&c| c == b'\n') else { return refused(2, place) };
         reader.line(&rest[..end], place)?;
         rest = &rest[end + 1..];
-    }
-    if reader.program.threads.is_empty() {
-        return refused(9, 0);
     }
     match reader.long_skip() {
         Some(line) => refused(7, line),

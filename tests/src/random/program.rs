@@ -19,8 +19,11 @@ pub const ANY: Size = Size { threads: 6, instructions: 16, accesses: 24, locatio
 /// Small enough to walk every schedule: values and places meet often.
 pub const SMALL: Size = Size { threads: 3, instructions: 5, accesses: 8, locations: 2, registers: 2, constants: 3 };
 
-/// The frames of a random accepted program.
+/// The frames of a random accepted program; of one in fifty there are none.
 pub fn frames(random: &mut Random, size: Size) -> Vec<Vec<u8>> {
+    if random.one_in(50) {
+        return Vec::new();
+    }
     let threads = random.between(1, size.threads);
     // threads of one class have equal code; most classes of two or more are declared alike
     let classes = random.between(1, threads);

@@ -54,12 +54,14 @@ pub fn full(random: &mut Random, program: &Program) -> Vec<u8> {
 /// A schedule of that kind.
 pub fn schedule(random: &mut Random, program: &Program, kind: Kind) -> Vec<u8> {
     let threads = program.threads.len();
+    // a byte of a thread; where there is none, of none
+    let name = |random: &mut Random| random.below(threads.max(1)) as u8;
     let mut schedule = full(random, program);
     let at = random.below(schedule.len() + 1);
     match kind {
         Kind::Full => {}
         Kind::Cut => schedule.truncate(at),
-        Kind::Longer => schedule.extend((0..random.between(1, 30)).map(|_| random.below(threads) as u8)),
+        Kind::Longer => schedule.extend((0..random.between(1, 30)).map(|_| name(random))),
         Kind::MuchLonger => schedule.extend((0..random.between(1, 600)).map(|_| random.byte())),
         Kind::Foreign => {
             let byte = random.pick(&[threads as u8, 6, 7, 0x80, 0xff]).max(threads as u8);
@@ -72,9 +74,9 @@ pub fn schedule(random: &mut Random, program: &Program, kind: Kind) -> Vec<u8> {
             schedule.swap(first, other);
         }
         Kind::Lost if at < schedule.len() => drop(schedule.remove(at)),
-        Kind::Swapped | Kind::Lost | Kind::PutIn => schedule.insert(at, random.below(threads) as u8),
+        Kind::Swapped | Kind::Lost | Kind::PutIn => schedule.insert(at, name(random)),
         Kind::Names => {
-            let names = threads + random.below(2);
+            let names = (threads + random.below(2)).max(1);
             schedule = (0..random.below(30)).map(|_| random.below(names) as u8).collect();
         }
         Kind::AnyBytes => schedule = (0..random.below(40)).map(|_| random.byte()).collect(),

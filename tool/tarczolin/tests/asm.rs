@@ -124,7 +124,7 @@ fn errors_by_line_and_column() {
         ("thread\nthread\nalike 0 a", 3, 9, "thread number"),
         ("thread\nthread\nalike 0 1 2 3 4 5 6", 3, 19, "two to six"),
         ("store x 1", 1, 1, "in front of the first thread"),
-        ("# nothing", 1, 1, "no thread"),
+        ("alike 0 1", 1, 1, "there is no thread 0"),
         (&many, 18, 1, "instruction number 17"),
         (&names, 10, 9, "at most 8"),
         ("thread\n\n  if r0 != 0 skip 2\n  r0 = 1", 3, 3, "only 1 follow"),

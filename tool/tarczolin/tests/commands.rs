@@ -86,7 +86,7 @@ fn refusals_have_number_place_line_and_a_sentence() {
     turned_away(check("01\n2200000000000003\n110000\n"), &["refusal 7 at line 2", "skips 3 instructions, and only 1 follow"]);
     turned_away(check("01\n110000\n01\n110100\n020001\n"), &["refusal 8 at line 5", "differ in their code"]);
     turned_away(check("01\n020005\n"), &["refusal 8 at line 2", "no thread 5"]);
-    turned_away(check(""), &["refusal 9", "no thread"]);
+    turned_away(check("020001\n"), &["refusal 8 at line 1", "no thread 0; the file has 0"]);
     turned_away(check(&"0".repeat(5000)), &["refusal 1", "longer than 4096 bytes"]);
     let pair = "examples/store-load-pair.hex";
     turned_away(run(&["graph", pair, "000000"]), &["refusal 20 at step 2", "00 00 [00]", "thread 0 has ended"]);

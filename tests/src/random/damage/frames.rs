@@ -12,6 +12,9 @@ pub fn damage(random: &mut Random, damage: Damage, frames: &mut Vec<Vec<u8>>) {
     if damage == Empty {
         frames.clear();
     }
+    if damage == Threadless {
+        frames.retain(|frame| frame[0] == 0x02);
+    }
     if frames.is_empty() {
         return;
     }

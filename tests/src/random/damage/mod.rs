@@ -47,11 +47,13 @@ pub enum Damage {
     AnyDigits,
     AnyFrames,
     Empty,
+    /// Only the lines that declare threads alike are left.
+    Threadless,
 }
 
 use Damage::*;
 
-pub const ALL: [Damage; 31] = [
+pub const ALL: [Damage; 32] = [
     Nothing,
     AnyByte,
     LostByte,
@@ -83,6 +85,7 @@ pub const ALL: [Damage; 31] = [
     AnyDigits,
     AnyFrames,
     Empty,
+    Threadless,
 ];
 
 /// A random program file with this damage, and sometimes with a second one, so that the order of refusals matters.

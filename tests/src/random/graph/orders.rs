@@ -74,7 +74,11 @@ fn exchanged(random: &mut Random, machine: &Machine, graph: &mut Graph) {
     *graph = graph.exchanged(&to);
 }
 
+/// Changes a graph; that of a program without threads has nothing to change.
 pub fn change(random: &mut Random, machine: &Machine, change: Change, graph: &mut Graph) {
+    if machine.threads.is_empty() {
+        return;
+    }
     let reads: Vec<Event> = graph.reads.keys().copied().collect();
     match change {
         Source => source(random, machine, graph),

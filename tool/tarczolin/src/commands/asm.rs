@@ -3,7 +3,7 @@ use super::arguments::Arguments;
 use super::reply::{each, Question};
 use crate::end::End;
 use crate::error::{called, Error};
-use crate::{ask, asm, input};
+use crate::{ask, asm, input, program};
 
 pub fn run(arguments: &Arguments) -> Result<End, Error> {
     each("asm", arguments, assembled)
@@ -12,7 +12,7 @@ pub fn run(arguments: &Arguments) -> Result<End, Error> {
 fn assembled(question: &Question) -> Result<End, Error> {
     let text = input::text(question.file)?;
     let name = called(question.file);
-    if ask::check(&text).is_ok() {
+    if ask::check(&text).is_ok() && program::frames(&text).is_some_and(|frames| !frames.is_empty()) {
         let message = "this is a program file already; disasm makes a text of it".to_string();
         return Err(Error::Unfit { name: name.to_string(), message });
     }

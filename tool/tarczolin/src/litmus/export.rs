@@ -7,6 +7,9 @@ const REGISTERS: [&str; 6] = ["EAX", "EBX", "ECX", "EDX", "ESI", "EDI"];
 pub fn export(name: &str, program: &Program) -> Result<String, String> {
     let columns: Result<Vec<Vec<String>>, String> = program.numbers().map(|t| column(program, t)).collect();
     let columns = columns?;
+    if columns.is_empty() {
+        return Err("a litmus test has at least one thread, and this program has none".to_string());
+    }
     let height = columns.iter().map(Vec::len).max().unwrap_or(0);
     let mut text = format!("X86 {name}\n{{ }}\n");
     for row in 0..height {

@@ -50,7 +50,6 @@ pub fn sentence(file: &[u8], refusal: Refusal) -> String {
         6 => limit(&frame, &before),
         7 => skip(file, refusal.place, &frame),
         8 => alike(&frame[1.min(frame.len())..], &before),
-        9 => "the file has no thread; at least one thread (01) is needed".to_string(),
         _ => "the file is refused".to_string(),
     }
 }

@@ -1,0 +1,17 @@
+-- A file without a thread: the file of 0 bytes is the program of no thread, and 9 refuses no file.
+use Prim.Native.Nat.{ℕ}
+use native.Mathlib.Omega.{arith}
+use mathlib.Core.Path.{_≡_, refl, subst}
+use mathlib.Core.List.{List, []}
+use Rattle.lines.specs.TextLines.{split}
+use Rattle.program.specs.Decode.{fresh, firstFarSkip, programIn, accepted, refused, finish, readLines, decode}
+use Rattle.program.proofs.Places.{Within, decode-within}
+
+-- THE FILE OF 0 BYTES
+pub no-bytes : decode [] ≡ accepted (record { threads = []; groups = [] })
+unfolding split fresh firstFarSkip programIn finish readLines decode
+no-bytes = refl
+
+-- NO FILE IS REFUSED BY 9
+pub never-9 : (file : List ℕ) (k : ℕ) → decode file ≡ refused 9 k → ⊥
+never-9 file k e = let w = subst (Within 4096) e (decode-within file) in omega (arith, w .0)
