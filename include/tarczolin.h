@@ -5,9 +5,14 @@
  *   bits 56 to 63   the kind: 1 answered; 2 no more, none, or no; 3 refused
  *   bits 48 to 55   a refusal's number, else 0
  *   bits  0 to 47   the length of an answer in bytes, 0 where there is none; of rows their number;
- *                   or a refusal's place. All of them fit these bits: of rows where the output is shorter than 26 * 2^48 bytes
+ *                   or a refusal's place. All of them fit these bits: of rows where the output is shorter than 26 * 2^48 bytes,
+ *                   of a graph text's refusal where the text is shorter than 2^48 bytes
  *
  * A call reads only the bytes that it is lent and keeps nothing for the next.
+ *
+ * Program files and graph texts are lines of hexadecimal, each ended by 0a; A to F are read as a to f, and what is written is
+ * lower case. A line that begins with # is a remark: it may hold any byte but 0a, says nothing, and counts as a line in every
+ * place. A remark without its 0a is refused as any line (2, 30).
  *
  * The buffers that one call is lent must not overlap: an output shares no byte with a file, a schedule or a graph text of the
  * same call, and tarczolin_count's two words are different words. (What is only read may overlap, or be the same.) What is

@@ -105,6 +105,9 @@ fn damages_do_what_they_say(seen: &Seen) {
         (OddLine, 2),
         (AnyByte, 2),
         (Padded, 1),
+        (FilledRemark, 1),
+        (OpenRemark, 2),
+        (LateRemark, 2),
         (FirstByte, 3),
         (Length, 3),
         (Field, 4),
@@ -126,6 +129,8 @@ fn damages_do_what_they_say(seen: &Seen) {
         assert!(seen.of(damage, number) >= 500, "{damage:?} reached {number} {} times", seen.of(damage, number));
     }
     let not_always = [
+        Capital,
+        FilledRemark,
         Field,
         Operand,
         SwappedLines,

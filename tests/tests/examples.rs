@@ -20,6 +20,7 @@ fn examples_of_document_01() {
         "empty-thread",
         "no-thread",
         "whole",
+        "whole-with-remarks",
         "whole-without-02",
         "load-add-store",
         "load-add-store-alike",
@@ -122,6 +123,7 @@ fn order_of_refusals() {
     expect("2: an empty line", b"01\n\n", Answer::Refused(2, 2));
     expect("2: a lone 0a", b"\n", Answer::Refused(2, 1));
     expect("2: no last 0a", b"01\n110000", Answer::Refused(2, 2));
-    expect("2: a capital", b"01\n10000000000A01\n", Answer::Refused(2, 2));
+    expect("2: G", b"01\n10000000000G01\n", Answer::Refused(2, 2));
+    expect("b: a capital", b"01\n10000000000A01\n", ACCEPTED);
     expect("1 before all", &[b'\n'; 4097], Answer::Refused(1, 0));
 }

@@ -13,7 +13,7 @@ use tarczolin_tests::random::program::{frames, straight, Size, ANY, SMALL};
 use tarczolin_tests::random::{damage, Random};
 use tarczolin_tests::share;
 
-const PROGRAMS: usize = 14_000;
+const PROGRAMS: usize = 15_000;
 const TEXTS: usize = 8;
 const WALKED: usize = 4_000;
 
@@ -206,12 +206,14 @@ fn changes_do_what_they_say(seen: &Seen) {
         (LongLine, 30),
         (LongLine, 31),
         (LongLine, 33),
+        (OpenRemark, 30),
+        (LateRemark, 30),
         (AnyBytes, 30),
     ];
     for (change, number) in aims {
         assert!(seen.of(change, Some(number)) >= 30, "{change:?} reached {number} {} times", seen.of(change, Some(number)));
     }
-    for change in [NearField, LongWrites, Empty] {
+    for change in [NearField, LongWrites, Capital, Empty] {
         assert!(seen.of(change, None) >= 100, "{change:?} was judged {} times", seen.of(change, None));
     }
 }

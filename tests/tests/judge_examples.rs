@@ -74,7 +74,8 @@ fn decided_readings() {
         ("31: a long 40", "400001ffff00", refusal(31, 1)),
         ("31: another first byte", "420000", refusal(31, 1)),
         ("30: odd", "40000", refusal(30, 1)),
-        ("30: a capital", "400001FFFF", refusal(30, 1)),
+        ("30: G", "400001FFFG", refusal(30, 1)),
+        ("b: a capital", "400001FFff 4001010000 41000000 41010100", yes(&[0, 0, 1, 1])),
     ];
     for (name, text, answer) in table {
         expect(name, PAIR, &lines(text), 24, answer);

@@ -1,36 +1,23 @@
 -- A text of frames that pass, one after the other, is read as the graph that they make.
-use Prim.Native.Nat.{ℕ, _+_, _-_, _%_, _≤_}
+use Prim.Native.Nat.{ℕ, _+_, _%_, _≤_}
 use mathlib.Core.Path.{_≡_, refl, ap, _∙_}
 use mathlib.Core.Bool.{Bool, true, false, _&&_}
 use mathlib.Core.List.{List, [], _∷_, _++_}
 use native.Mathlib.Omega.{arith}
 use borrow.Author.Tests.{eqb-true, leb-true}
 use lib.Dec.{eqb, leb}
-use lib.ListN.{length, take, drop, length-append}
-use lib.Seq.{drop-at}
+use lib.ListN.{length}
 use Rattle.lines.specs.Frame.{Bytes}
-use Rattle.lines.specs.Text.{digits, text}
-use Rattle.lines.specs.Split.{lineLength}
-use Rattle.lines.specs.TextLines.{TextLine, split, frameOf}
-use Rattle.lines.proofs.RoundTrip.{frame-digits, lineLength-text, take-text}
-use Rattle.lines.proofs.Text.{length-digits, length-text}
-use Rattle.lines.proofs.TextLines.{whole, split-at}
+use Rattle.lines.specs.Text.{digits}
+use Rattle.lines.specs.TextLines.{TextLine, split}
+use Rattle.lines.specs.Meaning.{meaning}
+use Rattle.lines.proofs.RoundTrip.{spelt-digits, split-text}
+use Rattle.lines.proofs.TextLines.{whole}
 use Rattle.program.specs.WellFormed.{Everywhere}
 use Rattle.program.proofs.Tests.{both}
 use Rattle.sc.specs.Text.{textOf}
 use Rattle.consistent.specs.Reading.{Frame, byteAt, isRead, known, Reading, refusal, after, parsed, readLines}
 use Rattle.consistent.proofs.Parsed.{passed}
-
--- a frame's line is the first line of a text that begins with it
-split-text : (f : Frame) (r : List ℕ) → split (text f ++ r) ≡ whole (digits f) ∷ split r
-split-text f r =
-    let t = text f ++ r in
-    let e = lineLength-text f r in
-    let s = split-at t 0 (lineLength t) (omega arith) (omega (arith, e, length-append (text f) r, length-text f, length-digits f)) in
-    let d : drop (lineLength t + 1) t ≡ r = drop-at (text f) r (lineLength t + 1) (omega (arith, e, length-text f, length-digits f)) in
-    let z : lineLength t - 0 ≡ lineLength t = omega arith in
-    s ∙ ap (λ (k : ℕ). whole (take k t) ∷ split (drop (lineLength t + 1) t)) z
-    ∙ ap (λ (l : List ℕ). whole l ∷ split (drop (lineLength t + 1) t)) (take-text f r) ∙ ap (λ (l : List ℕ). whole (digits f) ∷ split l) d
 
 module _ (n : ℕ) where
   -- each passes behind those before it
@@ -66,8 +53,8 @@ module _ (n : ℕ) where
           omega (arith, leb-true 4 (length f) (both (leb 4 (length f)) (eqb (length f % 2) 0) (a .1) .0))
 
   read-line : (f : Frame) (ls : List TextLine) (k : ℕ) (r : Reading) → Bytes f → refusal n r f ≡ 0 → readLines n k (whole (digits f) ∷ ls) r ≡ readLines n (k + 1) ls (after f r)
-  unfolding readLines frameOf
-  read-line f ls k r b e = rw (frame-digits f (known-length f (passed n r f e .0)) b, readLines, e)
+  unfolding readLines meaning
+  read-line f ls k r b e = rw (spelt-digits f (known-length f (passed n r f e .0)) b, readLines, e)
 
   pub read-frames : (fs : List Frame) (k : ℕ) (r : Reading) → Everywhere Bytes fs → Passing n r fs → readLines n k (split (textOf fs)) r ≡ parsed (afterAll fs r .graph)
   unfolding readLines afterAll textOf split

@@ -40,7 +40,7 @@ pub mod Judged
 pub mod Readable
 pub mod Parsed
 pub mod LineRanges
--- refusals of a text are small: its lines ascend, so that not many can pass
+-- refusals of a text are small: it has no more lines than bytes
 pub mod SmallRefusals
 pub mod FramesRead
 pub mod RowsRead
@@ -50,6 +50,8 @@ pub mod AccessCount
 pub mod RunRead
 -- the answers to texts: the walk's answer is right, and no other is
 pub mod Judgements
+-- texts that differ only in remarks and capitals
+pub mod PlainTexts
 -- demand 2
 pub mod LineNumbers
 pub mod Demand2

@@ -2,11 +2,11 @@
 use Prim.Native.Nat.{ℕ, _+_, _≤_}
 use mathlib.Core.Path.{_≡_, refl}
 use mathlib.Core.Bool.{Bool, true, false, cond, not, true≢false}
-use mathlib.Core.Option.{Option, none, some}
 use mathlib.Core.List.{List, [], _∷_}
 use native.Mathlib.Omega.{arith}
 use lib.Dec.{eqb}
-use Rattle.lines.specs.TextLines.{TextLine, split, frameOf}
+use Rattle.lines.specs.TextLines.{TextLine, split}
+use Rattle.lines.specs.Meaning.{Meaning, remarked, framed, broken, meaning}
 use Rattle.consistent.specs.Reading.{Frame, known, inRange, Reading, inOrder, refusal, after, fresh, Parsed, parsed, refusedAt, readLines, readGraph}
 
 abbrev Numbered : ℕ → ℕ → Type 0
@@ -25,15 +25,18 @@ refusal-number n r f e = of-three (not (known f)) (not (inRange n f)) (not (inOr
 lines-numbered : (n k : ℕ) (ls : List TextLine) (r : Reading) → 1 ≤ k → (m j : ℕ) → readLines n k ls r ≡ refusedAt m j → Numbered m j
 unfolding readLines
 lines-numbered n k [] r h m j e = absurd (let z : _≡_ {A = ℕ} 0 1 = cc in omega arith)
-lines-numbered n k (l ∷ ls) r h m j e = go (frameOf l) refl (λ f. lines-numbered n (k + 1) ls (after f r) (omega arith) m j)
+lines-numbered n k (l ∷ ls) r h m j e =
+    go (meaning l) refl (lines-numbered n (k + 1) ls r (omega arith) m j) (λ f. lines-numbered n (k + 1) ls (after f r) (omega arith) m j)
   where
-    go : (o : Option Frame) → frameOf l ≡ o → ((f : Frame) → readLines n (k + 1) ls (after f r) ≡ refusedAt m j → Numbered m j) → Numbered m j
-    go none q ih =
+    go : (x : Meaning) → meaning l ≡ x → (readLines n (k + 1) ls r ≡ refusedAt m j → Numbered m j)
+        → ((f : Frame) → readLines n (k + 1) ls (after f r) ≡ refusedAt m j → Numbered m j) → Numbered m j
+    go broken q past ih =
         let i : refusedAt 30 k ≡ refusedAt m j = rw (q, readLines) at e in
         let a : 30 ≡ m = cc in
         let b : k ≡ j = cc in
         (omega arith, omega arith, omega arith)
-    go (some f) q ih = by (eqb (refusal n r f) 0) refl
+    go remarked q past ih = past (rw (q, readLines) at e)
+    go (framed f) q past ih = by (eqb (refusal n r f) 0) refl
       where
         line : cond (eqb (refusal n r f) 0) (readLines n (k + 1) ls (after f r)) (refusedAt (refusal n r f) k) ≡ refusedAt m j
         line = rw (q, readLines) at e

@@ -2,14 +2,13 @@
 use Prim.Native.Nat.{ℕ, _+_, _-_, _<_, _≤_}
 use mathlib.Core.Path.{_≡_, ap, _∙_}
 use mathlib.Core.Logic.{_≢_}
-use mathlib.Core.Option.{none, some}
 use mathlib.Core.List.{List}
 use native.Mathlib.Omega.{arith}
 use borrow.Author.Tests.{ne-eqb}
 use lib.ListN.{length, take, drop, drop-of-length-le}
-use Rattle.lines.specs.Frame.{frame}
 use Rattle.lines.specs.Split.{lineLength}
-use Rattle.lines.specs.TextLines.{TextLine, split, frameOf}
+use Rattle.lines.specs.TextLines.{TextLine, split}
+use Rattle.lines.specs.Meaning.{remarked, framed, broken, spelt, meaning}
 use Rattle.lines.proofs.TextLines.{split-at, split-end}
 use Rattle.consistent.specs.Reading.{Frame, Reading, refusal, after, Parsed, parsed, refusedAt, readLines}
 
@@ -25,24 +24,29 @@ module _ (n k : ℕ) (text : List ℕ) (at : ℕ) (r : Reading) where
   module _ (end : ℕ) (e : end ≡ at + lineLength (drop at text)) where
     -- 30: the last line has no 0a
     pub line-unended : at < length text → length text ≤ end → end ≤ length text → FromHere ≡ refusedAt 30 k
-    unfolding readLines frameOf
+    unfolding readLines meaning
     line-unended h l m = ap (λ (ls : List TextLine). readLines n k ls r) (split-end text at h (omega arith))
 
     module _ (inside : end < length text) where
       abbrev pub line : List ℕ
       line = take (end - at) (drop at text)
 
-      -- 30: the line is no frame
-      pub line-broken : frame line ≡ none → FromHere ≡ refusedAt 30 k
-      unfolding readLines frameOf
+      -- 30: the line is neither a frame nor a remark
+      pub line-broken : spelt line ≡ broken → FromHere ≡ refusedAt 30 k
+      unfolding readLines meaning
       line-broken q = ap (λ (ls : List TextLine). readLines n k ls r) (split-at text at end e inside) ∙ rw (q, readLines)
 
+      -- a remark is passed over
+      pub line-remarked : spelt line ≡ remarked → FromHere ≡ readLines n (k + 1) (split (drop (end + 1) text)) r
+      unfolding readLines meaning
+      line-remarked q = ap (λ (ls : List TextLine). readLines n k ls r) (split-at text at end e inside) ∙ rw (q, readLines)
+
       -- 31 to 33
-      pub line-refused : (f : Frame) → frame line ≡ some f → (m : ℕ) → refusal n r f ≡ m → m ≢ 0 → FromHere ≡ refusedAt m k
-      unfolding readLines frameOf
+      pub line-refused : (f : Frame) → spelt line ≡ framed f → (m : ℕ) → refusal n r f ≡ m → m ≢ 0 → FromHere ≡ refusedAt m k
+      unfolding readLines meaning
       line-refused f q m i ne = ap (λ (ls : List TextLine). readLines n k ls r) (split-at text at end e inside) ∙ rw (q, readLines, i, ne-eqb m 0 ne)
 
       -- the line passes
-      pub line-passes : (f : Frame) → frame line ≡ some f → refusal n r f ≡ 0 → FromHere ≡ readLines n (k + 1) (split (drop (end + 1) text)) (after f r)
-      unfolding readLines frameOf
+      pub line-passes : (f : Frame) → spelt line ≡ framed f → refusal n r f ≡ 0 → FromHere ≡ readLines n (k + 1) (split (drop (end + 1) text)) (after f r)
+      unfolding readLines meaning
       line-passes f q i = ap (λ (ls : List TextLine). readLines n k ls r) (split-at text at end e inside) ∙ rw (q, readLines, i)

@@ -3,7 +3,6 @@ use Prim.Native.Nat.{ℕ, zero, suc, _+_, _<_, _≤_}
 use mathlib.Core.Path.{_≡_, refl, sym, ap, subst, _∙_}
 use mathlib.Core.Logic.{_≢_, _⊎_, inl, inr, ⊎-elim}
 use mathlib.Core.Bool.{Bool, true, false, cond, not, false≢true}
-use mathlib.Core.Option.{Option, none, some}
 use mathlib.Core.List.{List, [], _∷_, reverse, List·Memᴰ, List·Memᴰ·cases-cons, List·Memᴰ·not-nil}
 use native.Mathlib.Omega.{arith}
 use native.Mathlib.Decide.{ℕ-discrete}
@@ -11,7 +10,8 @@ use borrow.Author.Tests.{leb-true, eqb-true, ltb-true}
 use lib.Dec.{eqb, leb}
 use lib.ListN.{length, getD, set, replicate, length-set, length-replicate}
 use lib.Seq.{getD-set-same, getD-set-other}
-use Rattle.lines.specs.TextLines.{TextLine, split, frameOf}
+use Rattle.lines.specs.TextLines.{TextLine, split}
+use Rattle.lines.specs.Meaning.{Meaning, remarked, framed, broken, meaning}
 use Rattle.program.specs.Program.{Program}
 use Rattle.program.proofs.Tests.{both}
 use Rattle.schedules.specs.Lists.{all}
@@ -184,11 +184,12 @@ module _ (n : ℕ) where
   so-far-lines : (ls : List TextLine) (k : ℕ) (r : Reading) (g : Graph) → SoFar r → readLines n k ls r ≡ parsed g → Readable n g
   unfolding readLines
   so-far-lines [] k r g F e = let i : r .graph ≡ g = cc in subst (Readable n) i (F .readable)
-  so-far-lines (l ∷ ls) k r g F e = go (frameOf l) refl (λ s h. so-far-lines ls (k + 1) s g h)
+  so-far-lines (l ∷ ls) k r g F e = go (meaning l) refl (λ s h. so-far-lines ls (k + 1) s g h)
     where
-      go : (o : Option Frame) → frameOf l ≡ o → ((s : Reading) → SoFar s → readLines n (k + 1) ls s ≡ parsed g → Readable n g) → Readable n g
-      go none q ih = let i : refusedAt 30 k ≡ parsed g = rw (q, readLines) at e in absurd (let z : _≡_ {A = ℕ} 0 1 = cc in omega arith)
-      go (some f) q ih = test (eqb (refusal n r f) 0) refl
+      go : (m : Meaning) → meaning l ≡ m → ((s : Reading) → SoFar s → readLines n (k + 1) ls s ≡ parsed g → Readable n g) → Readable n g
+      go broken q ih = let i : refusedAt 30 k ≡ parsed g = rw (q, readLines) at e in absurd (let z : _≡_ {A = ℕ} 0 1 = cc in omega arith)
+      go remarked q ih = ih r F (rw (q, readLines) at e)
+      go (framed f) q ih = test (eqb (refusal n r f) 0) refl
         where
           i : cond (eqb (refusal n r f) 0) (readLines n (k + 1) ls (after f r)) (refusedAt (refusal n r f) k) ≡ parsed g
           i = rw (q, readLines) at e

@@ -4,10 +4,11 @@ use mathlib.Core.Path.{_≡_, refl}
 use mathlib.Core.Bool.{Bool, true, false, _&&_}
 use mathlib.Core.List.{List, [], _∷_, _++_}
 use lib.Dec.{eqb}
-use Rattle.lines.specs.Digit.{digit, value, digitOf}
+use Rattle.lines.specs.Digit.{lower, digit, value, digitOf}
 use Rattle.lines.specs.Frame.{hexadecimal, pairs, frame}
 use Rattle.lines.specs.Text.{digits, text}
-use Rattle.lines.specs.TextLines.{prepend, before, split, frameOf}
+use Rattle.lines.specs.TextLines.{prepend, before, split}
+use Rattle.lines.specs.Meaning.{remark, spelt, meaning}
 use Rattle.program.specs.Program.{Program}
 use Rattle.schedules.specs.Lists.{all}
 use Rattle.schedules.specs.Order.{less}
@@ -20,7 +21,7 @@ use Rattle.consistent.proofs.Examples.{judging, buffering, threadsOf}
 
 -- what a proof names on its `unfolding` line to compute with texts
 unfoldable pub answering : Program → List ℕ → ℕ → Answer
-unfolding judging digit value digitOf hexadecimal pairs frame digits text prepend before split less textOf isRead eventsIn writesIn known isEvent isSource inRange key written allNew inOrder refusal withLine after fresh frameOf readLines readGraph answerOf answerTo answerText
+unfolding judging lower digit value digitOf hexadecimal pairs frame digits text prepend before split remark spelt meaning less textOf isRead eventsIn writesIn known isEvent isSource inRange key written allNew inOrder refusal withLine after fresh readLines readGraph answerOf answerTo answerText
 answering p t room = answerText p t room
 
 unfoldable sameAnswer : Answer → Answer → Bool
@@ -58,6 +59,13 @@ at0 = 0x41 ∷ 0 ∷ 0 ∷ 0 ∷ []
 abbrev at1 : Frame
 at1 = 0x41 ∷ 1 ∷ 1 ∷ 0 ∷ []
 
+-- a remark, and the second line in capitals
+abbrev remarkLine : List ℕ
+remarkLine = 0x23 ∷ 0x0d ∷ 0xff ∷ 0 ∷ 10 ∷ []
+
+abbrev capitalLine : List ℕ
+capitalLine = 0x34 ∷ 0x30 ∷ 0x30 ∷ 0x31 ∷ 0x30 ∷ 0x31 ∷ 0x46 ∷ 0x46 ∷ 0x46 ∷ 0x66 ∷ 10 ∷ []
+
 -- 26 different events
 abbrev many : Frame
 many = 0x41 ∷ 0 ∷ 0 ∷ 0 ∷ 0 ∷ 1 ∷ 0 ∷ 2 ∷ 0 ∷ 3 ∷ 0 ∷ 4 ∷ 0 ∷ 5 ∷ 0 ∷ 6 ∷ 0 ∷ 7 ∷ 0 ∷ 8 ∷ 0 ∷ 9 ∷ 0 ∷ 10 ∷ 0 ∷ 11 ∷ 0 ∷ 12 ∷ 1 ∷ 0 ∷ 1 ∷ 1 ∷ 1 ∷ 2 ∷ 1 ∷ 3 ∷ 1 ∷ 4 ∷ 1 ∷ 5 ∷ 1 ∷ 6 ∷ 1 ∷ 7 ∷ 1 ∷ 8 ∷ 1 ∷ 9 ∷ 1 ∷ 10 ∷ 1 ∷ 11 ∷ 1 ∷ 12 ∷ []
@@ -85,10 +93,17 @@ cases =
     -- 30: empty, odd, another character, without its 0a, also behind a line that passes
     raw (10 ∷ []) (refusing 30 1) ∷
     raw (0x34 ∷ 10 ∷ []) (refusing 30 1) ∷
-    raw (0x34 ∷ 0x41 ∷ 10 ∷ []) (refusing 30 1) ∷
+    raw (0x34 ∷ 0x47 ∷ 10 ∷ []) (refusing 30 1) ∷
     raw (textOf (first ∷ []) ++ digits second) (refusing 30 2) ∷
     raw (digits first) (refusing 30 1) ∷
     raw (0x30 ∷ []) (refusing 30 1) ∷
+    -- remarks and capitals: in front, between and behind the lines, with 0d and ff in them; a remark without its 0a is 30, and every remark is counted
+    raw (remarkLine ++ (textOf (first ∷ []) ++ (remarkLine ++ (capitalLine ++ (textOf (at0 ∷ at1 ∷ []) ++ remarkLine)))))
+    inconsistent ∷
+    raw remarkLine inconsistent ∷
+    raw (0x23 ∷ []) (refusing 30 1) ∷
+    raw (remarkLine ++ (textOf (second ∷ []) ++ (remarkLine ++ textOf (first ∷ [])))) (refusing 33 4) ∷
+    raw (remarkLine ++ (0x20 ∷ remarkLine)) (refusing 30 2) ∷
     -- 31: first byte, length
     row ((0x42 ∷ 0 ∷ 0 ∷ 0 ∷ []) ∷ []) (refusing 31 1) ∷
     row ((0x40 ∷ 0 ∷ 1 ∷ 0xff ∷ []) ∷ []) (refusing 31 1) ∷

@@ -9,5 +9,7 @@ pub mod Same
 pub mod Reading
 -- the answer to a graph text
 pub mod Answer
+-- readings and answers that differ at most in the place of a refusal
+pub mod SameButPlace
 -- demand 2: the judge's promise as one claim
 pub mod Demand2

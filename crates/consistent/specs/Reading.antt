@@ -3,11 +3,11 @@
 -- no.
 use Prim.Native.Nat.{ℕ, _+_, _%_}
 use mathlib.Core.Bool.{Bool, true, cond, not, _&&_, _||_}
-use mathlib.Core.Option.{none, some}
 use mathlib.Core.List.{List, [], _∷_, reverse}
 use lib.Dec.{eqb, ltb, leb}
 use lib.ListN.{length, getD, set, drop, replicate}
-use Rattle.lines.specs.TextLines.{TextLine, split, frameOf}
+use Rattle.lines.specs.TextLines.{TextLine, split}
+use Rattle.lines.specs.Meaning.{remarked, framed, broken, meaning}
 use Rattle.schedules.specs.Lists.{any, all}
 use Rattle.schedules.specs.Order.{less}
 use Rattle.sc.specs.State.{Event, initialWrite}
@@ -95,13 +95,15 @@ pub data Parsed : Type 0 where
   parsed : Graph → Parsed
   refusedAt : ℕ → ℕ → Parsed
 
--- the lines from number k on, of a text of n threads; refusal 30: a line that is empty, odd, without its 0a, or has another character
+-- the lines from number k on, of a text of n threads. Refusal 30: a line that is empty, odd, without its 0a, or has another character; a
+-- remark is passed over, and counts as a line
 unfoldable pub readLines : ℕ → ℕ → List TextLine → Reading → Parsed
 readLines n k [] r = parsed (r .graph)
 readLines n k (l ∷ ls) r =
-    elim (frameOf l) [
-      | none ↦ refusedAt 30 k
-      | some f ↦ cond (eqb (refusal n r f) 0) (readLines n (k + 1) ls (after f r)) (refusedAt (refusal n r f) k)
+    elim (meaning l) [
+      | broken ↦ refusedAt 30 k
+      | remarked ↦ readLines n (k + 1) ls r
+      | framed f ↦ cond (eqb (refusal n r f) 0) (readLines n (k + 1) ls (after f r)) (refusedAt (refusal n r f) k)
     ]
 
 unfoldable pub readGraph : ℕ → List ℕ → Parsed

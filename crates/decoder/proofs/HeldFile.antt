@@ -3,20 +3,20 @@ use Prim.Native.Nat.{ℕ, _+_, _-_, _≤_, _<_}
 use native.Mathlib.Omega.{arith}
 use mathlib.Core.Path.{_≡_, _∙_, sym, ap}
 use mathlib.Core.List.{List, [], _∷_}
-use mathlib.Core.Option.{some}
 use lib.ListN.{length, getD, take, drop, replicate, drop-of-length-le}
 use borrow.Author.Tests.{eq-eqb, ne-eqb, le-ltb, lt-ltb}
-use Rattle.lines.specs.Frame.{frame, pairs, frameLength}
+use Rattle.lines.specs.Frame.{pairs}
 use Rattle.lines.specs.Split.{lineLength}
-use Rattle.lines.specs.TextLines.{TextLine, split, frameOf}
-use Rattle.lines.proofs.Frame.{frame-bytes}
+use Rattle.lines.specs.TextLines.{TextLine, split}
+use Rattle.lines.specs.Meaning.{framed, meaning, lineOf}
+use Rattle.lines.specs.declared.reader.Line.the-variants.{Frame, Remark, Broken}
+use Rattle.lines.proofs.Meaning.{framed-bytes, told-frame, told-remark, told-broken}
 use Rattle.lines.proofs.TextLines.{whole, split-at, split-end}
 use Rattle.decoder.specs.declared.counts.Counts.{Counts}
 use Rattle.program.specs.Decode.{Reading, fresh, threadAt, frameRefusal, after, refused, finish, readLines, decode}
 use Rattle.program.specs.WellFormed.{Everywhere, Ascending}
 use Rattle.decoder.specs.Held.{nothing, Bounded, Holds, Lined, Grouped, Taken}
 use Rattle.program.proofs.Everywhere.{everywhere-getD, everywhere-weaken}
-use Rattle.lines.proofs.Lengths.{length-none, length-some}
 use Rattle.program.proofs.Sound.{Alike, Sound, sound-fresh, sound-after}
 use Rattle.decoder.proofs.HeldAfter.{held-fresh}
 
@@ -77,49 +77,64 @@ module _ (file code rows : List ℕ) (s : Counts) (at number : ℕ) (small : len
 
   -- the last line has no 0a
   pub read-unended : (end : ℕ) → at < length file → end ≡ at + lineLength (drop at file) → end ≡ length file → decode file ≡ refused 2 number
-  unfolding readLines frameOf
+  unfolding readLines meaning
   read-unended end h e l =
       p .rest ∙ ap (λ (ls : List TextLine). readLines number ls (p .read)) (split-end file at h (sym e ∙ l))
 
   -- a whole line, and what is left behind it
-  module _ (end n : ℕ) (h : at < length file) (e : end ≡ at + lineLength (drop at file)) (inside : end < length file) (size : n ≡ frameLength (take (end - at) (drop at file))) where
+  module _ (end : ℕ) (h : at < length file) (e : end ≡ at + lineLength (drop at file)) (inside : end < length file) where
     abbrev line : List ℕ
     line = take (end - at) (drop at file)
 
     here : decode file ≡ readLines number (whole line ∷ split (drop (end + 1) file)) (p .read)
     here = p .rest ∙ ap (λ (ls : List TextLine). readLines number ls (p .read)) (split-at file at end e inside)
 
-    -- it is no frame
-    pub read-broken : n ≡ 0 → decode file ≡ refused 2 number
-    unfolding readLines frameOf
-    read-broken z = here ∙ rw (length-none line (sym size ∙ z), readLines)
+    -- it is neither a frame nor a remark
+    pub read-broken : lineOf line ≡ Broken → decode file ≡ refused 2 number
+    unfolding readLines meaning
+    read-broken z = here ∙ rw (told-broken line z, readLines)
 
-    -- its frame
-    pub read-frame : (n ≡ 0 → ⊥) → (frame line ≡ some (pairs line)) × (n ≡ length (pairs line))
-    read-frame z = let k = length-some line (λ q. z (size ∙ q)) in (k .0, size ∙ k .1)
+    -- it is a remark: it is passed over, and counted
+    pub read-remark : lineOf line ≡ Remark → Progress file code rows s (end + 1) (number + 1)
+    unfolding readLines meaning
+    read-remark z = record {
+      within = omega arith;
+      counted = let c = p .counted in omega arith;
+      few = let f = p .few in omega arith;
+      read = p .read;
+      holds = p .holds;
+      lined = p .lined;
+      sound = p .sound;
+      rest = here ∙ rw (told-remark line z, readLines);
+    }
 
-    -- it is refused
-    pub read-refused : (k : ℕ) → (n ≡ 0 → ⊥) → k ≡ frameRefusal (p .read) (pairs line) → (k ≡ 0 → ⊥) → decode file ≡ refused k number
-    unfolding readLines frameOf
-    read-refused k z q r = here ∙ rw (read-frame z .0, readLines, ← q, ne-eqb k 0 r)
+    module _ (n : ℕ) (z : lineOf line ≡ Frame n) where
+      -- its frame's length
+      pub read-size : n ≡ length (pairs line)
+      read-size = sym (told-frame line n z .1)
 
-    -- it passes
-    pub read-more : (k : ℕ) (code' rows' : List ℕ) (s' : Counts) → (n ≡ 0 → ⊥) → k ≡ frameRefusal (p .read) (pairs line) → k ≡ 0 → 1 ≤ number
-        → Taken line number code rows s code' rows' s' → Progress file code' rows' s' (end + 1) (number + 1)
-    unfolding readLines frameOf
-    read-more k code' rows' s' z q r one t =
-        let pass : frameRefusal (p .read) (pairs line) ≡ 0 = sym q ∙ r in
-        let bytes = frame-bytes line (pairs line) (read-frame z .0) in
-        record {
-          within = omega arith;
-          counted = let c = p .counted in omega arith;
-          few = let f = p .few in omega (arith, t .bounded);
-          read = after number (pairs line) (p .read);
-          holds = t .holds (p .read) (p .holds) pass;
-          lined = t .lined (p .read) (p .holds) (p .lined) pass;
-          sound = sound-after number (p .read) (pairs line) one bytes (p .sound) pass;
-          rest = here ∙ rw (read-frame z .0, readLines, eq-eqb (frameRefusal (p .read) (pairs line)) 0 pass);
-        }
+      -- it is refused
+      pub read-refused : (k : ℕ) → k ≡ frameRefusal (p .read) (pairs line) → (k ≡ 0 → ⊥) → decode file ≡ refused k number
+      unfolding readLines meaning
+      read-refused k q r = here ∙ rw (told-frame line n z .0, readLines, ← q, ne-eqb k 0 r)
+
+      -- it passes
+      pub read-more : (k : ℕ) (code' rows' : List ℕ) (s' : Counts) → k ≡ frameRefusal (p .read) (pairs line) → k ≡ 0 → 1 ≤ number
+          → Taken line number code rows s code' rows' s' → Progress file code' rows' s' (end + 1) (number + 1)
+      unfolding readLines meaning
+      read-more k code' rows' s' q r one t =
+          let pass : frameRefusal (p .read) (pairs line) ≡ 0 = sym q ∙ r in
+          let bytes = framed-bytes (whole line) (pairs line) (told-frame line n z .0) in
+          record {
+            within = omega arith;
+            counted = let c = p .counted in omega arith;
+            few = let f = p .few in omega (arith, t .bounded);
+            read = after number (pairs line) (p .read);
+            holds = t .holds (p .read) (p .holds) pass;
+            lined = t .lined (p .read) (p .holds) (p .lined) pass;
+            sound = sound-after number (p .read) (pairs line) one bytes (p .sound) pass;
+            rest = here ∙ rw (told-frame line n z .0, readLines, eq-eqb (frameRefusal (p .read) (pairs line)) 0 pass);
+          }
 
   -- no line is left
   pub read-done : length file ≤ at → decode file ≡ finish (p .read)

@@ -4,7 +4,7 @@ use crate::counts::none_yet;
 use crate::refusal::refusal;
 use crate::skip::far_skip;
 use crate::taken::taken;
-use lines::frame_length;
+use lines::Line;
 use rows::CODE_BYTES;
 use rows::Code;
 ghost use mathlib.Core.Path.{_≡_};
@@ -90,10 +90,17 @@ pub fn decode(file: &[u8]) -> Answer
         if end == file.len() {
             return refused(2, number);
         }
-        let n = frame_length(&file[at..end]);
-        if n == 0 {
-            return refused(2, number);
-        }
+        let n = match lines::read(&file[at..end]) {
+            Line::Frame(n) => n,
+            Line::Remark => {
+                at = end + 1;
+                number += 1;
+                continue;
+            }
+            Line::Broken => {
+                return refused(2, number);
+            }
+        };
         let k = refusal(&file[at..end], n, &code, s);
         if k != 0 {
             return refused(k, number);

@@ -2,19 +2,20 @@
 use Prim.Native.Nat.{ℕ, _+_, _-_, _≤_, _<_}
 use mathlib.Core.Path.{_≡_, _∙_, sym, refl, subst}
 use mathlib.Core.List.{List}
-use mathlib.Core.Option.{some}
 use native.Mathlib.Omega.{arith}
 use lib.ListN.{length, take, drop}
-use Rattle.lines.specs.Frame.{frame, pairs, frameLength}
+use Rattle.lines.specs.Frame.{pairs}
 use Rattle.lines.specs.Split.{lineLength}
 use Rattle.lines.specs.TextLines.{split}
+use Rattle.lines.specs.Meaning.{framed, spelt, lineOf}
+use Rattle.lines.specs.declared.reader.Line.the-variants.{Frame, Remark, Broken}
 use Rattle.lines.proofs.Split.{before-end}
-use Rattle.lines.proofs.Lengths.{length-none, length-some}
+use Rattle.lines.proofs.Meaning.{told-frame, told-remark, told-broken}
 use Rattle.graph_reader.specs.declared.table.Table.{Table}
 use Rattle.graph_reader.specs.declared.text.Verdict.the-variants.{Passed, Refused}
 use Rattle.consistent.specs.Reading.{Reading, refusal, after, fresh, readLines, readGraph}
 use Rattle.graph_reader.specs.Held.{Holds, emptyTable, Passes, Taken, ReadAs}
-use Rattle.consistent.proofs.LineTurns.{text-over, line-unended, line-broken, line-refused, line-passes}
+use Rattle.consistent.proofs.LineTurns.{text-over, line-unended, line-broken, line-remarked, line-refused, line-passes}
 use Rattle.consistent.proofs.Parsed.{passed}
 use Rattle.graph_reader.proofs.HeldAfter.{held-fresh}
 
@@ -46,33 +47,43 @@ module _ (n : ℕ) (text : List ℕ) (s : Table) (at number : ℕ) (p : Progress
     pub read-unended : end ≡ length text → ReadAs (Refused 30 number) s (readGraph n text)
     read-unended l = p .rest ∙ line-unended n number text at (p .read) end e h (omega arith) (omega arith)
 
-    module _ (ne : end ≡ length text → ⊥) (size : ℕ) (z : size ≡ frameLength (take (end - at) (drop at text))) where
+    module _ (ne : end ≡ length text → ⊥) where
       abbrev line : List ℕ
       line = take (end - at) (drop at text)
 
       inside : end < length text
       inside = before-end text at end h e ne
 
-      -- it is no frame
-      pub read-broken : size ≡ 0 → ReadAs (Refused 30 number) s (readGraph n text)
-      read-broken q = p .rest ∙ line-broken n number text at (p .read) end e inside (length-none line (sym z ∙ q))
+      -- it is neither a frame nor a remark
+      pub read-broken : lineOf line ≡ Broken → ReadAs (Refused 30 number) s (readGraph n text)
+      read-broken q = p .rest ∙ line-broken n number text at (p .read) end e inside (told-broken line q)
 
-      module _ (nz : size ≡ 0 → ⊥) where
-        framed : (frame line ≡ some (pairs line)) × (size ≡ length (pairs line))
-        framed = let k = length-some line (λ q. nz (z ∙ q)) in (k .0, z ∙ k .1)
+      -- it is a remark: it is passed over, and counted
+      pub read-remark : lineOf line ≡ Remark → Progress n text s (end + 1) (number + 1)
+      read-remark q = record {
+        within = let i = inside in omega arith;
+        counted = let c = p .counted in omega arith;
+        read = p .read;
+        holds = p .holds;
+        rest = p .rest ∙ line-remarked n number text at (p .read) end e inside (told-remark line q);
+      }
+
+      module _ (size : ℕ) (z : lineOf line ≡ Frame size) where
+        its-frame : spelt line ≡ framed (pairs line)
+        its-frame = told-frame line size z .0
 
         pub read-size : size ≡ length (pairs line)
-        read-size = framed .1
+        read-size = sym (told-frame line size z .1)
 
         module _ (k : ℕ) (r : k ≡ refusal n (p .read) (pairs line)) where
           -- it is refused
           pub read-refused : (k ≡ 0 → ⊥) → ReadAs (Refused k number) s (readGraph n text)
-          read-refused q = p .rest ∙ line-refused n number text at (p .read) end e inside (pairs line) (framed .0) k (sym r) q
+          read-refused q = p .rest ∙ line-refused n number text at (p .read) end e inside (pairs line) its-frame k (sym r) q
 
           module _ (q : k ≡ 0) where
             -- it passes
             pub read-passes : n ≤ 6 → Passes n line size
-            read-passes few = let t = passed n (p .read) (pairs line) (sym r ∙ q) in record { few = few; size = framed .1; known = t .0; in-range = t .1 }
+            read-passes few = let t = passed n (p .read) (pairs line) (sym r ∙ q) in record { few = few; size = read-size; known = t .0; in-range = t .1 }
 
             pub read-more : (s' : Table) → Taken n line s s' → Progress n text s' (end + 1) (number + 1)
             read-more s' t = record {
@@ -80,5 +91,5 @@ module _ (n : ℕ) (text : List ℕ) (s : Table) (at number : ℕ) (p : Progress
               counted = let c = p .counted in omega arith;
               read = after (pairs line) (p .read);
               holds = t (p .read) (p .holds) (sym r ∙ q);
-              rest = p .rest ∙ line-passes n number text at (p .read) end e inside (pairs line) (framed .0) (sym r ∙ q);
+              rest = p .rest ∙ line-passes n number text at (p .read) end e inside (pairs line) its-frame (sym r ∙ q);
             }

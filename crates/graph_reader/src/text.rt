@@ -3,7 +3,7 @@ use crate::refusal::refusal;
 use crate::table::Table;
 use crate::table::empty;
 use crate::taken::taken;
-use lines::frame_length;
+use lines::Line;
 ghost use Prim.Native.Nat.{_≤_};
 ghost use Rattle.consistent.specs.Reading.{readGraph};
 ghost use Rattle.graph_reader.specs.Held.{ReadAs};
@@ -36,13 +36,20 @@ pub fn read_graph(text: &[u8], n: usize) -> Reply
                 table: s,
             };
         }
-        let size = frame_length(&text[at..end]);
-        if size == 0 {
-            return Reply {
-                verdict: Verdict::Refused(30, number),
-                table: s,
-            };
-        }
+        let size = match lines::read(&text[at..end]) {
+            Line::Frame(n) => n,
+            Line::Remark => {
+                at = end + 1;
+                number += 1;
+                continue;
+            }
+            Line::Broken => {
+                return Reply {
+                    verdict: Verdict::Refused(30, number),
+                    table: s,
+                };
+            }
+        };
         let k = refusal(&text[at..end], size, n, s);
         if k != 0 {
             return Reply {

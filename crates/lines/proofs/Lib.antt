@@ -1,10 +1,12 @@
 -- Laws that the crates above cite.
--- lines that are frames and frames of bytes correspond one to one
+-- what is written is read back, and what is read and written again is the lower-case line
 pub mod RoundTrip
--- when a line is a frame, and what the reader answers
+-- when a line is a frame
 pub mod Frame
--- the length of the frame on a line
-pub mod Lengths
+-- what a line says, and what the reader's answer tells of it
+pub mod Meaning
+-- the lines of a text without its remarks and with its capitals lowered
+pub mod Plain
 -- the bytes that a line's characters spell
 pub mod Pairs
 -- a frame's line: its length, and what is written of it by the room there is

@@ -8,9 +8,10 @@ use mathlib.Core.List.{List, _∷_}
 use lib.ListN.{length, getD, drop, drop-of-length-le}
 use lib.Seq.{drop-cons}
 use Rattle.lines.specs.Digit.{digit}
-use Rattle.lines.specs.Frame.{hexadecimal, lineOf}
+use Rattle.lines.specs.Frame.{hexadecimal}
+use Rattle.lines.specs.Meaning.{remark, lineOf}
 use Rattle.lines.specs.declared.reader.Line.the-variants.{Frame, Broken}
-use Rattle.lines.proofs.Frame.{lineOf-broken, lineOf-frame}
+use Rattle.lines.proofs.Meaning.{lineOf-broken, lineOf-frame}
 
 -- ---- what is left of a line from one of its characters on
 hexadecimal-two : (l : List ℕ) (i : ℕ) → i + 1 < length l
@@ -29,19 +30,19 @@ hexadecimal-none : (l : List ℕ) (i : ℕ) → length l ≤ i → hexadecimal (
 unfolding hexadecimal
 hexadecimal-none l i h = ap hexadecimal (drop-of-length-le l {i = i} h)
 
--- ---- a reader that has passed i characters, all digits, two by two
-module _ (l : List ℕ) (i : ℕ) (passed : hexadecimal l ≡ hexadecimal (drop i l)) where
+-- ---- a reader that has passed i characters of a line that is no remark, all digits, two by two
+module _ (l : List ℕ) (no : remark l ≡ false) (i : ℕ) (passed : hexadecimal l ≡ hexadecimal (drop i l)) where
   pub first-broken : i + 1 < length l → digit (getD l i 0) ≡ false → lineOf l ≡ Broken
-  first-broken h e = lineOf-broken l (passed ∙ hexadecimal-two l i h ∙ rw e)
+  first-broken h e = lineOf-broken l no (passed ∙ hexadecimal-two l i h ∙ rw e)
 
   pub second-broken : i + 1 < length l → digit (getD l (i + 1) 0) ≡ false → lineOf l ≡ Broken
-  second-broken h e = lineOf-broken l (passed ∙ hexadecimal-two l i h ∙ rw (e, and-false))
+  second-broken h e = lineOf-broken l no (passed ∙ hexadecimal-two l i h ∙ rw (e, and-false))
 
   pub two-passed : i + 1 < length l → digit (getD l i 0) ≡ true → digit (getD l (i + 1) 0) ≡ true → hexadecimal l ≡ hexadecimal (drop (i + 2) l)
   two-passed h e g = passed ∙ hexadecimal-two l i h ∙ rw (e, g)
 
   pub one-left : i < length l → length l ≤ i + 1 → lineOf l ≡ Broken
-  one-left h k = lineOf-broken l (passed ∙ hexadecimal-one l i h k)
+  one-left h k = lineOf-broken l no (passed ∙ hexadecimal-one l i h k)
 
   pub all-passed : 0 < length l → length l ≤ i → lineOf l ≡ Frame (length l / 2)
-  all-passed h k = lineOf-frame l h (passed ∙ hexadecimal-none l i k)
+  all-passed h k = lineOf-frame l no h (passed ∙ hexadecimal-none l i k)

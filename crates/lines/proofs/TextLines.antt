@@ -1,9 +1,9 @@
 -- The lines of a text, one after the other: the first goes up to the first 0a, and the rest are the lines of what stands behind it.
-use Prim.Native.Nat.{ℕ, suc, _+_, _-_, _<_}
+use Prim.Native.Nat.{ℕ, suc, _+_, _-_, _≤_, _<_}
 use native.Mathlib.Omega.{arith}
 use mathlib.Core.Path.{_≡_, refl, sym, _∙_, ap}
 use mathlib.Core.Bool.{Bool, true, false}
-use mathlib.Core.List.{List, [], _∷_}
+use mathlib.Core.List.{List, [], _∷_, _++_}
 use lib.Dec.{eqb}
 use lib.ListN.{length, take, drop, length-drop}
 use lib.Seq.{drop-drop}
@@ -33,7 +33,7 @@ split-first (x ∷ l) h = go (eqb x 10) refl (split-first l) h
         rw (e, lineLength, before, j)
 
 -- the only line has none
-split-only : (l : List ℕ) → 0 < length l → lineLength l ≡ length l → split l ≡ unended l ∷ []
+pub split-only : (l : List ℕ) → 0 < length l → lineLength l ≡ length l → split l ≡ unended l ∷ []
 unfolding lineLength split before prepend
 split-only [] h e = absurd (omega arith)
 split-only (x ∷ l) h e = go l (eqb x 10) refl (split-only l) e
@@ -47,6 +47,39 @@ split-only (x ∷ l) h e = go l (eqb x 10) refl (split-only l) e
         let j : split (y ∷ r) ≡ unended (y ∷ r) ∷ [] = ih (omega arith) (omega arith) in
         ap (λ (ls : List TextLine). before x ls) j ∙ rw (p, before)
 
+-- a line and its 0a in front of a text
+pub split-line : (l r : List ℕ) → lineLength l ≡ length l → split (l ++ (10 ∷ r)) ≡ whole l ∷ split r
+unfolding lineLength split before prepend
+split-line [] r e = refl
+split-line (x ∷ l) r e = go (eqb x 10) refl (split-line l r) e
+  where
+    go : (t : Bool) → eqb x 10 ≡ t → (lineLength l ≡ length l → split (l ++ (10 ∷ r)) ≡ whole l ∷ split r) → lineLength (x ∷ l) ≡ suc (length l)
+        → split (x ∷ (l ++ (10 ∷ r))) ≡ whole (x ∷ l) ∷ split r
+    go true p ih q = let n : 0 ≡ suc (length l) = rw (p, lineLength) at q in absurd (omega arith)
+    go false p ih q =
+        let n : suc (lineLength l) ≡ suc (length l) = rw (p, lineLength) at q in
+        ap (λ (ls : List TextLine). before x ls) (ih (omega arith)) ∙ rw (p, before)
+
+-- ---- a text has no more lines than bytes
+prepend-length : (c : ℕ) (ls : List TextLine) → length (prepend c ls) ≤ suc (length ls)
+unfolding prepend
+prepend-length c [] = omega arith
+prepend-length c (l ∷ ls) = omega arith
+
+before-length : (c : ℕ) (ls : List TextLine) → length (before c ls) ≤ suc (length ls)
+unfolding before
+before-length c ls = go (eqb c 10) refl
+  where
+    go : (b : Bool) → eqb c 10 ≡ b → length (before c ls) ≤ suc (length ls)
+    go true q = rw (q, before) (omega arith)
+    go false q = rw (q, before) (prepend-length c ls)
+
+pub split-length : (cs : List ℕ) → length (split cs) ≤ length cs
+unfolding split
+split-length [] = omega arith
+split-length (c ∷ cs) = omega (arith, before-length c (split cs), split-length cs)
+
+-- ---- where a reader stands in a text
 -- the line that starts at a and ends at e, and the lines behind it
 pub split-at : (t : List ℕ) (a e : ℕ) → e ≡ a + lineLength (drop a t) → e < length t
     → split (drop a t) ≡ whole (take (e - a) (drop a t)) ∷ split (drop (e + 1) t)

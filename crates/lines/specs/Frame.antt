@@ -1,13 +1,10 @@
--- A line, without the 0a that ends it, and the frame that it spells: two lower-case hexadecimal digits a byte, at least one byte.
+-- A line, without the 0a that ends it, and the frame that it spells: two hexadecimal digits a byte, at least one byte.
 -- Any other line is no frame.
 use Prim.Native.Nat.{ℕ, _+_, _*_, _<_}
 use mathlib.Core.Bool.{Bool, true, false, _&&_}
 use mathlib.Core.List.{List, [], _∷_}
 use mathlib.Core.Option.{Option, none, some}
-use lib.ListN.{length}
 use Rattle.lines.specs.Digit.{digit, value}
-use Rattle.lines.specs.declared.reader.Line.{Line}
-use Rattle.lines.specs.declared.reader.Line.the-variants.{Frame, Broken}
 
 -- an even number of digits, and nothing else
 unfoldable pub hexadecimal : List ℕ → Bool
@@ -25,14 +22,6 @@ pairs (x ∷ y ∷ l) = (16 * value x + value y) ∷ pairs l
 unfoldable pub frame : List ℕ → Option (List ℕ)
 frame [] = none
 frame (x ∷ l) = elim (hexadecimal (x ∷ l)) [ true ↦ some (pairs (x ∷ l)) | false ↦ none ]
-
--- what the reader answers of a line: how many bytes its frame has, or that it is none
-unfoldable pub lineOf : List ℕ → Line
-lineOf l = elim (frame l) [ none ↦ Broken | some f ↦ Frame (length f) ]
-
--- how many bytes a line's frame has; 0 where the line is no frame
-unfoldable pub frameLength : List ℕ → ℕ
-frameLength l = elim (frame l) [ none ↦ 0 | some f ↦ length f ]
 
 -- every number of the list is a byte
 abbrev pub Bytes : List ℕ → Type 0

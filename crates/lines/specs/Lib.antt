@@ -11,3 +11,7 @@ pub mod Over
 pub mod Split
 -- a text as the list of its lines
 pub mod TextLines
+-- what a line says: a remark, a frame, or neither
+pub mod Meaning
+-- a text without its remarks and with its capitals lowered
+pub mod Plain

@@ -1,10 +1,8 @@
 -- A text as its lines: each goes up to the next 0a, and has its 0a or, as the last one may, has not.
 use Prim.Native.Nat.{ℕ}
-use mathlib.Core.Bool.{Bool, true, false, cond}
+use mathlib.Core.Bool.{Bool, true, false}
 use mathlib.Core.List.{List, [], _∷_}
-use mathlib.Core.Option.{Option, none}
 use lib.Dec.{eqb}
-use Rattle.lines.specs.Frame.{frame}
 
 -- a line's bytes without its 0a, and whether it has its 0a
 pub record TextLine : Type 0 where
@@ -23,7 +21,3 @@ before c ls = elim (eqb c 10) [ true ↦ record { bytes = []; ended = true } ∷
 unfoldable pub split : List ℕ → List TextLine
 split [] = []
 split (c ∷ cs) = before c (split cs)
-
--- the frame of a line; none if it is empty, odd, without its 0a, or has another character
-unfoldable pub frameOf : TextLine → Option (List ℕ)
-frameOf l = cond (l .ended) (frame (l .bytes)) none

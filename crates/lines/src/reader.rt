@@ -3,22 +3,28 @@ use crate::digit::is_digit;
 use crate::digit::value_of;
 ghost use mathlib.Core.Path.{_≡_};
 ghost use lib.ListN.{getD};
-ghost use Rattle.lines.specs.Frame.{pairs, lineOf};
+ghost use Rattle.lines.specs.Frame.{pairs};
+ghost use Rattle.lines.specs.Meaning.{lineOf};
 
 // What a line is.
 pub enum Line {
     // A frame of so many bytes.
     Frame(usize),
-    // No frame: empty, odd, or with a character that is no digit.
+    // A remark: it begins with 23 (`#`), and holds any bytes behind it.
+    Remark,
+    // Neither: empty, odd, or with a character that is no digit.
     Broken,
 }
 
-// Whether the line is a frame, and of how many bytes.
+// Whether the line is a remark or a frame, and of how many bytes.
 pub fn read(line: &[u8]) -> Line
     ensures { λ r. ⌜ r ≡ lineOf (now (line .entry)) ⌝ }
 {
     if line.len() == 0 {
         return Line::Broken;
+    }
+    if line[0] == 35 {
+        return Line::Remark;
     }
     let mut i = 0;
     while i + 1 < line.len() {

@@ -13,3 +13,5 @@ pub mod CountedRows
 pub mod CountCalled
 -- the calls by rows, way by way
 pub mod RowsSaid
+-- files that differ only in remarks and capitals
+pub mod PlainFiles

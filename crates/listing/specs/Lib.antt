@@ -11,3 +11,5 @@ pub mod AnswerOf
 pub mod CountWord
 -- listed schedules by rows, on a program file
 pub mod RowsCall
+-- two files on which every call answers the same
+pub mod SameCalls

@@ -4,17 +4,16 @@ use native.Mathlib.Omega.{arith}
 use mathlib.Core.Path.{_≡_, refl, subst}
 use mathlib.Core.Bool.{Bool, true, false, cond}
 use mathlib.Core.List.{List, [], _∷_}
-use mathlib.Core.Option.{Option, none, some}
 use lib.ListN.{length}
 use lib.Dec.{eqb, ltb}
-use borrow.Author.Tests.{eqb-true}
-use Rattle.lines.specs.Frame.{frame, Bytes}
-use Rattle.lines.specs.TextLines.{TextLine, split, frameOf}
+use borrow.Author.Tests.{eqb-true, eqb-false}
+use Rattle.lines.specs.TextLines.{TextLine, split}
+use Rattle.lines.specs.Meaning.{Meaning, remarked, framed, broken, meaning}
 use Rattle.program.specs.Program.{Program}
 use Rattle.program.specs.Frames.{Frame}
 use Rattle.program.specs.Decode.{Reading, fresh, frameRefusal, after, firstFarSkip, programIn, Decoded, accepted, refused, finish, readLines, decode}
 use Rattle.program.specs.WellFormed.{WellFormed}
-use Rattle.lines.proofs.Frame.{frame-bytes}
+use Rattle.lines.proofs.Meaning.{framed-bytes}
 use Rattle.program.proofs.SoundProgram.{sound-well-formed}
 use Rattle.program.proofs.Sound.{Sound, sound-fresh, sound-after}
 
@@ -35,29 +34,23 @@ finish-well-formed r p s e =
     let same : programIn r ≡ p = let q = a .1 in cc in
     subst WellFormed same (sound-well-formed r s (eqb-true (firstFarSkip (r .threads)) 0 (a .0)))
 
-line-bytes : (l : TextLine) (f : Frame) → frameOf l ≡ some f → Bytes f
-unfolding frameOf
-line-bytes l f e = go (l .ended) refl
-  where
-    go : (t : Bool) → l .ended ≡ t → Bytes f
-    go true q = let k : frame (l .bytes) ≡ some f = rw q at e in frame-bytes (l .bytes) f k
-    go false q = let k : none ≡ some f = rw q at e in let z : _≡_ {A = ℕ} 0 1 = cc in absurd (omega arith)
-
 lines-well-formed : (n : ℕ) (ls : List TextLine) (r : Reading) (p : Program) → 1 ≤ n → Sound r → readLines n ls r ≡ accepted p → WellFormed p
 unfolding readLines
 lines-well-formed n [] r p h s e = finish-well-formed r p s e
-lines-well-formed n (l ∷ ls) r p h s e = go (frameOf l) refl (λ f k. lines-well-formed (n + 1) ls (after n f r) p (omega arith) k)
+lines-well-formed n (l ∷ ls) r p h s e = go (meaning l) refl (lines-well-formed (n + 1) ls r p (omega arith) s) (λ f k. lines-well-formed (n + 1) ls (after n f r) p (omega arith) k)
   where
-    go : (o : Option Frame) → frameOf l ≡ o
+    go : (m : Meaning) → meaning l ≡ m
+        → (readLines (n + 1) ls r ≡ accepted p → WellFormed p)
         → ((f : Frame) → Sound (after n f r) → readLines (n + 1) ls (after n f r) ≡ accepted p → WellFormed p)
         → WellFormed p
-    go none q later = let k : refused 2 n ≡ accepted p = rw (q, readLines) at e in let z : _≡_ {A = ℕ} 0 1 = cc in absurd (omega arith)
-    go (some f) q later =
+    go broken q past later = let k : refused 2 n ≡ accepted p = rw (q, readLines) at e in let z : _≡_ {A = ℕ} 0 1 = cc in absurd (omega arith)
+    go remarked q past later = past (rw (q, readLines) at e)
+    go (framed f) q past later =
         let none-refused = eqb (frameRefusal r f) 0 in
         let rest = readLines (n + 1) ls (after n f r) in
         let k : cond none-refused rest (refused (frameRefusal r f) n) ≡ accepted p = rw (q, readLines) at e in
         let a = refused-else none-refused (frameRefusal r f) n rest p k in
-        later f (sound-after n r f h (line-bytes l f q) s (eqb-true (frameRefusal r f) 0 (a .0))) (a .1)
+        later f (sound-after n r f h (framed-bytes l f q) s (eqb-true (frameRefusal r f) 0 (a .0))) (a .1)
 
 pub accepted-well-formed : (file : List ℕ) (p : Program) → decode file ≡ accepted p → WellFormed p
 unfolding decode

@@ -6,6 +6,10 @@ pub mod AcceptedWellFormed
 pub mod Places
 -- the file of 0 bytes, and that 9 refuses no file
 pub mod NoThread
+-- files that differ only in remarks and capitals
+pub mod PlainFiles
+-- files with remarks and capitals, by computing
+mod Remarks
 -- the table of kinds, as rules for every first byte
 pub mod KindTable
 -- which frames skip

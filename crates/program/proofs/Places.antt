@@ -4,11 +4,12 @@ use native.Mathlib.Omega.{arith}
 use mathlib.Core.Path.{_≡_, refl}
 use mathlib.Core.Bool.{Bool, true, false, cond, not}
 use mathlib.Core.List.{List, [], _∷_, _++_}
-use mathlib.Core.Option.{Option, none, some}
 use lib.ListN.{length, set, drop}
 use lib.Dec.{eqb, ltb}
 use borrow.Author.Tests.{ltb-false}
-use Rattle.lines.specs.TextLines.{TextLine, prepend, before, split, frameOf}
+use Rattle.lines.specs.TextLines.{TextLine, split}
+use Rattle.lines.specs.Meaning.{Meaning, remarked, framed, broken, meaning}
+use Rattle.lines.proofs.TextLines.{split-length}
 use Rattle.program.specs.Frames.{Frame, known, inRange, opens, declares, skipOf}
 use Rattle.program.specs.Decode.{Placed, Reading, fresh, threadAt, lastThread, inPlace, withinLimits, alikeFits, frameRefusal, after, farSkip, firstFarSkip, programIn, Decoded, accepted, refused, finish, readLines, decode}
 use Rattle.program.specs.WellFormed.{Everywhere}
@@ -18,25 +19,6 @@ use Rattle.program.proofs.Everywhere.{everywhere-getD, everywhere-appen
 abbrev pub Within : ℕ → Decoded → Type 0
 Within m (accepted p) = Unit {0}
 Within m (refused n k) = (n ≤ 8) × (k ≤ m)
-
--- a text has no more lines than bytes
-prepend-length : (c : ℕ) (ls : List TextLine) → length (prepend c ls) ≤ suc (length ls)
-unfolding prepend
-prepend-length c [] = omega arith
-prepend-length c (l ∷ ls) = omega arith
-
-before-length : (c : ℕ) (ls : List TextLine) → length (before c ls) ≤ suc (length ls)
-unfolding before
-before-length c ls = go (eqb c 10) refl
-  where
-    go : (b : Bool) → eqb c 10 ≡ b → length (before c ls) ≤ suc (length ls)
-    go true q = rw (q, before) (omega arith)
-    go false q = rw (q, before) (prepend-length c ls)
-
-split-length : (cs : List ℕ) → length (split cs) ≤ length cs
-unfolding split
-split-length [] = omega arith
-split-length (c ∷ cs) = omega (arith, before-length c (split cs), split-length cs)
 
 -- the numbers by which a line is refused
 small : (a b c d e : Bool) → cond (not a) 3 (cond (not b) 4 (cond (not c) 5 (cond (not d) 6 (cond (not e) 8 0)))) ≤ 8
@@ -73,26 +55,31 @@ first-up-to m (c ∷ cs) h = go (eqb (farSkip c) 0) refl (first-up-to m cs (h .1
     go true q ih = rw (q, firstFarSkip) ih
     go false q ih = rw (q, firstFarSkip) (far-up-to m c (h .0))
 
-after-up-to : (m n : ℕ) (f : Frame) (r : Reading) → n ≤ m → UpTo m r → UpTo m (after n f r)
+-- what holds of every instruction read so far, and of the new one
+pub after-every : (Q : Placed → Type 0) (n : ℕ) (f : Frame) (r : Reading) → Q (record { line = n; code = f })
+    → Everywhere (Everywhere Q) (r .threads) → Everywhere (Everywhere Q) (after n f r .threads)
 unfolding after threadAt
-after-up-to m n f r h u = go (opens f) (declares f)
+after-every Q n f r h u = go (opens f) (declares f)
   where
     P : List Placed → Type 0
-    P = Everywhere (λ (x : Placed). x .line ≤ m)
+    P = Everywhere Q
 
     one : List Placed
     one = record { line = n; code = f } ∷ []
 
     own : P (threadAt r (lastThread r) ++ one)
-    own = everywhere-append (λ (x : Placed). x .line ≤ m) (threadAt r (lastThread r)) one (everywhere-getD P (r .threads) (lastThread r) [] u tt) (h, tt)
+    own = everywhere-append Q (threadAt r (lastThread r)) one (everywhere-getD P (r .threads) (lastThread r) [] u tt) (h, tt)
 
-    go : (a b : Bool) → UpTo m
-        (cond a (record { threads = r .threads ++ ([] ∷ []); groups = r .groups })
+    go : (a b : Bool) → Everywhere P
+        (cond {A = Reading} a (record { threads = r .threads ++ ([] ∷ []); groups = r .groups })
         (cond b (record { threads = r .threads; groups = r .groups ++ (drop 1 f ∷ []) })
-        (record { threads = set (r .threads) (lastThread r) (threadAt r (lastThread r) ++ one); groups = r .groups })))
+        (record { threads = set (r .threads) (lastThread r) (threadAt r (lastThread r) ++ one); groups = r .groups })) .threads)
     go true b = everywhere-append P (r .threads) ([] ∷ []) u (tt, tt)
     go false true = u
     go false false = everywhere-set P (r .threads) (lastThread r) (threadAt r (lastThread r) ++ one) u own
+
+after-up-to : (m n : ℕ) (f : Frame) (r : Reading) → n ≤ m → UpTo m r → UpTo m (after n f r)
+after-up-to m n f r h u = after-every (λ (x : Placed). x .line ≤ m) n f r h u
 
 finish-within : (m : ℕ) (r : Reading) → UpTo m r → Within m (finish r)
 unfolding finish
@@ -105,15 +92,19 @@ finish-within m r u = go (eqb (firstFarSkip (r .threads)) 0)
 lines-within : (m n : ℕ) (ls : List TextLine) (r : Reading) → n + length ls ≤ suc m → UpTo m r → Within m (readLines n ls r)
 unfolding readLines
 lines-within m n [] r h u = finish-within m r u
-lines-within m n (l ∷ ls) r h u = go (frameOf l) refl (λ f. lines-within m (n + 1) ls (after n f r) (omega arith) (after-up-to m n f r (omega arith) u))
+lines-within m n (l ∷ ls) r h u =
+    go (meaning l) refl (lines-within m (n + 1) ls r (omega arith) u)
+    (λ f. lines-within m (n + 1) ls (after n f r) (omega arith) (after-up-to m n f r (omega arith) u))
   where
     by : (f : Frame) (b : Bool) → Within m (readLines (n + 1) ls (after n f r)) → Within m (cond b (readLines (n + 1) ls (after n f r)) (refused (frameRefusal r f) n))
     by f true ih = ih
     by f false ih = (small-number r f, omega arith)
 
-    go : (o : Option Frame) → frameOf l ≡ o → ((f : Frame) → Within m (readLines (n + 1) ls (after n f r))) → Within m (readLines n (l ∷ ls) r)
-    go none q ih = rw (q, readLines) (omega arith, omega arith)
-    go (some f) q ih = rw (q, readLines) (by f (eqb (frameRefusal r f) 0) (ih f))
+    go : (x : Meaning) → meaning l ≡ x → Within m (readLines (n + 1) ls r) → ((f : Frame) → Within m (readLines (n + 1) ls (after n f r)))
+        → Within m (readLines n (l ∷ ls) r)
+    go broken q past ih = rw (q, readLines) (omega arith, omega arith)
+    go remarked q past ih = rw (q, readLines) past
+    go (framed f) q past ih = rw (q, readLines) (by f (eqb (frameRefusal r f) 0) (ih f))
 
 -- EVERY REFUSAL OF A FILE
 pub decode-within : (file : List ℕ) → Within 4096 (decode file)

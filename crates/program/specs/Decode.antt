@@ -4,10 +4,10 @@
 use Prim.Native.Nat.{ℕ, _+_, _-_}
 use mathlib.Core.Bool.{Bool, true, false, cond, not, _&&_, _||_}
 use mathlib.Core.List.{List, [], _∷_, _++_, map}
-use mathlib.Core.Option.{none, some}
 use lib.ListN.{length, getD, set, drop}
 use lib.Dec.{eqb, ltb}
-use Rattle.lines.specs.TextLines.{TextLine, split, frameOf}
+use Rattle.lines.specs.TextLines.{TextLine, split}
+use Rattle.lines.specs.Meaning.{remarked, framed, broken, meaning}
 use Rattle.program.specs.Program.{Program}
 use Rattle.program.specs.Frames.{Frame, known, inRange, opens, declares, isAccess, skipOf, instruction}
 
@@ -130,13 +130,15 @@ pub data Decoded : Type 0 where
 unfoldable pub finish : Reading → Decoded
 finish r = cond (eqb (firstFarSkip (r .threads)) 0) (accepted (programIn r)) (refused 7 (firstFarSkip (r .threads)))
 
--- the lines from number n on; refusal 2: a line that is empty, odd, without its 0a, or has another character
+-- the lines from number n on. Refusal 2: a line that is empty, odd, without its 0a, or has another character; a remark is passed over, and
+-- counts as a line
 unfoldable pub readLines : ℕ → List TextLine → Reading → Decoded
 readLines n [] r = finish r
 readLines n (l ∷ ls) r =
-    elim (frameOf l) [
-      | none ↦ refused 2 n
-      | some f ↦ cond (eqb (frameRefusal r f) 0) (readLines (n + 1) ls (after n f r)) (refused (frameRefusal r f) n)
+    elim (meaning l) [
+      | broken ↦ refused 2 n
+      | remarked ↦ readLines (n + 1) ls r
+      | framed f ↦ cond (eqb (frameRefusal r f) 0) (readLines (n + 1) ls (after n f r)) (refused (frameRefusal r f) n)
     ]
 
 unfoldable pub decode : List ℕ → Decoded

@@ -7,5 +7,7 @@ pub mod Kinds
 pub mod Frames
 -- program files, line by line, with refusals 1 to 8
 pub mod Decode
+-- answers that differ at most in the place of a refusal
+pub mod SameButPlace
 -- what holds of every accepted program
 pub mod WellFormed

@@ -56,3 +56,5 @@ pub mod FixedState
 pub mod FreeSteps
 pub mod Ahead
 pub mod Remote
+-- files that differ only in remarks and capitals
+pub mod PlainFiles

@@ -1,4 +1,5 @@
--- What the judge says fits its word, whatever it is lent: a schedule has at most 24 steps, and of a text of any length at most 104 lines pass.
+-- What the judge says fits its word: a schedule has at most 24 steps, and a text has no more lines than bytes, so that the place of its refusal fits where it is
+-- shorter than 2^48 bytes. The kind, the number and the schedule fit whatever is lent.
 use Prim.Native.Nat.{ℕ, _^_, _<_, _≤_}
 use mathlib.Core.Path.{_≡_, refl, subst}
 use mathlib.Core.List.{List}
@@ -16,45 +17,53 @@ use Rattle.consistent.proofs.SmallRefusals.{Within, read-within}
 use Rattle.listing.specs.Demand3.{InFront}
 use Rattle.tarczolin.specs.Word.{answered, wordOf, Fits, kindIn, restIn}
 use Rattle.tarczolin.specs.Judged.{judged}
-use Rattle.tarczolin.proofs.Words.{kind-one}
+use Rattle.tarczolin.proofs.Words.{Kinded, kinded-one}
 use Rattle.tarczolin.proofs.Fitting.{refusal-fits}
 
 -- a schedule has at most 24 steps, and is answered only where there is room for it
-abbrev pub JudgeWithin : ℕ → Answer → Type 0
-JudgeWithin room (consistent s) = (length s ≤ 24) × (24 ≤ room)
-JudgeWithin room inconsistent = Unit {0}
-JudgeWithin room (refusing n k) = (n < 256) × (k < 2 ^ 48)
+abbrev pub JudgeWithin : List ℕ → ℕ → Answer → Type 0
+JudgeWithin text room (consistent s) = (length s ≤ 24) × (24 ≤ room)
+JudgeWithin text room inconsistent = Unit {0}
+JudgeWithin text room (refusing n k) = (n < 256) × (length text < 2 ^ 48 → k < 2 ^ 48)
 
 module _ (file text : List ℕ) (room : ℕ) where
-  read-small : (p : Program) → decode file ≡ accepted p → (n k : ℕ) → readGraph (length (p .threads)) text ≡ refusedAt n k → (n < 256) × (k < 2 ^ 48)
-  read-small p e n k r =
-      let h : Within (refusedAt n k) = subst Within r (read-within (length (p .threads)) (accepted-well-formed file p e .six) text) in
-      (omega (arith, h), omega (arith, h))
+  read-small : (p : Program) (n k : ℕ) → readGraph (length (p .threads)) text ≡ refusedAt n k → (n < 256) × (length text < 2 ^ 48 → k < 2 ^ 48)
+  read-small p n k r =
+      let h : Within (length text) (refusedAt n k) = subst (Within (length text)) r (read-within (length (p .threads)) text) in
+      (omega (arith, h), λ l. omega (arith, h))
 
-  pub judge-within : (a : Answer) → Judgement file text room a → JudgeWithin room a
-  judge-within (refusing n k) (program-refused n' k' e) = refusal-fits file n k e
-  judge-within (refusing n k) (output-refused p e h) = (omega arith, omega arith)
-  judge-within (refusing n k) (text-refused p n' k' d) = read-small p (d .accepts) n k (d .reads)
+  pub judge-within : (a : Answer) → Judgement file text room a → JudgeWithin text room a
+  judge-within (refusing n k) (program-refused n' k' e) = let h = refusal-fits file n k e in (h .0, λ l. h .1)
+  judge-within (refusing n k) (output-refused p e h) = (omega arith, λ l. omega arith)
+  judge-within (refusing n k) (text-refused p n' k' d) = read-small p n k (d .reads)
   judge-within (consistent s) (judged-yes p g s' d c l) = (at-most-24 p (accepted-well-formed file p (d .accepts)) s (l .0 .0), d .enough)
   judge-within inconsistent (judged-no p g d n) = tt
 
-  -- THE JUDGE
-  pub judge-fits : (a : Answer) → Judgement file text room a → Fits (judged a)
+  judge-kinded : (a : Answer) → JudgeWithin text room a → Kinded (judged a)
   unfolding judged
-  judge-fits a j = go a (judge-within a j)
+  judge-kinded (consistent s) h = omega arith
+  judge-kinded inconsistent h = tt
+  judge-kinded (refusing n k) h = h .0
+
+  -- THE JUDGE, on a text of fewer than 2^48 bytes
+  pub judge-fits : length text < 2 ^ 48 → (a : Answer) → Judgement file text room a → Fits (judged a)
+  unfolding judged
+  judge-fits l a j = go a (judge-within a j)
     where
-      go : (a : Answer) → JudgeWithin room a → Fits (judged a)
+      go : (a : Answer) → JudgeWithin text room a → Fits (judged a)
       go (consistent s) h = omega arith
       go inconsistent h = tt
-      go (refusing n k) h = h
+      go (refusing n k) h = (h .0, h .1 l)
 
--- its word of kind 1 tells how many bytes in front of the output are the schedule
+-- its word of kind 1 tells how many bytes in front of the output are the schedule, whatever the text
 pub judge-in-output : (file text out : List ℕ) (a : Answer) → Judgement file text (length out) a → kindIn (wordOf (judged a)) ≡ 1 →
     (s : Schedule) × (a ≡ consistent s) × (length s ≡ restIn (wordOf (judged a))) × InFront s out (outputAfter a out)
 unfolding judged outputAfter
-judge-in-output file text out a j e = go a _ (judge-within file text (length out) a j) (kind-one (judged a) (judge-fits file text (length out) a j) e)
+judge-in-output file text out a j e =
+    let w = judge-within file text (length out) a j in
+    go a _ w (kinded-one (judged a) (judge-kinded file text (length out) a w) e)
   where
-    go : (a : Answer) (n : ℕ) → JudgeWithin (length out) a → judged a ≡ answered n → (s : Schedule) × (a ≡ consistent s) × (length s ≡ n) × InFront s out (outputAfter a out)
+    go : (a : Answer) (n : ℕ) → JudgeWithin text (length out) a → judged a ≡ answered n → (s : Schedule) × (a ≡ consistent s) × (length s ≡ n) × InFront s out (outputAfter a out)
     go (consistent s) n h q = (s, refl, cc, (take-over s out, drop-over s out, length-over s out (omega arith)))
     go inconsistent n h q = absurd (let z : _≡_ {A = ℕ} 0 1 = cc in omega arith)
     go (refusing i k) n h q = absurd (let z : _≡_ {A = ℕ} 0 1 = cc in omega arith)

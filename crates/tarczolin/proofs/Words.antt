@@ -1,5 +1,6 @@
 -- A word tells what a call says exactly: kind, number, and length or place are read back from it, so that two answers that fit have one word only
 -- where they are one answer.
+use Prim.Native.Nat.{_^_, _<_}
 use mathlib.Core.Path.{_≡_, refl, sym, ap, _∙_}
 use native.Mathlib.Omega.{arith}
 use Rattle.tarczolin.specs.Word.{Reply, answered, nothing, refused, wordOf, Fits, kindIn, numberIn, restIn, readIn}
@@ -21,9 +22,22 @@ read-back (refused i n) h =
 pub word-injective : (a b : Reply) → Fits a → Fits b → wordOf a ≡ wordOf b → a ≡ b
 word-injective a b f g e = sym (read-back a f) ∙ ap readIn e ∙ read-back b g
 
--- a word of kind 1 is an answer, of the length that it tells
-pub kind-one : (a : Reply) → Fits a → kindIn (wordOf a) ≡ 1 → a ≡ answered (restIn (wordOf a))
+-- a word of kind 1 is an answer, of the length that it tells; of a refusal it is enough that its number fits
+abbrev pub Kinded : Reply → Type 0
+Kinded (answered n) = n < 2 ^ 48
+Kinded nothing = Unit {0}
+Kinded (refused k n) = k < 256
+
+pub kinded-one : (a : Reply) → Kinded a → kindIn (wordOf a) ≡ 1 → a ≡ answered (restIn (wordOf a))
 unfolding wordOf kindIn restIn
-kind-one (answered n) h e = let r : restIn (wordOf (answered n)) ≡ n = omega arith in ap answered (sym r)
-kind-one nothing h e = absurd (omega arith)
-kind-one (refused k n) h e = absurd (omega arith)
+kinded-one (answered n) h e = let r : restIn (wordOf (answered n)) ≡ n = omega arith in ap answered (sym r)
+kinded-one nothing h e = absurd (omega arith)
+kinded-one (refused k n) h e = absurd (omega arith)
+
+pub kind-one : (a : Reply) → Fits a → kindIn (wordOf a) ≡ 1 → a ≡ answered (restIn (wordOf a))
+kind-one a h e = kinded-one a (go a h) e
+  where
+    go : (b : Reply) → Fits b → Kinded b
+    go (answered n) h = h
+    go nothing h = tt
+    go (refused k n) h = h .0

@@ -1,6 +1,7 @@
 -- What a call says, and the word of 64 bits in which it says it: bits 56 to 63 the kind, bits 48 to 55 a refusal's number, else 0, bits 0
 -- to 47 an answer's length in bytes, 0 where there is none, of rows their number, or a refusal's place. What the calls say fits these bits,
--- so that nothing is lost: of rows where the output is shorter than 26 * 2^48 bytes, of all else whatever is lent.
+-- so that nothing is lost: of rows where the output is shorter than 26 * 2^48 bytes, of the judge where the text is shorter than 2^48
+-- bytes, of all else whatever is lent.
 use Prim.Native.Nat.{ℕ, _+_, _*_, _/_, _%_, _^_, _<_}
 use mathlib.Core.Bool.{cond}
 use lib.Dec.{eqb}

@@ -59,6 +59,7 @@ fn digit(c: u8) -> Option<u8> {
     match c {
         b'0'..=b'9' => Some(c - b'0'),
         b'a'..=b'f' => Some(c - b'a' + 10),
+        b'A'..=b'F' => Some(c - b'A' + 10),
         _ => None,
     }
 }
@@ -133,13 +134,16 @@ fn in_range(b: &[u8; 14]) -> Option<Frame> {
 struct Reader {
     program: Program,
     accesses: usize,
-    /// The first line of each thread's code: its instructions stand on the lines behind it.
-    opened: [usize; THREADS],
+    /// The line of each instruction, thread by thread.
+    places: Vec<Vec<usize>>,
 }
 
 impl Reader {
-    /// One line, by 2, 3, 4, 5, 6, 8.
+    /// One line, by 2, 3, 4, 5, 6, 8. A remark says nothing.
     fn line(&mut self, line: &[u8], place: usize) -> Result<(), Refusal> {
+        if line.starts_with(b"#") {
+            return Ok(());
+        }
         let Some(read) = read_line(line) else { return refused(2, place) };
         if !of_its_kind(read.bytes[0], read.length) {
             return refused(3, place);
@@ -156,11 +160,10 @@ impl Reader {
         if !self.program.alike.is_empty() {
             return refused(5, place);
         }
-        let number = self.program.threads.len();
-        if number == THREADS {
+        if self.program.threads.len() == THREADS {
             return refused(6, place);
         }
-        self.opened[number] = place;
+        self.places.push(Vec::with_capacity(INSTRUCTIONS));
         self.program.threads.push(Vec::with_capacity(INSTRUCTIONS));
         Ok(())
     }
@@ -175,6 +178,7 @@ impl Reader {
             return refused(6, place);
         }
         code.push(instruction);
+        self.places[self.program.threads.len() - 1].push(place);
         Ok(())
     }
 
@@ -193,11 +197,11 @@ impl Reader {
 
     /// Refusal 7: the line of the first skip that ends beyond its thread.
     fn long_skip(&self) -> Option<usize> {
-        for (code, opened) in self.program.threads.iter().zip(self.opened) {
+        for (code, places) in self.program.threads.iter().zip(&self.places) {
             for (k, instruction) in code.iter().enumerate() {
                 if let Instruction::SkipUnless { n, .. } = instruction {
                     if k + 1 + *n as usize > code.len() {
-                        return Some(opened + 1 + k);
+                        return Some(places[k]);
                     }
                 }
             }
@@ -211,7 +215,7 @@ pub fn decode(file: &[u8]) -> Result<Program, Refusal> {
     if file.len() > FILE_LIMIT {
         return refused(1, 0);
     }
-    let mut reader = Reader { program: Program::default(), accesses: 0, opened: [0; THREADS] };
+    let mut reader = Reader { program: Program::default(), accesses: 0, places: Vec::new() };
     let mut rest = file;
     let mut place = 0;
     while !rest.is_empty() {

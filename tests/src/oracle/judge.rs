@@ -8,7 +8,8 @@ use std::collections::BTreeMap;
 /// The frame bytes of a line without its 0a, or none: empty, odd, another character.
 fn frame(line: &[u8]) -> Option<Vec<u8>> {
     let digits = b"0123456789abcdef";
-    let values: Option<Vec<u8>> = line.iter().map(|c| digits.iter().position(|d| d == c).map(|v| v as u8)).collect();
+    let value = |c: &u8| digits.iter().position(|d| d.eq_ignore_ascii_case(c)).map(|v| v as u8);
+    let values: Option<Vec<u8>> = line.iter().map(value).collect();
     let values = values.filter(|v| !v.is_empty() && v.len() % 2 == 0)?;
     Some(values.chunks_exact(2).map(|pair| pair[0] << 4 | pair[1]).collect())
 }
@@ -27,8 +28,11 @@ struct Reader<'a> {
 }
 
 impl Reader<'_> {
-    /// One line, by 30, 31, 32, 33.
+    /// One line, by 30, 31, 32, 33. A remark says nothing.
     fn line(&mut self, line: &[u8], place: usize) -> Result<(), Refusal> {
+        if line.starts_with(b"#") {
+            return Ok(());
+        }
         let Some(frame) = frame(line) else { return refused(30, place) };
         match (frame[0], frame.len()) {
             (0x40, 5) => self.read(&events(&frame[1..]), place),

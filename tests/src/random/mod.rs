@@ -1,7 +1,8 @@
-//! Random inputs from a fixed seed: numbers, programs, schedules, graph texts, and damaged program files.
+//! Random inputs from a fixed seed: numbers, programs, schedules, graph texts, remarks, and damaged program files.
 pub mod damage;
 pub mod graph;
 pub mod program;
+pub mod remarks;
 pub mod schedule;
 
 /// A small generator of random numbers (splitmix64): the same seed gives the same numbers on every machine.

@@ -26,10 +26,10 @@ pub enum Order {
 }
 
 impl Graph {
-    /// The graph that a text of the library writes.
+    /// The graph that a text of the library writes, or of a text that it judges.
     pub fn of_text(text: &[u8]) -> Graph {
         let mut graph = Graph::default();
-        for line in text.split(|&c| c == b'\n').filter(|line| !line.is_empty()) {
+        for line in text.split(|&c| c == b'\n').filter(|line| !line.is_empty() && !line.starts_with(b"#")) {
             match hex::bytes(line).expect("a line of digits").as_slice() {
                 [0x40, t, i, u, j] => {
                     let source = (*u != 0xff).then_some(Event { t: *u, i: *j });

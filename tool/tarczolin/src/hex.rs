@@ -1,4 +1,4 @@
-//! Bytes as lower-case hexadecimal, two digits a byte.
+//! Bytes as hexadecimal, two digits a byte: read with capitals too, written in lower case.
 
 const DIGITS: &[u8; 16] = b"0123456789abcdef";
 
@@ -12,11 +12,12 @@ pub fn line(frame: &[u8]) -> String {
     digits(frame) + "\n"
 }
 
-/// The value of one lower-case digit.
+/// The value of one digit.
 pub fn value(digit: u8) -> Option<u8> {
     match digit {
         b'0'..=b'9' => Some(digit - b'0'),
         b'a'..=b'f' => Some(digit - b'a' + 10),
+        b'A'..=b'F' => Some(digit - b'A' + 10),
         _ => None,
     }
 }

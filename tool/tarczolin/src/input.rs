@@ -1,5 +1,5 @@
 //! Files named on the command line; `-` is standard input. No more is read than can be of use.
-use crate::asm::{self, Assembled};
+use crate::asm::{self, Assembled, Remarks};
 use crate::error::{called, Error, Mark};
 use crate::program::{Names, FILE_LIMIT};
 use std::fs::{File, Metadata};
@@ -10,12 +10,13 @@ use std::os::unix::fs::MetadataExt;
 /// At most so many bytes are read of a graph text, of a schedule and of a program in the text form.
 pub const TEXT_LIMIT: usize = 1 << 20;
 
-/// A program: its file as the library takes it, and the names of its text form where it has one.
+/// A program: its file as the library takes it, and the names and remark lines of that file or of its text form.
 pub struct Source {
     /// What it is called in messages.
     pub name: String,
     pub file: Vec<u8>,
     pub names: Names,
+    pub remarks: Remarks,
 }
 
 /// The bytes of a file, at most so many.
@@ -37,13 +38,14 @@ pub fn program(name: &str) -> Result<Source, Error> {
     let file = front(name, FILE_LIMIT + 1)?;
     let called = called(name).to_string();
     if !name.ends_with(".asm") && !asm::is_text(&file) {
-        return Ok(Source { name: called, file, names: Names::default() });
+        let remarks = Remarks::of_file(&file);
+        return Ok(Source { name: called, file, names: remarks.names(), remarks });
     }
     let text = rest(name, file)?;
-    let Assembled { file, names, warnings } =
+    let Assembled { file, names, remarks, warnings } =
         asm::assemble(&text).map_err(|marks| Error::Text { name: called.clone(), marks })?;
     warn(&called, warnings);
-    Ok(Source { name: called, file, names })
+    Ok(Source { name: called, file, names, remarks })
 }
 
 /// Tells on standard error what looks like a slip.

@@ -2,7 +2,7 @@
 mod common;
 
 use common::{run, run_with};
-use tarczolin::asm::{assemble, text as written};
+use tarczolin::asm::{assemble, text as written, Remarks};
 use tarczolin::error::Mark;
 use tarczolin::program::{frames as frames_of, Names};
 use tarczolin_tests::files::{read, text};
@@ -27,7 +27,7 @@ fn there_and_back() {
     let mut random = Random::new(81);
     for k in 0..share::of(20_000) {
         let file = text(&frames(&mut random, if k % 3 == 0 { SMALL } else { ANY }));
-        let form = written(&frames_of(&file).unwrap(), &Names::default());
+        let form = written(&frames_of(&file).unwrap(), &Names::default(), &Remarks::default());
         assert_eq!(file_of(&form), file, "{form}");
     }
 }

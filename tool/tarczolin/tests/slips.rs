@@ -14,7 +14,7 @@ fn another_kind_of_file() {
     said(
         &["show", "examples/sb.litmus"],
         b"",
-        "refusal 2 at line 1: column 1 has the character X; only 0-9 and a-f may stand in a line; \
+        "refusal 2 at line 1: column 1 has the character X; only 0-9 and a-f may stand in a line, or # at its front; \
         this is a litmus test: import-litmus makes a program of it",
     );
     said(&["check", "-"], b"Thread\n", "begins with thread, by small letters");
@@ -33,7 +33,7 @@ fn another_kind_of_word() {
     said(&["show", "examples/whole.hex", "--svg", &file], b"", &format!("--svg takes a folder, and {file} is none"));
     said(&["show", "examples/whole.hex", "--html", "examples"], b"", "examples: Is a directory");
     said(&["show", "examples/whole.hex", "--from", "0"], b"", "--from takes a number from 1 on, not 0");
-    said(&["graph", "examples/whole.hex", "00010A"], b"", "it takes two digits (0-9, a-f) a step");
+    said(&["graph", "examples/whole.hex", "00010g"], b"", "it takes two digits (0-9, a-f) a step");
     said(&["outcomes", "examples/whole.hex", "--where", "x0 <= 1"], b"", "the character < has no meaning here");
     assert_eq!(run(&["outcomes", "examples/whole.hex", "--where", "x0 = 1 && x1 = 0 || false"]).status, 1, "as in C");
 }

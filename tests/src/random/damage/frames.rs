@@ -1,8 +1,8 @@
 //! Damages of the frames.
 use super::limits;
 use super::Damage::{self, *};
-use super::Random;
 use crate::random::program::{instruction, ANY};
+use crate::random::Random;
 
 /// Damages the frames of a file: their bytes, their order and their number.
 pub fn damage(random: &mut Random, damage: Damage, frames: &mut Vec<Vec<u8>>) {

@@ -1,8 +1,8 @@
 //! Damages at the limits, and of the lines that declare threads alike.
 use super::frames::{any_kind, first_alike, instruction_or_frame};
 use super::Damage::{self, *};
-use super::Random;
 use crate::random::program::{instruction, is_access, ANY};
+use crate::random::Random;
 
 /// A line behind one that declares threads alike.
 pub fn behind_alike(random: &mut Random, frames: &mut Vec<Vec<u8>>) {

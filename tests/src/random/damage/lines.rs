@@ -1,6 +1,6 @@
 //! Damages of the text.
 use super::Damage::{self, *};
-use super::Random;
+use crate::random::{remarks, Random};
 
 /// Damages the text of a file: its characters and its lines' ends.
 pub fn damage(random: &mut Random, damage: Damage, file: &mut Vec<u8>) {
@@ -28,7 +28,7 @@ pub fn damage(random: &mut Random, damage: Damage, file: &mut Vec<u8>) {
             let letters: Vec<usize> = (0..file.len()).filter(|&k| file[k].is_ascii_lowercase()).collect();
             if !letters.is_empty() {
                 let at = random.pick(&letters);
-                file[at] = file[at].to_ascii_uppercase();
+                file[at] = random.pick(&[b'G', b'Z', b'@', file[at].to_ascii_uppercase()]);
             }
         }
         EmptyLine => {
@@ -44,6 +44,19 @@ pub fn damage(random: &mut Random, damage: Damage, file: &mut Vec<u8>) {
             }
         }
         Padded => pad(random, file),
+        FilledRemark => {
+            let length = random.pick(&[4095, 4096, 4096, 4097]);
+            remarks::fill(random, file, length);
+        }
+        OpenRemark => {
+            file.extend(remarks::remark(random));
+            file.pop();
+        }
+        LateRemark => {
+            let at = line_start(random, file);
+            let before = random.pick(&[&b" "[..], b"\t", b"\r", b"0", b"00"]);
+            file.splice(at..at, [before, b"#\n"].concat());
+        }
         AnyBytes => {
             let length = random.pick(&[1, 2, 3, 7, 40, 400, 4095, 4096, 4097, 9000]);
             *file = (0..length).map(|_| random.byte()).collect();

@@ -4,7 +4,7 @@ mod limits;
 mod lines;
 
 use super::program::{self, ANY};
-use super::Random;
+use super::{remarks, Random};
 use crate::files::text;
 
 /// A way to damage a program file. Not every damage spoils the file: some are at a limit and some past it.
@@ -16,10 +16,15 @@ pub enum Damage {
     LostByte,
     MoreByte,
     LostLastNewline,
+    /// A letter behind F, or a capital that is a digit.
     Capital,
     EmptyLine,
     OddLine,
     Padded,
+    // of remarks: at a limit, without its 0a, behind a space
+    FilledRemark,
+    OpenRemark,
+    LateRemark,
     // of a frame
     FirstByte,
     Field,
@@ -53,7 +58,7 @@ pub enum Damage {
 
 use Damage::*;
 
-pub const ALL: [Damage; 32] = [
+pub const ALL: [Damage; 35] = [
     Nothing,
     AnyByte,
     LostByte,
@@ -63,6 +68,9 @@ pub const ALL: [Damage; 32] = [
     EmptyLine,
     OddLine,
     Padded,
+    FilledRemark,
+    OpenRemark,
+    LateRemark,
     FirstByte,
     Field,
     Length,
@@ -88,7 +96,10 @@ pub const ALL: [Damage; 32] = [
     Threadless,
 ];
 
-/// A random program file with this damage, and sometimes with a second one, so that the order of refusals matters.
+/// The damages of the text stand in front.
+const OF_THE_TEXT: usize = 12;
+
+/// A random program file with this damage, and sometimes with a second one, so that the order of refusals matters. One in three has remarks or capitals.
 pub fn file(random: &mut Random, damage: Damage) -> Vec<u8> {
     let mut frames = program::frames(random, ANY);
     frames::damage(random, damage, &mut frames);
@@ -97,9 +108,12 @@ pub fn file(random: &mut Random, damage: Damage) -> Vec<u8> {
         frames::damage(random, second, &mut frames);
     }
     let mut file = text(&frames);
+    if random.one_in(3) {
+        remarks::noise(random, &mut file);
+    }
     lines::damage(random, damage, &mut file);
     if damage != Nothing && random.one_in(8) {
-        let second = random.pick(&ALL[..9]);
+        let second = random.pick(&ALL[..OF_THE_TEXT]);
         lines::damage(random, second, &mut file);
     }
     file

@@ -46,13 +46,15 @@ pub enum Change {
     EmptyLine,
     LostLastNewline,
     LongLine,
+    OpenRemark,
+    LateRemark,
     AnyBytes,
     Empty,
 }
 
 use Change::*;
 
-pub const ALL: [Change; 33] = [
+pub const ALL: [Change; 35] = [
     Nothing,
     Source,
     OwnSource,
@@ -84,6 +86,8 @@ pub const ALL: [Change; 33] = [
     EmptyLine,
     LostLastNewline,
     LongLine,
+    OpenRemark,
+    LateRemark,
     AnyBytes,
     Empty,
 ];
@@ -99,7 +103,8 @@ pub const OF_THE_GRAPH: [Change; 14] = {
     some
 };
 
-/// The graph of a random full schedule, that schedule, and the graph's text with this change, sometimes with a second one.
+/// The graph of a random full schedule, that schedule, and the graph's text with this change, sometimes with a second one. One in
+/// three has remarks or capitals.
 pub fn text(random: &mut Random, program: &Program, change: Change) -> (Vec<u8>, Vec<u8>) {
     let schedule = schedule::full(random, program);
     let machine = run_full(program, &schedule).unwrap();

@@ -2,7 +2,7 @@
 use super::Change::{self, *};
 use crate::files::text;
 use crate::oracle::graph::Graph;
-use crate::random::Random;
+use crate::random::{remarks, Random};
 
 /// The frames of a graph's text.
 fn frames(graph: &Graph) -> Vec<Vec<u8>> {
@@ -80,12 +80,21 @@ fn characters(random: &mut Random, change: Change, text: &mut Vec<u8>) {
             let to = random.pick(&ends);
             text.splice(to..to, line);
         }
+        OpenRemark => {
+            text.extend(remarks::remark(random));
+            text.pop();
+        }
+        LateRemark => {
+            let ends: Vec<usize> = (0..=text.len()).filter(|&k| k == 0 || text[k - 1] == b'\n').collect();
+            let to = random.pick(&ends);
+            text.splice(to..to, *b" #\n");
+        }
         _ if text.is_empty() => {}
         AnyByte => text[at] = random.byte(),
         Capital => {
             let letters: Vec<usize> = (0..text.len()).filter(|&k| text[k].is_ascii_lowercase()).collect();
             let at = if letters.is_empty() { at } else { random.pick(&letters) };
-            text[at] = text[at].to_ascii_uppercase();
+            text[at] = random.pick(&[b'G', b'@', text[at].to_ascii_uppercase()]);
         }
         OddLine => drop(text.remove(at)),
         LostLastNewline => drop(text.pop()),
@@ -104,6 +113,9 @@ pub fn changed(random: &mut Random, change: Change, graph: &Graph) -> Vec<u8> {
         line(random, change, &mut frames, at);
     }
     let mut text = text(&frames);
+    if random.one_in(3) {
+        remarks::noise(random, &mut text);
+    }
     characters(random, change, &mut text);
     text
 }

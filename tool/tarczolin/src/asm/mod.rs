@@ -1,5 +1,6 @@
 //! The text form of a program: a statement a line, translated to the lines of the program file.
 mod parse;
+mod remarks;
 mod resolve;
 mod statement;
 mod symbols;
@@ -13,20 +14,22 @@ mod wrong;
 
 use crate::ask;
 use crate::error::Mark;
-use crate::program::{self, Names, FILE_LIMIT};
+use crate::program::{self, Frame, Names, FILE_LIMIT};
 use crate::refusal;
 use symbols::Symbols;
 use threads::Threads;
 use wrong::{Wrong, Wrongs};
 
+pub use remarks::Remarks;
 pub use words::constant;
 pub use write::text;
 
-/// A program file made of a text, the text's names, and what looks like a slip in it.
+/// A program file made of a text, the text's names and remark lines, and what looks like a slip in it.
 #[derive(Clone, Debug, PartialEq, Eq)]
 pub struct Assembled {
     pub file: Vec<u8>,
     pub names: Names,
+    pub remarks: Remarks,
     pub warnings: Vec<Mark>,
 }
 
@@ -35,7 +38,8 @@ pub fn assemble(text: &[u8]) -> Result<Assembled, Vec<Mark>> {
     let text = unmarked(text);
     let (statements, unread) = parse::statements(text);
     let mut wrong = Wrongs::of_lines(text, unread);
-    let symbols = Symbols::of(&statements, &mut wrong);
+    let given = Remarks::of_text(text, &[]).names();
+    let symbols = Symbols::of(&statements, given, &mut wrong);
     let threads = Threads::of(&statements, &symbols, &mut wrong);
     let marks = |all: Vec<Wrong>| all.into_iter().map(|one| mark(text, one)).collect::<Vec<_>>();
     if !wrong.is_empty() {
@@ -48,10 +52,24 @@ pub fn assemble(text: &[u8]) -> Result<Assembled, Vec<Mark>> {
     }
     let mut warnings = warnings::of_locations(&statements);
     warnings.extend(threads.unused_labels());
-    Ok(Assembled { file, names: threads.names(&symbols), warnings: marks(warnings) })
+    let remarks = Remarks::of_text(text, &threads.lines());
+    Ok(Assembled { file, names: threads.names(&symbols), remarks, warnings: marks(warnings) })
 }
 
-/// Does this content begin as the text form does? A program file has digits only.
+/// The program file of these frames with remark lines; where it would be too long, the frames alone.
+pub fn remarked(frames: &[Frame], remarks: &Remarks) -> Vec<u8> {
+    let mut file = Vec::new();
+    for at in 0..=frames.len() {
+        remarks.before(at).for_each(|line| file.extend([line.as_bytes(), b"\n"].concat()));
+        file.extend(program::file(frames.get(at..at + 1).unwrap_or(&[])));
+    }
+    if file.len() > FILE_LIMIT {
+        return program::file(frames);
+    }
+    file
+}
+
+/// Does this content begin as the text form does? A program file has digits and remarks only.
 pub fn is_text(bytes: &[u8]) -> bool {
     let lines = unmarked(bytes).split(|&c| c == b'\n').map(<[u8]>::trim_ascii);
     let first = lines.into_iter().find(|line| !line.is_empty() && !line.starts_with(b"#"));

@@ -27,8 +27,8 @@ pub struct Scope<'a> {
 }
 
 impl<'a> Scope<'a> {
-    /// Takes in the statements of a thread, its labels among them.
-    pub fn of(symbols: &'a Symbols, statements: &[&'a Statement], wrong: &mut Wrongs) -> Scope<'a> {
+    /// Takes in the statements of a thread, by its number, its labels among them.
+    pub fn of(symbols: &'a Symbols, thread: usize, statements: &[&'a Statement], wrong: &mut Wrongs) -> Scope<'a> {
         let (mut body, mut labels) = (Vec::new(), BTreeMap::new());
         for &statement in statements {
             let Kind::Label(name) = &statement.kind else {
@@ -39,16 +39,24 @@ impl<'a> Scope<'a> {
                 wrong.add(statement, name, format!("the label {} stands in this thread twice", name.text));
             }
         }
-        let mut scope = Scope { symbols, body, labels, registers: BTreeMap::new() };
+        let mut registers = BTreeMap::new();
+        for (r, name) in symbols.given.threads.get(thread).iter().flat_map(|of| (0..).zip(&of.registers)) {
+            let free = |name: &&String| !symbols.locations.contains_key(*name) && !symbols.constants.contains_key(*name);
+            if let Some(name) = name.as_ref().filter(free) {
+                registers.insert(name.clone(), r);
+            }
+        }
+        let mut scope = Scope { symbols, body, labels, registers };
         scope.find_registers(wrong);
         scope
     }
 
-    /// Numbers for named registers: in order of first use, each the least that the thread does not write out.
+    /// Numbers for named registers that no name line names: in order of first use, each the least that the thread does not write out.
     fn find_registers(&mut self, wrong: &mut Wrongs) {
         let written = |s: &&Statement| s.text.split(' ').filter_map(|word| words::register(word)?.ok()).collect::<Vec<u8>>();
         let taken: Vec<u8> = self.body.iter().flat_map(written).collect();
-        let mut free = (0..REGISTERS).filter(|r| !taken.contains(r));
+        let given: Vec<u8> = self.registers.values().copied().collect();
+        let mut free = (0..REGISTERS).filter(|r| !taken.contains(r) && !given.contains(r));
         for statement in &self.body {
             let Some(word) = statement.kind.target() else { continue };
             let name = &word.text;

@@ -2,7 +2,7 @@
 use super::statement::{Kind, Statement, Word};
 use super::words::{constant, is_name, location};
 use super::wrong::Wrongs;
-use crate::program::LOCATIONS;
+use crate::program::{Names, LOCATIONS};
 use std::collections::BTreeMap;
 
 #[derive(Debug, Default)]
@@ -10,11 +10,13 @@ pub struct Symbols {
     pub constants: BTreeMap<String, u32>,
     pub locations: BTreeMap<String, u8>,
     pub threads: BTreeMap<String, u8>,
+    /// What name lines say: it holds where the statements say nothing else.
+    pub given: Names,
 }
 
 impl Symbols {
-    pub fn of(statements: &[Statement], wrong: &mut Wrongs) -> Symbols {
-        let mut symbols = Symbols::default();
+    pub fn of(statements: &[Statement], given: Names, wrong: &mut Wrongs) -> Symbols {
+        let mut symbols = Symbols { given, ..Symbols::default() };
         symbols.find_constants(statements, wrong);
         symbols.find_locations(statements, wrong);
         symbols.find_threads(statements, wrong);
@@ -43,11 +45,17 @@ impl Symbols {
         }
     }
 
-    /// Numbers for named locations: in order of first use, each the least that nothing else has.
+    /// Numbers for named locations: as name lines say, the others in order of first use, each the least that nothing else has.
     fn find_locations(&mut self, statements: &[Statement], wrong: &mut Wrongs) {
         let words: Vec<(&Statement, &Word)> = statements.iter().filter_map(|s| Some((s, s.kind.location()?))).collect();
         let taken: Vec<u8> = words.iter().filter_map(|(_, word)| location(&word.text)?.ok()).collect();
-        let mut free = (0..LOCATIONS).filter(|l| !taken.contains(l));
+        let mut given = BTreeMap::new();
+        for (l, name) in (0..).zip(&self.given.locations) {
+            if let Some(name) = name.as_ref().filter(|name| !self.constants.contains_key(*name)) {
+                given.insert(name.clone(), l);
+            }
+        }
+        let mut free = (0..LOCATIONS).filter(|l| !taken.contains(l) && !given.values().any(|one| one == l));
         for (statement, word) in words {
             let name = &word.text;
             if let Some(numbered) = location(name) {
@@ -57,7 +65,7 @@ impl Symbols {
             } else if self.constants.contains_key(name) {
                 wrong.add(statement, word, format!("{name} is a constant, and a location is expected here"));
             } else if !self.locations.contains_key(name) {
-                match free.next() {
+                match given.get(name).copied().or_else(|| free.next()) {
                     Some(l) => {
                         self.locations.insert(name.clone(), l);
                     }
@@ -80,5 +88,8 @@ impl Symbols {
                 wrong.add(statement, name, format!("a thread above is called {} already", name.text));
             }
         }
+        let said = self.threads.clone();
+        let given = (0..).zip(&self.given.threads).filter_map(|(t, of)| Some((of.name.clone()?, t)));
+        self.threads.extend(given.filter(|(name, t)| !said.contains_key(name) && !said.values().any(|one| one == t)));
     }
 }

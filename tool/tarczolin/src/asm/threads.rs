@@ -51,8 +51,8 @@ impl<'a> Threads<'a> {
     pub fn of(statements: &'a [Statement], symbols: &'a Symbols, wrong: &mut Wrongs) -> Threads<'a> {
         let mut threads = Vec::new();
         let mut accesses = 0;
-        for (opens, code) in split(statements, wrong) {
-            let scope = Scope::of(symbols, &code, wrong);
+        for (t, (opens, code)) in split(statements, wrong).into_iter().enumerate() {
+            let scope = Scope::of(symbols, t, &code, wrong);
             let made = instructions(&scope.code(wrong));
             limits(&made, &mut accesses, wrong);
             let unused_labels = scope.unused_labels();
@@ -75,12 +75,22 @@ impl<'a> Threads<'a> {
         threads.chain(self.alike.iter().map(|(_, members)| Frame::Alike(members.clone()))).collect()
     }
 
+    /// The statement of each frame.
+    fn statements(&self) -> impl Iterator<Item = &'a Statement> + '_ {
+        let code = |thread: &Thread<'a>| thread.made.iter().map(|made| made.statement).collect::<Vec<_>>();
+        let threads = self.threads.iter().flat_map(move |thread| [vec![thread.opens], code(thread)].concat());
+        threads.chain(self.alike.iter().map(|(statement, _)| *statement))
+    }
+
     /// The place in the text of a line of the program file, from 1.
     pub fn place(&self, line: u64) -> (usize, usize) {
-        let code = |thread: &Thread<'a>| thread.made.iter().map(|made| made.statement).collect::<Vec<_>>();
-        let threads = self.threads.iter().flat_map(|thread| [vec![thread.opens], code(thread)].concat());
-        let mut all = threads.chain(self.alike.iter().map(|(statement, _)| *statement));
-        all.nth((line as usize).wrapping_sub(1)).map_or((1, 1), |statement| (statement.line, statement.column))
+        let statement = self.statements().nth((line as usize).wrapping_sub(1));
+        statement.map_or((1, 1), |statement| (statement.line, statement.column))
+    }
+
+    /// The line of the text that each frame comes from.
+    pub fn lines(&self) -> Vec<usize> {
+        self.statements().map(|statement| statement.line).collect()
     }
 
     pub fn names(&self, symbols: &Symbols) -> Names {
@@ -89,6 +99,11 @@ impl<'a> Threads<'a> {
             names.locations[*l as usize] = Some(name.clone());
         }
         names.threads = self.threads.iter().map(Thread::names).collect();
+        for (name, t) in &symbols.threads {
+            if let Some(thread) = names.threads.get_mut(*t as usize) {
+                thread.name = Some(name.clone());
+            }
+        }
         names
     }
 

@@ -1,12 +1,14 @@
 //! The text form of a program file.
+use super::remarks::Remarks;
 use crate::program::{Frame, Names};
 
-/// The text of these frames, by these names.
-pub fn text(frames: &[Frame], names: &Names) -> String {
+/// The text of these frames, by these names, with these remark lines.
+pub fn text(frames: &[Frame], names: &Names, remarks: &Remarks) -> String {
     let mut thread = 0u8;
     let mut opened = 0u8;
     let mut text = String::new();
-    for frame in frames {
+    for (at, frame) in frames.iter().enumerate() {
+        remarks.before(at).for_each(|line| text += &format!("{line}\n"));
         text += &match frame {
             Frame::Thread => {
                 thread = opened;
@@ -22,5 +24,6 @@ pub fn text(frames: &[Frame], names: &Names) -> String {
             }
         };
     }
+    remarks.before(frames.len()).for_each(|line| text += &format!("{line}\n"));
     text
 }

@@ -6,10 +6,12 @@ use crate::error::{called, Error};
 use crate::{ask, asm, input, program};
 
 pub fn run(arguments: &Arguments) -> Result<End, Error> {
-    each("asm", arguments, assembled)
+    let remarks = arguments.flag("--remarks");
+    each("asm", arguments, |question| assembled(question, remarks))
 }
 
-fn assembled(question: &Question) -> Result<End, Error> {
+/// The program file, with the text's names and remark lines if they are wanted.
+fn assembled(question: &Question, remarks: bool) -> Result<End, Error> {
     let text = input::text(question.file)?;
     let name = called(question.file);
     if ask::check(&text).is_ok() && program::frames(&text).is_some_and(|frames| !frames.is_empty()) {
@@ -18,6 +20,11 @@ fn assembled(question: &Question) -> Result<End, Error> {
     }
     let made = asm::assemble(&text).map_err(|marks| Error::Text { name: name.to_string(), marks })?;
     input::warn(name, made.warnings);
-    let file = String::from_utf8(made.file).expect("digits only");
+    let mut file = made.file;
+    if remarks {
+        let frames = program::frames(&file).expect("frames only");
+        file = asm::remarked(&frames, &made.remarks.with(&made.names));
+    }
+    let file = String::from_utf8(file).expect("digits, and remarks of a text");
     question.answer_text(file.clone(), [("text", file.into())], End::Answered)
 }

@@ -9,7 +9,7 @@ pub fn run(arguments: &Arguments) -> Result<End, Error> {
     each("disasm", arguments, |question| {
         let source = question.source()?;
         let frames = program::frames(&source.file).expect("an accepted file has frames only");
-        let text = asm::text(&frames, &source.names);
+        let text = asm::text(&frames, &source.names, &source.remarks.with(&source.names));
         question.answer_text(text.clone(), [("text", text.into())], End::Answered)
     })
 }

@@ -11,6 +11,7 @@ const WHERE: Opt = Opt {
     value: Some("CONDITION"),
     about: "only these, and status 1 where some execution ends so: 'tail=2 & T2.r1=0'; also fails, T2.fails, |, !, ( )",
 };
+const REMARKS: Opt = Opt { name: "--remarks", value: None, about: "with the text's names and remark lines, as remarks" };
 const SHOW_OPTIONS: &[Opt] = &[
     Opt { name: "--from", value: Some("K"), about: "from place K of the list on" },
     Opt { name: "--only", value: Some("failing"), about: "only those that fail" },
@@ -109,14 +110,14 @@ pub const COMMANDS: [Command; 14] = [
         name: "asm",
         words: "FILE..",
         about: "from the text form to a program file",
-        options: &[JSON],
+        options: &[REMARKS, JSON],
         example: "tarczolin asm examples/queue-broken.asm > queue.hex",
         run: asm::run,
     },
     Command {
         name: "disasm",
         words: "FILE..",
-        about: "from a program file to the text form",
+        about: "from a program file to the text form, with its names and remark lines",
         options: &[JSON],
         example: "tarczolin disasm examples/whole.hex",
         run: disasm::run,

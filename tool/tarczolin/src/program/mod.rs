@@ -54,10 +54,13 @@ impl Program {
     }
 }
 
-/// The frames of a file, or none where a line holds no frame.
+/// The frames of a file, or none where a line that is no remark holds no frame.
 pub fn frames(file: &[u8]) -> Option<Vec<Frame>> {
-    let lines = file.strip_suffix(b"\n")?;
-    lines.split(|&c| c == b'\n').map(|line| Frame::of_bytes(&crate::hex::bytes(line)?)).collect()
+    if file.is_empty() {
+        return Some(Vec::new());
+    }
+    let lines = file.strip_suffix(b"\n")?.split(|&c| c == b'\n').filter(|line| !line.starts_with(b"#"));
+    lines.map(|line| Frame::of_bytes(&crate::hex::bytes(line)?)).collect()
 }
 
 /// The program file of these frames.

@@ -50,8 +50,9 @@ fn range(frame: &[u8], threads: usize) -> String {
 /// 33: the order of lines, or an event that is named twice.
 fn order(frame: &[u8], text: &[u8], place: u64) -> String {
     let key = |frame: &[u8]| frame.get(..if frame.first() == Some(&0x40) { 3 } else { 2 }).map(<[u8]>::to_vec);
-    let last = hex::bytes(line_at(text, place - 1)).unwrap_or_default();
-    if place > 1 && key(frame) <= key(&last) {
+    let above = (1..place).rev().map(|k| line_at(text, k)).find(|line| !line.starts_with(b"#"));
+    let last = above.and_then(hex::bytes).unwrap_or_default();
+    if above.is_some() && key(frame) <= key(&last) {
         let right = "first 40 by thread and access, then 41 by location, each once";
         return format!("the line does not come after the one above it: {right}");
     }

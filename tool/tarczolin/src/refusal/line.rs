@@ -13,7 +13,6 @@ fn character(c: u8) -> String {
         b'\r' => "a carriage return (0d): lines end by 0a alone".to_string(),
         b' ' => "a space".to_string(),
         b'\t' => "a tab".to_string(),
-        b'A'..=b'F' => format!("the capital {}: digits are lower-case", c as char),
         0x21..=0x7e => format!("the character {}", c as char),
         _ => format!("the byte {c:02x}"),
     }
@@ -22,8 +21,11 @@ fn character(c: u8) -> String {
 /// The sentence about a line that is empty, odd, without its 0a, or has another character.
 pub fn sentence(text: &[u8], place: u64) -> String {
     let line = line_at(text, place);
+    if line.starts_with(b"#") {
+        return "the last line, a remark, is not ended by a newline (0a)".to_string();
+    }
     if let Some(k) = line.iter().position(|&c| hex::value(c).is_none()) {
-        return format!("column {} has {}; only 0-9 and a-f may stand in a line", k + 1, character(line[k]));
+        return format!("column {} has {}; only 0-9 and a-f may stand in a line, or # at its front", k + 1, character(line[k]));
     }
     if line.is_empty() {
         return "the line is empty; every line holds one frame".to_string();

@@ -68,7 +68,7 @@ fn limit(frame: &[u8], before: &[Frame]) -> String {
 
 /// 7: how far the skip goes, and how far it may.
 fn skip(file: &[u8], place: u64, frame: &[u8]) -> String {
-    let behind = file.split(|&c| c == b'\n').skip(place as usize);
+    let behind = file.split(|&c| c == b'\n').skip(place as usize).filter(|line| !line.starts_with(b"#"));
     let left = behind.take_while(|line| matches!(line.first(), Some(b'1' | b'2'))).count();
     let skipped = frame.last().copied().unwrap_or(0);
     format!("this skips {skipped} instructions, and only {left} follow in its thread")
