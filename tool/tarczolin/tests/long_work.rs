@@ -7,9 +7,10 @@ use std::process::{Command, Stdio};
 use std::time::Duration;
 use tarczolin_tests::files::lines;
 
-/// Twelve stores beside twelve loads: millions are listed.
+/// Eight stores beside two threads of eight loads: more than a hundred million are listed.
 fn long() -> Vec<u8> {
-    lines(&format!("01 {} 01 {}", "10000000000001 ".repeat(12), "110000 ".repeat(12)))
+    let loads = "110000 ".repeat(8);
+    lines(&format!("01 {} 01 {loads} 01 {loads}", "10000000000001 ".repeat(8)))
 }
 
 /// What a command had told when it was interrupted after a while.
@@ -41,8 +42,9 @@ fn interrupted_list_tells_from_where_to_go_on() {
         let said = err.lines().last().unwrap();
         assert!(said.contains(&format!("{} listed, 0 failing so far; go on with --after {last}", out.lines().count())), "{said}");
         assert!(err.contains(" % of the range\n"), "progress: {err}");
-        let next = run_with(&["list", "-", "--after", last, "--until", &"01".repeat(12)], &long());
-        assert!(next.status == 0, "{}", next.err);
+        let (status, on, err) = interrupted(&["list", "-", "--after", last]);
+        assert_eq!(status, Some(2), "{err}");
+        assert!(on.lines().next().unwrap() > format!("5000{last}").as_str(), "{on}");
     }
 }
 

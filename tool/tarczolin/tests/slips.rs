@@ -14,7 +14,7 @@ fn another_kind_of_file() {
     said(
         &["show", "examples/sb.litmus"],
         b"",
-        "refusal 2 at line 1: column 1 has the character X; only 0-9 and a-f may stand in a line, or # at its front; \
+        "refusal 2 at line 1: column 1 has the character X; only 0-9, a-f and A-F may stand in a line, or # at its front; \
         this is a litmus test: import-litmus makes a program of it",
     );
     said(&["check", "-"], b"Thread\n", "begins with thread, by small letters");

@@ -25,7 +25,11 @@ pub fn sentence(text: &[u8], place: u64) -> String {
         return "the last line, a remark, is not ended by a newline (0a)".to_string();
     }
     if let Some(k) = line.iter().position(|&c| hex::value(c).is_none()) {
-        return format!("column {} has {}; only 0-9 and a-f may stand in a line, or # at its front", k + 1, character(line[k]));
+        return format!(
+            "column {} has {}; only 0-9, a-f and A-F may stand in a line, or # at its front",
+            k + 1,
+            character(line[k])
+        );
     }
     if line.is_empty() {
         return "the line is empty; every line holds one frame".to_string();
