@@ -10,7 +10,8 @@ use Rattle.program.specs.declared.kind.Kind.{Kind}
 abbrev pub row : ℕ → ℕ → ℕ → ℕ → ℕ → ℕ → ℕ → ℕ → Kind
 row b m n r l p q k = record { byte = b; least = m; most = n; register = r; location = l; first = p; second = q; skip = k }
 
--- opens a thread; declares threads alike; store, load, fetch and add, compare and swap; assign, add, skip, assert
+-- opens a thread; declares threads alike; store, load, fetch and add, compare and swap; assign, add, skip, assert; skip and assert with
+-- at most
 unfoldable pub kinds : List Kind
 kinds =
     row 0x01 1 1 0 0 0 0 0
@@ -23,6 +24,8 @@ kinds =
     ∷ row 0x21 7 7 1 0 2 0 0
     ∷ row 0x22 8 8 1 0 2 0 7
     ∷ row 0x23 7 7 1 0 2 0 0
+    ∷ row 0x24 8 8 1 0 2 0 7
+    ∷ row 0x25 7 7 1 0 2 0 0
     ∷ []
 
 -- the row of the table with this first byte; for an unknown byte a row that no length fits
