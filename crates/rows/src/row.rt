@@ -34,7 +34,11 @@ pub fn skip_at(code: &Code, row: usize) -> usize
     ensures { λ r. ⌜ r ≡ skipOf (rowAt (now (code .entry)) row) ⌝ }
 {
     let at = row * 16;
-    if code[at] == 0x22 {
+    let b = code[at];
+    if b == 0x22 {
+        return wide(code[at + 7]);
+    }
+    if b == 0x24 {
         return wide(code[at + 7]);
     }
     0
