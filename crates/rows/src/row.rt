@@ -35,11 +35,12 @@ pub fn skip_at(code: &Code, row: usize) -> usize
 {
     let at = row * 16;
     let b = code[at];
+    let n = wide(code[at + 7]);
     if b == 0x22 {
-        return wide(code[at + 7]);
+        return n;
     }
     if b == 0x24 {
-        return wide(code[at + 7]);
+        return n;
     }
     0
 }

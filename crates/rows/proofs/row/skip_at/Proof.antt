@@ -9,21 +9,21 @@ use Rattle.rows.proofs.row.skip_at.Tie as tie
 
 returns : tie.Need-returns
 returns c =
-    let c4 = c .before .before .before .before in
-    c .wide .ensures .0 ∙ sym (equal-skip _ (row-first (c4 .args .code .now) (c4 .args .row) ∙ c .before .before .if1 .taken) ∙ row-byte (c4 .args .code
-    .now) (c4 .args .row) 7 (lit< tt))
+    let entry = c .before .before .before .before in
+    let args = entry .args in
+    c .before .wide .ensures .0 ∙ sym (equal-skip _ (row-first (args .code .now) (args .row) ∙ c .if1 .taken) ∙ row-byte (args .code .now) (args .row) 7 (lit< tt))
 
 returns-2 : tie.Need-returns-2
 returns-2 c =
-    let c5 = c .before .before .before .before .before in
-    c .wide2 .ensures .0 ∙ sym (at-most-skip _ (row-first (c5 .args .code .now) (c5 .args .row) ∙ c .before .before .if2 .taken) ∙ row-byte (c5 .args .code
-    .now) (c5 .args .row) 7 (lit< tt))
+    let entry = c .before .before .before .before .before in
+    let args = entry .args in
+    c .before .before .wide .ensures .0 ∙ sym (at-most-skip _ (row-first (args .code .now) (args .row) ∙ c .if2 .taken) ∙ row-byte (args .code .now) (args .row) 7 (lit< tt))
 
 returns-3 : tie.Need-returns-3
 returns-3 c =
-    let entry = c .before .before .before in
+    let entry = c .before .before .before .before .before in
     let first = row-first (entry .args .code .now) (entry .args .row) in
     sym (no-skip _ (λ e. c .before .if1 .left (sym first ∙ e)) (λ e. c .if2 .left (sym first ∙ e)))
 
 pub skip-at-spec : {M : Type 1} → statement M
-skip-at-spec = tie.close (tie.spec (λ c. search needs) (λ c. search needs) (λ c. search needs) (λ c. search needs) (λ c κs. search needs) returns (λ c. search needs) (λ c. search needs) (λ c κs. search needs) returns-2 returns-3)
+skip-at-spec = tie.close (tie.spec (λ c. search needs) (λ c. search needs) (λ c. search needs) (λ c. search needs) (λ c κs. search needs) returns returns-2 returns-3)
