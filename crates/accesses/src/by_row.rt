@@ -110,9 +110,15 @@ pub(crate) fn carried_out(code: &Code, row: usize, registers: [u32; 4]) -> Carri
         return skipping(registers, held, code[at + 7]);
     }
     if b == 0x25 {
-        return asserted(registers, is_at_most(registers, r, operand_at(code, row, 2)));
+        return asserted(
+            registers,
+            is_at_most(registers, r, operand_at(code, row, 2)),
+        );
     }
-    asserted(registers, is_at_most(registers, b, operand_at(code, row, 0)))
+    asserted(
+        registers,
+        is_at_most(registers, b, operand_at(code, row, 0)),
+    )
 }
 
 // Does the access on finding memory so. Operands are read before the register changes.

@@ -82,7 +82,13 @@ fn all_errors_at_once() {
     let ran = run_with(&["count", "-"], SLIPS.as_bytes());
     assert_eq!((ran.status, ran.out.as_str()), (2, ""));
     let places: Vec<&str> = ran.err.lines().filter(|line| line.contains("standard input:")).collect();
-    let wanted = ["4:8: there is no label nowhere", "5:10: a register", "7:3: a statement", "9:11: ==, !=, <=, >, < or >= is expected here, not =<", "10:16: a thread"];
+    let wanted = [
+        "4:8: there is no label nowhere",
+        "5:10: a register",
+        "7:3: a statement",
+        "9:11: ==, !=, <=, >, < or >= is expected here, not =<",
+        "10:16: a thread",
+    ];
     assert_eq!(places.len(), wanted.len(), "{}", ran.err);
     for (place, words) in places.iter().zip(wanted) {
         assert!(place.contains(&format!("standard input:{words}")), "{place}: {words}");

@@ -60,7 +60,9 @@ fn guarded(condition: Condition, inner: Vec<Instruction>) -> Vec<Instruction> {
 fn jump(condition: Condition, distance: usize) -> Vec<Instruction> {
     let values = condition.other_values();
     let behind = values.len() - 1;
-    let skip = |(k, p): (usize, &Operand)| unless(Condition { comparison: Comparison::Equal, p: *p, ..condition }, distance + behind - k);
+    let skip = |(k, p): (usize, &Operand)| {
+        unless(Condition { comparison: Comparison::Equal, p: *p, ..condition }, distance + behind - k)
+    };
     values.iter().enumerate().map(skip).collect()
 }
 

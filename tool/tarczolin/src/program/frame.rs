@@ -79,9 +79,7 @@ impl Fields<'_> {
             0x13 => CompareSwap { r: self.register()?, l: self.location()?, e: self.operand()?, v: self.operand()? },
             0x20 => Set { r: self.register()?, p: self.operand()? },
             0x21 => Add { r: self.register()?, p: self.operand()? },
-            0x22 | 0x24 => {
-                SkipUnless { test: test_of(kind), r: self.register()?, p: self.operand()?, n: self.skip()? }
-            }
+            0x22 | 0x24 => SkipUnless { test: test_of(kind), r: self.register()?, p: self.operand()?, n: self.skip()? },
             0x23 | 0x25 => Assert { test: test_of(kind), r: self.register()?, p: self.operand()? },
             _ => return None,
         })

@@ -68,7 +68,9 @@ impl Instruction {
             Store { p, .. } => (None, vec![p]),
             Load { r, .. } => (Some(r), vec![]),
             CompareSwap { r, e, v, .. } => (Some(r), vec![e, v]),
-            FetchAdd { r, p, .. } | Set { r, p } | Add { r, p } | SkipUnless { r, p, .. } | Assert { r, p, .. } => (Some(r), vec![p]),
+            FetchAdd { r, p, .. } | Set { r, p } | Add { r, p } | SkipUnless { r, p, .. } | Assert { r, p, .. } => {
+                (Some(r), vec![p])
+            }
         };
         let named = operands.into_iter().filter_map(|p| match p {
             Operand::Register(r) => Some(r),
