@@ -1,5 +1,5 @@
--- A frame of a known kind that neither opens a thread nor declares threads alike is one of the eight instructions:
--- `by-code` proves of its first byte what is proved of each of the eight.
+-- A frame of a known kind that neither opens a thread nor declares threads alike is one of the ten instructions:
+-- `by-code` proves of its first byte what is proved of each of the ten.
 use Prim.Native.Nat.{ℕ, _+_}
 use native.Mathlib.Omega.{arith}
 use mathlib.Core.Path.{_≡_, refl}
@@ -25,7 +25,7 @@ pub record IsInstruction (f : Frame) : Type 0 where
 
 -- ---- the first bytes of instructions
 unfoldable pub codes : List ℕ
-codes = 0x10 ∷ 0x11 ∷ 0x12 ∷ 0x13 ∷ 0x20 ∷ 0x21 ∷ 0x22 ∷ 0x23 ∷ []
+codes = 0x10 ∷ 0x11 ∷ 0x12 ∷ 0x13 ∷ 0x20 ∷ 0x21 ∷ 0x22 ∷ 0x23 ∷ 0x24 ∷ 0x25 ∷ []
 
 -- a member in the sense of the test is a member
 pub among-member : (t : ℕ) (us : List ℕ) → among t us ≡ true → List·Memᴰ t us
@@ -83,7 +83,7 @@ unfolding instruction instructionAt kind isAccess codes buildOwn build accesses 
 accesses-cons f i is =
     by-code f i
     (λ b. accesses (instructionAt f b ∷ is) ≡ cond (leb 0x10 b && leb b 0x13) 1 0 + accesses is)
-    (omega arith, (omega arith, (omega arith, (omega arith, (omega arith, (omega arith, (omega arith, (omega arith, tt))))))))
+    (omega arith, (omega arith, (omega arith, (omega arith, (omega arith, (omega arith, (omega arith, (omega arith, (omega arith, (omega arith, tt))))))))))
 
 -- an instruction may skip as many as its frame says
 pub most-skipped : (f : Frame) → IsInstruction f → mostSkipped (instruction f) ≡ skipOf f
@@ -91,4 +91,4 @@ unfolding instruction instructionAt kind skipOf codes buildOwn build kindOf look
 most-skipped f i =
     by-code f i
     (λ b. mostSkipped (instructionAt f b) ≡ cond (eqb (kindOf b .skip) 0) 0 (byte f (kindOf b .skip)))
-    (refl, (refl, (refl, (refl, (refl, (refl, (refl, (refl, tt))))))))
+    (refl, (refl, (refl, (refl, (refl, (refl, (refl, (refl, (refl, (refl, tt))))))))))

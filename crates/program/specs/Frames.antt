@@ -8,7 +8,7 @@ use Rattle.program.specs.declared.instruction.Operand.{Operand}
 use Rattle.program.specs.declared.instruction.Operand.the-variants.{Constant, Register}
 use Rattle.program.specs.declared.instruction.Access.the-variants.{Store, Load, FetchAdd, CompareSwap}
 use Rattle.program.specs.declared.instruction.Comparison.{Comparison}
-use Rattle.program.specs.declared.instruction.Comparison.the-variants.{Equal}
+use Rattle.program.specs.declared.instruction.Comparison.the-variants.{Equal, AtMost}
 use Rattle.program.specs.declared.instruction.Test.{Test}
 use Rattle.program.specs.declared.instruction.Own.{Own}
 use Rattle.program.specs.declared.instruction.Own.the-variants.{Assign, AddAssign, SkipUnless, Assert}
@@ -83,7 +83,9 @@ buildOwn b r p n =
     cond (eqb b 0x20) (Assign r p)
     (cond (eqb b 0x21) (AddAssign r p)
     (cond (eqb b 0x22) (SkipUnless (test Equal r p) n)
-    (Assert (test Equal r p))))
+    (cond (eqb b 0x23) (Assert (test Equal r p))
+    (cond (eqb b 0x24) (SkipUnless (test AtMost r p) n)
+    (Assert (test AtMost r p))))))
 
 unfoldable pub build : ℕ → ℕ → ℕ → Operand → Operand → ℕ → Instruction
 build b r l p q n =

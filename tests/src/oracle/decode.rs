@@ -15,7 +15,8 @@ pub enum Operand {
     Register(u8),
 }
 
-/// An instruction; `r` is a register, `l` a location. `SkipUnless`: if `r` is not `p`, skip the next `n` instructions.
+/// An instruction; `r` is a register, `l` a location. `SkipUnless`: if `r` is not `p`, skip the next `n` instructions;
+/// `SkipUnlessAtMost`: if `r` is not less than or equal to `p`, both as two's complement.
 #[derive(Clone, Copy, Debug, PartialEq, Eq)]
 pub enum Instruction {
     Store { l: u8, p: Operand },
@@ -26,6 +27,8 @@ pub enum Instruction {
     Add { r: u8, p: Operand },
     SkipUnless { r: u8, p: Operand, n: u8 },
     Assert { r: u8, p: Operand },
+    SkipUnlessAtMost { r: u8, p: Operand, n: u8 },
+    AssertAtMost { r: u8, p: Operand },
 }
 
 impl Instruction {
@@ -84,9 +87,9 @@ fn of_its_kind(first: u8, length: usize) -> bool {
     match first {
         0x01 => length == 1,
         0x02 => (3..=7).contains(&length),
-        0x10 | 0x20 | 0x21 | 0x23 => length == 7,
+        0x10 | 0x20 | 0x21 | 0x23 | 0x25 => length == 7,
         0x11 => length == 3,
-        0x12 | 0x22 => length == 8,
+        0x12 | 0x22 | 0x24 => length == 8,
         0x13 => length == 13,
         _ => false,
     }
@@ -126,7 +129,9 @@ fn in_range(b: &[u8; 14]) -> Option<Frame> {
         0x20 => Set { r: register(b[1])?, p: operand(&b[2..7])? },
         0x21 => Add { r: register(b[1])?, p: operand(&b[2..7])? },
         0x22 => SkipUnless { r: register(b[1])?, p: operand(&b[2..7])?, n: skip(b[7])? },
-        _ => Assert { r: register(b[1])?, p: operand(&b[2..7])? },
+        0x23 => Assert { r: register(b[1])?, p: operand(&b[2..7])? },
+        0x24 => SkipUnlessAtMost { r: register(b[1])?, p: operand(&b[2..7])?, n: skip(b[7])? },
+        _ => AssertAtMost { r: register(b[1])?, p: operand(&b[2..7])? },
     }))
 }
 
@@ -199,7 +204,7 @@ impl Reader {
     fn long_skip(&self) -> Option<usize> {
         for (code, places) in self.program.threads.iter().zip(&self.places) {
             for (k, instruction) in code.iter().enumerate() {
-                if let Instruction::SkipUnless { n, .. } = instruction {
+                if let Instruction::SkipUnless { n, .. } | Instruction::SkipUnlessAtMost { n, .. } = instruction {
                     if k + 1 + *n as usize > code.len() {
                         return Some(places[k]);
                     }

@@ -55,7 +55,7 @@ pub fn damage(random: &mut Random, damage: Damage, frames: &mut Vec<Vec<u8>>) {
             let from = first_alike(frames);
             frames.splice(from..from, vec![vec![0x01]; more]);
         }
-        Instructions => limits::longer_thread(random, frames, &[0x20, 0x21, 0x23], &[16, 16, 17, 18]),
+        Instructions => limits::longer_thread(random, frames, &[0x20, 0x21, 0x23, 0x25], &[16, 16, 17, 18]),
         Accesses => limits::accesses(random, frames),
         Skip => limits::skip(random, frames),
         AlikeMember | AlikeLength | AlikeTwice | AlikeCode => limits::alike(random, damage, frames),
@@ -64,7 +64,7 @@ pub fn damage(random: &mut Random, damage: Damage, frames: &mut Vec<Vec<u8>>) {
 }
 
 pub fn any_kind(random: &mut Random) -> u8 {
-    random.pick(&[0x01, 0x02, 0x10, 0x11, 0x12, 0x13, 0x20, 0x21, 0x22, 0x23])
+    random.pick(&[0x01, 0x02, 0x10, 0x11, 0x12, 0x13, 0x20, 0x21, 0x22, 0x23, 0x24, 0x25])
 }
 
 pub fn instruction_or_frame(random: &mut Random, kind: u8) -> Vec<u8> {
@@ -85,7 +85,7 @@ fn any_frame(random: &mut Random) -> Vec<u8> {
         }
         10 => (0..random.between(1, 14)).map(|_| random.byte()).collect(),
         _ => {
-            let kind = random.pick(&[0x10, 0x11, 0x12, 0x13, 0x20, 0x21, 0x23, 0x20, 0x21, 0x23]);
+            let kind = random.pick(&[0x10, 0x11, 0x12, 0x13, 0x20, 0x21, 0x23, 0x20, 0x21, 0x25]);
             instruction(random, ANY, kind)
         }
     }

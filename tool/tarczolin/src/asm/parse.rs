@@ -141,17 +141,18 @@ impl<'a> Reader<'a> {
         })
     }
 
-    /// `r0 == 1` or `r0 != 1`.
+    /// `r0 == 1`, or another sign between the two.
     fn condition(&mut self) -> Result<(Word, Test, Word), Wrong> {
         let r = self.register()?;
-        let sign = self.token("== or !=")?;
+        let sign = self.token("a comparison")?;
         let test = match sign.text {
             "==" => Test::Equal,
             "!=" => Test::Unequal,
-            "<=" | "<" | ">" | ">=" => {
-                return self.error(sign.column, not_yet(&format!("{} needs signed comparisons", sign.text)));
-            }
-            other => return self.error(sign.column, format!("== or != is expected here, not {other}")),
+            "<=" => Test::AtMost,
+            ">" => Test::Above,
+            "<" => Test::Below,
+            ">=" => Test::AtLeast,
+            other => return self.error(sign.column, format!("==, !=, <=, >, < or >= is expected here, not {other}")),
         };
         Ok((r, test, self.operand()?))
     }

@@ -7,11 +7,15 @@ pub struct Word {
     pub column: usize,
 }
 
-/// How a condition compares.
+/// How a condition compares; the last four read both values as two's complement.
 #[derive(Clone, Copy, Debug, PartialEq, Eq)]
 pub enum Test {
     Equal,
     Unequal,
+    AtMost,
+    Above,
+    Below,
+    AtLeast,
 }
 
 /// Where a jump goes: over so many statements, or to a label.

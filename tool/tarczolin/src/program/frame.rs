@@ -1,5 +1,5 @@
 //! Frames: what one line of a program file says.
-use super::instruction::{Instruction, Operand};
+use super::instruction::{Comparison, Instruction, Operand};
 use super::limits::{LOCATIONS, LONGEST_SKIP, REGISTERS};
 use Instruction::*;
 
@@ -20,6 +20,21 @@ fn of_operand(p: Operand) -> Vec<u8> {
     [vec![kind], value.to_be_bytes().to_vec()].concat()
 }
 
+/// The first byte of a skip or an assertion, from that of the one that asks for equality; and back.
+fn tested(equal: u8, test: Comparison) -> u8 {
+    match test {
+        Comparison::Equal => equal,
+        Comparison::AtMost => equal + 2,
+    }
+}
+
+fn test_of(kind: u8) -> Comparison {
+    match kind {
+        0x24 | 0x25 => Comparison::AtMost,
+        _ => Comparison::Equal,
+    }
+}
+
 impl Frame {
     pub fn bytes(&self) -> Vec<u8> {
         let instruction = match self {
@@ -34,8 +49,8 @@ impl Frame {
             CompareSwap { r, l, e, v } => [vec![0x13, r, l], of_operand(e), of_operand(v)].concat(),
             Set { r, p } => [vec![0x20, r], of_operand(p)].concat(),
             Add { r, p } => [vec![0x21, r], of_operand(p)].concat(),
-            SkipUnless { r, p, n } => [vec![0x22, r], of_operand(p), vec![n]].concat(),
-            Assert { r, p } => [vec![0x23, r], of_operand(p)].concat(),
+            SkipUnless { test, r, p, n } => [vec![tested(0x22, test), r], of_operand(p), vec![n]].concat(),
+            Assert { test, r, p } => [vec![tested(0x23, test), r], of_operand(p)].concat(),
         }
     }
 
@@ -64,8 +79,8 @@ impl Fields<'_> {
             0x13 => CompareSwap { r: self.register()?, l: self.location()?, e: self.operand()?, v: self.operand()? },
             0x20 => Set { r: self.register()?, p: self.operand()? },
             0x21 => Add { r: self.register()?, p: self.operand()? },
-            0x22 => SkipUnless { r: self.register()?, p: self.operand()?, n: self.skip()? },
-            0x23 => Assert { r: self.register()?, p: self.operand()? },
+            0x22 | 0x24 => SkipUnless { test: test_of(kind), r: self.register()?, p: self.operand()?, n: self.skip()? },
+            0x23 | 0x25 => Assert { test: test_of(kind), r: self.register()?, p: self.operand()? },
             _ => return None,
         })
     }

@@ -7,7 +7,7 @@ mod names;
 use std::collections::BTreeSet;
 
 pub use frame::Frame;
-pub use instruction::{number, Instruction, Operand};
+pub use instruction::{number, Comparison, Instruction, Operand};
 pub use limits::*;
 pub use names::{Names, ThreadNames};
 

@@ -13,7 +13,7 @@ enum Field {
 use Field::*;
 
 /// The kinds of instructions: the first byte, a name, and the fields behind it.
-const KINDS: [(u8, &str, &[Field]); 8] = [
+const KINDS: [(u8, &str, &[Field]); 10] = [
     (0x10, "store", &[Location, Operand]),
     (0x11, "load", &[Register, Location]),
     (0x12, "fetch and add", &[Register, Location, Operand]),
@@ -22,6 +22,8 @@ const KINDS: [(u8, &str, &[Field]); 8] = [
     (0x21, "register add", &[Register, Operand]),
     (0x22, "skip", &[Register, Operand, Skip]),
     (0x23, "assertion", &[Register, Operand]),
+    (0x24, "signed skip", &[Register, Operand, Skip]),
+    (0x25, "signed assertion", &[Register, Operand]),
 ];
 
 impl Field {
@@ -62,7 +64,7 @@ pub fn kind(frame: &[u8]) -> String {
                 let right = 1 + fields.iter().map(|f| f.length()).sum::<usize>();
                 format!("{first:02x} is a {name} and takes {right} bytes; this line has {length}")
             }
-            None => format!("the first byte {first:02x} is not known; lines begin with 01, 02, 10 to 13 or 20 to 23"),
+            None => format!("the first byte {first:02x} is not known; lines begin with 01, 02, 10 to 13 or 20 to 25"),
         },
     }
 }

@@ -1,8 +1,8 @@
 -- The two values are compared.
 use borrow.Author.Needs.{needs}
 use Rattle.sc.specs.Local.{compare, holds}
-use Rattle.accesses.proofs.by_row.is_equal.Statement.{statement}
-use Rattle.accesses.proofs.by_row.is_equal.Tie as tie
+use Rattle.accesses.proofs.comparing.is_equal.Statement.{statement}
+use Rattle.accesses.proofs.comparing.is_equal.Tie as tie
 
 returns : tie.Need-returns
 unfolding compare holds
