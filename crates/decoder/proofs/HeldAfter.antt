@@ -7,10 +7,11 @@ use mathlib.Core.List.{List, [], _∷_, _++_}
 use lib.ListN.{length, getD, replicate, length-append, length-replicate}
 use lib.Dec.{ltb}
 use borrow.Author.Tests.{ltb-true, eq-eqb, ne-eqb}
-use Rattle.decoder.specs.declared.counts.Counts.{Counts}
+use Rattle.refusals.specs.declared.counts.Counts.{Counts}
 use Rattle.program.specs.Frames.{Frame, byte, known, opens, declares}
 use Rattle.program.specs.Decode.{Placed, Reading, fresh, threadAt, lastThread, allAccessesIn, withinLimits, frameRefusal, after}
-use Rattle.decoder.specs.Held.{nothing, openedCounts, frameAt, lineAt, noInstruction, classFrom, Holds, Lined}
+use Rattle.refusals.specs.Held.{nothing, frameAt, noInstruction, classFrom, Holds}
+use Rattle.decoder.specs.Held.{openedCounts, lineAt, Lined}
 use Rattle.program.proofs.Tests.{both, second}
 use Rattle.program.proofs.AccessCounts.{all-accesses-open}
 use Rattle.program.proofs.KindTable.{known-13}

@@ -8,10 +8,11 @@ use lib.ListN.{length, getD, set, drop, length-append, length-set}
 use lib.Seq.{getD-set-same, getD-set-other}
 use lib.Dec.{eqb}
 use borrow.Author.Tests.{eqb-true, eqb-false}
-use Rattle.decoder.specs.declared.counts.Counts.{Counts}
+use Rattle.refusals.specs.declared.counts.Counts.{Counts}
 use Rattle.program.specs.Frames.{Frame, byte, declares}
 use Rattle.program.specs.Decode.{Reading, threadAt, among, grouped, memberFits, membersFit, alikeFits, frameRefusal, after}
-use Rattle.decoder.specs.Held.{marked, groupedCounts, frameAt, lineAt, classFrom, Holds, Lined}
+use Rattle.refusals.specs.Held.{frameAt, classFrom, Holds}
+use Rattle.decoder.specs.Held.{marked, groupedCounts, lineAt, Lined}
 use Rattle.program.proofs.Tests.{second, neither}
 use Rattle.program.proofs.Everywhere.{everywhere-at}
 use Rattle.program.proofs.InstructionFrames.{among-member}

@@ -9,10 +9,11 @@ use lib.ListN.{length, getD, set, length-set, List·getD-eq-default}
 use lib.Seq.{getD-set-same, getD-set-other}
 use lib.Dec.{eqb, ltb, leb}
 use borrow.Author.Tests.{eqb-true, eqb-false, ltb-true, ltb-false}
-use Rattle.decoder.specs.declared.counts.Counts.{Counts}
+use Rattle.refusals.specs.declared.counts.Counts.{Counts}
 use Rattle.program.specs.Frames.{Frame, byte, known, declares, isAccess}
 use Rattle.program.specs.Decode.{Placed, Reading, threadAt, lastThread, allAccessesIn, frameRefusal, after}
-use Rattle.decoder.specs.Held.{extendedCounts, noInstruction, frameAt, lineAt, Holds, Lined}
+use Rattle.refusals.specs.Held.{noInstruction, frameAt, Holds}
+use Rattle.decoder.specs.Held.{extendedCounts, lineAt, Lined}
 use Rattle.rows.specs.Bytes.{Written}
 use Rattle.program.proofs.AccessCounts.{accesses-snoc, all-accesses-set}
 use Rattle.program.proofs.Sound.{passes}

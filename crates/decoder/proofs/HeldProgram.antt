@@ -7,13 +7,14 @@ use lib.Dec.{eqb, lit<}
 use borrow.Author.Tests.{lt-ltb}
 use lib.ListN.{length, getD, length-map, List·getD-map}
 use Rattle.program.specs.declared.instruction.Instruction.{Instruction}
-use Rattle.decoder.specs.declared.counts.Counts.{Counts}
+use Rattle.refusals.specs.declared.counts.Counts.{Counts}
 use Rattle.program.specs.Frames.{instruction}
 use Rattle.program.specs.Decode.{Placed, Reading, threadAt, programIn}
 use Rattle.decoder.specs.Compiled.{membersOf, programOf}
 use Rattle.rows.specs.Rows.{tabulate, rowAt, instructionAt, threadCode}
 use Rattle.program.specs.WellFormed.{Everywhere, Ascending}
-use Rattle.decoder.specs.Held.{Holds, Grouped, noInstruction, frameAt}
+use Rattle.refusals.specs.Held.{Holds, noInstruction, frameAt}
+use Rattle.decoder.specs.Held.{Grouped}
 use Rattle.program.proofs.Everywhere.{everywhere-getD, everywhere-weaken}
 use Rattle.program.proofs.FrameBytes.{instruction-same}
 use Rattle.rows.proofs.Rows.{row-byte}

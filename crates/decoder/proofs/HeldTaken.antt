@@ -5,10 +5,11 @@ use mathlib.Core.Path.{_≡_, sym, ap, subst}
 use mathlib.Core.List.{List}
 use lib.ListN.{length, getD, set, drop}
 use Rattle.lines.specs.Frame.{pairs}
-use Rattle.decoder.specs.declared.counts.Counts.{Counts}
+use Rattle.refusals.specs.declared.counts.Counts.{Counts}
 use Rattle.program.specs.Frames.{byte}
 use Rattle.program.specs.Decode.{after}
-use Rattle.decoder.specs.Held.{openedCounts, groupedCounts, extendedCounts, Bounded, Holds, Taken}
+use Rattle.refusals.specs.Held.{Bounded, Holds}
+use Rattle.decoder.specs.Held.{openedCounts, groupedCounts, extendedCounts, Taken}
 use Rattle.rows.specs.Bytes.{Written}
 use Rattle.decoder.proofs.HeldAfter.{held-opened, lined-opened}
 use Rattle.decoder.proofs.HeldAfterGroup.{held-grouped, lined-grouped}

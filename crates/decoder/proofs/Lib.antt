@@ -1,12 +1,6 @@
 -- The laws, in the order in which they rest on each other.
 -- what the decoder's answer says of the file
 pub mod Decoded
--- threads of the same code
-pub mod HeldCode
--- members of a `02` line, by the counts
-pub mod HeldMembers
--- the number of a refusal, by the counts
-pub mod RefusalByCounts
 -- before the first line, and with a thread more
 pub mod HeldAfter
 -- with a group more

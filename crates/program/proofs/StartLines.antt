@@ -1,18 +1,20 @@
 -- `03` lines: 40 refuses nothing else, no `03` line gets 5 or 6, a file of nothing else is a program, and files by computing.
-use Prim.Native.Nat.{ℕ, suc}
+use Prim.Native.Nat.{ℕ, _<_}
 use native.Mathlib.Omega.{arith}
 use mathlib.Core.Path.{_≡_, refl}
 use mathlib.Core.Bool.{Bool, true, false, cond, not, _&&_, _||_, or-true}
 use mathlib.Core.List.{List, [], _∷_, _++_}
-use lib.Dec.{eqb}
+use lib.Dec.{eqb, ltb}
+use borrow.Author.Tests.{ltb-true}
 use Rattle.lines.specs.Digit.{lower, digit, value, digitOf}
 use Rattle.lines.specs.Frame.{hexadecimal, pairs, frame}
 use Rattle.lines.specs.Text.{digits, text}
 use Rattle.lines.specs.TextLines.{prepend, before, split}
 use Rattle.lines.specs.Meaning.{remark, spelt, meaning}
 use Rattle.program.specs.Kinds.{kinds, lookup, kindOf}
-use Rattle.program.specs.Frames.{Frame, word, kind, known, registerFits, locationFits, skipFits, operandFits, inRange, opens, declares, starts, isAccess, skipOf, operand, buildOwn, build, instruction}
+use Rattle.program.specs.Frames.{Frame, byte, word, kind, known, registerFits, locationFits, skipFits, operandFits, inRange, opens, declares, starts, isAccess, skipOf, operand, buildOwn, build, instruction}
 use Rattle.program.specs.Decode.{Reading, fresh, threadAt, lastThread, inPlace, accessesIn, allAccessesIn, withinLimits, isGiven, valueAt, startFits, same, sameCode, among, grouped, memberFits, followersFit, membersFit, alikeFits, frameRefusal, after, farSkip, firstFarSkip, programIn, Decoded, accepted, refused, finish, readLines, decode}
+use Rattle.program.proofs.Tests as Tests
 
 -- ---- which lines 40 refuses
 -- A `03` LINE GETS NEITHER 5 NOR 6, so nothing tells whether 40 comes before them
@@ -38,6 +40,11 @@ only-starts r f e = go (known f) (inRange f) (inPlace r f) (withinLimits r f) (s
     go true true true false false t k e = absurd (omega arith)
     go true true true true false t false e = absurd (omega arith)
     go true true true true false t true e = absurd (omega arith)
+
+-- its location is one of the eight, where it is in range
+pub start-location : (f : Frame) → byte f 0 ≡ 0x03 → inRange f ≡ true → byte f 1 < 8
+unfolding inRange registerFits locationFits operandFits skipFits kind kindOf lookup kinds
+start-location f e h = ltb-true (byte f 1) 8 (Tests.both (ltb (byte f 1) 8) true (rw e at h) .0)
 
 -- ---- files, by computing
 -- what a proof names on its `unfolding` line to compute what a file is read as

@@ -4,7 +4,7 @@ use mathlib.Core.Path.{_∙_, sym, ap}
 use native.Mathlib.Omega.{arith}
 use Rattle.program.specs.Decode.{accepted}
 use Rattle.decoder.specs.Compiled.{answerOf, verdictOf}
-use Rattle.decoder.proofs.HeldCode.{held-short}
+use Rattle.refusals.proofs.HeldCode.{held-short}
 use Rattle.decoder.proofs.HeldFinish.{held-threads, finish-far, finish-program}
 use Rattle.decoder.proofs.HeldProgram.{program-held}
 use Rattle.decoder.proofs.file.finished.Statement.{statement}

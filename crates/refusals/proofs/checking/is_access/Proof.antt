@@ -1,7 +1,7 @@
 -- `is_access` tests a first byte against the four accesses.
 use borrow.Author.Tests.{lt-leb, le-leb}
-use Rattle.decoder.proofs.refusal.is_access.Statement.{statement}
-use Rattle.decoder.proofs.refusal.is_access.Tie as tie
+use Rattle.refusals.proofs.checking.is_access.Statement.{statement}
+use Rattle.refusals.proofs.checking.is_access.Tie as tie
 
 returns : tie.Need-returns
 returns c = rw (lt-leb _ _ (c .if1 .taken))

@@ -1,8 +1,8 @@
 -- `is_free` says whether a thread exists and has no group.
 use borrow.Author.Needs.{needs}
 use borrow.Author.Tests.{lt-ltb, le-ltb}
-use Rattle.decoder.proofs.counts.is_free.Statement.{statement}
-use Rattle.decoder.proofs.counts.is_free.Tie as tie
+use Rattle.refusals.proofs.counts.is_free.Statement.{statement}
+use Rattle.refusals.proofs.counts.is_free.Tie as tie
 
 returns : tie.Need-returns
 returns c = rw (le-ltb _ _ (c .if1 .taken))

@@ -2,8 +2,8 @@
 use borrow.Author.Needs.{needs}
 use borrow.Author.Tests.{eq-eqb, ne-eqb, le-leb, lt-leb}
 use mathlib.Core.Path.{_∙_, sym}
-use Rattle.decoder.proofs.refusal.instruction.Statement.{statement}
-use Rattle.decoder.proofs.refusal.instruction.Tie as tie
+use Rattle.refusals.proofs.checking.instruction.Statement.{statement}
+use Rattle.refusals.proofs.checking.instruction.Tie as tie
 
 returns : tie.Need-returns
 returns c = rw (ne-eqb _ _ (c .if1 .taken))

@@ -1,4 +1,4 @@
-// The number by which a line's frame is refused: 3, 4, 5, 6 or 8, and 0 where it passes.
+// The number by which a line's frame is refused: 3, 4, 5, 6, 40 or 8, and 0 where it passes.
 use crate::alike::members_fit;
 use crate::counts::Counts;
 use lines::field;
@@ -13,10 +13,10 @@ ghost use lib.Dec.{leb};
 ghost use lib.ListN.{length};
 ghost use Rattle.lines.specs.Frame.{pairs};
 ghost use Rattle.program.specs.Decode.{Reading, frameRefusal};
-ghost use Rattle.decoder.specs.Held.{Holds, Bounded, openingRefusal, instructionRefusal};
+ghost use Rattle.refusals.specs.Held.{Holds, Bounded, openingRefusal, startingRefusal, instructionRefusal};
 
 // Whether a first byte is that of an access.
-pub(crate) fn is_access(b: usize) -> bool
+pub fn is_access(b: usize) -> bool
     ensures { λ r. ⌜ r ≡ (leb 0x10 b && leb b 0x13) ⌝ }
 {
     if b < 0x10 {
@@ -36,6 +36,24 @@ fn opening(s: Counts) -> u8
         return 0;
     }
     6
+}
+
+// For a frame that lets location l start with a value.
+fn starting(l: usize, s: Counts) -> u8
+    requires { ⌜ l < 8 ⌝ }
+    ensures { λ r. ⌜ r ≡ startingRefusal l s ⌝ }
+{
+    if s.threads != 0 {
+        return 40;
+    }
+    if s.groups != 0 {
+        return 40;
+    }
+    let m = s.starting;
+    if m.given[l] {
+        return 40;
+    }
+    0
 }
 
 // For an instruction with the first byte b.
@@ -63,7 +81,7 @@ fn instruction(b: usize, s: Counts) -> u8
 }
 
 // For the frame of n bytes on this line, after what has been read.
-pub(crate) fn refusal(line: &[u8], n: usize, code: &Code, s: Counts) -> u8
+pub fn refusal(line: &[u8], n: usize, code: &Code, s: Counts) -> u8
     requires { ⌜ Bounded s × (n ≡ length (pairs (now line))) ⌝ }
     ensures { λ k. ⌜ ((r : Reading) → Holds (now (code .entry)) s r → k ≡ frameRefusal r (pairs (now (line .entry)))) ⌝ }
 {
@@ -86,6 +104,9 @@ pub(crate) fn refusal(line: &[u8], n: usize, code: &Code, s: Counts) -> u8
             return 0;
         }
         return 8;
+    }
+    if b == 0x03 {
+        return starting(field(line, 1), s);
     }
     instruction(b, s)
 }

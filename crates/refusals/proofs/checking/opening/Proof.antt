@@ -1,7 +1,7 @@
 -- `opening` goes by the counts of groups and threads.
 use borrow.Author.Tests.{eq-eqb, ne-eqb, lt-ltb, le-ltb}
-use Rattle.decoder.proofs.refusal.opening.Statement.{statement}
-use Rattle.decoder.proofs.refusal.opening.Tie as tie
+use Rattle.refusals.proofs.checking.opening.Statement.{statement}
+use Rattle.refusals.proofs.checking.opening.Tie as tie
 
 returns : tie.Need-returns
 returns c = rw (ne-eqb _ _ (c .if1 .taken))

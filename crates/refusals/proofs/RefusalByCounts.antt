@@ -7,10 +7,10 @@ use mathlib.Core.List.{List}
 use lib.Dec.{eqb, ltb, leb}
 use lib.ListN.{length, getD, drop}
 use borrow.Author.Tests.{ne-eqb, lt-leb, le-leb, le-ltb, lt-ltb, eqb-true, eqb-false, leb-true, leb-false}
-use Rattle.decoder.specs.declared.counts.Counts.{Counts}
-use Rattle.program.specs.Frames.{Frame, byte, kind, known, inRange, opens, declares, isAccess}
-use Rattle.program.specs.Decode.{Reading, lastThread, inPlace, withinLimits, membersFit, alikeFits, frameRefusal}
-use Rattle.decoder.specs.Held.{openingRefusal, instructionRefusal, Holds}
+use Rattle.refusals.specs.declared.counts.Counts.{Counts}
+use Rattle.program.specs.Frames.{Frame, byte, kind, known, inRange, opens, declares, starts, isAccess}
+use Rattle.program.specs.Decode.{Reading, lastThread, inPlace, withinLimits, isGiven, startFits, membersFit, alikeFits, frameRefusal}
+use Rattle.refusals.specs.Held.{openingRefusal, startingRefusal, instructionRefusal, Holds}
 
 -- ---- the length
 pub too-short : (f : Frame) → length f < kind f .least → known f ≡ false
@@ -35,11 +35,11 @@ module _ (r : Reading) (f : Frame) where
   unfolding frameRefusal
   refused-4 e h = rw (e, h)
 
--- ---- 5, 6 and 8
+-- ---- 5, 6, 40 and 8
 module _ (code : List ℕ) (s : Counts) (r : Reading) (held : Holds code s r) (f : Frame) (k : known f ≡ true) (i : inRange f ≡ true) where
   -- a frame that opens a thread
   pub opening-refused : byte f 0 ≡ 1 → openingRefusal s ≡ frameRefusal r f
-  unfolding frameRefusal inPlace withinLimits alikeFits opens declares
+  unfolding frameRefusal inPlace withinLimits startFits alikeFits opens declares starts
   opening-refused e = rw (k, i, e, ← held .groups, ← held .threads) (go (eqb (s .groups) 0) (ltb (s .threads) 6))
     where
       go : (g t : Bool) → _≡_ {A = ℕ} (cond g (cond t 0 6) 5) (cond (not (g && true)) 5 (cond (not t) 6 0))
@@ -49,12 +49,25 @@ module _ (code : List ℕ) (s : Counts) (r : Reading) (held : Holds code s r) (f
 
   -- a frame that declares threads alike
   pub alike-refused : byte f 0 ≡ 2 → cond (membersFit r (drop 1 f)) 0 8 ≡ frameRefusal r f
-  unfolding frameRefusal inPlace withinLimits alikeFits opens declares
+  unfolding frameRefusal inPlace withinLimits startFits alikeFits opens declares starts
   alike-refused e = rw (k, i, e) (go (membersFit r (drop 1 f)))
     where
       go : (b : Bool) → _≡_ {A = ℕ} (cond b 0 8) (cond (not b) 8 0)
       go true = refl
       go false = refl
+
+  -- a frame that lets a location start with a value
+  pub starting-refused : byte f 0 ≡ 3 → byte f 1 < 8 → startingRefusal (byte f 1) s ≡ frameRefusal r f
+  unfolding frameRefusal inPlace withinLimits startFits alikeFits opens declares starts
+  starting-refused e l =
+      rw (k, i, e, ← held .groups, ← held .threads, held .starting .given (byte f 1) l)
+      (go (eqb (s .threads) 0) (eqb (s .groups) 0) (isGiven (byte f 1) (r .given)))
+    where
+      go : (t g b : Bool) → _≡_ {A = ℕ} (cond t (cond g (cond b 40 0) 40) 40) (cond (not (t && (g && not b))) 40 0)
+      go true true true = refl
+      go true true false = refl
+      go true false b = refl
+      go false g b = refl
 
   -- the complement of a limit
   below : (a b : ℕ) → ltb a b ≡ not (leb b a)
@@ -72,13 +85,14 @@ module _ (code : List ℕ) (s : Counts) (r : Reading) (held : Holds code s r) (f
       go false e = lt-ltb 0 n (omega (arith, eqb-false n 0 e))
 
   -- an instruction
-  pub instruction-refused : (byte f 0 ≡ 1 → ⊥) → (byte f 0 ≡ 2 → ⊥) → instructionRefusal (byte f 0) s ≡ frameRefusal r f
-  unfolding frameRefusal inPlace withinLimits alikeFits opens declares isAccess lastThread
-  instruction-refused one two =
+  pub instruction-refused : (byte f 0 ≡ 1 → ⊥) → (byte f 0 ≡ 2 → ⊥) → (byte f 0 ≡ 3 → ⊥) → instructionRefusal (byte f 0) s ≡ frameRefusal r f
+  unfolding frameRefusal inPlace withinLimits startFits alikeFits opens declares starts isAccess lastThread
+  instruction-refused one two three =
       rw (
         k,
         i,
         ne-eqb (byte f 0) 2 two,
+        ne-eqb (byte f 0) 3 three,
         ne-eqb (byte f 0) 1 one,
         ← held .groups,
         ← held .threads,

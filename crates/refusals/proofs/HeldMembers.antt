@@ -9,12 +9,12 @@ use lib.Dec.{eqb, ltb}
 use lib.ListN.{length, getD, drop, drop-of-length-le}
 use lib.Seq.{drop-cons}
 use borrow.Author.Tests.{lt-ltb, ltb-true, ne-eqb}
-use Rattle.decoder.specs.declared.counts.Counts.{Counts}
+use Rattle.refusals.specs.declared.counts.Counts.{Counts}
 use Rattle.program.specs.Frames.{Frame, byte}
 use Rattle.program.specs.Decode.{Reading, threadAt, sameCode, among, grouped, memberFits, followersFit, membersFit}
-use Rattle.decoder.specs.Held.{codeAgrees, classFrom, Bounded, Holds}
+use Rattle.refusals.specs.Held.{codeAgrees, classFrom, Bounded, Holds}
 use Rattle.program.proofs.Tests.{both}
-use Rattle.decoder.proofs.HeldCode.{held-short, codes-agree}
+use Rattle.refusals.proofs.HeldCode.{held-short, codes-agree}
 
 -- no group has a thread exactly when its number is 0
 class-none : (k t : ℕ) (gs : List (List ℕ)) → eqb (classFrom (suc k) t gs) 0 ≡ not (grouped t gs)

@@ -9,7 +9,7 @@ ghost use Prim.Native.Nat.{_+_, _*_, _<_, _≤_};
 ghost use lib.ListN.{getD, length, drop};
 ghost use Rattle.lines.specs.Frame.{pairs};
 ghost use Rattle.program.specs.Decode.{Reading, membersFit};
-ghost use Rattle.decoder.specs.Held.{Holds, Bounded, codeAgrees};
+ghost use Rattle.refusals.specs.Held.{Holds, Bounded, codeAgrees};
 
 // Whether threads t and u have the same code.
 fn same_code(code: &Code, lengths: [usize; 6], t: usize, u: usize) -> bool

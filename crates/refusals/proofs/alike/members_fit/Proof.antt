@@ -6,11 +6,11 @@ use native.Mathlib.Omega.{arith}
 use lib.ListN.{drop}
 use Rattle.lines.specs.Frame.{pairs}
 use Rattle.program.specs.Decode.{Reading, membersFit, followersFit}
-use Rattle.decoder.specs.Held.{Holds}
-use Rattle.decoder.proofs.HeldMembers.{free-below, members-start, followers-more, followers-none}
+use Rattle.refusals.specs.Held.{Holds}
+use Rattle.refusals.proofs.HeldMembers.{free-below, members-start, followers-more, followers-none}
 use borrow.Author.Tests.{not-true, not-false, le-ltb, lt-ltb}
-use Rattle.decoder.proofs.alike.members_fit.Statement.{statement}
-use Rattle.decoder.proofs.alike.members_fit.Tie as tie
+use Rattle.refusals.proofs.alike.members_fit.Statement.{statement}
+use Rattle.refusals.proofs.alike.members_fit.Tie as tie
 
 abbrev Inv-loop : tie.InvT-loop
 Inv-loop line n code s lengths t₀ j₀ t j =

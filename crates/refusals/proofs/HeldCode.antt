@@ -9,10 +9,10 @@ use lib.Dec.{eqb}
 use lib.ListN.{length, getD, length-map, List·getD-map}
 use lib.Seq.{ext-getD}
 use borrow.Author.Tests.{eq-eqb, eqb-true}
-use Rattle.decoder.specs.declared.counts.Counts.{Counts}
+use Rattle.refusals.specs.declared.counts.Counts.{Counts}
 use Rattle.program.specs.Frames.{Frame, byte}
 use Rattle.program.specs.Decode.{Placed, Reading, threadAt, same, sameCode}
-use Rattle.decoder.specs.Held.{codeAgrees, noInstruction, frameAt, Bounded, Holds}
+use Rattle.refusals.specs.Held.{codeAgrees, noInstruction, frameAt, Bounded, Holds}
 use Rattle.program.proofs.Tests.{both, equal-tests}
 use Rattle.program.proofs.GroupLines.{framesOf, same-frames}
 use Rattle.program.proofs.FrameBytes.{sizes-same}

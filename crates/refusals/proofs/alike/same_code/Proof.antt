@@ -2,8 +2,8 @@
 use borrow.Author.Needs.{needs}
 use mathlib.Core.Path.{_∙_}
 use borrow.Author.Tests.{eq-eqb, ne-eqb}
-use Rattle.decoder.proofs.alike.same_code.Statement.{statement}
-use Rattle.decoder.proofs.alike.same_code.Tie as tie
+use Rattle.refusals.proofs.alike.same_code.Statement.{statement}
+use Rattle.refusals.proofs.alike.same_code.Tie as tie
 
 returns : tie.Need-returns
 returns c = rw (ne-eqb _ _ (c .if1 .taken))

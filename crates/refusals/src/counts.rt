@@ -1,5 +1,11 @@
 // What has been read of a file so far, as counts: what the checks of a further line go by, beside the code itself.
 
+// What the `03` lines say: the value of each location, and whether one gave it.
+pub struct Starting {
+    pub values: [u32; 8],
+    pub given: [bool; 8],
+}
+
 pub struct Counts {
     pub threads: usize,
     // How many instructions each thread has.
@@ -9,16 +15,17 @@ pub struct Counts {
     pub groups: usize,
     // The group of each thread, from 1; 0: in none.
     pub class: [usize; 6],
+    pub starting: Starting,
 }
 
 ghost use mathlib.Core.Path.{_≡_};
 ghost use mathlib.Core.Bool.{_&&_};
 ghost use lib.Dec.{eqb, ltb};
 ghost use lib.ListN.{getD};
-ghost use Rattle.decoder.specs.Held.{nothing};
+ghost use Rattle.refusals.specs.Held.{nothing};
 
 // Before the first line.
-pub(crate) fn none_yet() -> Counts
+pub fn none_yet() -> Counts
     ensures { λ r. ⌜ r ≡ nothing ⌝ }
 {
     Counts {
@@ -27,6 +34,10 @@ pub(crate) fn none_yet() -> Counts
         accesses: 0,
         groups: 0,
         class: [0usize; 6],
+        starting: Starting {
+            values: [0u32; 8],
+            given: [false; 8],
+        },
     }
 }
 
