@@ -5,6 +5,8 @@ pub mod Decoded
 pub mod HeldAfter
 -- with a group more
 pub mod HeldAfterGroup
+-- with a starting value more
+pub mod HeldAfterStart
 -- the places of instructions in the code
 pub mod HeldAfterPlace
 -- with an instruction more

@@ -21,13 +21,14 @@ fn opened(s: Counts) -> Counts
 {
     let lengths = s.lengths;
     let class = s.class;
+    let starting = s.starting;
     Counts {
         threads: s.threads + 1,
         lengths: lengths,
         accesses: s.accesses,
         groups: s.groups,
         class: class,
-        starting: s.starting,
+        starting: starting,
     }
 }
 
@@ -55,6 +56,7 @@ fn grouped(line: &[u8], n: usize, s: Counts) -> Counts
 {
     let lengths = s.lengths;
     let class = s.class;
+    let starting = s.starting;
     let g = s.groups + 1;
     Counts {
         threads: s.threads,
@@ -62,7 +64,7 @@ fn grouped(line: &[u8], n: usize, s: Counts) -> Counts
         accesses: s.accesses,
         groups: g,
         class: mark(line, n, class, g),
-        starting: s.starting,
+        starting: starting,
     }
 }
 
@@ -97,6 +99,7 @@ fn extended(b: usize, s: Counts) -> Counts
     ensures { λ r. ⌜ r ≡ extendedCounts b s ⌝ }
 {
     let class = s.class;
+    let starting = s.starting;
     let mut lengths = s.lengths;
     let last = s.threads - 1;
     let used = lengths[last];
@@ -111,7 +114,7 @@ fn extended(b: usize, s: Counts) -> Counts
         accesses: accesses,
         groups: s.groups,
         class: class,
-        starting: s.starting,
+        starting: starting,
     }
 }
 

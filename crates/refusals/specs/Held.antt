@@ -64,12 +64,14 @@ classFrom k t (g ∷ gs) = cond (among t g) k (classFrom (suc k) t gs)
 
 -- the arrays hold what the `03` lines say
 pub record HoldsStarts (m : Starting) (ss : List Start) : Type 0 where
+  pub sizes : (length (m .values) ≡ 8) × (length (m .given) ≡ 8)
   pub values : (l : ℕ) → l < 8 → getD (m .values) l 0 ≡ valueAt l ss
   pub given : (l : ℕ) → l < 8 → getD (m .given) l false ≡ isGiven l ss
 
 -- the code and the counts hold what has been read
 pub record Holds (code : List ℕ) (s : Counts) (r : Reading) : Type 0 where
   pub size : length code ≡ 1536
+  pub sizes : (length (s .lengths) ≡ 6) × (length (s .class) ≡ 6)
   pub threads : s .threads ≡ length (r .threads)
   pub lengths : (t : ℕ) → getD (s .lengths) t 0 ≡ length (threadAt r t)
   pub bytes : (t i j : ℕ) → i < 16 → j < 16 → getD code ((t * 16 + i) * 16 + j) 0 ≡ byte (frameAt r t i) j
