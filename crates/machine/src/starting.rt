@@ -32,8 +32,8 @@ fn opened(code: &Code, lengths: &[usize; 6], threads: usize, t: usize) -> Thread
 // The state of the program in these rows, with these starting values.
 pub fn started(code: &Code, lengths: &[usize; 6], threads: usize, starting: [u32; 8]) -> Machine
     requires { ⌜ ((p : Program) × Loaded (now code) (now lengths) threads p) ⌝ }
-    ensures { λ m. ⌜ ((p : Program) → Loaded (now (code .entry)) (now (lengths .entry)) threads p → starting ≡ initial p
-        → Holds (now (code .entry)) (now (lengths .entry)) m (start p)) ⌝ }
+    ensures { λ m. ⌜ (m .memory ≡ starting) × ((p : Program) → Loaded (now (code .entry)) (now (lengths .entry)) threads p
+        → starting ≡ initial p → Holds (now (code .entry)) (now (lengths .entry)) m (start p)) ⌝ }
 {
     let mut all = [ThreadState {
         registers: [0u32; 4],

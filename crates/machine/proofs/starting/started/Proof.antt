@@ -40,7 +40,7 @@ returns : tie.Need-returns Inv-loop μ-loop
 returns c =
     let args = c .before .before .args in
     let loop = c .before .loop in
-    λ p loaded e. start-held (args .code .now) (args .lengths .now) (args .threads) p loaded (loop .all) (loop .t) _ (loop .inv .1) (c .loop-test .left) (loop .inv .2 p loaded) e
+    (refl, λ p loaded e. start-held (args .code .now) (args .lengths .now) (args .threads) p loaded (loop .all) (loop .t) _ (loop .inv .1) (c .loop-test .left) (loop .inv .2 p loaded) e)
 
 pub started-spec : {M : Type 1} → statement M
 started-spec = tie.close (tie.spec Inv-loop μ-loop loop-holds opened-requires (λ c. search needs) (λ c. search needs) (λ c. search needs) (λ c. search needs) loop-again returns)
