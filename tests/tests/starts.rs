@@ -48,7 +48,8 @@ fn refusals_by_the_decided_readings() {
         ("7 behind all lines", "030000000001 01 2200000000000001", Answer::Refused(7, 3)),
     ];
     for (name, words, expected) in table {
-        let whole = |word: &str| if word.len() == 4 && word.starts_with("03") { format!("{word}00000009") } else { word.to_string() };
+        let whole =
+            |word: &str| if word.len() == 4 && word.starts_with("03") { format!("{word}00000009") } else { word.to_string() };
         let words: Vec<String> = words.split(' ').map(whole).collect();
         assert_eq!(answer(&lines(&words.join(" "))), expected, "{name}");
     }
@@ -123,7 +124,8 @@ fn a_store_waits_for_a_read() {
 /// Every graph of a program with starting values is judged yes, by the least schedule that has it.
 #[test]
 fn every_graph_of_a_program() {
-    let file = lines("030100000002 030000000001 01 1200000000000002 10010100000000 01 13000000000000010000000003 110101 01 110001");
+    let file =
+        lines("030100000002 030000000001 01 1200000000000002 10010100000000 01 13000000000000010000000003 110101 01 110001");
     let program = decode(&file).unwrap();
     let mut graphs: Vec<(Graph, Vec<u8>)> = Vec::new();
     every_full(&Machine::new(&program), &mut Vec::new(), &mut |schedule, machine| {

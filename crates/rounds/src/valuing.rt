@@ -80,13 +80,7 @@ fn at_first(starting: [u32; 8], places: [u8; 96], k: usize) -> u32
 }
 
 // What is left behind the source in entry k of a graph's table.
-fn found(
-    pairs: [u8; 576],
-    left: [u32; 96],
-    places: [u8; 96],
-    starting: [u32; 8],
-    k: usize,
-) -> u32
+fn found(pairs: [u8; 576], left: [u32; 96], places: [u8; 96], starting: [u32; 8], k: usize) -> u32
     requires { ⌜ k < 96 ⌝ }
     ensures { λ r. ⌜ r ≡ sourced pairs left places starting k ⌝ }
 {
@@ -102,12 +96,7 @@ fn found(
 }
 
 // The values of the next round.
-fn next_values(
-    pairs: [u8; 576],
-    left: [u32; 96],
-    places: [u8; 96],
-    starting: [u32; 8],
-) -> [u32; 96]
+fn next_values(pairs: [u8; 576], left: [u32; 96], places: [u8; 96], starting: [u32; 8]) -> [u32; 96]
     ensures { λ r. ⌜ ((k : ℕ) → k < 96 → getD r k 0 ≡ sourced pairs left places starting k) ⌝ }
 {
     let mut vs = [0u32; 96];

@@ -4,7 +4,8 @@ mod common;
 use common::{run, run_with, Ran};
 
 /// A queue's tail behind its sentinel, in the text form.
-const FORM: &str = "const FIRST = 1\ninit tail FIRST\ninit x3 -1\nthread\n  mine = fetch_add tail 1\n  left = load x3\n  store other 5\n";
+const FORM: &str =
+    "const FIRST = 1\ninit tail FIRST\ninit x3 -1\nthread\n  mine = fetch_add tail 1\n  left = load x3\n  store other 5\n";
 const FILE: &str = "030000000001\n0303ffffffff\n01\n1200000000000001\n110103\n10010000000005\n";
 
 fn answered(ran: Ran, out: &str) {

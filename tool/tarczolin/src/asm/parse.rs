@@ -210,11 +210,6 @@ impl<'a> Reader<'a> {
     }
 }
 
-/// What the library cannot do yet.
-fn not_yet(what: &str) -> String {
-    format!("{what}, which the library does not have yet")
-}
-
 /// A statement that begins with an unknown word.
 fn unknown(word: &str) -> String {
     match (word, near(word, KEYWORDS)) {

@@ -136,8 +136,8 @@ returns-7 c =
     let in-range = sym (c6 .in-range .ensures) ∙ not-false _ (c .before .before .before .before .before .if3 .left) in
     let kinds = c11 .kind-of .ensures ∙ ap kindOf (field .ensures .0) in
     λ r held. c .starting .ensures ∙ ap (λ (l : ℕ). startingRefusal l (args .s)) (c .before .field2 .ensures .0)
-        ∙ starting-refused (args .code .now) (args .s) r held line
-        (length-fits line (omega (arith, ap (λ (k : Kind). k .least) kinds)) (omega (arith, ap (λ (k : Kind). k .most) kinds))) in-range three (start-location line three in-range)
+    ∙ starting-refused (args .code .now) (args .s) r held line
+    (length-fits line (omega (arith, ap (λ (k : Kind). k .least) kinds)) (omega (arith, ap (λ (k : Kind). k .most) kinds))) in-range three (start-location line three in-range)
 
 returns-8 : tie.Need-returns-8
 unfolding kind
