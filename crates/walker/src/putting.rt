@@ -20,8 +20,7 @@ fn flag(fails: bool) -> u8
     0
 }
 
-// Writes the row of the schedule's first so many steps, which fails or not, to the front of the output. The steps are copied where they lie,
-// and no byte asks for its place.
+// Writes the row of the schedule's first so many steps, which fails or not, to the front of the output. The steps are copied as they lie.
 pub(crate) fn put_row(out: &mut [u8], schedule: [u8; STEPS], steps: usize, fails: bool)
     requires { ⌜ (steps ≤ 24) × (26 ≤ length (now out)) ⌝ }
     ensures { λ r. ⌜ now (out .exit) ≡ over (rowBytes (take steps schedule) fails) (now (out .entry)) ⌝ }
