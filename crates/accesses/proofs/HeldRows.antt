@@ -3,7 +3,9 @@ use Prim.Native.Nat.{ℕ, zero, suc, _+_, _*_, _<_, _≤_}
 use native.Mathlib.Omega.{arith}
 use mathlib.Core.Path.{_≡_, refl, sym, ap, _∙_}
 use mathlib.Core.Bool.{Bool, true, false, cond, true≢false}
+use mathlib.Core.Option.{none, some}
 use mathlib.Core.List.{List, [], _∷_}
+use native.Mathlib.Decide.{ℕ-discrete}
 use lib.Dec.{eqb}
 use lib.ListN.{length, getD, set, List·getD-eq-default}
 use lib.Seq.{set-out}
@@ -18,7 +20,8 @@ use Rattle.program.specs.declared.instruction.Instruction.the-variants.{Alone}
 use Rattle.program.specs.Frames.{operand, test}
 use Rattle.rows.specs.Rows.{rowAt, instructionAt}
 use Rattle.rows.proofs.Rows.{row-store, row-load, row-fetch-add, row-compare-swap, row-assign, row-add-assign, row-skip, row-assert, row-skip-at-most, row-assert-at-most, row-other, row-no-access}
-use Rattle.sc.specs.Local.{holds, outcome, beginsWithAccess}
+use Rattle.sc.specs.Local.{eval, holds, outcome, beginsWithAccess, accessPlace, accessPuts}
+use Rattle.sc.specs.Actions.{given}
 use Rattle.accesses.specs.declared.local.Carried.{Carried}
 use Rattle.accesses.specs.CarriedOut.{carried, accessing, accessOf}
 
@@ -164,3 +167,34 @@ module _ (code : List ℕ) (k : ℕ) (h : k < 96) (rs : List ℕ) (s : Carried) 
       (row-other code k h (not-store code k h no) (not-load code k h no) (not-fetch-add code k h no) (not-compare-swap code k h no) n20 n21 n22 n23 n24 n25
       ∙ ap (λ (q : Operand). Alone (Assert (test AtMost (getD code (k * 16) 0) q))) (sym ep))
       (es (test AtMost (getD code (k * 16) 0) p) eb) o eo
+
+-- ---- whether an access writes
+swap-writes : (b : Bool) (v : ℕ) → b ≡ eqb (cond (given (cond b (some v) none)) 1 0) 1
+unfolding given
+swap-writes true v = refl
+swap-writes false v = refl
+
+module _ (code : List ℕ) (k : ℕ) (h : k < 96) (rs m : List ℕ) where
+  pub writes-store : getD code (k * 16) 0 ≡ 0x10 → true ≡ eqb (accessOf (instructionAt code k) rs m .writes) 1
+  unfolding accessPuts given
+  writes-store e = rw (row-store code k h e)
+
+  pub writes-fetch-add : getD code (k * 16) 0 ≡ 0x12 → true ≡ eqb (accessOf (instructionAt code k) rs m .writes) 1
+  unfolding accessPuts given
+  writes-fetch-add e = rw (row-fetch-add code k h e)
+
+  -- a compare and swap, where it finds what it expects
+  pub writes-swap : getD code (k * 16) 0 ≡ 0x13
+      → eqb (getD m (getD code (k * 16 + 2) 0) 0) (eval rs (operand (rowAt code k) 3)) ≡ eqb (accessOf (instructionAt code k) rs m .writes) 1
+  unfolding accessPlace accessPuts
+  writes-swap e = rw (row-compare-swap code k h e) (swap-writes (eqb (getD m (getD code (k * 16 + 2) 0) 0) (eval rs (operand (rowAt code k) 3))) (eval rs (operand (rowAt code k) 8)))
+
+  -- a load, and what is no access
+  pub writes-none : (getD code (k * 16) 0 ≡ 0x10 → ⊥) → (getD code (k * 16) 0 ≡ 0x12 → ⊥) → (getD code (k * 16) 0 ≡ 0x13 → ⊥)
+      → false ≡ eqb (accessOf (instructionAt code k) rs m .writes) 1
+  unfolding accessPuts given
+  writes-none n10 n12 n13 = go (ℕ-discrete (getD code (k * 16) 0) 0x11)
+    where
+      go : Dec (getD code (k * 16) 0 ≡ 0x11) → false ≡ eqb (accessOf (instructionAt code k) rs m .writes) 1
+      go (yes e) = rw (row-load code k h e)
+      go (no n11) = row-no-access code k h (λ i. false ≡ eqb (accessOf i rs m .writes) 1) n10 n11 n12 n13 (λ o. refl)

@@ -18,6 +18,7 @@ use std::num::wrapping_add_u32;
 ghost use mathlib.Core.Path.{_≡_};
 ghost use mathlib.Core.List.{[], _∷_};
 ghost use Prim.Native.Nat.{_<_};
+ghost use lib.Dec.{eqb};
 ghost use Rattle.program.specs.declared.instruction.Test.{Test};
 ghost use Rattle.program.specs.declared.instruction.Own.{Own};
 ghost use Rattle.program.specs.declared.instruction.Own.the-variants.{Assign, AddAssign, SkipUnless, Assert};
@@ -155,4 +156,24 @@ pub fn accessed_at(code: &Code, row: usize, registers: [u32; 4], memory: [u32; 8
         return done(l, 1, rs, 0, 0);
     }
     done(0, 0, registers, 0, 0)
+}
+
+// Whether the access writes on finding memory so: what others have to wait for, without carrying it out.
+pub fn writes_at(code: &Code, row: usize, registers: [u32; 4], memory: [u32; 8]) -> bool
+    requires { ⌜ row < 96 ⌝ }
+    ensures { λ r. ⌜ r ≡ eqb (accessOf (instructionAt (now (code .entry)) row) registers memory .writes) 1 ⌝ }
+{
+    let at = row * 16;
+    let b = code[at];
+    if b == 0x10 {
+        return true;
+    }
+    if b == 0x12 {
+        return true;
+    }
+    if b == 0x13 {
+        let x = found(memory, code[at + 2]);
+        return x == value(operand_at(code, row, 3), registers);
+    }
+    false
 }

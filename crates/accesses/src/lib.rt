@@ -15,6 +15,7 @@ mod thread;
 
 pub use accessing::Access;
 pub use by_row::accessed_at;
+pub use by_row::writes_at;
 pub use settling::settle;
 pub use settling::settled;
 pub use thread::ThreadState;

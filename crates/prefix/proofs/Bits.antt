@@ -1,10 +1,10 @@
--- Bits named by constants, six of them as one number, and a word's and a stamp's cases.
+-- Bits named by shifts, six of them as one number, and a word's and a stamp's cases.
 use Prim.Native.Nat.{ℕ, zero, suc, _+_, _*_, _/_, _%_, _^_, _<_, _≤_}
 use mathlib.Core.Path.{_≡_, refl, sym, ap, _∙_}
 use mathlib.Core.Bool.{Bool, true, false, cond, true≢false, false≢true}
 use mathlib.Core.List.{List, [], _∷_}
 use native.Mathlib.Omega.{arith}
-use native.Mathlib.Nat.{div-one, div-eq-of-lt, pow-le-pow-right}
+use native.Mathlib.Nat.{div-eq-of-lt, pow-le-pow-right}
 use lib.Dec.{eqb, ltb}
 use lib.ListN.{getD, set}
 use lib.Seq.{set-getD}
@@ -14,13 +14,9 @@ use Rattle.survivors.specs.ReadWords.{lone, wordBehind, stampsBehind}
 use Rattle.survivors.proofs.Sets.{set-more, set-none}
 
 -- ---- a bit
-pub bit-first : (s k : ℕ) → k ≡ 0 → eqb (s % 2) 1 ≡ has s k
+pub bit-at : (s k : ℕ) → eqb (s / 2 ^ k % 2) 1 ≡ has s k
 unfolding has
-bit-first s k e = ap (λ (n : ℕ). eqb (n % 2) 1) (sym (div-one s)) ∙ ap (λ (i : ℕ). eqb (s / 2 ^ i % 2) 1) (sym e)
-
-pub bit-at : (s k j : ℕ) → k ≡ j → eqb (s / 2 ^ j % 2) 1 ≡ has s k
-unfolding has
-bit-at s k j e = ap (λ (i : ℕ). eqb (s / 2 ^ i % 2) 1) (sym e)
+bit-at s k = refl
 
 -- a byte has eight
 pub bit-above : (s k : ℕ) → s < 256 → 8 ≤ k → false ≡ has s k
@@ -30,20 +26,8 @@ bit-above s k h i =
     let q : s < 2 ^ k = omega (arith, p, h) in
     sym (ap (λ (n : ℕ). eqb (n % 2) 1) (div-eq-of-lt q))
 
--- a number that is none of the first eight
-pub eight-on : (k : ℕ) → (k ≡ 0 → ⊥) → (k ≡ 1 → ⊥) → (k ≡ 2 → ⊥) → (k ≡ 3 → ⊥) → (k ≡ 4 → ⊥) → (k ≡ 5 → ⊥) → (k ≡ 6 → ⊥) → (k ≡ 7 → ⊥) → 8 ≤ k
-eight-on zero a b c d e f g h = absurd (a refl)
-eight-on (suc zero) a b c d e f g h = absurd (b refl)
-eight-on (suc (suc zero)) a b c d e f g h = absurd (c refl)
-eight-on (suc (suc (suc zero))) a b c d e f g h = absurd (d refl)
-eight-on (suc (suc (suc (suc zero)))) a b c d e f g h = absurd (e refl)
-eight-on (suc (suc (suc (suc (suc zero))))) a b c d e f g h = absurd (f refl)
-eight-on (suc (suc (suc (suc (suc (suc zero)))))) a b c d e f g h = absurd (g refl)
-eight-on (suc (suc (suc (suc (suc (suc (suc zero))))))) a b c d e f g h = absurd (h refl)
-eight-on (suc (suc (suc (suc (suc (suc (suc (suc k)))))))) a b c d e f g h = omega arith
-
--- ---- a thread's bit, out of a table
-pub power-six : (t : ℕ) → t < 6 → (getD (1 ∷ 2 ∷ 4 ∷ 8 ∷ 16 ∷ 32 ∷ []) t 0 ≡ 2 ^ t) × (getD (1 ∷ 2 ∷ 4 ∷ 8 ∷ 16 ∷ 32 ∷ []) t 0 ≤ 32)
+-- ---- a thread's bit
+pub power-six : (t : ℕ) → t < 6 → (1 * 2 ^ t % 2 ^ 8 ≡ 2 ^ t) × (1 * 2 ^ t % 2 ^ 8 ≤ 32)
 power-six zero h = (refl, omega arith)
 power-six (suc zero) h = (refl, omega arith)
 power-six (suc (suc zero)) h = (refl, omega arith)

@@ -7,7 +7,7 @@ use mathlib.Core.List.{List}
 use native.Mathlib.Omega.{arith}
 use lib.Dec.{eqb, ltb}
 use lib.ListN.{getD}
-use borrow.Author.Tests.{eq-eqb, ne-eqb}
+use borrow.Author.Tests.{eq-eqb, ne-eqb, le-ltb}
 use Rattle.rows.specs.Rows.{instructionAt}
 use Rattle.accesses.specs.CarriedOut.{accessOf}
 use Rattle.accesses.specs.declared.thread.ThreadState.{ThreadState}
@@ -21,6 +21,7 @@ use Rattle.machine.proofs.HeldAsking.{held-enabled, held-ended}
 use Rattle.machine.proofs.HeldNext.{next-place, next-wrote}
 use Rattle.survivors.specs.Sets.{has}
 use Rattle.survivors.specs.LateSet.{lateNow}
+use Rattle.survivors.proofs.Sets.{has-none}
 use Rattle.survivors.proofs.LateSet.{and-false}
 use Rattle.prefix.specs.Steps.{accessingAt}
 
@@ -32,6 +33,14 @@ conflict-same a b c d p q r s = λ i. conflict (record { thread = 0; location = 
 with-true : (b : Bool) → (b && true) ≡ b
 with-true true = refl
 with-true false = refl
+
+-- ---- where none was late, only those smaller than the thread that stepped can be
+pub late-none : (σ : State) (s t : ℕ) (a : Action) (u : ℕ) → s ≡ 0 → a .thread ≡ t → t ≤ u → lateNow σ s a u ≡ false
+unfolding lateNow
+late-none σ s t a u es et h =
+    let p : ltb u (a .thread) ≡ false = le-ltb u (a .thread) (omega (arith, et, h)) in
+    let q : has s u ≡ false = ap (λ (k : ℕ). has k u) es ∙ has-none u in
+    rw (p, q) (ap (λ (b : Bool). enabled σ u && (not (eqb (a .thread) u) && b)) (and-false (not (conflict a (action σ u)))) ∙ ap (λ (b : Bool). enabled σ u && b) (and-false (not (eqb (a .thread) u))) ∙ and-false (enabled σ u))
 
 module _ (code lengths : List ℕ) (m : Machine) (σ : State) (held : Holds code lengths m σ) (u : ℕ) (h : u < 6) (s : ℕ) (a : Action) where
   -- the thread that stepped

@@ -22,6 +22,19 @@ bound-grown n s r k h i e = let q : 2 ^ (n + 1) ≡ 2 ^ suc n = ap (λ (j : ℕ)
 grown : (f : ℕ → Bool) (n : ℕ) (b : Bool) → f n ≡ b → setOf f (suc n) ≡ setOf f n + addend b (2 ^ n)
 grown f n b e = ap (setOf f) (omega arith) ∙ set-more f n b e
 
+-- those from n on that pass no test change nothing
+pub set-cut : (f : ℕ → Bool) (n k : ℕ) → n ≤ k → ((u : ℕ) → n ≤ u → u < k → f u ≡ false) → setOf f n ≡ setOf f k
+unfolding addend
+set-cut f n zero h e = ap (setOf f) (omega (arith, h))
+set-cut f n (suc k) h e = go (ℕ-discrete n (suc k)) (λ i. set-cut f n k i (λ u a b. e u a (omega (arith, b))))
+  where
+    go : Dec (n ≡ suc k) → (n ≤ k → setOf f n ≡ setOf f k) → setOf f n ≡ setOf f (suc k)
+    go (yes q) ih = ap (setOf f) q
+    go (no q) ih =
+        let i : n ≤ k = omega (arith, h, q) in
+        let a = grown f k false (e k i (omega arith)) in
+        omega (arith, a, ih i)
+
 pub set-without : (f g : ℕ → Bool) (t : ℕ) → f t ≡ true → g t ≡ false → ((u : ℕ) → u ≢ t → f u ≡ g u) → (n : ℕ) → t < n → setOf f n ≡ setOf g n + 2 ^ t
 unfolding addend
 set-without f g t ft gt same zero h = absurd (omega arith)

@@ -1,6 +1,6 @@
 -- What the access in a row does, as far as others have to wait for it, by the row's first byte.
 use Prim.Native.Nat.{ℕ, _+_, _*_, _<_}
-use mathlib.Core.Path.{_≡_, refl, sym, ap, _∙_}
+use mathlib.Core.Path.{_≡_, refl, sym, _∙_}
 use mathlib.Core.Logic.{_≢_}
 use mathlib.Core.Bool.{Bool, true, false}
 use mathlib.Core.List.{List, [], _∷_}
@@ -11,7 +11,6 @@ use Rattle.program.specs.declared.instruction.Instruction.{Instruction}
 use Rattle.program.specs.declared.instruction.Instruction.the-variants.{Memory, Alone}
 use Rattle.rows.specs.Rows.{instructionAt}
 use Rattle.rows.proofs.Rows.{row-store, row-load, row-fetch-add, row-compare-swap, row-no-access}
-use Rattle.accesses.specs.declared.accessing.Access.{Access}
 use Rattle.accesses.specs.CarriedOut.{accessOf}
 use Rattle.sc.specs.Local.{accessPlace, firstPlace}
 use Rattle.sc.specs.Actions.{Action, conflict}
@@ -95,6 +94,6 @@ module _ (code : List ℕ) (row : ℕ) (rs m : List ℕ) (l : ℕ) (w : Bool) (k
   pub written-at : k ≡ l → w ≡ true → true ≡ conflict (record { thread = 0; location = l; wrote = w }) (accessingAt code row rs m)
   written-at e q = sym (conflict-written here there (sym e ∙ sym there-at) q)
 
-  pub read-at : k ≡ l → w ≡ false → (a : Access) → a ≡ accessOf (instructionAt code row) rs m
-      → eqb (a .writes) 1 ≡ conflict (record { thread = 0; location = l; wrote = w }) (accessingAt code row rs m)
-  read-at e q a ea = ap (λ (x : Access). eqb (x .writes) 1) ea ∙ sym (conflict-read here there (sym e ∙ sym there-at) q)
+  pub read-at : k ≡ l → w ≡ false → (b : Bool) → b ≡ eqb (accessOf (instructionAt code row) rs m .writes) 1
+      → b ≡ conflict (record { thread = 0; location = l; wrote = w }) (accessingAt code row rs m)
+  read-at e q b eb = eb ∙ sym (conflict-read here there (sym e ∙ sym there-at) q)

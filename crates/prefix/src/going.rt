@@ -1,6 +1,7 @@
 // The start of a search, and a step.
 use crate::lateness::Step;
 use crate::lateness::is_late_behind;
+use crate::lateness::late_bound;
 use crate::place::Place;
 use crate::reading::stamp_behind;
 use crate::reading::word_behind;
@@ -76,9 +77,10 @@ pub fn advanced(code: &Code, lengths: &[usize; 6], x: Place, t: u8) -> Place
         location: a.location,
         wrote: a.wrote,
     };
+    let top = late_bound(y.late, t);
     let mut late = 0u8;
     let mut w = 0u8;
-    while w < 6 {
+    while w < top {
         let h = y.threads[wide(w)];
         late += addend(
             is_late_behind(code, lengths, h, values, w, y.late, s),

@@ -6,11 +6,12 @@ use lines::wide;
 use machine::Machine;
 use rows::Code;
 ghost use mathlib.Core.Path.{_≡_};
-ghost use mathlib.Core.Bool.{_||_};
-ghost use Prim.Native.Nat.{_<_, _≤_};
+ghost use mathlib.Core.Bool.{false, _||_};
+ghost use Prim.Native.Nat.{ℕ, _<_, _≤_};
 ghost use lib.Dec.{ltb};
 ghost use lib.ListN.{getD};
 ghost use Rattle.sc.specs.State.{State};
+ghost use Rattle.sc.specs.Actions.{Action};
 ghost use Rattle.machine.specs.Held.{threadAt, Holds};
 ghost use Rattle.survivors.specs.Sets.{has};
 ghost use Rattle.survivors.specs.LateSet.{lateNow};
@@ -31,6 +32,17 @@ fn is_before(late: u8, t: u8, u: u8) -> bool
         return true;
     }
     is_in(late, u)
+}
+
+// A number that every thread late behind a step of t is below: where none was late, only those smaller than t can be.
+pub(crate) fn late_bound(late: u8, t: u8) -> u8
+    requires { ⌜ t < 6 ⌝ }
+    ensures { λ r. ⌜ (r ≤ 6) × ((σ : State) (a : Action) (u : ℕ) → a .thread ≡ t → r ≤ u → u < 6 → lateNow σ late a u ≡ false) ⌝ }
+{
+    if late == 0 {
+        return t;
+    }
+    6
 }
 
 // Whether thread u, which stands so with this memory behind the step a, is late.

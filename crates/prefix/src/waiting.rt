@@ -1,5 +1,5 @@
 // What the access in a row does, as far as others have to wait for it: read off the row's bytes.
-use accesses::accessed_at;
+use accesses::writes_at;
 use rows::Code;
 ghost use mathlib.Core.Path.{_≡_};
 ghost use mathlib.Core.List.{[], _∷_};
@@ -69,6 +69,5 @@ pub(crate) fn conflicts_at(
     if wrote {
         return true;
     }
-    let a = accessed_at(code, row, registers, memory);
-    a.writes == 1
+    writes_at(code, row, registers, memory)
 }

@@ -8,7 +8,7 @@ pub mod AddedRows
 -- which next steps are tried
 pub mod TriedSteps
 -- the search with one next step, and over the next steps in turn
-pub mod WalkTurns
+pub mod WalkLoop
 -- the walk from the start finds what is listed
 pub mod ListedRows
 -- rows in a buffer read back

@@ -1,14 +1,13 @@
 -- The bytes of a row, one after the other, and rows behind one another in a buffer.
 use Prim.Native.Nat.{ℕ, zero, suc, _+_, _-_, _*_, _<_, _≤_}
 use mathlib.Core.Path.{_≡_, refl, sym, ap, ap₂, _∙_}
-use mathlib.Core.Logic.{_≢_}
 use mathlib.Core.Bool.{Bool, cond}
 use mathlib.Core.List.{List}
 use native.Mathlib.Omega.{arith}
 use lib.ListN.{length, getD, set, take, length-take, List·getD-eq-default}
 use lib.Seq.{take-suc, take-all, getD-take}
 use Rattle.lines.specs.Over.{over}
-use Rattle.lines.proofs.Over.{over-snoc}
+use Rattle.lines.proofs.Over.{over-nil, over-snoc}
 use Rattle.rows.proofs.Tabulate.{length-tabulate, getD-tabulate}
 use Rattle.schedules.specs.Order.{Schedule}
 use Rattle.walker.specs.Rows.{rowBytes}
@@ -36,29 +35,50 @@ row-more s f held out k b h room e v =
     ∙ over-snoc (take k (rowBytes s f)) held k (getD (rowBytes s f) k 0) c (omega (arith, room))
     ∙ ap (λ (t : List ℕ). over t held) (sym (take-suc (rowBytes s f) k 0 (omega (arith, n))) ∙ ap (λ (i : ℕ). take i (rowBytes s f)) j)
 
--- which byte of the row stands where
-row-head : (s : Schedule) (f : Bool) (n k : ℕ) → length s ≡ n → k ≡ 0 → n ≡ getD (rowBytes s f) k 0
-unfolding rowBytes
-row-head s f n k e z = rw z (sym e)
-
-pub row-flag : (s : Schedule) (f : Bool) (k : ℕ) → k ≡ 1 → cond f 1 0 ≡ getD (rowBytes s f) k 0
-unfolding rowBytes
-row-flag s f k z = rw z refl
+-- the row's first k bytes stand over the front of what was held, for whatever that was, as far as they did at the start of a loop
+abbrev pub Front : (row out₀ out : List ℕ) (k₀ k : ℕ) → Type 0
+Front row out₀ out k₀ k = (held : List ℕ) → 26 ≤ length held → out₀ ≡ over (take (k₀ + 2) row) held → out ≡ over (take (k + 2) row) held
 
 module _ (schedule : List ℕ) (n : ℕ) (f : Bool) (size : length schedule ≡ 24) (most : n ≤ 24) where
+  abbrev row : List ℕ
+  row = rowBytes (take n schedule) f
+
   steps-length : length (take n schedule) ≡ n
   steps-length = length-take n schedule ∙ omega (arith, size, most)
 
-  pub row-count : (k : ℕ) → k ≡ 0 → n ≡ getD (rowBytes (take n schedule) f) k 0
-  row-count k z = row-head (take n schedule) f n k steps-length z
+  -- the number of steps, and the flag
+  first-two : (held : List ℕ) (b : ℕ) → b ≡ cond f 1 0 → 26 ≤ length held → set (set held 0 n) 1 b ≡ over (take 2 (rowBytes (take n schedule) f)) held
+  unfolding rowBytes
+  first-two held b e h =
+      row-more (take n schedule) f held _ 1 b (omega arith) h (row-more (take n schedule) f held held 0 n (omega arith) h (sym (over-nil held)) (sym steps-length)) e
 
-  pub row-thread : (k : ℕ) → k ≢ 0 → k ≢ 1 → k < 26 → k - 2 < n → getD schedule (k - 2) 0 ≡ getD (rowBytes (take n schedule) f) k 0
-  row-thread k a b h l = sym (row-step (take n schedule) f k (omega (arith, a, b)) h ∙ getD-take n schedule (k - 2) 0 l)
+  pub row-begun : (held : List ℕ) (b k : ℕ) → b ≡ cond f 1 0 → 26 ≤ length held → k ≡ 0
+      → set (set held 0 n) 1 b ≡ over (take (k + 2) (rowBytes (take n schedule) f)) held
+  row-begun held b k e h z = first-two held b e h ∙ ap (λ (i : ℕ). over (take (i + 2) row) held) (sym z)
 
-  pub row-end : (k : ℕ) → k ≢ 0 → k ≢ 1 → k < 26 → n ≤ k - 2 → 0 ≡ getD (rowBytes (take n schedule) f) k 0
-  row-end k a b h l =
-      let e = steps-length in
-      sym (row-step (take n schedule) f k (omega (arith, a, b)) h ∙ List·getD-eq-default (take n schedule) 0 (omega (arith, e)))
+  more : (held out : List ℕ) (k b : ℕ) → k < 24 → 26 ≤ length held → out ≡ over (take (k + 2) row) held → b ≡ getD row (k + 2) 0
+      → set out (k + 2) b ≡ over (take (k + 1 + 2) row) held
+  more held out k b h room e v =
+      let q : k + 2 + 1 ≡ k + 1 + 2 = omega arith in
+      row-more (take n schedule) f held out (k + 2) b (omega (arith, h)) room e v ∙ ap (λ (i : ℕ). over (take i row) held) q
+
+  at-step : (k : ℕ) → k < 24 → getD row (k + 2) 0 ≡ getD (take n schedule) k 0
+  at-step k h =
+      let q : k + 2 - 2 ≡ k = omega arith in
+      row-step (take n schedule) f (k + 2) (omega arith) (omega (arith, h)) ∙ ap (λ (i : ℕ). getD (take n schedule) i 0) q
+
+  -- a step more, and a zero more behind the last
+  pub front-step : (out₀ out : List ℕ) (k₀ k : ℕ) → k < n → Front (rowBytes (take n schedule) f) out₀ out k₀ k
+      → Front (rowBytes (take n schedule) f) out₀ (set out (k + 2) (getD schedule k 0)) k₀ (k + 1)
+  front-step out₀ out k₀ k h front held room e =
+      let l : k < 24 = omega (arith, h, most) in
+      more held out k (getD schedule k 0) l room (front held room e) (sym (at-step k l ∙ getD-take n schedule k 0 h))
+
+  pub front-zero : (out₀ out : List ℕ) (k₀ k : ℕ) → n ≤ k → k < 24 → Front (rowBytes (take n schedule) f) out₀ out k₀ k
+      → Front (rowBytes (take n schedule) f) out₀ (set out (k + 2) 0) k₀ (k + 1)
+  front-zero out₀ out k₀ k h l front held room e =
+      let q = steps-length in
+      more held out k 0 l room (front held room e) (sym (at-step k l ∙ List·getD-eq-default (take n schedule) 0 (omega (arith, q, h))))
 
 -- the whole row
 pub row-whole : (s : Schedule) (f : Bool) (held out : List ℕ) (k : ℕ) → 26 ≤ k → out ≡ over (take k (rowBytes s f)) held → out ≡ over (rowBytes s f) held

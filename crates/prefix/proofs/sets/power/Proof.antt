@@ -1,4 +1,4 @@
--- `power` reads the table.
+-- `power` shifts 1.
 use borrow.Author.Needs.{needs}
 use Rattle.prefix.proofs.Bits.{power-six}
 use Rattle.prefix.proofs.sets.power.Statement.{statement}

@@ -18,9 +18,9 @@ returns-2 c =
 
 returns-3 : tie.Need-returns-3
 returns-3 c =
-    let a = c .before .before .before .before .before .args in
-    let l = c .before .before .before .before .location-at in
-    read-at (a .code .now) (a .row) (a .registers) (a .memory) (a .l) (a .wrote) (l .result) (l .ensures) (c .before .before .before .if1 .left) (c .before .before .if2 .left) (c .before .accessed-at .result) (c .before .accessed-at .ensures)
+    let a = c .before .before .before .before .args in
+    let l = c .before .before .before .location-at in
+    read-at (a .code .now) (a .row) (a .registers) (a .memory) (a .l) (a .wrote) (l .result) (l .ensures) (c .before .before .if1 .left) (c .before .if2 .left) (c .writes-at .result) (c .writes-at .ensures)
 
 pub conflicts-at-spec : {M : Type 1} → statement M
 conflicts-at-spec = tie.close (tie.spec (λ c κs. search needs) returns returns-2 (λ c κs. search needs) returns-3)

@@ -15,7 +15,7 @@ use Rattle.prefix.proofs.ReachedStep.{reached-most, reached-ended, reached-goin
 use Rattle.walker.specs.Bounds.{boundAt}
 use Rattle.walker.proofs.AddedRows.{adds-none, adds-same}
 use Rattle.walker.proofs.TriedSteps.{tried-enabled}
-use Rattle.walker.proofs.WalkTurns.{visit-asleep, visit-less, visit-on, bound-met, bound-apart, Rest, rest-start, turn-taken, turn-skipped, rest-over, rest-full}
+use Rattle.walker.proofs.WalkLoop.{visit-asleep, visit-less, visit-on, bound-met, bound-apart, Rest, rest-start, iteration-tried, iteration-skipped, rest-over, rest-full}
 use Rattle.walker.proofs.walking.visit.Reads as visit
 use Rattle.walker.proofs.walking.visit.Kinds as visit-kinds
 use Rattle.walker.proofs.walking.+visit+walk.Lts-visit as visit-lts
@@ -199,9 +199,9 @@ walk-loop-again t c =
     let loop = c .before .before .before .before .before .before .before .loop in
     let in-loop = c .before .before .before .before .before .before .loop-test .taken in
     ⊎-elim
-    (λ w. turn-taken (a .code .now) (a .lengths .now) (a .class .now) (a .a .failures) (a .t5) (boundAt (a .a .tight) (a .bound .now) (a .t5 .steps)) (a .out .now) (a .a .room) (a .a .rows) (loop .out) _ (c .if5 .out) (loop .n) _ (c .if5 .n) (loop .t) in-loop (loop .inv .1) (loop .inv .2)
+    (λ w. iteration-tried (a .code .now) (a .lengths .now) (a .class .now) (a .a .failures) (a .t5) (boundAt (a .a .tight) (a .bound .now) (a .t5 .steps)) (a .out .now) (a .a .room) (a .a .rows) (loop .out) _ (c .if5 .out) (loop .n) _ (c .if5 .n) (loop .t) in-loop (loop .inv .1) (loop .inv .2)
     (w .2 .ensures .0) (w .3 .given) (w .2 .ensures .1) (w .5) (w .6))
-    (λ w. turn-skipped (a .code .now) (a .lengths .now) (a .class .now) (a .a .failures) (a .t5) (boundAt (a .a .tight) (a .bound .now) (a .t5 .steps)) (a .out .now) (a .a .room) (a .a .rows) (loop .out) (c .if5 .out) (loop .n) (c .if5 .n) (loop .t) in-loop (loop .inv .0) (loop .inv .1) (loop .inv .2)
+    (λ w. iteration-skipped (a .code .now) (a .lengths .now) (a .class .now) (a .a .failures) (a .t5) (boundAt (a .a .tight) (a .bound .now) (a .t5 .steps)) (a .out .now) (a .a .room) (a .a .rows) (loop .out) (c .if5 .out) (loop .n) (c .if5 .n) (loop .t) in-loop (loop .inv .0) (loop .inv .1) (loop .inv .2)
     (λ threads groups p v at. sym (c .before .is-tried .ensures (a .code .now) (a .lengths .now) threads groups (a .t5) p v at refl refl refl) ∙ w .0 .left) (w .1) (w .2))
     (c .if5 .came)
 

@@ -106,25 +106,25 @@ module _ (code lengths class : List ℕ) (failures : Bool) (x : Place) (o : Opti
   rest-skip out n t h rest not-tried =
       rest-next out out n n t h rest (λ threads groups p v at. adds-none p room _ out n (untried-none p v t failures (x .steps) o (not-tried threads groups p v at)))
 
-  -- a turn of the loop, whether or not its step is tried: what the code holds behind it
-  abbrev Turned : (out : List ℕ) (n t : ℕ) → Type 0
-  Turned out n t = (n ≤ room) × (length out ≡ length out₀) × Still out n (t + 1)
+  -- an iteration of the loop, whether or not its step is tried: what the code holds behind it
+  abbrev Iterated : (out : List ℕ) (n t : ℕ) → Type 0
+  Iterated out n t = (n ≤ room) × (length out ≡ length out₀) × Still out n (t + 1)
 
-  turned-as : (out out' : List ℕ) (n n' t : ℕ) → out' ≡ out → n' ≡ n → Turned out n t → Turned out' n' t
-  turned-as out out' n n' t eo en h = subst (λ (l : List ℕ). Turned l n' t) (sym eo) (subst (λ (k : ℕ). Turned out k t) (sym en) h)
+  iterated-as : (out out' : List ℕ) (n n' t : ℕ) → out' ≡ out → n' ≡ n → Iterated out n t → Iterated out' n' t
+  iterated-as out out' n n' t eo en h = subst (λ (l : List ℕ). Iterated l n' t) (sym eo) (subst (λ (k : ℕ). Iterated out k t) (sym en) h)
 
-  pub turn-taken : (out out' behind : List ℕ) (n n' k t : ℕ) → t < 6 → length out ≡ length out₀ → Still out n t
+  pub iteration-tried : (out out' behind : List ℕ) (n n' k t : ℕ) → t < 6 → length out ≡ length out₀ → Still out n t
       → n' ≤ room → length out' ≡ length out
       → ((threads groups : ℕ) (p : Program) (v : Schedule) → Reached code lengths class threads groups x p v → Adds p room (foundWith failures p (x .steps) o v t) out n out' n')
       → behind ≡ out' → k ≡ n' → (k ≤ room) × (length behind ≡ length out₀) × Still behind k (t + 1)
-  turn-taken out out' behind n n' k t h same rest fits long adds eo en =
-      turned-as out' behind n' k t eo en (fits, long ∙ same, rest-next out out' n n' t h rest adds)
+  iteration-tried out out' behind n n' k t h same rest fits long adds eo en =
+      iterated-as out' behind n' k t eo en (fits, long ∙ same, rest-next out out' n n' t h rest adds)
 
-  pub turn-skipped : (out behind : List ℕ) (n k t : ℕ) → t < 6 → n ≤ room → length out ≡ length out₀ → Still out n t
+  pub iteration-skipped : (out behind : List ℕ) (n k t : ℕ) → t < 6 → n ≤ room → length out ≡ length out₀ → Still out n t
       → ((threads groups : ℕ) (p : Program) (v : Schedule) → Reached code lengths class threads groups x p v → tried p v t ≡ false)
       → behind ≡ out → k ≡ n → (k ≤ room) × (length behind ≡ length out₀) × Still behind k (t + 1)
-  turn-skipped out behind n k t h fits same rest not-tried eo en =
-      turned-as out behind n k t eo en (fits, same, rest-skip out n t h rest not-tried)
+  iteration-skipped out behind n k t h fits same rest not-tried eo en =
+      iterated-as out behind n k t eo en (fits, same, rest-skip out n t h rest not-tried)
 
   -- no step is left
   pub rest-over : (out : List ℕ) (n t : ℕ) → 6 ≤ t → Still out n t → (threads groups : ℕ) (p : Program) (v : Schedule)
