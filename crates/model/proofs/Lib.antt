@@ -45,3 +45,5 @@ pub mod Counting
 pub mod ClassSize
 -- the sizes sum to the list of the program without groups
 pub mod ClassSum
+-- all that is promised of them
+pub mod Classes
