@@ -1,0 +1,9 @@
+-- The laws, in the order in which they rest on each other.
+-- the notes from a place on
+pub mod NotesFrom
+-- permutations by where each number may go
+pub mod Goes
+-- where a thread may go
+pub mod MayGo
+-- two lists of reads compared
+pub mod SameReads
