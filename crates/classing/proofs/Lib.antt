@@ -7,3 +7,7 @@ pub mod Goes
 pub mod MayGo
 -- two lists of reads compared
 pub mod SameReads
+-- the quotient that is computed is the size of the class
+pub mod Divided
+-- what the call answers
+pub mod ClassCalled

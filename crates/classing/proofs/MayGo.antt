@@ -17,12 +17,12 @@ use Rattle.classing.specs.Moves.{wroteIn, unmovedIn, mayGo}
 
 pub may-own : (groups : List (List ℕ)) (t u : ℕ) → t ≡ u → true ≡ mayGo groups t u
 unfolding mayGo
-may-own groups t u e = rw (eq-eqb t u e)
+may-own groups t u e = rw (eq-eqb u t (sym e))
 
 module _ (class : List ℕ) (n t u : ℕ) (ne : t ≡ u → ⊥) where
   other : mayGo (groupsOf class n) t u ≡ together (groupsOf class n) t u
   unfolding mayGo
-  other = ap (λ (b : Bool). b || together (groupsOf class n) t u) (ne-eqb t u ne)
+  other = ap (λ (b : Bool). b || together (groupsOf class n) t u) (ne-eqb u t (λ e. ne (sym e)))
 
   pub may-alone : getD class t 0 ≡ 0 → false ≡ mayGo (groupsOf class n) t u
   may-alone e = sym (other ∙ not-together class n t u (λ k. omega (arith, e, together-class class n t u k .1)))

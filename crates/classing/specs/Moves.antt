@@ -35,7 +35,7 @@ unmovedIn ns t u = eqb t u || (not (wroteIn ns t) && (not (wroteIn ns u) && same
 
 -- whether the `02` lines let thread t go to u
 unfoldable pub mayGo : List (List ℕ) → ℕ → ℕ → Bool
-mayGo groups t u = eqb t u || together groups t u
+mayGo groups t u = eqb u t || together groups t u
 
 -- whether each of the six goes where the table of six times six lets it go
 unfoldable pub goesBy : List Bool → List ℕ → Bool

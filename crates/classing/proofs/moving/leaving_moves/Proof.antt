@@ -1,65 +1,37 @@
+-- `leaving_moves` fills the table place by place. The invariant: the first k places say what they should.
 use borrow.Author.Needs.{needs}
+use Prim.Native.Nat.{ℕ, _-_, _/_, _%_, _<_, _≤_}
+use mathlib.Core.Path.{_≡_, ap, _∙_}
+use mathlib.Core.Bool.{Bool, false, _&&_}
+use native.Mathlib.Omega.{arith}
+use lib.ListN.{length, getD}
+use Rattle.graph_writer.specs.NoteText.{notesAt}
+use Rattle.classing.specs.Moves.{unmovedIn}
+use Rattle.classing.proofs.Goes.{filled-next}
 use Rattle.classing.proofs.moving.leaving_moves.Statement.{statement}
 use Rattle.classing.proofs.moving.leaving_moves.Tie as tie
-use Rattle.classing.proofs.moving.leaving_moves.Reads as reads
-use Rattle.classing.proofs.moving.leaving_moves.Lts as lts
-use Rattle.classing.proofs.moving.unmoved.Reads as unmoved-reads
-use Rattle.lines.proofs.wide.Reads as wide-reads
 
 abbrev Inv-loop : tie.InvT-loop
-Inv-loop log steps may left₀ k₀ left k = ?
+Inv-loop log steps may left₀ k₀ left k =
+    (k ≤ 36) × (length left ≡ 36) × ((j : ℕ) → j < k → getD left j false ≡ (getD may j false && unmovedIn (notesAt log steps) (j / 6) (j % 6)))
 
 abbrev μ-loop : tie.MeasureT-loop
-μ-loop log steps may left₀ k₀ left k = ?
+μ-loop log steps may left₀ k₀ left k = 36 - k
 
--- src/moving.rt:88:5
 loop-holds : tie.Need-loop-holds Inv-loop μ-loop
-loop-holds c = search needs
+loop-holds c = (search needs, search needs, λ j b. absurd (omega arith))
 
--- src/moving.rt:89:13
-wide-requires : tie.Need-wide-requires Inv-loop μ-loop
-wide-requires c κs = search needs
-
--- src/moving.rt:90:27
-array-read-unmoved : tie.Need-array-read-unmoved Inv-loop μ-loop
-array-read-unmoved c = search needs
-
--- src/moving.rt:90:19
-unmoved-requires : tie.Need-unmoved-requires Inv-loop μ-loop
-unmoved-requires c κs = search needs
-
--- src/moving.rt:90:9
-array-write-left : tie.Need-array-write-left Inv-loop μ-loop
-array-write-left c = search needs
-
--- src/moving.rt:91:9
-add-k : tie.Need-add-k Inv-loop μ-loop
-add-k c = search needs
-
--- src/moving.rt:88:5
-loop-less : tie.Need-loop-less Inv-loop μ-loop
-loop-less c = search needs
-
--- src/moving.rt:88:5
 loop-again : tie.Need-loop-again Inv-loop μ-loop
-loop-again c = search needs
+loop-again c =
+    let loop = c .before .before .before .loop in
+    let args = c .before .before .before .before .args in
+    let ns = notesAt (args .log .now) (args .steps) in
+    (search needs, search needs, rw (c .before .wide .ensures .0)
+    (filled-next (λ j. getD (args .t1) j false && unmovedIn ns (j / 6) (j % 6)) (loop .left) (loop .k) (c .unmoved .result) (omega (arith, loop .inv .1, c .before .before .loop-test .taken)) (loop .inv .2)
+    (c .unmoved .ensures ∙ ap (λ (i : ℕ). getD (args .t1) i false && unmovedIn ns (loop .k / 6) (loop .k % 6)) (c .before .wide .ensures .0))))
 
--- src/moving.rt:81:1
 returns : tie.Need-returns Inv-loop μ-loop
-returns c = search needs
+returns c = let loop = c .before .loop in λ j b. loop .inv .2 j (omega (arith, b, c .loop-test .left))
 
 pub leaving-moves-spec : {M : Type 1} → statement M
-leaving-moves-spec =
-    tie.close
-    (tie.spec
-    Inv-loop
-    μ-loop
-    loop-holds
-    wide-requires
-    array-read-unmoved
-    unmoved-requires
-    array-write-left
-    add-k
-    loop-less
-    loop-again
-    returns)
+leaving-moves-spec = tie.close (tie.spec Inv-loop μ-loop loop-holds (λ c κs. search needs) (λ c. search needs) (λ c κs. search needs) (λ c. search needs) (λ c. search needs) (λ c. search needs) loop-again returns)

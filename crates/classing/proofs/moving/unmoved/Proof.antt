@@ -1,52 +1,39 @@
+-- `unmoved` asks whether the threads wrote, then compares their reads.
 use borrow.Author.Needs.{needs}
+use mathlib.Core.Path.{sym, _∙_}
+use borrow.Author.Tests.{not-true, not-false}
+use Rattle.graph_writer.specs.NoteText.{notesAt}
+use Rattle.classing.proofs.MayGo.{unmoved-own, unmoved-wrote, unmoved-other, unmoved-reads}
 use Rattle.classing.proofs.moving.unmoved.Statement.{statement}
 use Rattle.classing.proofs.moving.unmoved.Tie as tie
-use Rattle.classing.proofs.moving.unmoved.Reads as reads
-use Rattle.classing.proofs.moving.unmoved.Lts as lts
-use Rattle.classing.proofs.moving.wrote.Reads as wrote-reads
-use Rattle.classing.proofs.reads.same_reads.Reads as same-reads-reads
 
--- src/moving.rt:34:9
 returns : tie.Need-returns
-returns c = search needs
+returns c = rw (not-true (c .before .args .may) (c .if1 .taken))
 
--- src/moving.rt:37:9
 returns-2 : tie.Need-returns-2
-returns-2 c = search needs
+returns-2 c =
+    let args = c .before .before .args in
+    rw (not-false (args .may) (c .before .if1 .left)) (unmoved-own (notesAt (args .log .now) (args .steps)) (args .t) (args .u) (c .if2 .taken))
 
--- src/moving.rt:39:8
-wrote-requires : tie.Need-wrote-requires
-wrote-requires c κs = search needs
-
--- src/moving.rt:40:9
 returns-3 : tie.Need-returns-3
-returns-3 c = search needs
+returns-3 c =
+    let args = c .before .before .before .before .args in
+    rw (not-false (args .may) (c .before .before .before .if1 .left))
+    (unmoved-wrote (notesAt (args .log .now) (args .steps)) (args .t) (args .u) (c .before .before .if2 .left) (sym (c .before .wrote .ensures) ∙ c .if3 .taken))
 
--- src/moving.rt:42:8
-wrote-requires-2 : tie.Need-wrote-requires-2
-wrote-requires-2 c κs = search needs
-
--- src/moving.rt:43:9
 returns-4 : tie.Need-returns-4
-returns-4 c = search needs
+returns-4 c =
+    let args = c .before .before .before .before .before .before .args in
+    rw (not-false (args .may) (c .before .before .before .before .before .if1 .left))
+    (unmoved-other (notesAt (args .log .now) (args .steps)) (args .t) (args .u) (c .before .before .before .before .if2 .left)
+    (sym (c .before .before .before .wrote .ensures) ∙ c .before .before .if3 .left) (sym (c .before .wrote2 .ensures) ∙ c .if4 .taken))
 
--- src/moving.rt:45:5
-same-reads-requires : tie.Need-same-reads-requires
-same-reads-requires c κs = search needs
-
--- src/moving.rt:29:1
 returns-5 : tie.Need-returns-5
-returns-5 c = search needs
+returns-5 c =
+    let args = c .before .before .before .before .before .before .before .args in
+    rw (not-false (args .may) (c .before .before .before .before .before .before .if1 .left))
+    (c .same-reads .ensures ∙ unmoved-reads (notesAt (args .log .now) (args .steps)) (args .t) (args .u) (c .before .before .before .before .before .if2 .left)
+    (sym (c .before .before .before .before .wrote .ensures) ∙ c .before .before .before .if3 .left) (sym (c .before .before .wrote2 .ensures) ∙ c .before .if4 .left))
 
 pub unmoved-spec : {M : Type 1} → statement M
-unmoved-spec =
-    tie.close
-    (tie.spec
-    returns
-    returns-2
-    wrote-requires
-    returns-3
-    wrote-requires-2
-    returns-4
-    same-reads-requires
-    returns-5)
+unmoved-spec = tie.close (tie.spec returns returns-2 (λ c κs. search needs) returns-3 (λ c κs. search needs) returns-4 (λ c κs. search needs) returns-5)
