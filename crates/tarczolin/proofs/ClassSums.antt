@@ -11,6 +11,7 @@ use Rattle.program.proofs.AcceptedWellFormed.{accepted-well-formed}
 use Rattle.program.proofs.Ungrouped.{without-alike}
 use Rattle.schedules.specs.Lists.{filter}
 use Rattle.schedules.specs.Order.{Schedule}
+use Rattle.model.specs.Laws.{Admitted}
 use Rattle.model.specs.ClassSize.{total, classSize}
 use Rattle.model.proofs.ClassSum.{same-end}
 use Rattle.sc.specs.State.{fails}
@@ -30,7 +31,7 @@ class-sums file p e =
     let q = ungrouped p in
     let there = demand-3 (withoutAlike file) q (without-alike file p e) in
     let c = sc-classes file p e in
-    let w = (accepted-well-formed file p e, refl) in
+    let w : Admitted sc p = (accepted-well-formed file p e, refl) in
     let all : total (classSize sc p) (listOf p) ≡ length (listOf q) = ap (total (classSize sc p)) (sym (list-same p)) ∙ c .sum ∙ ap length (list-same q) in
     let some : total (classSize sc p) (filter (failing p) (listOf p)) ≡ length (filter (failing q) (listOf q)) =
         ap (λ (l : List Schedule). total (classSize sc p) (filter (failing p) l)) (sym (list-same p))
