@@ -42,7 +42,8 @@ fn class_of(p: Compiled, schedule: &[u8]) -> ClassAnswer
 {
     let code = p.code;
     let lengths = p.lengths;
-    let r = replayed(&code, &lengths, p.threads, schedule);
+    let starting = p.starting;
+    let r = replayed(&code, &lengths, p.threads, starting, schedule);
     let v = r.verdict;
     match v {
         Verdict::Refused(n, k) => ClassAnswer::Refused(n, k),

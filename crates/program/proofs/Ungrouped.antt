@@ -3,7 +3,7 @@
 use Prim.Native.Nat.{ℕ, _+_, _≤_}
 use native.Mathlib.Omega.{arith}
 use mathlib.Core.Path.{_≡_, refl, sym, _∙_, ap}
-use mathlib.Core.Bool.{Bool, true, false, cond, true≢false}
+use mathlib.Core.Bool.{Bool, true, false, cond, not, true≢false}
 use mathlib.Core.List.{List, [], _∷_, _++_}
 use lib.Dec.{eqb, ltb}
 use lib.ListN.{length, set, drop, length-append}
@@ -14,12 +14,13 @@ use Rattle.lines.specs.Plain.{joined}
 use Rattle.lines.proofs.TextLines.{whole, unended}
 use Rattle.lines.proofs.Plain.{Lines, no-line, last-line, one-more, split-lines, split-joined, joined-split}
 use Rattle.program.specs.Program.{Program}
-use Rattle.program.specs.Frames.{Frame, opens, declares}
-use Rattle.program.specs.Decode.{Placed, Reading, fresh, threadAt, lastThread, frameRefusal, after, firstFarSkip, programIn, Decoded, accepted, refused, finish, readLines, decode}
+use Rattle.program.specs.Frames.{Frame, byte, word, opens, declares, starts}
+use Rattle.program.specs.Decode.{Reading, fresh, threadAt, lastThread, startFits, frameRefusal, after, firstFarSkip, programIn, Decoded, accepted, refused, finish, readLines, decode}
 use Rattle.program.specs.WellFormed.{WellFormed}
 use Rattle.program.specs.Ungrouped.{ungrouped, declaring, undeclared, withoutAlike}
 use Rattle.program.proofs.AcceptedWellFormed.{refused-first, refused-else}
-use Rattle.program.proofs.Sound.{passes, opens-declares}
+use Rattle.program.proofs.Tests.{both, second}
+use Rattle.program.proofs.Sound.{Passes, passes, no-groups, opens-declares}
 use Rattle.program.proofs.Sound as Sound
 
 -- ---- the lines that are left
@@ -62,7 +63,7 @@ without-shorter file = omega (arith, shorter (split file), ap length (joined-spl
 
 -- ---- what has been read, without groups
 abbrev bare : Reading → Reading
-bare r = record { threads = r .threads; groups = [] }
+bare r = record { threads = r .threads; groups = []; given = r .given }
 
 finish-bare : (r : Reading) (p : Program) → finish r ≡ accepted p → finish (bare r) ≡ accepted (ungrouped p)
 unfolding finish programIn ungrouped
@@ -72,26 +73,43 @@ finish-bare r p e =
     rw (a .0) (ap (λ (x : Program). accepted (ungrouped x)) q)
 
 -- what a `02` frame adds is groups alone
-declared-threads : (n : ℕ) (f : Frame) (r : Reading) → declares f ≡ true → (after n f r .threads ≡ r .threads) × (after n f r .groups ≡ r .groups ++ (drop 1 f ∷ []))
+declared-groups : (n : ℕ) (f : Frame) (r : Reading) → declares f ≡ true → after n f r ≡ record { threads = r .threads; groups = r .groups ++ (drop 1 f ∷ []); given = r .given }
 unfolding after
-declared-threads n f r e = go (opens f) refl
+declared-groups n f r e = go (opens f) refl
   where
-    go : (b : Bool) → opens f ≡ b → (after n f r .threads ≡ r .threads) × (after n f r .groups ≡ r .groups ++ (drop 1 f ∷ []))
+    go : (b : Bool) → opens f ≡ b → after n f r ≡ record { threads = r .threads; groups = r .groups ++ (drop 1 f ∷ []); given = r .given }
     go true q = absurd (true≢false (sym e ∙ opens-declares f q))
-    go false q = (rw (q, e), rw (q, e))
+    go false q = rw (q, e)
 
 -- and what any other adds is no group
 other-groups : (n : ℕ) (f : Frame) (r : Reading) → declares f ≡ false → after n f r .groups ≡ r .groups
 unfolding after
-other-groups n f r e = rw e (go (opens f))
+other-groups n f r e = rw e (go (opens f) (starts f))
   where
-    go : (b : Bool) → cond {A = Reading} b (record { threads = r .threads ++ ([] ∷ []); groups = r .groups })
-        (record { threads = set (r .threads) (lastThread r) (threadAt r (lastThread r) ++ (record { line = n; code = f } ∷ [])); groups = r .groups }) .groups ≡ r .groups
-    go true = refl
-    go false = refl
+    go : (a b : Bool) → cond {A = Reading} a (record { threads = r .threads ++ ([] ∷ []); groups = r .groups; given = r .given })
+        (cond b (record { threads = r .threads; groups = r .groups; given = record { location = byte f 1; value = word f 2 } ∷ r .given })
+        (record {
+          threads = set (r .threads) (lastThread r) (threadAt r (lastThread r) ++ (record { line = n; code = f } ∷ []));
+          groups = r .groups;
+          given = r .given;
+        })) .groups ≡ r .groups
+    go true b = refl
+    go false true = refl
+    go false false = refl
+
+-- and stands before every `02`: a `03` by 40, all else by 5
+none-before : (r : Reading) (f : Frame) → Passes r f → declares f ≡ false → r .groups ≡ []
+unfolding startFits
+none-before r f p d = go (starts f) refl
+  where
+    go : (b : Bool) → starts f ≡ b → r .groups ≡ []
+    go true e =
+        let a = both (eqb (length (r .threads)) 0) _ (second (not (starts f)) _ (p .in-front) (ap not e)) in
+        no-groups (r .groups) (both (eqb (length (r .groups)) 0) _ (a .1) .0)
+    go false e = Sound.ungrouped r f (p .in-place) d e .0
 
 bare-same : (r : Reading) → r .groups ≡ [] → bare r ≡ r
-bare-same r e = ap (λ (gs : List (List ℕ)). record { threads = r .threads; groups = gs }) (sym e)
+bare-same r e = ap (λ (gs : List (List ℕ)). record { threads = r .threads; groups = gs; given = r .given }) (sym e)
 
 some-group : (gs : List (List ℕ)) (g : List ℕ) → gs ++ (g ∷ []) ≡ [] → ⊥
 some-group gs g e = omega (arith, ap length e, length-append gs (g ∷ []))
@@ -109,11 +127,11 @@ read-undeclared n m (l ∷ ls) r p same e =
     frame : (f : Frame) → Later → frameRefusal r f ≡ 0 → readLines (n + 1) ls (after n f r) ≡ accepted p → (b : Bool) → declares f ≡ b → meaning l ≡ framed f →
         readLines m (cond (declaring (meaning l)) (undeclared ls) (l ∷ undeclared ls)) (bare r) ≡ accepted (ungrouped p)
     frame f later pass k true d q =
-        let a = declared-threads n f r d in
-        let h : after n f r .groups ≡ [] → n + 1 ≡ m = λ z. absurd (some-group (r .groups) (drop 1 f) (sym (a .1) ∙ z)) in
-        rw (q, d) (ap (λ (cs : List (List Placed)). readLines m (undeclared ls) (record { threads = cs; groups = [] })) (sym (a .0)) ∙ later f m h k)
+        let a = declared-groups n f r d in
+        let h : after n f r .groups ≡ [] → n + 1 ≡ m = λ z. absurd (some-group (r .groups) (drop 1 f) (sym (ap (λ (x : Reading). x .groups) a) ∙ z)) in
+        rw (q, d) (ap (λ (x : Reading). readLines m (undeclared ls) (bare x)) (sym a) ∙ later f m h k)
     frame f later pass k false d q =
-        let z = Sound.ungrouped r f (passes r f pass .in-place) d .0 in
+        let z = none-before r f (passes r f pass) d in
         let i = same z in
         let j : after n f r .groups ≡ [] = other-groups n f r d ∙ z in
         let step : readLines n (l ∷ undeclared ls) r ≡ readLines (n + 1) (undeclared ls) (after n f r) = rw (q, readLines, pass) in
@@ -145,4 +163,4 @@ without-alike file p e =
 -- and the program without groups is as well formed
 pub ungrouped-well-formed : (p : Program) → WellFormed p → WellFormed (ungrouped p)
 unfolding ungrouped
-ungrouped-well-formed p w = record { six = w .six; sixteen = w .sixteen; access-24 = w .access-24; ranges = w .ranges; skips = w .skips; groups = tt; apart = tt }
+ungrouped-well-formed p w = record { six = w .six; sixteen = w .sixteen; access-24 = w .access-24; ranges = w .ranges; skips = w .skips; groups = tt; apart = tt; eight = w .eight; words = w .words }

@@ -11,7 +11,7 @@ use Rattle.program.specs.Frames.{declares}
 
 -- the program whose threads are alike to themselves only
 unfoldable pub ungrouped : Program → Program
-ungrouped p = record { threads = p .threads; groups = [] }
+ungrouped p = record { threads = p .threads; groups = []; starting = p .starting }
 
 -- whether what a line says is a `02` frame
 unfoldable pub declaring : Meaning → Bool
