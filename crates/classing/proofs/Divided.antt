@@ -100,9 +100,12 @@ module _ (p : Program) (w : WellFormed p) (s : Schedule) (f : Full p s) where
       let r = any-yes (writeBy t) ns e in
       let n = r .0 in
       let k = both (eqb (n .thread) t) (n .wrote) (r .2) in
-      let m = write-stated ns n (r .1) (k .1) in
-      (n .location, n .number, subst (λ (u : ℕ). List·Memᴰ (u, n .number) (getD (graph p s .writes) (n .location) [])) (eqb-true (n .thread) t (k .0))
-      (reverse-in (getD (graph p s .writes) (n .location) []) (n .thread, n .number) (subst (List·Memᴰ (n .thread, n .number)) (note-writes (n .location)) m)))
+      let m = write-stated ns n (r .1) (k .1) in (
+        n .location,
+        n .number,
+        subst (λ (u : ℕ). List·Memᴰ (u, n .number) (getD (graph p s .writes) (n .location) [])) (eqb-true (n .thread) t (k .0))
+            (reverse-in (getD (graph p s .writes) (n .location) []) (n .thread, n .number) (subst (List·Memᴰ (n .thread, n .number)) (note-writes (n .location)) m)),
+      )
 
   graph-wrote : (t : ℕ) → Wrote (graph p s) t → wroteIn ns t ≡ true
   unfolding wroteIn

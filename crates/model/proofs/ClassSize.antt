@@ -58,10 +58,14 @@ module _ (M : Model) (p : Program) (w : Admitted M p) (ρ : ℕ → ℕ) (x : Ex
   -- as many pass the second test as pass the first, if it sends these to those
   no-fewer : (f g : List ℕ → Bool) → ((π : List ℕ) → List·Memᴰ π (permitted p) → f π ≡ true → g (behind π) ≡ true) → count f (permitted p) ≤ count g (permitted p)
   no-fewer f g h =
-      omega (arith, length-map (filter f (permitted p)) behind, distinct-within (map behind (filter f (permitted p))) (filter g (permitted p))
-      (distinct-mapped behind (filter f (permitted p)) (λ π σ m n. behind-injective π σ (of-filter f (permitted p) π m .0) (of-filter f (permitted p) σ n .0)) (distinct-filter f (permitted p) (permitted-distinct p)))
-      (λ σ m. let r = Memᴰ·of-map behind (filter f (permitted p)) m in let k = of-filter f (permitted p) (r .0) (r .1) in
-      subst (λ (z : List ℕ). List·Memᴰ z (filter g (permitted p))) (r .2) (in-filter g (permitted p) (behind (r .0)) (behind-is (r .0) (k .0) .0) (h (r .0) (k .0) (k .1)))))
+      omega (
+        arith,
+        length-map (filter f (permitted p)) behind,
+        distinct-within (map behind (filter f (permitted p))) (filter g (permitted p))
+            (distinct-mapped behind (filter f (permitted p)) (λ π σ m n. behind-injective π σ (of-filter f (permitted p) π m .0) (of-filter f (permitted p) σ n .0)) (distinct-filter f (permitted p) (permitted-distinct p)))
+            (λ σ m. let r = Memᴰ·of-map behind (filter f (permitted p)) m in let k = of-filter f (permitted p) (r .0) (r .1) in
+            subst (λ (z : List ℕ). List·Memᴰ z (filter g (permitted p))) (r .2) (in-filter g (permitted p) (behind (r .0)) (behind-is (r .0) (k .0) .0) (h (r .0) (k .0) (k .1)))),
+      )
 
 module _ (M : Model) (L : Laws M) (p : Program) (w : Admitted M p) where
   -- ---- the test of equal graphs is exact on schedules' graphs

@@ -43,8 +43,8 @@ module _ (M : Model) (L : Laws M) (U : GroupsUnseen M) (file : List ℕ) (p : Pr
   counts-too =
       let all = class-sum M L U p w in
       let some : total (classSize M p) (filter (failing M p) (listOf M p)) ≡ length (filter (failing M (ungrouped p)) (listOf M (ungrouped p))) =
-          class-sum-of M L U p w (failing M p) (λ r s f g l. same-outcome M L p w r s f g l .0)
-          ∙ ap (λ (f : Schedule → Bool). length (filter f (listOf M (ungrouped p)))) (sym failing-too) in
+      class-sum-of M L U p w (failing M p) (λ r s f g l. same-outcome M L p w r s f g l .0)
+      ∙ ap (λ (f : Schedule → Bool). length (filter f (listOf M (ungrouped p)))) (sym failing-too) in
       demand-3 M L (withoutAlike file) (ungrouped p) listed-too .counts
       ∙ ap (λ (n : ℕ). counted (record { listed = n % 2 ^ 64; failed = length (filter (failing M (ungrouped p)) (listOf M (ungrouped p))) % 2 ^ 64 })) (sym all)
       ∙ ap (λ (n : ℕ). counted (record { listed = total (classSize M p) (listOf M p) % 2 ^ 64; failed = n % 2 ^ 64 })) (sym some)

@@ -54,8 +54,14 @@ shorter (l ∷ ls) = go (declaring (meaning l)) (shorter ls)
     go : (b : Bool) → length (joined (undeclared ls)) ≤ length (joined ls) → length (joined (cond b (undeclared ls) (l ∷ undeclared ls))) ≤ length (l .bytes ++ tail ls)
     go true h = omega (arith, h, length-append (l .bytes) (tail ls), length-append (cond (l .ended) (10 ∷ []) []) (joined ls))
     go false h =
-        omega (arith, h, length-append (l .bytes) (tail ls), length-append (cond (l .ended) (10 ∷ []) []) (joined ls),
-        length-append (l .bytes) (tail (undeclared ls)), length-append (cond (l .ended) (10 ∷ []) []) (joined (undeclared ls)))
+        omega (
+          arith,
+          h,
+          length-append (l .bytes) (tail ls),
+          length-append (cond (l .ended) (10 ∷ []) []) (joined ls),
+          length-append (l .bytes) (tail (undeclared ls)),
+          length-append (cond (l .ended) (10 ∷ []) []) (joined (undeclared ls)),
+        )
 
 pub without-shorter : (file : List ℕ) → length (withoutAlike file) ≤ length file
 unfolding withoutAlike

@@ -69,7 +69,7 @@ module _ (π : ℕ → ℕ) (q : Permutation π) (g : Graph) (sourced : Sourced 
   unfolding movedWrites movedEvent
   writer-stays r t w =
       let row : map (movedEvent π) (getD (g .writes) (w .0) []) ≡ getD (g .writes) (w .0) [] =
-          sym (List·getD-map (movedWrites π) (g .writes) (w .0) []) ∙ ap (λ (ws : List (List Event)). getD ws (w .0) []) (sym (r .writes)) in
+      sym (List·getD-map (movedWrites π) (g .writes) (w .0) []) ∙ ap (λ (ws : List (List Event)). getD ws (w .0) []) (sym (r .writes)) in
       ap (λ (e : Event). e .0) (unchanged-map (movedEvent π) (getD (g .writes) (w .0) []) row (t, w .1) (w .2))
 
   pub fixed-unmoved : Renames π g g → (t : ℕ) → t < length (g .reads) → Unmoved g t (π t)

@@ -34,10 +34,10 @@ class-sums file p e =
     let w : Admitted sc p = (accepted-well-formed file p e, refl) in
     let all : total (classSize sc p) (listOf p) ≡ length (listOf q) = ap (total (classSize sc p)) (sym (list-same p)) ∙ c .sum ∙ ap length (list-same q) in
     let some : total (classSize sc p) (filter (failing p) (listOf p)) ≡ length (filter (failing q) (listOf q)) =
-        ap (λ (l : List Schedule). total (classSize sc p) (filter (failing p) l)) (sym (list-same p))
-        ∙ c .sum-of (failing p) (λ r s f g l. demand-3 file p e .same-outcome r s f g l .0)
-        ∙ ap (λ (l : List Schedule). length (filter (failing p) l)) (list-same q)
-        ∙ ap (λ (f : Schedule → Bool). length (filter f (listOf q))) (sym (fun-ext (λ s. ap fails (same-end sc sc-laws sc-unseen p w s)))) in
+    ap (λ (l : List Schedule). total (classSize sc p) (filter (failing p) l)) (sym (list-same p))
+    ∙ c .sum-of (failing p) (λ r s f g l. demand-3 file p e .same-outcome r s f g l .0)
+    ∙ ap (λ (l : List Schedule). length (filter (failing p) l)) (list-same q)
+    ∙ ap (λ (f : Schedule → Bool). length (filter f (listOf q))) (sym (fun-ext (λ s. ap fails (same-end sc sc-laws sc-unseen p w s)))) in
     record {
       sums = there .counts
           ∙ ap (λ (n : ℕ). counted (record { listed = n; failed = length (filter (failing q) (listOf q)) })) (sym all)

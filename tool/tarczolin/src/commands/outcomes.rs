@@ -133,14 +133,7 @@ fn in_all(list: &List, executions: u64) -> String {
     }
 }
 
-fn last_line(
-    question: &Question,
-    list: &List,
-    found: &Found,
-    outcomes: u64,
-    executions: u64,
-    matched: Option<u64>,
-) -> String {
+fn last_line(question: &Question, list: &List, found: &Found, outcomes: u64, executions: u64, matched: Option<u64>) -> String {
     let counts = found.counts;
     if question.json {
         return question.object([

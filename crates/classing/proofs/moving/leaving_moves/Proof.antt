@@ -25,10 +25,13 @@ loop-again : tie.Need-loop-again Inv-loop μ-loop
 loop-again c =
     let loop = c .before .before .before .loop in
     let args = c .before .before .before .before .args in
-    let ns = notesAt (args .log .now) (args .steps) in
-    (search needs, search needs, rw (c .before .wide .ensures .0)
-    (filled-next (λ j. getD (args .t1) j false && unmovedIn ns (j / 6) (j % 6)) (loop .left) (loop .k) (c .unmoved .result) (omega (arith, loop .inv .1, c .before .before .loop-test .taken)) (loop .inv .2)
-    (c .unmoved .ensures ∙ ap (λ (i : ℕ). getD (args .t1) i false && unmovedIn ns (loop .k / 6) (loop .k % 6)) (c .before .wide .ensures .0))))
+    let ns = notesAt (args .log .now) (args .steps) in (
+      search needs,
+      search needs,
+      rw (c .before .wide .ensures .0)
+          (filled-next (λ j. getD (args .t1) j false && unmovedIn ns (j / 6) (j % 6)) (loop .left) (loop .k) (c .unmoved .result) (omega (arith, loop .inv .1, c .before .before .loop-test .taken)) (loop .inv .2)
+          (c .unmoved .ensures ∙ ap (λ (i : ℕ). getD (args .t1) i false && unmovedIn ns (loop .k / 6) (loop .k % 6)) (c .before .wide .ensures .0))),
+    )
 
 returns : tie.Need-returns Inv-loop μ-loop
 returns c = let loop = c .before .loop in λ j b. loop .inv .2 j (omega (arith, b, c .loop-test .left))

@@ -27,9 +27,13 @@ abbrev μ-loop : tie.MeasureT-loop
 loop-holds : tie.Need-loop-holds Inv-loop μ-loop
 loop-holds c =
     let args = c .before .before .args in
-    let all = from-first (args .log .now) (args .steps) in
-    (_, _, c .before .next-read .ensures .1, c .next-read2 .ensures .1,
-    ap₂ (λ (ns ms : List Note). sameList sameRead (readsIn (args .t) ns) (readsIn (args .u) ms)) all all)
+    let all = from-first (args .log .now) (args .steps) in (
+      _,
+      _,
+      c .before .next-read .ensures .1,
+      c .next-read2 .ensures .1,
+      ap₂ (λ (ns ms : List Note). sameList sameRead (readsIn (args .t) ns) (readsIn (args .u) ms)) all all,
+    )
 
 returns : tie.Need-returns Inv-loop μ-loop
 returns c =
@@ -49,7 +53,7 @@ loop-again c =
     let loop = c .before .before .before .before .before .before .loop in
     let args = c .before .before .before .before .before .before .before .before .before .args in
     let agree = reads-agree (args .log .now) (args .steps) (args .t) (args .u) (loop .inv .0) (loop .inv .1) (loop .a) (loop .b) (loop .inv .2) (loop .inv .3) (c .before .before .before .before .before .loop-test .taken) (c .before .before .before .before .if1 .left)
-        (sym (c .before .before .before .same-read .ensures) ∙ not-false _ (c .before .before .if2 .left)) in
+    (sym (c .before .before .before .same-read .ensures) ∙ not-false _ (c .before .before .if2 .left)) in
     (_, _, c .before .next-read3 .ensures .1, c .next-read4 .ensures .1, agree ∙ loop .inv .4)
 
 returns-3 : tie.Need-returns-3 Inv-loop μ-loop
