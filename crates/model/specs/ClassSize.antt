@@ -1,6 +1,6 @@
 -- HOW LARGE A CLASS IS, in any memory model: of a full schedule, listed or not, the number of different graphs alike to its own, itself
--- counted. These are the different ones among the images of its graph under the permitted permutations; the image under a permutation is the
--- graph of the exchanged schedule.
+-- counted. These are the different ones among the images of its graph under the permitted permutations; the image under a permutation is
+-- the graph of the exchanged schedule.
 use Prim.Native.Nat.{ℕ, _+_}
 use mathlib.Core.Bool.{Bool}
 use mathlib.Core.Option.{Option, none, some}
