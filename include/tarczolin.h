@@ -4,7 +4,7 @@
  *
  *   bits 56 to 63   the kind: 1 answered; 2 no more, none, or no; 3 refused
  *   bits 48 to 55   a refusal's number, else 0
- *   bits  0 to 47   the length of an answer in bytes, 0 where there is none; of rows their number;
+ *   bits  0 to 47   the length of an answer in bytes, 0 where there is none; of rows their number; of a class its size;
  *                   or a refusal's place. All of them fit these bits: of rows where the output is shorter than 26 * 2^48 bytes,
  *                   of a graph text's refusal where the text is shorter than 2^48 bytes
  *
@@ -33,7 +33,7 @@
 #define TARCZOLIN_GRAPH 512
 #define TARCZOLIN_ROW 26
 
-/* An answer word taken apart: its kind, a refusal's number, the length, number of rows or place. */
+/* An answer word taken apart: its kind, a refusal's number, the length, number of rows, size of a class or place. */
 #define TARCZOLIN_KIND(word) ((unsigned)((uint64_t)(word) >> 56))
 #define TARCZOLIN_NUMBER(word) ((unsigned)((uint64_t)(word) >> 48) & 0xffu)
 #define TARCZOLIN_VALUE(word) ((uint64_t)(word) & (((uint64_t)1 << 48) - 1))
@@ -56,6 +56,12 @@ uint64_t tarczolin_check(const uint8_t *file, size_t file_len);
  * under 512 bytes; 20 at the first step that names no thread or an ended one (from 0); 21 at the schedule's length where
  * it is not full. A refusal changes no byte. */
 uint64_t tarczolin_graph(const uint8_t *file, size_t file_len, const uint8_t *schedule, size_t schedule_len, uint8_t *out, size_t out_len);
+
+/* How large the class of a full schedule is, listed or not: how many different graphs are alike to its own, itself counted; at
+ * most 720, and 1 in a program without 02 lines. Over all listed schedules these sum to the count of the same file with its 02
+ * lines taken out. Answered: kind 1, and bits 0 to 47 carry that number. Refused, in this order: the program's (1 to 8, 40); 20
+ * and 21 of the schedule given, as by tarczolin_graph. No output is lent, so 22 never refuses it. */
+uint64_t tarczolin_class(const uint8_t *file, size_t file_len, const uint8_t *schedule, size_t schedule_len);
 
 /* Is this graph consistent? Yes: kind 1, the least schedule that makes it stands in front of the output, the answer
  * carries its length, and the bytes behind it keep their value. No: kind 2. Refused, in this order: the program's (1 to 8, 40);

@@ -1,6 +1,6 @@
 //! The oracle against what document 01 and the literature say: a check of the oracle itself, without the library.
 use tarczolin_tests::files::{lines, path, read};
-use tarczolin_tests::oracle::calls::{continue_from, count, graph, judge, report, start, violation};
+use tarczolin_tests::oracle::calls::{class, continue_from, count, graph, judge, report, start, violation};
 use tarczolin_tests::oracle::decode::{decode, Program};
 use tarczolin_tests::oracle::graph::Graph;
 use tarczolin_tests::oracle::judge::{consistent, least_by_sorting, least_by_walk, parse};
@@ -48,6 +48,20 @@ fn known_lists() {
     {
         assert_eq!(count(&example(name)), Ok((all, 0)), "{name}");
     }
+}
+
+/// Document 02: the whole case has 1, 2, 1, sum 4.
+#[test]
+fn known_classes() {
+    let whole = example("whole");
+    let sizes: Vec<u64> = [[0, 1, 2], [1, 0, 2], [1, 2, 0]].iter().map(|s| class(&whole, s).unwrap()).collect();
+    assert_eq!(sizes, [1, 2, 1]);
+    assert_eq!(count(&example("whole-without-02")), Ok((4, 0)));
+    assert_eq!(class(&whole, &[2, 0, 1]), Ok(2));
+    assert_eq!(class(&example("fetch-and-add-3-alike"), &[2, 1, 0]), Ok(6));
+    assert_eq!(class(&example("whole-without-02"), &[2, 0, 1]), Ok(1));
+    assert_eq!(class(&whole, &[0, 1]), refusal(21, 2));
+    assert_eq!(class(&whole, &[0, 0]), refusal(20, 1));
 }
 
 #[test]

@@ -1,3 +1,5 @@
 -- The laws.
 -- each case by itself
 pub mod Cases
+-- the sizes of the classes of the whole case
+pub mod Classes

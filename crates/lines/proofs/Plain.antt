@@ -19,7 +19,7 @@ use Rattle.lines.proofs.DigitValues.{both, lower-other, digit-lower, va
 use Rattle.lines.proofs.TextLines.{whole, unended, split-only, split-line}
 
 -- ---- lines as a text has them: no 0a within a line, and only the last may be without its 0a
-data Lines : List TextLine → Type 0 where
+pub data Lines : List TextLine → Type 0 where
   no-line : Lines []
   last-line : (l : List ℕ) → lineLength l ≡ length l → 0 < length l → Lines (unended l ∷ [])
   one-more : (l : List ℕ) (ls : List TextLine) → lineLength l ≡ length l → Lines ls → Lines (whole l ∷ ls)
@@ -34,7 +34,7 @@ lines-prepend c ls e no-line = last-line (c ∷ []) (clear-more c [] e refl) (om
 lines-prepend c ls e (last-line l h n) = last-line (c ∷ l) (clear-more c l e h) (omega arith)
 lines-prepend c ls e (one-more l ms h k) = one-more (c ∷ l) ms (clear-more c l e h) k
 
-split-lines : (t : List ℕ) → Lines (split t)
+pub split-lines : (t : List ℕ) → Lines (split t)
 unfolding split before lineLength
 split-lines [] = no-line
 split-lines (c ∷ cs) = go (eqb c 10) refl (split-lines cs)
@@ -44,7 +44,7 @@ split-lines (c ∷ cs) = go (eqb c 10) refl (split-lines cs)
     go false e h = rw (e, before) (lines-prepend c (split cs) e h)
 
 -- ---- such lines are found again in the text that they make
-split-joined : (ls : List TextLine) → Lines ls → split (joined ls) ≡ ls
+pub split-joined : (ls : List TextLine) → Lines ls → split (joined ls) ≡ ls
 unfolding split joined
 split-joined ls no-line = refl
 split-joined ls (last-line l h n) = ap split (append-nil l) ∙ split-only l n h

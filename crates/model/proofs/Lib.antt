@@ -39,3 +39,11 @@ pub mod Calls
 pub mod Violations
 -- DEMAND 3
 pub mod Demand3
+-- counting over lists
+pub mod Counting
+-- the size of a class: exactly the graphs alike; orbit and stabilizer
+pub mod ClassSize
+-- the sizes sum to the list of the program without groups
+pub mod ClassSum
+-- all that is promised of them
+pub mod Classes

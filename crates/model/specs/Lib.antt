@@ -17,5 +17,9 @@ pub mod Search
 pub mod Answers
 -- the four calls on a file
 pub mod OnFile
+-- how large a class is, and the call that says it
+pub mod ClassSize
+-- and what is promised of it
+pub mod Classes
 -- DEMAND 3
 pub mod Demand3

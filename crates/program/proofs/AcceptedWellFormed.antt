@@ -18,11 +18,11 @@ use Rattle.program.proofs.SoundProgram.{sound-well-formed}
 use Rattle.program.proofs.Sound.{Sound, sound-fresh, sound-after}
 
 -- ---- where a program is accepted, no test refused it
-refused-first : (t : Bool) (k n : ℕ) (d : Decoded) (p : Program) → cond t (refused k n) d ≡ accepted p → (t ≡ false) × (d ≡ accepted p)
+pub refused-first : (t : Bool) (k n : ℕ) (d : Decoded) (p : Program) → cond t (refused k n) d ≡ accepted p → (t ≡ false) × (d ≡ accepted p)
 refused-first true k n d p e = let z : _≡_ {A = ℕ} 0 1 = cc in absurd (omega arith)
 refused-first false k n d p e = (refl, e)
 
-refused-else : (t : Bool) (k n : ℕ) (d : Decoded) (p : Program) → cond t d (refused k n) ≡ accepted p → (t ≡ true) × (d ≡ accepted p)
+pub refused-else : (t : Bool) (k n : ℕ) (d : Decoded) (p : Program) → cond t d (refused k n) ≡ accepted p → (t ≡ true) × (d ≡ accepted p)
 refused-else true k n d p e = (refl, e)
 refused-else false k n d p e = let z : _≡_ {A = ℕ} 0 1 = cc in absurd (omega arith)
 

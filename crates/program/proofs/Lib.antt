@@ -10,6 +10,8 @@ pub mod NoThread
 pub mod StartLines
 -- files that differ only in remarks and capitals
 pub mod PlainFiles
+-- a file with its `02` lines taken out
+pub mod Ungrouped
 -- files with remarks and capitals, by computing
 mod Remarks
 -- the table of kinds, as rules for every first byte

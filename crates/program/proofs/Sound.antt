@@ -73,7 +73,7 @@ passes r f e =
     record { is-known = a .0; in-range = b .0; in-place = c .0; in-limits = d .0; in-front = h .0; alike = g .0 }
 
 -- what stands before any `02` has no groups
-no-groups : (gs : List (List ℕ)) → eqb (length gs) 0 ≡ true → gs ≡ []
+pub no-groups : (gs : List (List ℕ)) → eqb (length gs) 0 ≡ true → gs ≡ []
 no-groups [] e = refl
 no-groups (g ∷ gs) e = absurd (omega (arith, eqb-true (length (g ∷ gs)) 0 e))
 

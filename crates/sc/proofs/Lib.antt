@@ -53,6 +53,8 @@ pub mod Printed
 -- for the listing: graphs and trails of exchanged schedules, what an exchange leaves as it is, steps that can be moved, and what is left to do
 pub mod Turning
 pub mod ProgramGraphs
+-- graphs that an exchange leaves the same
+pub mod Fixed
 pub mod ExchangedActions
 pub mod FixedState
 pub mod FreeSteps

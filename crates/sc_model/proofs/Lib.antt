@@ -4,5 +4,7 @@ pub mod Turned
 pub mod Laws
 -- DEMAND 3
 pub mod Demand3
+-- the sizes of classes
+pub mod Classes
 -- what refuses a schedule is what its replay says
 pub mod Refused

@@ -2,6 +2,8 @@
 pub mod Checked
 -- What the machine's answer to a graph call says.
 pub mod Graphs
+-- What the answer to a class call says.
+pub mod ClassSaid
 -- What the judge's answer says.
 pub mod Judgements
 -- What the listing's answers say.
@@ -13,5 +15,8 @@ pub mod Words
 -- What each call says fits its word; the judge's by itself.
 pub mod Fitting
 pub mod JudgeFits
+pub mod ClassFits
+-- The sizes of classes sum to what count says of the file without its `02` lines.
+pub mod ClassSums
 -- A word of kind 1 tells how many bytes of the output are the schedule.
 pub mod InOutput

@@ -5,6 +5,10 @@ pub mod Word
 pub mod Check
 -- what the graph call says
 pub mod Graphed
+-- what the class call says
+pub mod Classed
+-- and what it and the count call say together
+pub mod ClassSums
 -- what the judge says
 pub mod Judged
 -- what start, continue and violation say

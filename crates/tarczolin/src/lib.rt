@@ -6,6 +6,8 @@ mod word;
 mod check;
 // Graphs of schedules: tarczolin_graph.
 mod graph;
+// How large a class is: tarczolin_class.
+mod class;
 // Graphs judged: tarczolin_judge.
 mod judgement;
 // Listed schedules: tarczolin_start, tarczolin_continue, tarczolin_violation.
@@ -18,6 +20,7 @@ mod by_rows;
 pub use by_rows::tarczolin_rows;
 pub use by_rows::tarczolin_rows_after;
 pub use check::tarczolin_check;
+pub use class::tarczolin_class;
 pub use graph::tarczolin_graph;
 pub use judgement::tarczolin_judge;
 pub use listed::tarczolin_continue;

@@ -53,6 +53,13 @@ pub fn graph(file: &[u8], schedule: &[u8], output: usize) -> Result<Vec<u8>, Ref
     Ok(Graph::of(&machine).text())
 }
 
+/// How many different graphs are alike to that of a full schedule, itself counted. No output is lent.
+pub fn class(file: &[u8], schedule: &[u8]) -> Result<u64, Refusal> {
+    let program = decode(file)?;
+    let machine = machine::run_full(&program, schedule)?;
+    Ok(listing::class(&program, &Graph::of(&machine)).len() as u64)
+}
+
 pub fn judge(file: &[u8], text: &[u8], output: usize) -> Found {
     let program = accepted(file, output, SCHEDULE)?;
     judge::judge(&program, text)

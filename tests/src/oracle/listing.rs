@@ -44,6 +44,11 @@ pub fn list(program: &Program) -> Vec<Listed> {
     listed
 }
 
+/// The different graphs into which the permitted permutations turn a graph, itself among them.
+pub fn class(program: &Program, graph: &Graph) -> HashSet<Graph> {
+    permitted(program).iter().map(|to| graph.exchanged(to)).collect()
+}
+
 /// The least listed schedule.
 pub fn start(list: &[Listed]) -> Option<Vec<u8>> {
     list.first().map(|l| l.schedule.clone())

@@ -37,6 +37,12 @@ pub fn graph(file: &[u8], schedule: &[u8], out: &mut [u8]) -> Answer {
     })
 }
 
+/// How many different graphs are alike to that of this full schedule, listed or not, itself counted.
+pub fn class(file: &[u8], schedule: &[u8]) -> Answer {
+    // safe: the call only reads, and only the bytes of the two slices
+    Answer::of_word(unsafe { raw::tarczolin_class(file.as_ptr(), file.len(), schedule.as_ptr(), schedule.len()) })
+}
+
 /// Is this graph consistent? Then the least schedule that makes it, in front of the output.
 pub fn judge(file: &[u8], graph: &[u8], out: &mut [u8]) -> Answer {
     // safe: the call reads only the bytes of the first two slices and writes only bytes of the third

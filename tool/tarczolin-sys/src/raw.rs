@@ -10,6 +10,7 @@ extern "C" {
         out: *mut u8,
         out_len: usize,
     ) -> u64;
+    pub fn tarczolin_class(file: *const u8, file_len: usize, schedule: *const u8, schedule_len: usize) -> u64;
     pub fn tarczolin_judge(
         file: *const u8,
         file_len: usize,

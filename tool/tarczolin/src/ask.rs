@@ -129,6 +129,11 @@ pub fn graph(file: &[u8], schedule: &[u8]) -> Result<Vec<u8>, Refusal> {
     Ok(out)
 }
 
+/// How many executions a full schedule stands for: the different graphs alike to its own, itself counted.
+pub fn class(file: &[u8], schedule: &[u8]) -> Result<u64, Refusal> {
+    length(library::class(file, schedule)).map(|size| size.unwrap_or(0) as u64)
+}
+
 /// The least schedule that makes this graph, or no.
 pub fn judge(file: &[u8], graph: &[u8]) -> Result<Option<Schedule>, Refusal> {
     schedule(|out| library::judge(file, graph, out))

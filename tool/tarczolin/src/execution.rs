@@ -29,6 +29,8 @@ pub struct Execution<'a> {
     pub steps: Vec<Step>,
     pub graph: Graph,
     pub fails: bool,
+    /// So many executions are alike to it, itself counted: the different graphs of its class.
+    pub executions: u64,
     /// The values at the end: of the locations, and of each thread's registers.
     pub memory: [u32; 8],
     pub registers: Vec<[u32; 4]>,
@@ -46,6 +48,7 @@ impl<'a> Execution<'a> {
     /// Any full schedule. The values are replayed; the sources are those of the library's graph, and the replay must fit them.
     pub fn replayed(file: &[u8], program: &'a Program, schedule: &[u8]) -> Result<Execution<'a>, Refusal> {
         let graph = Graph::of_text(&ask::graph(file, schedule)?);
+        let executions = ask::class(file, schedule)?;
         let mut machine = Machine::new(program);
         let at_once = program.numbers().filter_map(|t| Some((t, machine.failure(t)?))).collect();
         let mut left: BTreeMap<Event, Done> = BTreeMap::new();
@@ -63,7 +66,13 @@ impl<'a> Execution<'a> {
         }
         let (memory, registers) = machine.values();
         let (schedule, fails) = (schedule.iter().copied().collect(), machine.fails());
-        Ok(Execution { program, position: None, schedule, at_once, steps, graph, fails, memory, registers })
+        Ok(Execution { program, position: None, schedule, at_once, steps, graph, fails, executions, memory, registers })
+    }
+
+    /// How many executions it stands for, for the eye; nothing where no threads are declared alike.
+    pub fn standing(&self) -> Option<String> {
+        let word = if self.executions == 1 { "execution" } else { "executions" };
+        (!self.program.alike.is_empty()).then(|| format!("stands for {} {word}", self.executions))
     }
 
     /// What it is called on a page: its place in the list, or its schedule.

@@ -11,13 +11,14 @@ pub enum By {
     Thread,
 }
 
-/// The header: the place in the list, the schedule, and whether it fails.
+/// The header: the place in the list, the schedule, whether it fails, and how many executions it stands for.
 pub fn header(execution: &Execution) -> String {
     let verdict = if execution.fails { "fails" } else { "does not fail" };
     let steps = execution.schedule.iter().map(|t| format!("{t:02x}")).collect::<Vec<_>>().join(" ");
     let schedule = if steps.is_empty() { "(no step)" } else { &steps };
     let position = execution.position.map_or("execution".to_string(), |position| format!("execution {position}"));
-    format!("{position}: schedule {schedule}, {verdict}")
+    let standing = execution.standing().map_or(String::new(), |standing| format!(", {standing}"));
+    format!("{position}: schedule {schedule}, {verdict}{standing}")
 }
 
 /// The header, a line a step, and the end. `#2` in front of a line is the number of that access in its thread. The right

@@ -25,7 +25,7 @@ fn by_schedule() {
 #[test]
 fn by_thread() {
     let shown = "\
-execution: schedule 00 00 01 02 02 02 01, fails
+execution: schedule 00 00 01 02 02 02 01, fails, stands for 2 executions
 #0   first     fetch_add tail 1 -> mine = 1, tail = 2  initial
 #1   first     store slot1 = 7
 #0   second    fetch_add tail 1 -> mine = 2, tail = 3  first fetch_add #0

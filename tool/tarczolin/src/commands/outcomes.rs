@@ -1,9 +1,9 @@
-//! outcomes: each different end of the listed executions, how many end so, and the first that does.
+//! outcomes: each different end of the listed executions, how many end so, how many executions these stand for, and the first.
 use super::arguments::Arguments;
 use super::piece::{self, Found, Piece};
 use super::record;
 use super::reply::{each, Question};
-use crate::ask::Listed;
+use crate::ask::{self, Listed};
 use crate::end::End;
 use crate::error::Error;
 use crate::execution::Execution;
@@ -21,10 +21,11 @@ pub fn run(arguments: &Arguments) -> Result<End, Error> {
     each("outcomes", arguments, |question| outcomes(question, &piece, arguments.option("--where")))
 }
 
-/// Executions that end alike: so many, and the first of them.
+/// Executions that end alike: so many, how many executions they stand for, and the first of them.
 struct Outcome {
     end: Final,
     listed: u64,
+    executions: u64,
     first: Schedule,
 }
 
@@ -32,18 +33,23 @@ struct Outcome {
 #[derive(Default)]
 struct Outcomes {
     all: Vec<Outcome>,
+    /// What all of them stand for.
+    executions: u64,
     places: BTreeMap<Final, usize>,
 }
 
 impl Outcomes {
-    fn add(&mut self, program: &Program, listed: &Listed) {
-        let end = Final::of(program, &listed.schedule);
+    fn add(&mut self, list: &List, listed: &Listed) {
+        let end = Final::of(&list.program, &listed.schedule);
+        let executions = ask::class(list.file, &listed.schedule).expect("a listed schedule of an accepted file is full");
         let next = self.all.len();
         let place = *self.places.entry(end.clone()).or_insert(next);
         if place == next {
-            self.all.push(Outcome { end, listed: 0, first: listed.schedule });
+            self.all.push(Outcome { end, listed: 0, executions: 0, first: listed.schedule });
         }
         self.all[place].listed += 1;
+        self.all[place].executions += executions;
+        self.executions += executions;
     }
 
     /// Those for which a condition holds, as they are or with alike threads exchanged: then by the first exchange that does.
@@ -67,10 +73,11 @@ fn outcomes(question: &Question, piece: &Piece, condition: Option<&str>) -> Resu
     let condition = condition.map_err(|message| Error::Condition { name: source.name.clone(), message })?;
     let mut all = Outcomes::default();
     let found = piece::walk(&list, piece.jobs, |part| {
-        part.listed.iter().for_each(|listed| all.add(&list.program, listed));
+        part.listed.iter().for_each(|listed| all.add(&list, listed));
         Ok(())
     });
     piece::tell_cut(&found);
+    let executions = all.executions;
     let chosen = match &condition {
         None => all.all.into_iter().map(|outcome| (outcome, false)).collect(),
         Some(condition) => all.matching(&list.program, condition),
@@ -80,7 +87,8 @@ fn outcomes(question: &Question, piece: &Piece, condition: Option<&str>) -> Resu
     for (number, (outcome, exchanged)) in (1u64..).zip(&chosen) {
         text += &told(question, &list, number, outcome, *exchanged);
     }
-    text += &last_line(question, &found, chosen.len() as u64, condition.is_some().then_some(matched));
+    let matching = condition.is_some().then_some(matched);
+    text += &last_line(question, &list, &found, chosen.len() as u64, executions, matching);
     let bad = if condition.is_some() { matched } else { found.counts.failing };
     output::answer(text, if found.cut { End::of_cut(bad) } else { End::of_failing(bad) })
 }
@@ -88,7 +96,7 @@ fn outcomes(question: &Question, piece: &Piece, condition: Option<&str>) -> Resu
 /// One outcome.
 fn told(question: &Question, list: &List, number: u64, outcome: &Outcome, exchanged: bool) -> String {
     let execution = Execution::replayed(list.file, &list.program, &outcome.first).expect("a full schedule");
-    let Outcome { end, listed, first } = outcome;
+    let Outcome { end, listed, executions, first } = outcome;
     let failures = end.failed.iter().enumerate().filter_map(|(t, failed)| Some((t as u8, (*failed)?)));
     let failures: Vec<String> = failures
         .map(|(t, failed)| {
@@ -101,6 +109,7 @@ fn told(question: &Question, list: &List, number: u64, outcome: &Outcome, exchan
         return question.object([
             ("outcome", number.into()),
             ("listed", (*listed).into()),
+            ("executions", (*executions).into()),
             ("schedule", first.to_string().into()),
             ("exchanged", exchanged.into()),
             ("fails", end.fails().into()),
@@ -112,21 +121,32 @@ fn told(question: &Question, list: &List, number: u64, outcome: &Outcome, exchan
     let by = if exchanged { ", with alike threads exchanged" } else { "" };
     let failed: String = failures.iter().map(|failure| format!("fails      {failure}\n")).collect();
     let first = if first.is_empty() { "(no step)".to_string() } else { first.to_string() };
-    format!("outcome {number}: {listed} listed, first {first}{by}\n{}{failed}\n", end_lines(&execution))
+    let in_all = in_all(list, *executions);
+    format!("outcome {number}: {listed} listed{in_all}, first {first}{by}\n{}{failed}\n", end_lines(&execution))
 }
 
-fn last_line(question: &Question, found: &Found, outcomes: u64, matched: Option<u64>) -> String {
+/// How many executions these stand for, where threads are declared alike; else each stands for itself.
+fn in_all(list: &List, executions: u64) -> String {
+    match list.program.alike.is_empty() {
+        true => String::new(),
+        false => format!(", {executions} in all"),
+    }
+}
+
+fn last_line(question: &Question, list: &List, found: &Found, outcomes: u64, executions: u64, matched: Option<u64>) -> String {
     let counts = found.counts;
     if question.json {
         return question.object([
             ("outcomes", outcomes.into()),
             ("listed", counts.listed.into()),
             ("failing", counts.failing.into()),
+            ("executions", executions.into()),
             ("matching", matched.into()),
             ("interrupted", found.cut.into()),
         ]);
     }
     let matching = matched.map_or(String::new(), |matched| format!(", {matched} matching"));
     let word = if outcomes == 1 { "outcome" } else { "outcomes" };
-    format!("{outcomes} {word}, {} listed, {} failing{matching}\n", counts.listed, counts.failing)
+    let in_all = in_all(list, executions);
+    format!("{outcomes} {word}, {} listed, {} failing{in_all}{matching}\n", counts.listed, counts.failing)
 }

@@ -44,13 +44,14 @@ pub fn values(execution: &Execution) -> [(&'static str, Json); 2] {
 }
 
 /// The fields of an execution.
-pub fn execution(execution: &Execution) -> [(&'static str, Json); 7] {
+pub fn execution(execution: &Execution) -> [(&'static str, Json); 8] {
     let [memory, registers] = values(execution);
     let at_once = execution.at_once.iter().map(|(t, failed)| execution.failure(*t, failed));
     [
         ("position", execution.position.into()),
         ("schedule", execution.schedule.to_string().into()),
         ("fails", execution.fails.into()),
+        ("executions", execution.executions.into()),
         ("steps", list(execution.steps.iter().map(|one| step(execution, one)))),
         ("failed_at_once", list(at_once)),
         memory,

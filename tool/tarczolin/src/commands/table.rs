@@ -1,5 +1,6 @@
 //! The commands, each with its words, its options and an example.
 use super::command::Command;
+use super::count::CLASSES;
 use super::opt::Opt;
 use super::piece::{AFTER, JOBS_OPTION, UNTIL};
 use super::reply::JSON;
@@ -34,7 +35,7 @@ pub const COMMANDS: [Command; 14] = [
         name: "count",
         words: "FILE..",
         about: "how many schedules are listed, and how many of these fail",
-        options: &[JOBS_OPTION, AFTER, UNTIL, JSON],
+        options: &[CLASSES, JOBS_OPTION, AFTER, UNTIL, JSON],
         example: "tarczolin count examples/*.hex",
         run: count::run,
     },

@@ -34,8 +34,8 @@ fn violation(question: &Question, piece: &Piece, show: bool) -> Result<End, Erro
         return question.answer(&schedule.to_string(), [field], End::Violation);
     }
     let execution = Execution::replayed(&source.file, &list.program, &schedule).expect("a listed schedule is full");
-    let [position, _, fails, steps, at_once, memory, registers] = record::execution(&execution);
-    let fields = [field, position, fails, steps, at_once, memory, registers];
+    let [position, _, fails, executions, steps, at_once, memory, registers] = record::execution(&execution);
+    let fields = [field, position, fails, executions, steps, at_once, memory, registers];
     question.answer_text(columns(&execution, By::Time), fields, End::Violation)
 }
 

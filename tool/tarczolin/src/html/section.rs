@@ -12,10 +12,11 @@ pub fn section(execution: &Execution) -> String {
     let title = if execution.position.is_some() { format!("Execution {name}") } else { "Execution".to_string() };
     let steps: Vec<String> = execution.schedule.iter().map(|t| format!("<span class=\"t{t}\">{t:02x}</span>")).collect();
     let schedule = if steps.is_empty() { "no step".to_string() } else { steps.join(" ") };
+    let standing = execution.standing().map_or(String::new(), |standing| format!(", {standing}"));
     let rows = rows(execution);
     format!(
         "<section id=\"e{name}\" class=\"{class}\">\n<h2>{title} <span class=\"verdict\">{verdict}</span> \
-         <span class=\"schedule\">schedule {schedule}</span></h2>\n<div class=\"both\" style=\"--print:{:.2}\">\n{}{}</div>\n{}</section>\n",
+         <span class=\"schedule\">schedule {schedule}{standing}</span></h2>\n<div class=\"both\" style=\"--print:{:.2}\">\n{}{}</div>\n{}</section>\n",
         on_paper(rows.len()),
         table(execution, &rows),
         drawing::svg(execution, &rows),

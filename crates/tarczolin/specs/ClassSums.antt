@@ -1,0 +1,22 @@
+-- What the class call and the count call say together, under sequential consistency: the sizes of the classes over the whole list sum to
+-- what count says of the same file with its `02` lines taken out, and those of the classes that fail to its second number. No number is
+-- lost: both fit 64 bits.
+use Prim.Native.Nat.{ℕ, _^_, _<_}
+use mathlib.Core.Path.{_≡_}
+use mathlib.Core.List.{List}
+use Rattle.program.specs.Program.{Program}
+use Rattle.program.specs.Ungrouped.{withoutAlike}
+use Rattle.schedules.specs.Lists.{filter}
+use Rattle.model.specs.ClassSize.{total, classSize}
+use Rattle.sc_model.specs.Sequential.{sc}
+use Rattle.list.specs.ListOf.{listOf}
+use Rattle.list.specs.Answers.{failing}
+use Rattle.listing.specs.OnFile.{counted, countFile}
+
+-- of a file that is read as p
+pub record ClassSums (file : List ℕ) (p : Program) : Type 0 where
+  pub sums : countFile (withoutAlike file) ≡ counted (record {
+    listed = total (classSize sc p) (listOf p);
+    failed = total (classSize sc p) (filter (failing p) (listOf p));
+  })
+  pub fits : total (classSize sc p) (listOf p) < 2 ^ 63
