@@ -1,0 +1,10 @@
+pub mod Steps
+pub mod Bytes
+pub mod Lawful
+pub mod Queues
+pub mod Stays
+pub mod Depends
+pub mod SameStep
+pub mod Swap
+pub mod OwnSwap
+pub mod Orders
