@@ -74,6 +74,14 @@ named b h = go (byte-case b)
     go (of-access i k o) = Memᴰ·append-left (range 16 6) (in-range 0 6 b (omega arith) (omega arith))
     go (of-move i k o) = Memᴰ·append-right (range 0 6) (in-range 16 6 b (omega arith) (omega arith))
 
+-- below 22
+pub enabled-below : (σ : State) (b : ℕ) → enabled σ b ≡ true → b < 22
+enabled-below σ b m = go (byte-case b)
+  where
+    go : ByteCase b → b < 22
+    go (of-access h k o) = omega arith
+    go (of-move h k o) = omega (arith, o, enabled-small σ b m)
+
 pub lawful : Lawful TSO
 lawful = record { named = λ σ b m. named b (enabled-small σ b m); falls = falls }
 

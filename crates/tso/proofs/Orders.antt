@@ -22,9 +22,10 @@ use Rattle.tso.proofs.Lawful.{lawful, names-ascend}
 use Rattle.tso.proofs.Swap.{does, Swaps, able-other, does-other, swap-two}
 use Rattle.tso.proofs.OwnSwap.{swap-access, swap-move}
 
-by : (σ : State) (b : ℕ) → who (action σ b) ≡ b
+-- an action notes its byte
+pub action-who : (σ : State) (b : ℕ) → who (action σ b) ≡ b
 unfolding who action actionOf
-by σ b = refl
+action-who σ b = refl
 
 act-does : (σ : State) (b : ℕ) → action σ b ≡ does σ b (kindOf b) (owner b)
 unfolding action
@@ -64,12 +65,12 @@ Reorders ds s = OrderOf who dependent (TSO .names) ds s
 -- the first step of b, if it depends on nothing before it, can be taken first
 pub pulled : (w : Schedule) (σ : State) (b : ℕ) (d : Action) → FullFrom TSO σ w → nextOf who dependent (actions σ w) b ≡ some d → clear who dependent (actions σ w) b d ≡ true →
     (r : Schedule) × FullFrom TSO σ (b ∷ r) × (run TSO σ (b ∷ r) ≡ run TSO σ w) × (actions (step σ b) r ≡ takeOut who dependent (actions σ w) b) × (action σ b ≡ d)
-pulled = Orders.pulled TSO lawful names-ascend who dependent action by swap
+pulled = Orders.pulled TSO lawful names-ascend who dependent action action-who swap
 
 -- (A) every order of a full schedule's steps that keeps dependent ones in order is full and ends in the same state
 pub reorders-full : (v w : Schedule) (σ : State) → FullFrom TSO σ w → Reorders (actions σ w) v → FullFrom TSO σ v × (run TSO σ v ≡ run TSO σ w)
-reorders-full = Orders.order-full TSO lawful names-ascend who dependent action by swap
+reorders-full = Orders.order-full TSO lawful names-ascend who dependent action action-who swap
 
 pub least-order : (σ : State) (w : Schedule) → FullFrom TSO σ w →
     FullFrom TSO σ (leastOf (actions σ w)) × (run TSO σ (leastOf (actions σ w)) ≡ run TSO σ w) × ((r : Schedule) → Reorders (actions σ w) r → AtMost (leastOf (actions σ w)) r)
-least-order = Orders.order-least TSO lawful names-ascend who dependent action by swap
+least-order = Orders.order-least TSO lawful names-ascend who dependent action action-who swap

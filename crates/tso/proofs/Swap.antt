@@ -13,6 +13,7 @@ use lib.Seq.{set-comm}
 use Rattle.sc.specs.Local.{pending}
 use Rattle.sc.specs.State.{Event, initialWrite, Cell, latest, written}
 use Rattle.sc.specs.Actions.{given}
+use Rattle.sc.proofs.Regular.{latest-of}
 use Rattle.tso.specs.State.{Thread, State, threadOf, cellOf, numberOf, threadBehind, reaches, cellBehind, place, stepOf, able, Kind, access, move}
 use Rattle.tso.specs.Actions.{Action, beforeIf, actionOf, dependent}
 use Rattle.tso.proofs.Steps.{able-pending, thread-other, place-other, cell-own, cell-other, cell-out, putting, still, still-cell, stepOf-cells}
@@ -107,12 +108,6 @@ pub act-event : (b : ℕ) (k : Kind) (t : ℕ) (h : Thread) (c : Cell) → actio
 unfolding actionOf
 act-event b k t h c = refl
 
-pub latest-of : (ws : List Event) → (latest ws ≡ initialWrite) ⊎ List·Memᴰ (latest ws) ws
-unfolding latest
-latest-of [] = inl refl
-latest-of (e ∷ ws) = inr (List·Memᴰ·head refl)
-
--- the cell behind a put has it as its latest write
 left-latest : (k : Kind) (t : ℕ) (h : Thread) (c : Cell) (v : ℕ) → reaches k t h c ≡ some v → latest (cellBehind k t h c .writes) ≡ (t, numberOf k h)
 unfolding cellBehind written latest
 left-latest k t h c v q = rw q

@@ -1,0 +1,4 @@
+-- the laws of a memory model
+pub mod Laws
+-- what 41 turns away, and DEMAND 3
+pub mod Demand3
