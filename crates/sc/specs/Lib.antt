@@ -19,5 +19,8 @@ pub mod Ahead
 pub mod GraphCall
 -- exchanging threads: permitted permutations, and states and graphs turned into others
 pub mod Exchange
+-- events, reads and lists compared; whether a graph is another with its threads exchanged
+pub mod Same
+pub mod Renamed
 -- the steps of an exchanged run
 pub mod ExchangedActions

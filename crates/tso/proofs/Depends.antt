@@ -10,8 +10,8 @@ use Rattle.schedules.specs.Lists.{any}
 use Rattle.schedules.proofs.Lists.{any-of, any-yes}
 use Rattle.model.proofs.Permitted.{or-left, or-right}
 use Rattle.sc.specs.State.{Event, initialWrite}
-use Rattle.consistent.specs.Same.{sameEvent}
-use Rattle.consistent.proofs.Tests.{both-and, same-event-is, is-same-event}
+use Rattle.sc.specs.Same.{sameEvent}
+use Rattle.sc.proofs.Same.{both-and, same-event-is, is-same-event}
 use Rattle.tso.specs.Actions.{Action, makes, empties, putsFirst, readsFirst, dependent}
 
 pub data Because (e d : Action) : Type 0 where

@@ -17,7 +17,7 @@ use Rattle.sc.specs.Exchange.{Permutation, movedEvent, movedWrites, movedCell}
 use Rattle.sc.proofs.Exchange.{injective}
 use Rattle.tso.specs.Queue.{Found}
 use Rattle.tso.specs.State.{Thread, State, threadOf, cellOf, finds, target, numberOf, reaches, place, kindOf, owner, step, TSO, Kind, access, move}
-use Rattle.consistent.specs.Same.{sameEvent}
+use Rattle.sc.specs.Same.{sameEvent}
 use Rattle.tso.specs.Actions.{Action, moving, reading, locking, sourceIf, beforeIf, actionOf, action, actions, makes, empties, putsFirst, readsFirst, dependent}
 use Rattle.tso.specs.Exchange.{movedByte, movedThread, movedAction, Moves}
 use Rattle.tso.proofs.Exchange.{finds-moved, reaches-moved, number-moved, target-moved, moved-kind, moved-owner, moves-here, moves-step}

@@ -1,3 +1,5 @@
+-- the definitions computed
+pub mod Examples
 pub mod Steps
 pub mod Bytes
 pub mod Lawful

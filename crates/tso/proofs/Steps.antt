@@ -15,7 +15,7 @@ use Rattle.sc.specs.Local.{beginsWithAccess, pending}
 use Rattle.sc.specs.State.{Event, Cell, written}
 use Rattle.sc.specs.State as SC
 use Rattle.sc.proofs.Change.{written-none}
-use Rattle.consistent.proofs.Tests.{both-and}
+use Rattle.sc.proofs.Same.{both-and}
 use Rattle.tso.specs.Queue.{movable, free}
 use Rattle.tso.proofs.Bytes.{kind-for, owner-for}
 use Rattle.tso.specs.State.{Thread, State, idle, noThread, threadOf, cellOf, locked, target, numberOf, threadBehind, reaches, cellBehind, place, stepOf, able, kindOf, ownerBy, owner, byteFor, step, enabled, Kind, access, move}

@@ -14,8 +14,8 @@ use Rattle.sc.specs.Local.{placeOf, puts}
 use Rattle.sc.specs.State.{Event, initialWrite, Cell, latest}
 use Rattle.tso.specs.Queue.{Entry, newest, foundIn, queued, atOnce, newer, oldestNumber, oldestPlace, oldestValue}
 use Rattle.tso.specs.State.{State, threadOf, cellOf, locked, finds, target, numberOf, threadBehind, reaches, place, stepOf, able, Kind, access, move}
-use Rattle.consistent.specs.Same.{sameEvent}
-use Rattle.consistent.proofs.Tests.{same-event-is, is-same-event}
+use Rattle.sc.specs.Same.{sameEvent}
+use Rattle.sc.proofs.Same.{same-event-is, is-same-event}
 use Rattle.sc.proofs.Regular.{latest-of}
 use Rattle.tso.proofs.Bytes.{move≢access}
 use Rattle.tso.proofs.Steps.{able-range, putting}

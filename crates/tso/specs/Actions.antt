@@ -10,7 +10,7 @@ use Rattle.schedules.specs.Orders.{trace, leastOrder}
 use Rattle.sc.specs.Local.{takes}
 use Rattle.sc.specs.State.{Event, initialWrite, Cell}
 use Rattle.sc.specs.Actions.{given}
-use Rattle.consistent.specs.Same.{sameEvent}
+use Rattle.sc.specs.Same.{sameEvent}
 use Rattle.tso.specs.Queue.{Found}
 use Rattle.tso.specs.State.{Thread, State, Kind, access, move, threadOf, cellOf, locked, finds, target, numberOf, reaches, place, kindOf, owner, TSO}
 

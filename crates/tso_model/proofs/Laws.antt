@@ -17,7 +17,7 @@ use Rattle.model.specs.Exchange.{Permutation, Exchange}
 use Rattle.model.specs.Laws.{StepLaws, ExchangeLaws, ProgramLaws, Laws}
 use Rattle.model.proofs.Exchanges.{exchange-back}
 use Rattle.sc.proofs.Turning.{renames-none, renames-back, renames-both, renamed-once}
-use Rattle.sc_model.proofs.Turned.{renames-true, true-renames}
+use Rattle.sc.proofs.Renamed.{renames-true, true-renames}
 use Rattle.tso.specs.State.{State, TSO, start}
 use Rattle.tso.specs.Graph.{graph}
 use Rattle.tso.specs.Exchange.{Moves}

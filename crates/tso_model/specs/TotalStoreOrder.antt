@@ -9,7 +9,7 @@ use Rattle.program.specs.WellFormed.{allAccesses}
 use Rattle.model.specs.Model.{Model}
 use Rattle.sc.specs.Graph.{Graph}
 use Rattle.sc.specs.Exchange.{Renames}
-use Rattle.sc_model.specs.Turned.{renames}
+use Rattle.sc.specs.Renamed.{renames}
 use Rattle.tso.specs.State.{TSO, start, fails, memoryOf}
 use Rattle.tso.specs.Graph.{graphOf}
 use Rattle.tso.specs.Actions.{Action, action, who, dependent}
