@@ -22,5 +22,7 @@ pub mod Exchange
 -- events, reads and lists compared; whether a graph is another with its threads exchanged
 pub mod Same
 pub mod Renamed
+-- where a thread stands, as tests
+pub mod Standing
 -- the steps of an exchanged run
 pub mod ExchangedActions
