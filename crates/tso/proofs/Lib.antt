@@ -28,3 +28,5 @@ pub mod SameGraph
 pub mod Sequential
 pub mod Permitted
 pub mod Failing
+pub mod Sourced
+pub mod Rests

@@ -67,7 +67,7 @@ at-most-16 p e = go (ltb 16 (allAccesses (p .threads))) refl
 
 module _ (p : Program) (w : WellFormed p) where
   -- threads that exist move to threads that exist
-  within : (π : ℕ → ℕ) → Exchange p π → (t : ℕ) → t < length (p .threads) → π t < length (p .threads)
+  pub within : (π : ℕ → ℕ) → Exchange p π → (t : ℕ) → t < length (p .threads) → π t < length (p .threads)
   within π x t h = let a = start-threads p in let b = moves-start p w π (x .1) .within t (omega arith) in omega arith
 
   -- so rows of reads move to rows of reads

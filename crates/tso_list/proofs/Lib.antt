@@ -1,0 +1,2 @@
+-- R2 is sound
+pub mod Twins
