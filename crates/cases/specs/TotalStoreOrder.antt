@@ -2,7 +2,6 @@
 use mathlib.Core.Path.{_≡_, refl}
 use Rattle.model.specs.Answers.{countOf}
 use Rattle.model.specs.OnFile.{unless, admit, counted, countOn, countFile}
-use Rattle.model.specs.Model.{failing}
 use Rattle.program.specs.WellFormed.{allAccesses}
 use Rattle.sc.specs.Text.{textOf}
 use Rattle.tso_model.specs.TotalStoreOrder.{tso}

@@ -1,18 +1,13 @@
 -- Exchanging two threads of one `02` line, and when that leaves a state as it is: they stand alike, and neither has written.
-use Prim.Native.Nat.{ℕ, _<_, _≤_}
-use mathlib.Core.Path.{_≡_, refl, sym, subst}
-use mathlib.Core.Logic.{_≢_, _⊎_, inl, inr}
-use mathlib.Core.Bool.{true, false}
-use mathlib.Core.List.{List·Memᴰ}
+use Prim.Native.Nat.{ℕ, _<_}
+use mathlib.Core.Path.{_≡_, refl, sym}
+use mathlib.Core.Logic.{_≢_}
 use native.Mathlib.Omega.{arith}
-use native.Mathlib.Decide.{ℕ-discrete}
-use lib.Dec.{eqb}
 use lib.ListN.{length}
-use borrow.Author.Tests.{eq-eqb, ne-eqb}
 use Rattle.program.specs.Program.{Program}
 use Rattle.program.specs.WellFormed.{WellFormed}
-use Rattle.sc.specs.State.{Event, Cell, State, threadOf}
-use Rattle.sc.specs.Exchange.{Permutation, Moves}
+use Rattle.sc.specs.State.{State, threadOf}
+use Rattle.sc.specs.Exchange.{Moves}
 use Rattle.sc.proofs.Regular.{Regular}
 use Rattle.sc.proofs.FixedState.{fixed-state}
 unfoldable pub use Rattle.model.proofs.Swapped.{swapped}

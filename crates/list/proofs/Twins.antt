@@ -1,30 +1,25 @@
 -- R2 is sound: where a smaller twin u stands as t stands, exchanging the two leaves the state as it is, so that every full schedule that takes t
 -- now has an exchanged one that takes u.
 use Prim.Native.Nat.{ℕ, _<_}
-use mathlib.Core.Path.{_≡_, refl, sym, ap, ap₂, subst, _∙_}
+use mathlib.Core.Path.{_≡_, sym, ap, ap₂, subst, _∙_}
 use mathlib.Core.Logic.{_≢_}
-use mathlib.Core.Bool.{Bool, true, false, not, false≢true}
+use mathlib.Core.Bool.{true}
 use mathlib.Core.List.{List, _∷_, _++_}
 use native.Mathlib.Omega.{arith}
 use lib.Dec.{eqb}
-use lib.ListN.{length}
-use borrow.Author.Tests.{eqb-true, eq-eqb}
+use borrow.Author.Tests.{eqb-true}
 use Rattle.program.specs.Program.{Program, codeOf}
-use Rattle.program.specs.WellFormed.{WellFormed, Group}
-use Rattle.program.specs.declared.instruction.Instruction.{Instruction}
+use Rattle.program.specs.WellFormed.{WellFormed}
 use Rattle.program.proofs.Tests.{both}
-use Rattle.schedules.specs.Lists.{all}
 use Rattle.schedules.specs.Order.{Schedule, less}
 use Rattle.schedules.specs.System.{run, Allowed}
-use Rattle.schedules.proofs.Lists.{all-at}
 use Rattle.schedules.proofs.Order.{less-heads, less-behind}
 use Rattle.schedules.proofs.Runs.{run-append, full-split, full-join}
 use Rattle.sc.specs.Local.{Local}
-use Rattle.sc.specs.State.{Event, History, Thread, Cell, State, threadOf, start, SC}
+use Rattle.sc.specs.State.{Event, History, Thread, State, threadOf, start, SC}
 use Rattle.sc.specs.Graph.{endOf, Full}
 use Rattle.sc.specs.Exchange.{movedSchedule, Moves}
 use Rattle.sc.proofs.Suffix.{Suffix, suffix-equal}
-use Rattle.program.proofs.Everywhere.{everywhere-at}
 use Rattle.sc.proofs.Steps.{run-threads}
 use Rattle.sc.proofs.Start.{start-threads}
 use Rattle.sc.proofs.Regular.{regular-start, regular-run}
@@ -32,11 +27,11 @@ use Rattle.sc.proofs.Histories.{rest-code}
 use Rattle.sc.proofs.Exchange.{moves-full}
 use Rattle.sc.proofs.ExchangedActions.{moved-cons}
 use Rattle.sc.proofs.ProgramGraphs.{graph-moved-end}
-use Rattle.consistent.specs.Same.{sameRead, sameList}
+use Rattle.consistent.specs.Same.{sameRead}
 use Rattle.consistent.proofs.Tests.{same-read-is, same-list-is}
 use Rattle.list.specs.Alike.{Smaller}
 use Rattle.list.specs.ListOf.{together}
-use Rattle.list.specs.Rules.{sameFlag, sameLocal, sameHistory, silent, twin}
+use Rattle.list.specs.Rules.{sameLocal, sameHistory, silent, twin}
 use Rattle.model.specs.Exchange.{Together}
 use Rattle.list.proofs.Equivalence.{alike-sym}
 use Rattle.list.proofs.Tests.{together-true}
@@ -44,7 +39,7 @@ use Rattle.list.proofs.Tests.{together-true}
 pub use Rattle.model.proofs.Exchanges.{members}
 pub use Rattle.sc.proofs.Standing.{silent-true}
 use Rattle.sc.proofs.Standing.{same-local}
-use Rattle.list.proofs.Swapped.{swapped, swapped-high, swapped-exchange, Silent, swapped-state}
+use Rattle.list.proofs.Swapped.{swapped, swapped-high, swapped-exchange, swapped-state}
 
 same-history : (h k : History) → sameHistory h k ≡ true → h ≡ k
 unfolding sameHistory

@@ -1,8 +1,8 @@
 -- Bytes: the kind and the thread of a byte, and the byte for them.
 use Prim.Native.Nat.{ℕ, _+_, _-_, _<_, _≤_}
-use mathlib.Core.Path.{_≡_, refl, sym, ap, ap₂, subst, _∙_}
+use mathlib.Core.Path.{_≡_, sym, ap, ap₂, _∙_}
 use mathlib.Core.Logic.{_≢_}
-use mathlib.Core.Bool.{Bool, true, false, true≢false}
+use mathlib.Core.Bool.{true≢false}
 use native.Mathlib.Omega.{arith}
 use native.Mathlib.Decide.{decLt}
 use borrow.Author.Tests.{lt-ltb, le-ltb}
@@ -86,7 +86,3 @@ owner-access b e = go (byte-case b)
     go : ByteCase b → (owner b ≡ b) × (b < 16)
     go (of-access h k o) = (o, h)
     go (of-move h k o) = absurd (access≢move (sym e ∙ k))
-
-pub byte-access : (t : ℕ) → byteFor access t ≡ t
-unfolding byteFor
-byte-access t = refl

@@ -3,17 +3,17 @@
 use Prim.Native.Nat.{ℕ, _<_}
 use mathlib.Core.Path.{_≡_, refl, sym, ap, ap₂, subst, _∙_}
 use mathlib.Core.Logic.{_≢_, inl, inr}
-use mathlib.Core.Bool.{Bool, true, false, false≢true}
+use mathlib.Core.Bool.{Bool, true, false}
 use mathlib.Core.Option.{some}
-use mathlib.Core.List.{List, [], _∷_, _++_, append-assoc, append-nil, List·Memᴰ, List·Memᴰ·head, Memᴰ·append-right}
+use mathlib.Core.List.{[], _∷_, _++_, append-assoc, append-nil, List·Memᴰ, List·Memᴰ·head, Memᴰ·append-right}
 use native.Mathlib.Omega.{arith}
 use native.Mathlib.Decide.{ℕ-discrete}
-use lib.ListN.{length, getD}
+use lib.ListN.{length}
 use Rattle.schedules.specs.Order.{Schedule}
 use Rattle.schedules.specs.System.{run, Allowed, FullFrom}
 use Rattle.schedules.proofs.Runs.{run-append, run-snoc, full-split, full-allowed}
 use Rattle.sc.specs.Local.{pending, takes, puts}
-use Rattle.sc.specs.State.{Event, Cell, latest}
+use Rattle.sc.specs.State.{Event, Cell}
 use Rattle.sc.proofs.Determined.{latest-cons}
 use Rattle.tso.specs.Queue.{Entry, queued, atOnce}
 use Rattle.tso.specs.State.{Thread, State, threadOf, cellOf, locked, finds, target, numberOf, threadBehind, reaches, place, stepOf, able, kindOf, owner, step, enabled, TSO, Kind, access, move}

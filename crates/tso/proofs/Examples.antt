@@ -1,8 +1,7 @@
 -- The definitions computed: schedules of small programs, what they leave in memory and the frames of their graphs.
-use Prim.Native.Nat.{ℕ}
 use mathlib.Core.Path.{_≡_, refl}
-use mathlib.Core.Bool.{Bool, true, false}
-use mathlib.Core.List.{List, [], _∷_, _++_}
+use mathlib.Core.Bool.{true, false}
+use mathlib.Core.List.{[], _∷_}
 use Rattle.program.specs.Program.{Program}
 use Rattle.program.specs.WellFormed.{accesses}
 use Rattle.program.specs.declared.instruction.Operand.the-variants.{Constant}

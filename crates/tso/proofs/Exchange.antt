@@ -1,25 +1,23 @@
 -- T2, the exchange law, from any state: where one state is another with its threads exchanged by π, a step of b in the one and of the exchanged byte in the
 -- other leave states so related.
-use Prim.Native.Nat.{ℕ, zero, suc, _-_, _<_}
+use Prim.Native.Nat.{ℕ, _-_, _<_}
 use mathlib.Core.Path.{_≡_, refl, sym, ap, ap₂, _∙_}
 use mathlib.Core.Bool.{Bool, true, false, _&&_}
 use mathlib.Core.Option.{Option, none, some}
-use mathlib.Core.List.{List, [], _∷_, map}
+use mathlib.Core.List.{List, map}
 use native.Mathlib.Omega.{arith}
 use native.Mathlib.Decide.{ℕ-discrete, decLt}
 use borrow.Author.Tests.{lt-ltb, le-ltb}
 use lib.Dec.{ltb}
-use lib.ListN.{length, getD, set, length-map, List·getD-map}
-use Rattle.schedules.specs.Order.{Schedule}
-use Rattle.schedules.specs.System.{run, ended, FullFrom}
+use lib.ListN.{length, getD, length-map, List·getD-map}
+use Rattle.schedules.specs.System.{ended}
 use Rattle.schedules.proofs.Runs.{ended-of, ended-none}
 use Rattle.sc.specs.Local.{placeOf, takes}
-use Rattle.sc.specs.State.{Event, initialWrite, History, Cell, freshCell, latest, noted, written}
-use Rattle.sc.specs.Graph.{writesOf}
-use Rattle.sc.specs.Exchange.{Permutation, movedEvent, movedRead, movedReads, movedWrites, movedCell, Renames}
-use Rattle.sc.proofs.Exchange.{injective, map-set, small, latest-moved, movedHistory, noted-moved, written-moved}
+use Rattle.sc.specs.State.{Event, History, Cell, freshCell, written}
+use Rattle.sc.specs.Exchange.{Permutation, movedEvent, movedWrites, movedCell}
+use Rattle.sc.proofs.Exchange.{injective, map-set, small, latest-moved, noted-moved, written-moved}
 use Rattle.tso.specs.Queue.{Entry, Found, newest, foundIn}
-use Rattle.tso.specs.State.{Thread, State, noThread, threadOf, cellOf, finds, target, numberOf, threadBehind, reaches, cellBehind, place, stepOf, able, kindOf, owner, byteFor, step, enabled, TSO, Kind, access, move}
+use Rattle.tso.specs.State.{Thread, State, threadOf, cellOf, finds, target, numberOf, threadBehind, reaches, cellBehind, place, stepOf, able, kindOf, owner, byteFor, step, enabled, TSO, Kind, access, move}
 use Rattle.tso.specs.Exchange.{movedByte, movedThread, Moves}
 use Rattle.tso.proofs.Steps.{enabled-able, enabled-for, able-range, thread-own, thread-other, stepOf-threads}
 use Rattle.tso.proofs.Bytes.{kind-for, owner-for, kind-move, owner-move, owner-access}

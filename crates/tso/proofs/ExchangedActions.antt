@@ -1,26 +1,17 @@
 -- An exchanged step does the exchanged action.
 use Prim.Native.Nat.{ℕ}
 use mathlib.Core.Path.{_≡_, refl, sym, ap, ap₂, _∙_}
-use mathlib.Core.Bool.{Bool, true, false, not, _&&_, _||_}
-use mathlib.Core.List.{List, [], _∷_, map}
+use mathlib.Core.Bool.{Bool, true, false}
+use mathlib.Core.List.{List}
 use native.Mathlib.Omega.{arith}
-use native.Mathlib.Decide.{ℕ-discrete}
-use borrow.Author.Tests.{eq-eqb, ne-eqb}
-use lib.Dec.{eqb}
-use Rattle.schedules.specs.Lists.{any}
-use Rattle.schedules.specs.Order.{Schedule}
-use Rattle.schedules.specs.System.{FullFrom}
-use Rattle.schedules.specs.Orders.{trace}
 use Rattle.sc.specs.State.{Event, initialWrite, Cell}
 use Rattle.sc.specs.Actions.{given}
 use Rattle.sc.specs.Exchange.{Permutation, movedEvent, movedWrites, movedCell}
-use Rattle.sc.proofs.Exchange.{injective}
 use Rattle.tso.specs.Queue.{Found}
-use Rattle.tso.specs.State.{Thread, State, threadOf, cellOf, finds, target, numberOf, reaches, place, kindOf, owner, step, TSO, Kind, access, move}
-use Rattle.sc.specs.Same.{sameEvent}
-use Rattle.tso.specs.Actions.{Action, moving, reading, locking, sourceIf, beforeIf, actionOf, action, actions, makes, empties, putsFirst, readsFirst, dependent}
+use Rattle.tso.specs.State.{Thread, State, threadOf, cellOf, finds, target, numberOf, reaches, place, kindOf, owner, Kind, access, move}
+use Rattle.tso.specs.Actions.{Action, moving, reading, locking, sourceIf, beforeIf, actionOf, action}
 use Rattle.tso.specs.Exchange.{movedByte, movedThread, movedAction, Moves}
-use Rattle.tso.proofs.Exchange.{finds-moved, reaches-moved, number-moved, target-moved, moved-kind, moved-owner, moves-here, moves-step}
+use Rattle.tso.proofs.Exchange.{finds-moved, reaches-moved, number-moved, target-moved, moved-kind, moved-owner, moves-here}
 
 module _ (π : ℕ → ℕ) (q : Permutation π) where
   initial-moved : movedEvent π initialWrite ≡ initialWrite

@@ -1,6 +1,6 @@
 -- A failed run stays failed: a failed assertion leaves its thread no code, so no access of it follows, and a move keeps local states.
 use Prim.Native.Nat.{ℕ}
-use mathlib.Core.Path.{_≡_, refl, sym, ap, subst, _∙_}
+use mathlib.Core.Path.{_≡_, sym, ap, subst, _∙_}
 use mathlib.Core.Bool.{true, true≢false}
 use lib.ListN.{length}
 use Rattle.program.specs.Program.{Program}

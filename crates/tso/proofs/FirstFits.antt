@@ -7,16 +7,15 @@ use mathlib.Core.Bool.{Bool, true, false, false≢true}
 use mathlib.Core.Option.{Option, none, some}
 use mathlib.Core.List.{List, [], _∷_, _++_, append-assoc, List·Memᴰ, List·Memᴰ·head, Memᴰ·append-left, Memᴰ·append-right}
 use native.Mathlib.Omega.{arith}
-use lib.ListN.{length, getD, List·getD-map}
+use lib.ListN.{length}
 use Rattle.schedules.specs.Order.{Schedule}
 use Rattle.schedules.specs.System.{run, Allowed, FullFrom}
 use Rattle.schedules.specs.Orders.{nextOf, clear}
 use Rattle.schedules.proofs.Runs.{run-append, run-cons, full-split, full-allowed}
 use Rattle.schedules.proofs.GreedyFull.{first-place}
 use Rattle.sc.specs.Local.{Local, placeOf, takes}
-use Rattle.sc.specs.State.{Event, initialWrite, History, Cell, freshCell, latest}
-use Rattle.sc.specs.Graph.{Graph, writesOf}
-use Rattle.sc.proofs.FirstFits.{Ends, ends-of, longer, nothing-between}
+use Rattle.sc.specs.State.{Event, initialWrite, History, Cell, latest}
+use Rattle.sc.proofs.FirstFits.{ends-of, longer, nothing-between}
 use Rattle.tso.specs.Queue.{Entry, newest, foundIn, atOnce, oldestNumber, oldestValue, movable, free}
 use Rattle.tso.specs.State.{Thread, State, threadOf, cellOf, locked, finds, target, numberOf, reaches, place, able, kindOf, owner, step, TSO, Kind, access, move}
 use Rattle.tso.specs.Graph.{graphOf}

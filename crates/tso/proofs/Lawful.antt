@@ -7,24 +7,23 @@ use mathlib.Core.Option.{Option, none, some}
 use mathlib.Core.List.{List, [], _∷_, map, List·Memᴰ, Memᴰ·append-left, Memᴰ·append-right}
 use native.Mathlib.Omega.{arith}
 use native.Mathlib.Nat.{not-suc-le-zero, le-of-suc-le-suc}
-use borrow.Author.Tests.{ltb-false, lt-ltb}
+use borrow.Author.Tests.{lt-ltb}
 use lib.Dec.{ltb}
 use lib.ListN.{length, getD, set, length-append}
 use Rattle.program.specs.Program.{Program}
-use Rattle.program.specs.WellFormed.{accesses, allAccesses}
-use Rattle.program.specs.declared.instruction.Instruction.{Instruction}
+use Rattle.program.specs.WellFormed.{allAccesses}
 use Rattle.schedules.specs.Lists.{Ascends, range}
 use Rattle.schedules.specs.Order.{Schedule}
 use Rattle.schedules.specs.System.{Lawful}
 use Rattle.schedules.proofs.Lists.{in-range, of-range, range-ascends, ascends-append}
 use Rattle.schedules.proofs.Runs.{full-length}
-use Rattle.sc.specs.Local.{placeOf, puts, begin}
+use Rattle.sc.specs.Local.{placeOf, puts}
 use Rattle.sc.specs.State as SC
 use Rattle.sc.specs.State.{Cell}
 use Rattle.sc.proofs.Lawful.{start-size}
-use Rattle.sc.proofs.Access.{suffix-accesses, next-fewer, begin-law}
+use Rattle.sc.proofs.Access.{next-fewer}
 use Rattle.tso.specs.Queue.{Entry, queued, newer, movable}
-use Rattle.tso.specs.State.{Thread, State, noThread, threadOf, cellOf, locked, finds, threadBehind, place, stepOf, able, kindOf, ownerBy, owner, step, enabled, weight, sizeOf, size, TSO, idle, drained, start, Kind, access, move}
+use Rattle.tso.specs.State.{Thread, State, noThread, threadOf, cellOf, locked, finds, threadBehind, place, stepOf, able, kindOf, owner, step, enabled, weight, sizeOf, size, TSO, idle, drained, start, Kind, access, move}
 use Rattle.tso.specs.Graph.{Full}
 use Rattle.tso.proofs.Bytes.{ByteCase, of-access, of-move, byte-case}
 use Rattle.tso.proofs.Steps.{enabled-small, enabled-able, able-pending, able-movable, able-range}

@@ -1,9 +1,9 @@
--- The steps of a run in another order: any order of them that keeps dependent ones in order is full and ends in the same state. The least such
--- order is found by taking the least byte whose next step waits for none.
+-- T1, THE SWAP LAW, of any two bytes: steps in a row of which the later need not stay behind the earlier can be exchanged. So the first step of a
+-- byte, if it depends on nothing before it, can be taken first.
 use Prim.Native.Nat.{ℕ}
 use mathlib.Core.Path.{_≡_, refl, sym, ap, subst, _∙_}
 use mathlib.Core.Logic.{_≢_}
-use mathlib.Core.Bool.{Bool, true, false}
+use mathlib.Core.Bool.{true, false}
 use mathlib.Core.List.{List, _∷_}
 use mathlib.Core.Option.{some}
 use native.Mathlib.Decide.{ℕ-discrete}
@@ -11,11 +11,10 @@ use lib.ListN.{length}
 use Rattle.schedules.specs.Order.{Schedule}
 use Rattle.schedules.specs.System.{run, FullFrom}
 use Rattle.schedules.specs.Orders.{nextOf, clear, takeOut, OrderOf}
-use Rattle.schedules.proofs.Order.{AtMost}
 use Rattle.schedules.proofs.Front.{Commute}
 use Rattle.schedules.proofs.Orders
 use Rattle.tso.specs.State.{State, threadOf, stepOf, able, kindOf, owner, step, enabled, TSO, Kind, access, move}
-use Rattle.tso.specs.Actions.{Action, actionOf, action, actions, who, dependent, leastOf}
+use Rattle.tso.specs.Actions.{Action, actionOf, action, actions, who, dependent}
 use Rattle.tso.proofs.Bytes.{byte-of}
 use Rattle.tso.proofs.Steps.{enabled-able, enabled-of}
 use Rattle.tso.proofs.Lawful.{lawful, names-ascend}
@@ -26,10 +25,6 @@ use Rattle.tso.proofs.OwnSwap.{swap-access, swap-move}
 pub action-who : (σ : State) (b : ℕ) → who (action σ b) ≡ b
 unfolding who action actionOf
 action-who σ b = refl
-
-act-does : (σ : State) (b : ℕ) → action σ b ≡ does σ b (kindOf b) (owner b)
-unfolding action
-act-does σ b = refl
 
 -- what the law asks of two steps in a row
 abbrev Asks : State → ℕ → Kind → ℕ → ℕ → Kind → ℕ → Type 0
@@ -66,11 +61,3 @@ Reorders ds s = OrderOf who dependent (TSO .names) ds s
 pub pulled : (w : Schedule) (σ : State) (b : ℕ) (d : Action) → FullFrom TSO σ w → nextOf who dependent (actions σ w) b ≡ some d → clear who dependent (actions σ w) b d ≡ true →
     (r : Schedule) × FullFrom TSO σ (b ∷ r) × (run TSO σ (b ∷ r) ≡ run TSO σ w) × (actions (step σ b) r ≡ takeOut who dependent (actions σ w) b) × (action σ b ≡ d)
 pulled = Orders.pulled TSO lawful names-ascend who dependent action action-who swap
-
--- (A) every order of a full schedule's steps that keeps dependent ones in order is full and ends in the same state
-pub reorders-full : (v w : Schedule) (σ : State) → FullFrom TSO σ w → Reorders (actions σ w) v → FullFrom TSO σ v × (run TSO σ v ≡ run TSO σ w)
-reorders-full = Orders.order-full TSO lawful names-ascend who dependent action action-who swap
-
-pub least-order : (σ : State) (w : Schedule) → FullFrom TSO σ w →
-    FullFrom TSO σ (leastOf (actions σ w)) × (run TSO σ (leastOf (actions σ w)) ≡ run TSO σ w) × ((r : Schedule) → Reorders (actions σ w) r → AtMost (leastOf (actions σ w)) r)
-least-order = Orders.order-least TSO lawful names-ascend who dependent action action-who swap

@@ -3,7 +3,7 @@
 use Prim.Native.Nat.{ℕ, _<_}
 use mathlib.Core.Path.{_≡_, refl, sym, ap, ap₂, _∙_}
 use mathlib.Core.Logic.{_≢_, _⊎_, inl, inr, Ne·symm}
-use mathlib.Core.Bool.{Bool, true, false, true≢false, false≢true}
+use mathlib.Core.Bool.{Bool, true, false, false≢true}
 use mathlib.Core.Option.{Option, none, some}
 use mathlib.Core.List.{List, [], _∷_, _++_}
 use native.Mathlib.Decide.{ℕ-discrete}
@@ -13,7 +13,7 @@ use Rattle.sc.specs.Local.{pending, placeOf, takes, puts, next}
 use Rattle.sc.specs.State.{Event, Cell, noted}
 use Rattle.sc.specs.Actions.{given}
 use Rattle.tso.specs.Queue.{Entry, queued, atOnce, newer, oldestNumber, oldestPlace, movable, free}
-use Rattle.tso.specs.State.{Thread, State, threadOf, cellOf, locked, finds, target, numberOf, threadBehind, reaches, cellBehind, place, stepOf, able, Kind, access, move}
+use Rattle.tso.specs.State.{Thread, State, threadOf, cellOf, locked, finds, target, numberOf, threadBehind, reaches, cellBehind, place, stepOf, able, access, move}
 use Rattle.tso.specs.Actions.{moving, reading, locking, sourceIf, beforeIf, actionOf, dependent}
 use Rattle.tso.proofs.Bytes.{access≢move, move≢access}
 use Rattle.tso.proofs.Steps.{able-pending, able-free, able-movable, access-able, able-range, thread-own, cell-own, cell-other, putting, still, still-cell, stepOf-cells}

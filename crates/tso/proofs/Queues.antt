@@ -9,7 +9,6 @@ use mathlib.Core.List.{List, [], _∷_, _++_}
 use borrow.Author.Tests.{ltb-true, eq-eqb, ne-eqb}
 use Rattle.sc.specs.State.{Cell, latest, written}
 use Rattle.tso.specs.Queue.{Entry, newest, foundIn, newer, oldestNumber, oldestPlace, oldestValue, movable, isEmpty, free}
-use Rattle.tso.specs.State.{Kind, access, move}
 use Prim.Native.Nat.{_<_}
 
 -- the oldest entry stays the oldest

@@ -1,11 +1,10 @@
 -- What is left of a thread's code is an end of it.
 use Prim.Native.Nat.{ℕ}
-use mathlib.Core.Path.{_≡_, refl, sym, ap, subst, _∙_}
-use mathlib.Core.Bool.{Bool, true, false}
+use mathlib.Core.Path.{_≡_, ap}
+use mathlib.Core.Bool.{true}
 use mathlib.Core.List.{[], _∷_}
 use lib.ListN.{length}
 use Rattle.program.specs.Program.{Program, codeOf}
-use Rattle.program.specs.declared.instruction.Instruction.{Instruction}
 use Rattle.schedules.specs.Order.{Schedule}
 use Rattle.schedules.specs.System.{run, Allowed}
 use Rattle.sc.specs.State as SC
@@ -13,7 +12,7 @@ use Rattle.sc.specs.State.{Cell}
 use Rattle.sc.proofs.Suffix.{Suffix, suffix-same, suffix-trans}
 use Rattle.sc.proofs.Access.{next-suffix}
 use Rattle.sc.proofs.Histories as SCHistories
-use Rattle.tso.specs.State.{Thread, State, threadOf, cellOf, finds, threadBehind, place, stepOf, able, kindOf, owner, step, enabled, TSO, idle, start, Kind, access, move}
+use Rattle.tso.specs.State.{Thread, State, threadOf, cellOf, finds, threadBehind, place, stepOf, able, kindOf, owner, step, TSO, idle, start, Kind, access, move}
 use Rattle.tso.proofs.Steps.{enabled-able, able-pending, able-range}
 use Rattle.tso.proofs.Change.{thread-cases}
 use Rattle.tso.proofs.Seen.{drained-thread}

@@ -21,13 +21,13 @@ use Rattle.sc.specs.Graph as SCGraph
 use Rattle.sc.proofs.Steps as SCSteps
 use Rattle.sc.proofs.Lawful as SCLawful
 use Rattle.sc.proofs.Regular.{Regular, place-in, regular-step, regular-start}
-use Rattle.tso.specs.Queue.{Entry, Found, newest, foundIn, queued, atOnce, newer, oldestNumber, oldestPlace, oldestValue, movable, isEmpty, free}
+use Rattle.tso.specs.Queue.{Entry, newest, foundIn, queued, atOnce, newer, oldestNumber, oldestPlace, oldestValue, movable, isEmpty, free}
 use Rattle.tso.specs.State.{Thread, State, idle, drained, start, threadOf, cellOf, locked, finds, target, numberOf, threadBehind, reaches, cellBehind, place, stepOf, able, kindOf, owner, byteFor, step, enabled, TSO, Kind, access, move}
 use Rattle.tso.specs.Graph.{graphOf, Full, graph}
 use Rattle.tso.proofs.Steps.{access-able, step-for, enabled-for}
 use Rattle.tso.proofs.Swap.{both, stepOf-as}
 use Rattle.sc.proofs.Exchange.{map-set}
-use Rattle.tso.proofs.Seen.{drained-thread, drained-cell, drained-cells, drained-count, drained-graph}
+use Rattle.tso.proofs.Seen.{drained-thread, drained-cell, drained-graph}
 
 -- what an access does: as under SC, beside what it leaves in the queue
 idle-behind : (t : ℕ) (h : SC.Thread) (c : Cell) → threadBehind access t (idle h) c ≡

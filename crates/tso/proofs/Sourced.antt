@@ -1,10 +1,10 @@
 -- Where a read's source stands: a read is of an own store, of the initial write, or of a write in memory.
-use Prim.Native.Nat.{ℕ, _<_}
-use mathlib.Core.Path.{_≡_, refl, sym, ap, subst, _∙_}
+use Prim.Native.Nat.{ℕ}
+use mathlib.Core.Path.{_≡_, refl, sym, ap, subst}
 use mathlib.Core.Logic.{_⊎_, inl, inr, ⊎-elim}
 use mathlib.Core.Bool.{Bool, true, false}
 use mathlib.Core.Option.{Option, none, some}
-use mathlib.Core.List.{List, [], _∷_, List·Memᴰ, List·Memᴰ·cases-cons, List·Memᴰ·not-nil, List·Memᴰ·append-cases}
+use mathlib.Core.List.{[], _∷_, List·Memᴰ, List·Memᴰ·cases-cons, List·Memᴰ·not-nil, List·Memᴰ·append-cases}
 use lib.ListN.{length}
 use Rattle.program.specs.Program.{Program}
 use Rattle.program.specs.WellFormed.{WellFormed}
@@ -18,7 +18,7 @@ use Rattle.sc.proofs.Start.{start-writes}
 use Rattle.sc.proofs.Regular as SCRegular
 use Rattle.sc.proofs.Regular.{latest-of}
 use Rattle.tso.specs.Queue.{Entry, newest, foundIn}
-use Rattle.tso.specs.State.{Thread, State, threadOf, cellOf, finds, target, threadBehind, place, stepOf, able, kindOf, owner, step, enabled, TSO, idle, start, Kind, access, move}
+use Rattle.tso.specs.State.{Thread, State, threadOf, cellOf, finds, threadBehind, place, stepOf, kindOf, owner, step, enabled, TSO, idle, start, Kind, access, move}
 use Rattle.tso.proofs.Steps.{enabled-able, able-range}
 use Rattle.tso.proofs.Change.{thread-cases, Change, writes-stay}
 use Rattle.tso.proofs.Regular.{Regular, changes, regular-start, regular-step}

@@ -2,7 +2,7 @@
 use Prim.Native.Nat.{ℕ, _-_, _<_, _≤_}
 use mathlib.Core.Path.{_≡_, refl, sym, ap, _∙_}
 use mathlib.Core.Logic.{_≢_}
-use mathlib.Core.Bool.{Bool, true, false, true≢false, false≢true, _&&_}
+use mathlib.Core.Bool.{true, false, true≢false}
 use mathlib.Core.Option.{Option, none}
 use native.Mathlib.Omega.{arith}
 use native.Mathlib.Decide.{decLt}
@@ -12,13 +12,12 @@ use lib.ListN.{length, length-set, List·getD-eq-default}
 use lib.Seq.{getD-set-other, getD-set-same, set-getD, set-out}
 use Rattle.program.proofs.Tests.{both}
 use Rattle.sc.specs.Local.{beginsWithAccess, pending}
-use Rattle.sc.specs.State.{Event, Cell, written}
 use Rattle.sc.specs.State as SC
 use Rattle.sc.proofs.Change.{written-none}
 use Rattle.sc.proofs.Same.{both-and}
 use Rattle.tso.specs.Queue.{movable, free}
 use Rattle.tso.proofs.Bytes.{kind-for, owner-for}
-use Rattle.tso.specs.State.{Thread, State, idle, noThread, threadOf, cellOf, locked, target, numberOf, threadBehind, reaches, cellBehind, place, stepOf, able, kindOf, ownerBy, owner, byteFor, step, enabled, Kind, access, move}
+use Rattle.tso.specs.State.{Thread, State, idle, noThread, threadOf, cellOf, locked, target, numberOf, threadBehind, reaches, cellBehind, place, stepOf, able, kindOf, owner, byteFor, step, enabled, Kind, access, move}
 
 -- who may step: one of six threads that is able to
 pub enabled-small : (σ : State) (b : ℕ) → enabled σ b ≡ true → owner b < 6

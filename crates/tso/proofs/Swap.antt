@@ -3,9 +3,9 @@
 use Prim.Native.Nat.{ℕ, _<_}
 use mathlib.Core.Path.{_≡_, refl, sym, ap, ap₂, subst, _∙_}
 use mathlib.Core.Logic.{_≢_, _⊎_, inl, inr, Ne·symm}
-use mathlib.Core.Bool.{Bool, true, false}
+use mathlib.Core.Bool.{true, false}
 use mathlib.Core.Option.{Option, none, some}
-use mathlib.Core.List.{List, [], _∷_, List·Memᴰ, List·Memᴰ·head}
+use mathlib.Core.List.{List, List·Memᴰ}
 use native.Mathlib.Omega.{arith}
 use native.Mathlib.Decide.{ℕ-discrete, decLt}
 use lib.ListN.{length, set}
@@ -14,7 +14,7 @@ use Rattle.sc.specs.Local.{pending}
 use Rattle.sc.specs.State.{Event, initialWrite, Cell, latest, written}
 use Rattle.sc.specs.Actions.{given}
 use Rattle.sc.proofs.Regular.{latest-of}
-use Rattle.tso.specs.State.{Thread, State, threadOf, cellOf, numberOf, threadBehind, reaches, cellBehind, place, stepOf, able, Kind, access, move}
+use Rattle.tso.specs.State.{Thread, State, threadOf, cellOf, numberOf, threadBehind, reaches, cellBehind, place, stepOf, able, Kind, access}
 use Rattle.tso.specs.Actions.{Action, beforeIf, actionOf, dependent}
 use Rattle.tso.proofs.Steps.{able-pending, thread-other, place-other, cell-own, cell-other, cell-out, putting, still, still-cell, stepOf-cells}
 use Rattle.tso.proofs.Depends.{both-put, read-behind, initial-first, source-first, no-reason}

@@ -13,7 +13,7 @@ use lib.ListN.{length}
 use borrow.Author.Tests.{eq-eqb, ne-eqb, eqb-true, not-true}
 use Rattle.program.specs.Program.{Program}
 use Rattle.program.proofs.Tests.{both, neither}
-use Rattle.schedules.specs.Lists.{range, any, all}
+use Rattle.schedules.specs.Lists.{range, any}
 use Rattle.schedules.specs.Order.{Schedule}
 use Rattle.schedules.specs.System.{run, Allowed, FullFrom}
 use Rattle.schedules.specs.Orders.{trace}
@@ -30,7 +30,7 @@ use Rattle.sc.specs.State.{Event, initialWrite, Cell, latest}
 use Rattle.sc.specs.Ahead.{couldMeet}
 use Rattle.sc.proofs.Ahead.{elsewhere, meet-end}
 use Rattle.sc.proofs.Determined.{latest-cons}
-use Rattle.tso.specs.Queue.{Entry, newest, foundIn, queued, atOnce, newer, oldestNumber, oldestPlace, oldestValue, movable, free}
+use Rattle.tso.specs.Queue.{Entry, newest, foundIn, queued, atOnce, oldestNumber, oldestPlace, oldestValue, movable}
 use Rattle.tso.specs.State.{Thread, State, Kind, access, move, idle, noThread, threadOf, cellOf, locked, finds, target, numberOf, threadBehind, reaches, place, stepOf, able, kindOf, owner, step, enabled, start, TSO}
 use Rattle.tso.specs.Graph.{endOf, Full}
 use Rattle.tso.specs.Actions.{Action, action, actions, who, dependent}

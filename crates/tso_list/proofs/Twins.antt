@@ -7,7 +7,6 @@ use mathlib.Core.Bool.{Bool, true, false, false≢true}
 use mathlib.Core.List.{List, [], _∷_, _++_, List·Memᴰ, List·Memᴰ·head, List·Memᴰ·tail}
 use native.Mathlib.Omega.{arith}
 use lib.Dec.{eqb}
-use lib.ListN.{length}
 use borrow.Author.Tests.{eqb-true, ne-eqb}
 use Rattle.program.specs.Program.{Program, codeOf}
 use Rattle.program.specs.WellFormed.{WellFormed}
@@ -20,7 +19,7 @@ use Rattle.model.specs.Laws.{Admitted}
 use Rattle.model.specs.Alike.{Smaller}
 use Rattle.model.proofs.Exchanges.{members}
 use Rattle.model.proofs.Permitted.{together-true}
-use Rattle.model.proofs.Swapped.{swapped, swapped-low, swapped-high, swapped-else, swapped-cases, swapped-twice, swapped-exchange}
+use Rattle.model.proofs.Swapped.{swapped, swapped-high, swapped-else, swapped-cases, swapped-twice, swapped-exchange}
 use Rattle.model.proofs.Twins as Model
 use Rattle.sc.specs.Local.{Local}
 use Rattle.sc.specs.State.{Event, initialWrite}
@@ -32,7 +31,7 @@ use Rattle.sc.proofs.FixedState.{write-cell, event-fixed, reads-fixed, cells-fi
 use Rattle.sc.proofs.Same.{same-list-is}
 use Rattle.sc.proofs.Standing.{same-local, Silent, silent-true}
 use Rattle.tso.specs.Queue.{Entry}
-use Rattle.tso.specs.State.{Thread, State, Kind, access, move, withoutQueues, threadOf, cellOf, kindOf, owner, byteFor, start, TSO}
+use Rattle.tso.specs.State.{Thread, State, Kind, access, move, withoutQueues, threadOf, kindOf, owner, byteFor, start, TSO}
 use Rattle.tso.specs.Graph.{endOf, Full}
 use Rattle.tso.specs.Exchange.{movedByte, movedThread, Moves}
 use Rattle.tso.proofs.Bytes.{for-owner}

@@ -3,8 +3,8 @@
 use Prim.Native.Nat.{ℕ}
 use mathlib.Core.Bool.{Bool, true, false, not, _&&_, _||_}
 use mathlib.Core.Option.{Option, none, some}
-use mathlib.Core.List.{List, [], _∷_, _++_, reverse}
-use lib.Dec.{eqb, ltb}
+use mathlib.Core.List.{List, [], _∷_, _++_}
+use lib.Dec.{eqb}
 use Rattle.program.specs.Program.{Program}
 use Rattle.schedules.specs.Lists.{range, any, all}
 use Rattle.schedules.specs.Order.{Schedule}
@@ -17,8 +17,7 @@ use Rattle.sc.specs.Ahead.{couldMeet}
 use Rattle.sc.specs.Same.{sameList}
 use Rattle.sc.specs.Standing.{sameLocal, silent}
 use Rattle.tso.specs.Queue.{Entry}
-use Rattle.tso.specs.State.{Thread, State, Kind, access, move, withoutQueues, threadOf, locked, place, kindOf, owner, byteFor, step, enabled, TSO}
-use Rattle.tso.specs.Graph.{endOf}
+use Rattle.tso.specs.State.{Thread, State, Kind, access, move, withoutQueues, threadOf, locked, place, kindOf, owner, step, enabled, TSO}
 use Rattle.tso.specs.Actions.{Action, action, who, dependent}
 use Rattle.tso_model.specs.TotalStoreOrder.{tso}
 

@@ -1,14 +1,12 @@
 -- DEMAND 3 under total store order, of every accepted file that 41 does not turn away; and which those are.
 use Prim.Native.Nat.{ℕ, _<_, _≤_}
-use mathlib.Core.Path.{_≡_, refl, sym, ap, _∙_}
-use mathlib.Core.Bool.{Bool, true, false}
-use mathlib.Core.Option.{Option, none, some}
+use mathlib.Core.Path.{_≡_, refl, ap, _∙_}
+use mathlib.Core.Option.{none, some}
 use mathlib.Core.List.{List}
 use borrow.Author.Tests.{lt-ltb, le-ltb}
-use lib.Dec.{ltb}
 use Rattle.program.specs.Program.{Program}
 use Rattle.program.specs.WellFormed.{allAccesses}
-use Rattle.program.specs.Decode.{Decoded, accepted, decode}
+use Rattle.program.specs.Decode.{accepted, decode}
 use Rattle.program.specs.Decode as File
 use Rattle.model.specs.OnFile.{unless, admit}
 use Rattle.model.specs.Demand3.{Demand3}

@@ -7,7 +7,6 @@ use Rattle.program.specs.declared.instruction.Operand.the-variants.{Constant}
 use Rattle.program.specs.declared.instruction.Access.the-variants.{Store, Load, FetchAdd, CompareSwap}
 use Rattle.program.specs.declared.instruction.Instruction.the-variants.{Memory}
 use Rattle.schedules.specs.Order.{Schedule}
-use Rattle.schedules.specs.Permutations.{moved}
 use Rattle.model.specs.Exchange.{together, permits, permitted}
 use Rattle.model.specs.Alike.{alikeBy, alike, listOf}
 use Rattle.sc.specs.Exchange.{movedEvent, movedRead, movedReads, movedWrites}

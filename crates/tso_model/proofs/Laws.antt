@@ -1,9 +1,8 @@
 -- TOTAL STORE ORDER HAS THE LAWS of a memory model.
 use Prim.Native.Nat.{ℕ, _<_, _≤_}
-use mathlib.Core.Path.{_≡_, refl, sym, ap, _∙_}
-use mathlib.Core.Logic.{_≢_}
+use mathlib.Core.Path.{_≡_, refl, sym, _∙_}
 use mathlib.Core.Bool.{Bool, true, false}
-use mathlib.Core.Option.{Option, none, some}
+use mathlib.Core.Option.{none, some}
 use native.Mathlib.Omega.{arith}
 use borrow.Author.Tests.{ltb-false}
 use lib.Dec.{ltb}
@@ -18,7 +17,7 @@ use Rattle.model.specs.Laws.{StepLaws, ExchangeLaws, ProgramLaws, Laws}
 use Rattle.model.proofs.Exchanges.{exchange-back}
 use Rattle.sc.proofs.Turning.{renames-none, renames-back, renames-both, renamed-once}
 use Rattle.sc.proofs.Renamed.{renames-true, true-renames}
-use Rattle.tso.specs.State.{State, TSO, start}
+use Rattle.tso.specs.State.{State, start}
 use Rattle.tso.specs.Graph.{graph}
 use Rattle.tso.specs.Exchange.{Moves}
 use Rattle.tso.proofs.Lawful.{lawful, names-ascend, enabled-below, start-32}
