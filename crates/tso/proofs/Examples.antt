@@ -2,7 +2,7 @@
 use mathlib.Core.Path.{_≡_, refl}
 use mathlib.Core.Bool.{true, false}
 use mathlib.Core.List.{[], _∷_}
-use Rattle.program.specs.Program.{Program}
+use Rattle.program.specs.Program.{Program, zeros}
 use Rattle.program.specs.WellFormed.{accesses}
 use Rattle.program.specs.declared.instruction.Operand.the-variants.{Constant}
 use Rattle.program.specs.declared.instruction.Access.the-variants.{Store, Load, FetchAdd}
@@ -23,7 +23,7 @@ ran p s = let σ = endOf p s in record { full = ended TSO σ; fails = fails σ; 
 
 -- two stores and a load of one location: the load takes the newer pending store and reads from it; both then reach memory
 forwarding : Program
-forwarding = record { threads = (Memory (Store 0 (Constant 1)) ∷ Memory (Store 0 (Constant 2)) ∷ Memory (Load 0 0) ∷ []) ∷ []; groups = [] }
+forwarding = record { threads = (Memory (Store 0 (Constant 1)) ∷ Memory (Store 0 (Constant 2)) ∷ Memory (Load 0 0) ∷ []) ∷ []; groups = []; starting = zeros }
 
 forwarded : ran forwarding (0 ∷ 0 ∷ 0 ∷ 16 ∷ 16 ∷ []) ≡ record {
   full = true;
@@ -41,7 +41,7 @@ not-full-yet = refl
 
 -- two stores to one location: coherence is the order of reaching memory, not that of the stores' own steps
 racing : Program
-racing = record { threads = (Memory (Store 0 (Constant 1)) ∷ []) ∷ (Memory (Store 0 (Constant 2)) ∷ []) ∷ []; groups = [] }
+racing = record { threads = (Memory (Store 0 (Constant 1)) ∷ []) ∷ (Memory (Store 0 (Constant 2)) ∷ []) ∷ []; groups = []; starting = zeros }
 
 raced : ran racing (0 ∷ 1 ∷ 17 ∷ 16 ∷ []) ≡ record {
   full = true;
@@ -54,7 +54,7 @@ raced = refl
 
 -- a fetch and add waits for an empty queue, also where the pending store is to another location
 waiting : Program
-waiting = record { threads = (Memory (Store 0 (Constant 1)) ∷ Memory (FetchAdd 0 1 (Constant 1)) ∷ []) ∷ []; groups = [] }
+waiting = record { threads = (Memory (Store 0 (Constant 1)) ∷ Memory (FetchAdd 0 1 (Constant 1)) ∷ []) ∷ []; groups = []; starting = zeros }
 
 may-not-add : enabled (endOf waiting (0 ∷ [])) 0 ≡ false
 unfolding ran waiting

@@ -3,7 +3,7 @@ use mathlib.Core.Path.{_≡_, refl}
 use mathlib.Core.Bool.{true, false}
 use mathlib.Core.Option.{none}
 use mathlib.Core.List.{List, [], _∷_}
-use Rattle.program.specs.Program.{Program}
+use Rattle.program.specs.Program.{Program, zeros}
 use Rattle.program.specs.declared.instruction.Operand.the-variants.{Constant}
 use Rattle.program.specs.declared.instruction.Access.the-variants.{Store, Load}
 use Rattle.program.specs.declared.instruction.Instruction.the-variants.{Memory}
@@ -30,6 +30,7 @@ pair : Program
 pair = record {
   threads = (Memory (Store 0 (Constant 1)) ∷ Memory (Load 0 1) ∷ []) ∷ (Memory (Store 1 (Constant 1)) ∷ Memory (Load 0 0) ∷ []) ∷ [];
   groups = [];
+  starting = zeros;
 }
 
 pair-found : finds pair ≡
@@ -50,6 +51,7 @@ own : Program
 own = record {
   threads = (Memory (Store 0 (Constant 1)) ∷ Memory (Load 0 0) ∷ []) ∷ (Memory (Store 0 (Constant 1)) ∷ Memory (Load 0 0) ∷ []) ∷ [];
   groups = (0 ∷ 1 ∷ []) ∷ [];
+  starting = zeros;
 }
 
 -- R2: each has read its own pending store, so they are twins, and 11 need not go before 10

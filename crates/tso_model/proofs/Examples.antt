@@ -2,7 +2,7 @@
 -- and two alike threads of a store and a load two. A fetch and add behind a store waits for its move.
 use mathlib.Core.Path.{_≡_, refl}
 use mathlib.Core.List.{List, [], _∷_}
-use Rattle.program.specs.Program.{Program}
+use Rattle.program.specs.Program.{Program, zeros}
 use Rattle.program.specs.declared.instruction.Operand.the-variants.{Constant}
 use Rattle.program.specs.declared.instruction.Access.the-variants.{Store, Load, FetchAdd, CompareSwap}
 use Rattle.program.specs.declared.instruction.Instruction.the-variants.{Memory}
@@ -25,6 +25,7 @@ pair : Program
 pair = record {
   threads = (Memory (Store 0 (Constant 1)) ∷ Memory (Load 0 1) ∷ []) ∷ (Memory (Store 1 (Constant 1)) ∷ Memory (Load 0 0) ∷ []) ∷ [];
   groups = [];
+  starting = zeros;
 }
 
 pair-list : listed pair ≡
@@ -40,6 +41,7 @@ passing : Program
 passing = record {
   threads = (Memory (Store 0 (Constant 1)) ∷ Memory (Store 1 (Constant 1)) ∷ []) ∷ (Memory (Load 0 1) ∷ Memory (Load 1 0) ∷ []) ∷ [];
   groups = [];
+  starting = zeros;
 }
 
 passing-list : listed passing ≡
@@ -57,6 +59,7 @@ locking = record {
       (Memory (CompareSwap 0 1 (Constant 0) (Constant 5)) ∷ Memory (Load 1 0) ∷ []) ∷
       [];
   groups = [];
+  starting = zeros;
 }
 
 locking-list : listed locking ≡
@@ -71,6 +74,7 @@ own : Program
 own = record {
   threads = (Memory (Store 0 (Constant 1)) ∷ Memory (Load 0 0) ∷ []) ∷ (Memory (Store 0 (Constant 1)) ∷ Memory (Load 0 0) ∷ []) ∷ [];
   groups = (0 ∷ 1 ∷ []) ∷ [];
+  starting = zeros;
 }
 
 own-list : listed own ≡ (0 ∷ 0 ∷ 1 ∷ 1 ∷ 16 ∷ 17 ∷ []) ∷ (0 ∷ 0 ∷ 1 ∷ 17 ∷ 16 ∷ 1 ∷ []) ∷ []
