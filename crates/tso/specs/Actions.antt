@@ -12,7 +12,8 @@ use Rattle.sc.specs.State.{Event, initialWrite, Cell}
 use Rattle.sc.specs.Actions.{given}
 use Rattle.sc.specs.Same.{sameEvent}
 use Rattle.tso.specs.Queue.{Found}
-use Rattle.tso.specs.State.{Thread, State, Kind, access, move, threadOf, cellOf, locked, finds, target, numberOf, reaches, place, kindOf, owner, TSO}
+use Rattle.tso.specs.State.{Thread, State, Kind, access, move, threadOf, cellOf, locked, finds, target, numberOf, reaches, place}
+use Rattle.tso.specs.State.{kindOf, owner, TSO}
 
 pub record Action : Type 0 where
   pub byte : ℕ

@@ -27,7 +27,8 @@ unfoldable pub foundIn : ℕ → Option Entry → Cell → Found
 foundIn t (some e) c = record { value = e .value; source = (t, e .number) }
 foundIn t none c = record { value = c .value; source = latest (c .writes) }
 
--- what an access number i to l leaves in the queue, by whether it is locked and what it writes: a store waits there, a locked access does not
+-- what access number i, to l, leaves in the queue, by whether it is locked and what it writes: a store waits there, a locked access does
+-- not
 unfoldable pub queued : Bool → ℕ → ℕ → Option ℕ → List Entry
 queued locks i l none = []
 queued true i l (some v) = []

@@ -1,7 +1,7 @@
--- Threads and memory under total store order, by the x86-TSO machine of Owens, Sarkar and Sewell. Each thread has a queue of pending stores.
--- The byte t does thread t's next access; the byte 16 + t moves its oldest pending store to memory, also after thread t has ended or failed.
--- Local states, histories and locations are those of sequential consistency. A step reads one thread and one location and puts both back;
--- nothing else changes.
+-- Threads and memory under total store order, by the x86-TSO machine of Owens, Sarkar and Sewell. Each thread has a queue of pending
+-- stores. The byte t does thread t's next access; the byte 16 + t moves its oldest pending store to memory, also after thread t has ended
+-- or failed. Local states, histories and locations are those of sequential consistency. A step reads one thread and one location and puts
+-- both back; nothing else changes.
 use Prim.Native.Nat.{ℕ, _+_, _-_}
 use mathlib.Core.Bool.{Bool, true, false, _&&_}
 use mathlib.Core.List.{List, [], _∷_, _++_, map}
@@ -19,7 +19,8 @@ use Rattle.schedules.specs.System.{System}
 use Rattle.sc.specs.Local.{Local, pending, placeOf, takes, puts, next}
 use Rattle.sc.specs.State as SC
 use Rattle.sc.specs.State.{History, Cell, freshCell, noted, written}
-use Rattle.tso.specs.Queue.{Entry, newest, Found, foundIn, queued, atOnce, free, oldestNumber, oldestPlace, oldestValue, newer, movable}
+use Rattle.tso.specs.Queue.{Entry, newest, Found, foundIn, queued, atOnce, free}
+use Rattle.tso.specs.Queue.{oldestNumber, oldestPlace, oldestValue, newer, movable}
 
 -- a thread: its local state, its history, and its pending stores, oldest first
 pub record Thread : Type 0 where
@@ -125,8 +126,8 @@ stepOf σ k t =
     let c = cellOf σ (place σ k t) in
     record { threads = set (σ .threads) t (threadBehind k t h c); cells = set (σ .cells) (place σ k t) (cellBehind k t h c) }
 
--- a thread may do its next access if it has not ended and, where that is locked, its queue is empty; it may move while something is pending,
--- also after it has ended or failed. There are n locations.
+-- a thread may do its next access if it has not ended and, where that is locked, its queue is empty; it may move while something is
+-- pending, also after it has ended or failed. There are n locations.
 unfoldable pub able : Kind → Thread → ℕ → Bool
 able access h n = pending (h .local) && free (locked (h .local)) (h .queue)
 able move h n = movable (h .queue) n

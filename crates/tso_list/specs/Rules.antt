@@ -39,7 +39,8 @@ sameSource u t r s = eqb (r .0) (s .0) && (eqb (renamed u t (r .1 .0)) (s .1 .0)
 unfoldable pub sameEntry : Entry → Entry → Bool
 sameEntry e f = eqb (e .number) (f .number) && (eqb (e .location) (f .location) && eqb (e .value) (f .value))
 
--- thread u, which is h, stands as thread t, which is k: the same local state, as many accesses done, the same reads, the same pending stores
+-- thread u, which is h, stands as thread t, which is k: the same local state, as many accesses done, the same reads, the same pending
+-- stores
 unfoldable pub standsAs : ℕ → ℕ → Thread → Thread → Bool
 standsAs u t h k =
     sameLocal (h .local) (k .local)

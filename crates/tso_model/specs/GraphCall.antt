@@ -1,5 +1,5 @@
--- What the graph call says under total store order. Refusals in order: the program's, 41, then 22 for an output shorter than 512 bytes, then
--- 20 and 21 of the schedule. Otherwise the text of the schedule's graph, which then stands in front of the output, as under sequential
+-- What the graph call says under total store order. Refusals in order: the program's, 41, then 22 for an output shorter than 512 bytes,
+-- then 20 and 21 of the schedule. Otherwise the text of the schedule's graph, which then stands in front of the output, as under sequential
 -- consistency (`graphOutput`).
 use Prim.Native.Nat.{ℕ}
 use mathlib.Core.Bool.{cond}

@@ -1,5 +1,6 @@
 -- Total store order as a memory model. A byte t below 16 is thread t's next access, 16 + t the move of its oldest pending store. A program
--- with more than 16 accesses in the file is turned away, with 41 at place 0; so no schedule has more than 32 steps. An output needs 48 bytes.
+-- with more than 16 accesses in the file is turned away, with 41 at place 0; so no schedule has more than 32 steps. An output needs
+-- 48 bytes.
 use Prim.Native.Nat.{ℕ}
 use mathlib.Core.Bool.{true, false}
 use mathlib.Core.Option.{Option, none, some}
