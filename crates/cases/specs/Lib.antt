@@ -5,3 +5,5 @@ pub mod Rows
 pub mod Graphs
 -- all of them as one table, and its one test
 pub mod Table
+-- the store and load pair under total store order
+pub mod TotalStoreOrder

@@ -1,96 +1,12 @@
 -- What the tests of the definitions say, both ways.
-use Prim.Native.Nat.{ℕ}
-use mathlib.Core.Path.{_≡_, refl, sym, ap, ap₂, _∙_}
-use mathlib.Core.Logic.{_≢_}
-use mathlib.Core.Bool.{Bool, true, false, not, _&&_, true≢false, false≢true}
-use mathlib.Core.List.{List, [], _∷_}
-use borrow.Author.Tests.{eqb-true, eq-eqb, ne-eqb, not-true}
-use lib.Dec.{eqb}
+use mathlib.Core.Path.{_≡_, refl, ap₂}
+use mathlib.Core.Bool.{true}
 use Rattle.program.proofs.Tests.{both}
-use Rattle.sc.specs.State.{Event}
 use Rattle.sc.specs.Graph.{Graph, graphWith}
 use Rattle.consistent.specs.Same.{sameEvent, sameRead, sameList}
 use Rattle.consistent.proofs.Walk.{sameGraph}
-
-pub both-and : {a b : Bool} → a ≡ true → b ≡ true → a && b ≡ true
-both-and {a} {b} e f = rw (e, f)
-
-pub not-of : (a : Bool) → (a ≡ true → ⊥) → not a ≡ true
-not-of true n = absurd (n refl)
-not-of false n = refl
-
-pub same-event-is : (a b : Event) → sameEvent a b ≡ true → a ≡ b
-unfolding sameEvent
-same-event-is a b e =
-    let r = both (eqb (a .0) (b .0)) (eqb (a .1) (b .1)) e in
-    ap₂ (λ (x y : ℕ). let z : Event = (x, y) in z) (eqb-true (a .0) (b .0) (r .0)) (eqb-true (a .1) (b .1) (r .1))
-
-pub is-same-event : (a b : Event) → a ≡ b → sameEvent a b ≡ true
-unfolding sameEvent
-is-same-event a b q = both-and (eq-eqb (a .0) (b .0) (ap (λ (x : Event). x .0) q)) (eq-eqb (a .1) (b .1) (ap (λ (x : Event). x .1) q))
-
-pub differs : (a b : Event) → not (sameEvent a b) ≡ true → a ≢ b
-differs a b n q = true≢false (sym (is-same-event a b q) ∙ not-true (sameEvent a b) n)
-
-pub is-different : (a b : Event) → a ≢ b → not (sameEvent a b) ≡ true
-is-different a b n = not-of (sameEvent a b) (λ e. n (same-event-is a b e))
-
-pub same-read-is : (a b : ℕ × Event) → sameRead a b ≡ true → a ≡ b
-unfolding sameRead
-same-read-is a b e =
-    let r = both (eqb (a .0) (b .0)) (sameEvent (a .1) (b .1)) e in
-    ap₂ (λ (x : ℕ) (y : Event). let z : ℕ × Event = (x, y) in z) (eqb-true (a .0) (b .0) (r .0)) (same-event-is (a .1) (b .1) (r .1))
-
-pub same-read : (a : ℕ × Event) → sameRead a a ≡ true
-unfolding sameRead
-same-read a = both-and (eq-eqb (a .0) (a .0) refl) (is-same-event (a .1) (a .1) refl)
-
--- reads compared part by part: the number, then the source's thread and number
-pub read-differs : (a b : ℕ × Event) → a .0 ≢ b .0 → sameRead a b ≡ false
-unfolding sameRead
-read-differs a b n = rw (ne-eqb (a .0) (b .0) n)
-
-pub read-sources : (a b : ℕ × Event) → a .0 ≡ b .0 → sameRead a b ≡ sameEvent (a .1) (b .1)
-unfolding sameRead
-read-sources a b e = rw (eq-eqb (a .0) (b .0) e)
-
-pub event-differs : (a b : Event) → a .0 ≢ b .0 → sameEvent a b ≡ false
-unfolding sameEvent
-event-differs a b n = rw (ne-eqb (a .0) (b .0) n)
-
-pub event-numbers : (a b : Event) → a .0 ≡ b .0 → sameEvent a b ≡ eqb (a .1) (b .1)
-unfolding sameEvent
-event-numbers a b e = rw (eq-eqb (a .0) (b .0) e)
-
-module _ {A : Type 0} (f : A → A → Bool) where
-  -- lists compared member by member
-  pub same-nil : sameList f [] [] ≡ true
-  unfolding sameList
-  same-nil = refl
-
-  pub same-cons : (x : A) (xs : List A) (y : A) (ys : List A) → sameList f (x ∷ xs) (y ∷ ys) ≡ f x y && sameList f xs ys
-  unfolding sameList
-  same-cons x xs y ys = refl
-
-  pub same-shorter : (y : A) (ys : List A) → sameList f [] (y ∷ ys) ≡ false
-  unfolding sameList
-  same-shorter y ys = refl
-
-  pub same-longer : (x : A) (xs : List A) → sameList f (x ∷ xs) [] ≡ false
-  unfolding sameList
-  same-longer x xs = refl
-
-  pub same-list-is : ((x y : A) → f x y ≡ true → x ≡ y) → (xs ys : List A) → sameList f xs ys ≡ true → xs ≡ ys
-  unfolding sameList
-  same-list-is s [] [] e = refl
-  same-list-is s [] (y ∷ ys) e = absurd (false≢true e)
-  same-list-is s (x ∷ xs) [] e = absurd (false≢true e)
-  same-list-is s (x ∷ xs) (y ∷ ys) e = let r = both (f x y) (sameList f xs ys) e in ap₂ (λ (a : A) (b : List A). a ∷ b) (s x y (r .0)) (same-list-is s xs ys (r .1))
-
-  pub same-list : ((x : A) → f x x ≡ true) → (xs : List A) → sameList f xs xs ≡ true
-  unfolding sameList
-  same-list s [] = refl
-  same-list s (x ∷ xs) = both-and (s x) (same-list s xs)
+-- of events, reads and lists
+pub use Rattle.sc.proofs.Same.{both-and, not-of, same-event-is, is-same-event, differs, is-different, same-read-is, same-read, read-differs, read-sources, event-differs, event-numbers, same-nil, same-cons, same-shorter, same-longer, same-list-is, same-list}
 
 pub same-graph-is : (g h : Graph) → sameGraph g h ≡ true → g ≡ h
 unfolding sameGraph

@@ -1,18 +1,2 @@
--- Whether two events, two reads with their sources, and two lists are the same.
-use Prim.Native.Nat.{ℕ}
-use mathlib.Core.Bool.{Bool, true, false, _&&_}
-use mathlib.Core.List.{List, [], _∷_}
-use lib.Dec.{eqb}
-use Rattle.sc.specs.State.{Event}
-
-unfoldable pub sameEvent : Event → Event → Bool
-sameEvent a b = eqb (a .0) (b .0) && eqb (a .1) (b .1)
-
-unfoldable pub sameRead : ℕ × Event → ℕ × Event → Bool
-sameRead a b = eqb (a .0) (b .0) && sameEvent (a .1) (b .1)
-
-unfoldable pub sameList : {A : Type 0} → (A → A → Bool) → List A → List A → Bool
-sameList f [] [] = true
-sameList f [] (y ∷ ys) = false
-sameList f (x ∷ xs) [] = false
-sameList f (x ∷ xs) (y ∷ ys) = f x y && sameList f xs ys
+-- Whether two events, two reads with their sources, and two lists are the same: the tests of the crate below.
+unfoldable pub use Rattle.sc.specs.Same.{sameEvent, sameRead, sameList}

@@ -1,30 +1,25 @@
 -- R2 is sound: where a smaller twin u stands as t stands, exchanging the two leaves the state as it is, so that every full schedule that takes t
 -- now has an exchanged one that takes u.
 use Prim.Native.Nat.{ℕ, _<_}
-use mathlib.Core.Path.{_≡_, refl, sym, ap, ap₂, subst, _∙_}
+use mathlib.Core.Path.{_≡_, sym, ap, ap₂, subst, _∙_}
 use mathlib.Core.Logic.{_≢_}
-use mathlib.Core.Bool.{Bool, true, false, not, false≢true}
+use mathlib.Core.Bool.{true}
 use mathlib.Core.List.{List, _∷_, _++_}
 use native.Mathlib.Omega.{arith}
 use lib.Dec.{eqb}
-use lib.ListN.{length}
-use borrow.Author.Tests.{eqb-true, eq-eqb}
+use borrow.Author.Tests.{eqb-true}
 use Rattle.program.specs.Program.{Program, codeOf}
-use Rattle.program.specs.WellFormed.{WellFormed, Group}
-use Rattle.program.specs.declared.instruction.Instruction.{Instruction}
+use Rattle.program.specs.WellFormed.{WellFormed}
 use Rattle.program.proofs.Tests.{both}
-use Rattle.schedules.specs.Lists.{all}
 use Rattle.schedules.specs.Order.{Schedule, less}
 use Rattle.schedules.specs.System.{run, Allowed}
-use Rattle.schedules.proofs.Lists.{all-at}
 use Rattle.schedules.proofs.Order.{less-heads, less-behind}
 use Rattle.schedules.proofs.Runs.{run-append, full-split, full-join}
 use Rattle.sc.specs.Local.{Local}
-use Rattle.sc.specs.State.{Event, History, Thread, Cell, State, threadOf, start, SC}
+use Rattle.sc.specs.State.{Event, History, Thread, State, threadOf, start, SC}
 use Rattle.sc.specs.Graph.{endOf, Full}
 use Rattle.sc.specs.Exchange.{movedSchedule, Moves}
 use Rattle.sc.proofs.Suffix.{Suffix, suffix-equal}
-use Rattle.program.proofs.Everywhere.{everywhere-at}
 use Rattle.sc.proofs.Steps.{run-threads}
 use Rattle.sc.proofs.Start.{start-threads}
 use Rattle.sc.proofs.Regular.{regular-start, regular-run}
@@ -32,37 +27,19 @@ use Rattle.sc.proofs.Histories.{rest-code}
 use Rattle.sc.proofs.Exchange.{moves-full}
 use Rattle.sc.proofs.ExchangedActions.{moved-cons}
 use Rattle.sc.proofs.ProgramGraphs.{graph-moved-end}
-use Rattle.consistent.specs.Same.{sameRead, sameList}
+use Rattle.consistent.specs.Same.{sameRead}
 use Rattle.consistent.proofs.Tests.{same-read-is, same-list-is}
 use Rattle.list.specs.Alike.{Smaller}
 use Rattle.list.specs.ListOf.{together}
-use Rattle.list.specs.Rules.{sameFlag, sameLocal, sameHistory, silent, twin}
+use Rattle.list.specs.Rules.{sameLocal, sameHistory, silent, twin}
 use Rattle.model.specs.Exchange.{Together}
 use Rattle.list.proofs.Equivalence.{alike-sym}
 use Rattle.list.proofs.Tests.{together-true}
-use Rattle.list.proofs.Swapped.{swapped, swapped-high, swapped-exchange, Silent, swapped-state}
-
--- what the tests say
-same-flag : (a b : Bool) → sameFlag a b ≡ true → a ≡ b
-unfolding sameFlag
-same-flag true b e = sym e
-same-flag false true e = absurd (false≢true e)
-same-flag false false e = refl
-
-abbrev mkLocal : List ℕ → List Instruction → Bool → Local
-mkLocal rs is b = record { registers = rs; rest = is; failed = b }
-
--- where equally much code is the same code, the test says that two local states are equal
-same-local : (h k : Local) → (length (h .rest) ≡ length (k .rest) → h .rest ≡ k .rest) → sameLocal h k ≡ true → h ≡ k
-unfolding sameLocal
-same-local h k f e =
-    let a = both (eqb (length (h .rest)) (length (k .rest))) _ e in
-    let b = both (sameList eqb (h .registers) (k .registers)) _ (a .1) in
-    let r1 = same-list-is eqb eqb-true (h .registers) (k .registers) (b .0) in
-    let r2 = f (eqb-true (length (h .rest)) (length (k .rest)) (a .0)) in
-    let r3 = same-flag (h .failed) (k .failed) (b .1) in
-    let s : mkLocal (h .registers) (h .rest) (h .failed) ≡ mkLocal (k .registers) (k .rest) (k .failed) = rw (r1, r2, r3) in
-    s
+-- two members of one `02` line exist and have one code; a thread that has written nothing
+pub use Rattle.model.proofs.Exchanges.{members}
+pub use Rattle.sc.proofs.Standing.{silent-true}
+use Rattle.sc.proofs.Standing.{same-local}
+use Rattle.list.proofs.Swapped.{swapped, swapped-high, swapped-exchange, swapped-state}
 
 same-history : (h k : History) → sameHistory h k ≡ true → h ≡ k
 unfolding sameHistory
@@ -70,27 +47,11 @@ same-history h k e =
     let a = both (eqb (h .done) (k .done)) _ e in
     ap₂ (λ (d : ℕ) (rs : List (ℕ × Event)). let z : History = record { done = d; reads = rs } in z) (eqb-true (h .done) (k .done) (a .0)) (same-list-is sameRead same-read-is (h .reads) (k .reads) (a .1))
 
-not-own : (u : ℕ) (e : Event) → not (eqb (e .0) u) ≡ true → e .0 ≢ u
-not-own u e q i = false≢true (let k = eq-eqb (e .0) u i in rw k at q)
-
-pub silent-true : (σ : State) (u : ℕ) → silent σ u ≡ true → Silent σ u
-unfolding silent
-silent-true σ u t c m e i = not-own u e (all-at (λ (e : Event). not (eqb (e .0) u)) (c .writes) e (all-at (λ (c : Cell). all (λ (e : Event). not (eqb (e .0) u)) (c .writes)) (σ .cells) c t m) i)
-
 module _ (p : Program) (w : WellFormed p) where
-  -- two members of one `02` line exist and have one code
-  pub members : (u t : ℕ) → Together p u t → (u < length (p .threads)) × (t < length (p .threads)) × (codeOf p u ≡ codeOf p t)
-  members u t k =
-      let g = everywhere-at (Group p) (k .1) (w .groups) in (
-        everywhere-at (λ x. x < length (p .threads)) (k .2) (g .exist),
-        everywhere-at (λ x. x < length (p .threads)) (k .3) (g .exist),
-        g .equal u t (k .2) (k .3),
-      )
-
   twins-equal : (v : Schedule) → Allowed SC (start p) v → (u t : ℕ) → Together p u t → sameLocal (threadOf (endOf p v) u .local) (threadOf (endOf p v) t .local) ≡ true →
       sameHistory (threadOf (endOf p v) u .history) (threadOf (endOf p v) t .history) ≡ true → threadOf (endOf p v) u ≡ threadOf (endOf p v) t
   twins-equal v a u t k e f =
-      let r = members u t k in
+      let r = members p w u t k in
       ap₂ (λ (l : Local) (h : History). let z : Thread = record { local = l; history = h } in z)
       (same-local _ _ (λ n. suffix-equal (codeOf p t) _ _ (subst (Suffix _) (r .2) (rest-code p v a u)) (rest-code p v a t) n) e) (same-history _ _ f)
 
@@ -105,7 +66,7 @@ module _ (p : Program) (w : WellFormed p) where
       let d = both (silent σ u) (silent σ t) (c .1) in
       let s = full-split SC (start p) v (t ∷ z) f in
       let k = together-true p u t (a .0) in
-      let m = members u t k in
+      let m = members p w u t k in
       let six = w .six in
       let ne : u ≢ t = λ q. omega arith in
       let hu : u < 6 = omega (arith, m .0) in

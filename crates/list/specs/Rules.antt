@@ -1,21 +1,20 @@
 -- What the search's rules look at. `v` is the prefix taken so far, `σ` the state behind it and t the thread to step next. Each rule gives
 -- up only what has a smaller alike schedule.
 use Prim.Native.Nat.{ℕ}
-use mathlib.Core.Bool.{Bool, true, false, not, _&&_}
+use mathlib.Core.Bool.{Bool, _&&_}
 use mathlib.Core.List.{List}
 use lib.Dec.{eqb}
-use lib.ListN.{length}
 use Rattle.program.specs.Program.{Program}
-use Rattle.schedules.specs.Lists.{all}
 use Rattle.schedules.specs.Order.{Schedule}
 use Rattle.model.specs.Late as Late
 use Rattle.model.specs.LateSet as LateSet
-use Rattle.sc.specs.Local.{Local}
-use Rattle.sc.specs.State.{Event, History, Cell, State, threadOf}
+use Rattle.sc.specs.State.{History, State, threadOf}
 use Rattle.sc.specs.Actions.{Action, who, conflict}
 use Rattle.consistent.specs.Same.{sameRead, sameList}
 use Rattle.sc_model.specs.Sequential.{sc}
 use Rattle.list.specs.ListOf.{together}
+-- local states compared, and whether a thread has written nothing
+unfoldable pub use Rattle.sc.specs.Standing.{sameFlag, sameLocal, silent}
 
 -- R1, the step comes late: it could have been taken earlier, before the step of a greater thread. The steps are given latest first.
 abbrev pub late : List Action → Action → Bool
@@ -25,22 +24,9 @@ late = Late.late who conflict
 abbrev pub taken : Program → Schedule → List Action
 taken = LateSet.taken sc
 
-unfoldable pub sameFlag : Bool → Bool → Bool
-sameFlag true b = b
-sameFlag false b = not b
-
--- as much code left, the same registers, and the same outcome so far
-unfoldable pub sameLocal : Local → Local → Bool
-sameLocal h k = eqb (length (h .rest)) (length (k .rest))
-    && (sameList eqb (h .registers) (k .registers) && sameFlag (h .failed) (k .failed))
-
 -- as many accesses done, and the same reads
 unfoldable pub sameHistory : History → History → Bool
 sameHistory h k = eqb (h .done) (k .done) && sameList sameRead (h .reads) (k .reads)
-
--- thread u has written nothing
-unfoldable pub silent : State → ℕ → Bool
-silent σ u = all (λ (c : Cell). all (λ (e : Event). not (eqb (e .0) u)) (c .writes)) (σ .cells)
 
 -- R2, u is t's twin: of t's `02` line, where t stands, with t's reads, and neither has written. Then t need not step before u.
 unfoldable pub twin : Program → State → ℕ → ℕ → Bool

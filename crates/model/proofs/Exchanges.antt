@@ -6,8 +6,10 @@ use mathlib.Core.Logic.{_⊎_, inl, inr, ⊎-elim}
 use mathlib.Core.List.{List, [], _∷_, List·Memᴰ, List·Memᴰ·cases-cons, List·Memᴰ·not-nil}
 use native.Mathlib.Omega.{arith}
 use native.Mathlib.Decide.{decLt}
-use Rattle.program.specs.Program.{Program}
-use Rattle.program.specs.WellFormed.{Everywhere, WellFormed, Apart}
+use lib.ListN.{length}
+use Rattle.program.specs.Program.{Program, codeOf}
+use Rattle.program.specs.WellFormed.{Everywhere, Group, WellFormed, Apart}
+use Rattle.program.proofs.Everywhere.{everywhere-at}
 use Rattle.model.specs.Exchange.{Permutation, Together, Permitted, Exchange}
 
 -- a permutation moves no two threads to one
@@ -78,3 +80,12 @@ only-identity p π e m t = go (m t)
     go : (π t ≡ t) ⊎ Together p t (π t) → π t ≡ t
     go (inl i) = i
     go (inr k) = absurd (List·Memᴰ·not-nil (subst (List·Memᴰ (k .0)) e (k .1)))
+
+-- two members of one `02` line exist and have one code
+pub members : (p : Program) → WellFormed p → (u t : ℕ) → Together p u t → (u < length (p .threads)) × (t < length (p .threads)) × (codeOf p u ≡ codeOf p t)
+members p w u t k =
+    let g = everywhere-at (Group p) (k .1) (w .groups) in (
+      everywhere-at (λ x. x < length (p .threads)) (k .2) (g .exist),
+      everywhere-at (λ x. x < length (p .threads)) (k .3) (g .exist),
+      g .equal u t (k .2) (k .3),
+    )

@@ -1,6 +1,8 @@
 -- The laws of every memory model, in the order in which they rest on each other.
 -- permitted exchanges are a group
 pub mod Exchanges
+-- exchanging two threads of one `02` line
+pub mod Swapped
 -- and the list of them is exact
 pub mod Permitted
 -- own steps reordered; one graph, one end

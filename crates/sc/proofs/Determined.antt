@@ -23,7 +23,7 @@ use Rattle.sc.proofs.Growth.{grown, same-latest}
 use Rattle.sc.proofs.Reading.{first-step-of, same-place, source, same-source, same-finding}
 
 -- two ways to cut a list
-compare : (p q : Schedule) (a : ℕ) (r s : Schedule) → p ++ r ≡ q ++ (a ∷ s) → ((y : Schedule) × (q ≡ p ++ y)) ⊎ ((y : Schedule) × (p ≡ q ++ (a ∷ y)))
+pub compare : (p q : Schedule) (a : ℕ) (r s : Schedule) → p ++ r ≡ q ++ (a ∷ s) → ((y : Schedule) × (q ≡ p ++ y)) ⊎ ((y : Schedule) × (p ≡ q ++ (a ∷ y)))
 compare [] q a r s e = inl (q, refl)
 compare (x ∷ p) [] a r s e = inr (p, let k : x ≡ a = cc in ap (λ (z : ℕ). z ∷ p) k)
 compare (x ∷ p) (y ∷ q) a r s e =
@@ -32,12 +32,12 @@ compare (x ∷ p) (y ∷ q) a r s e =
     ⊎-elim (λ (k : (z : Schedule) × (q ≡ p ++ z)). inl (k .0, ap₂ (λ (m : ℕ) (n : Schedule). m ∷ n) (sym h) (k .1)))
     (λ (k : (z : Schedule) × (p ≡ q ++ (a ∷ z))). inr (k .0, ap₂ (λ (m : ℕ) (n : Schedule). m ∷ n) h (k .1))) (compare p q a r s t)
 
-latest-in : (ws : List Event) (e : Event) → latest ws ≡ e → e .0 < 6 → List·Memᴰ e ws
+pub latest-in : (ws : List Event) (e : Event) → latest ws ≡ e → e .0 < 6 → List·Memᴰ e ws
 unfolding latest initialWrite
 latest-in [] e q h = absurd (omega (arith, ap (λ (x : Event). x .0) q))
 latest-in (x ∷ ws) e q h = List·Memᴰ·head (sym q)
 
-latest-cons : (ws : List Event) (e : Event) (r : List Event) → ws ≡ e ∷ r → latest ws ≡ e
+pub latest-cons : (ws : List Event) (e : Event) (r : List Event) → ws ≡ e ∷ r → latest ws ≡ e
 unfolding latest
 latest-cons ws e r q = ap latest q
 

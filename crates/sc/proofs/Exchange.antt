@@ -22,13 +22,13 @@ use Rattle.sc.proofs.Lawful.{lawful}
 use Rattle.sc.proofs.Rows.{row-at}
 pub use Rattle.model.proofs.Exchanges.{injective}
 
-map-set : {A B : Type 0} (f : A → B) (l : List A) (i : ℕ) (a : A) → set (map f l) i (f a) ≡ map f (set l i a)
+pub map-set : {A B : Type 0} (f : A → B) (l : List A) (i : ℕ) (a : A) → set (map f l) i (f a) ≡ map f (set l i a)
 map-set f [] i a = refl
 map-set f (x ∷ xs) zero a = refl
 map-set {B} f (x ∷ xs) (suc i) a = ap {B = List B} (λ k. f x ∷ k) (map-set f xs i a)
 
 -- a permutation keeps which numbers are below six
-small : (π : ℕ → ℕ) → Permutation π → (t : ℕ) → ltb (π t) 6 ≡ ltb t 6
+pub small : (π : ℕ → ℕ) → Permutation π → (t : ℕ) → ltb (π t) 6 ≡ ltb t 6
 small π q t = go (decLt t 6)
   where
     go : Dec (t < 6) → ltb (π t) 6 ≡ ltb t 6
@@ -36,20 +36,20 @@ small π q t = go (decLt t 6)
     go (no h) = ap (λ (k : ℕ). ltb k 6) (q .stays t (omega arith))
 
 -- the parts of an access, exchanged
-latest-moved : (π : ℕ → ℕ) → Permutation π → (ws : List Event) → latest (movedWrites π ws) ≡ movedEvent π (latest ws)
+pub latest-moved : (π : ℕ → ℕ) → Permutation π → (ws : List Event) → latest (movedWrites π ws) ≡ movedEvent π (latest ws)
 unfolding latest movedWrites movedEvent initialWrite
 latest-moved π q [] = ap (λ (x : ℕ). let e : Event = (x, 255) in e) (sym (q .stays 255 (omega arith)))
 latest-moved π q (e ∷ ws) = refl
 
-abbrev movedHistory : (ℕ → ℕ) → History → History
+abbrev pub movedHistory : (ℕ → ℕ) → History → History
 movedHistory π h = record { done = h .done; reads = movedReads π (h .reads) }
 
-noted-moved : (π : ℕ → ℕ) (b : Bool) (e : Event) (h : History) → noted b (movedEvent π e) (movedHistory π h) ≡ movedHistory π (noted b e h)
+pub noted-moved : (π : ℕ → ℕ) (b : Bool) (e : Event) (h : History) → noted b (movedEvent π e) (movedHistory π h) ≡ movedHistory π (noted b e h)
 unfolding noted movedReads movedRead
 noted-moved π true e h = refl
 noted-moved π false e h = refl
 
-written-moved : (π : ℕ → ℕ) (e : Event) (o : Option ℕ) (c : Cell) → written (movedEvent π e) o (movedCell π c) ≡ movedCell π (written e o c)
+pub written-moved : (π : ℕ → ℕ) (e : Event) (o : Option ℕ) (c : Cell) → written (movedEvent π e) o (movedCell π c) ≡ movedCell π (written e o c)
 unfolding written movedCell movedWrites
 written-moved π e none c = refl
 written-moved π e (some v) c = refl

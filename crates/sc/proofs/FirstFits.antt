@@ -26,11 +26,11 @@ use Rattle.sc.proofs.Determined.{determined}
 use Rattle.sc.proofs.Trails.{writes-own, blind-writes, still-takes, first-at, clear-at, same-action}
 
 -- a list is empty or has a last element
-data Ends {A : Type 0} : List A → Type 0 where
+pub data Ends {A : Type 0} : List A → Type 0 where
   empty : Ends []
   ends : (q : List A) (y : A) → Ends (q ++ (y ∷ []))
 
-ends-of : {A : Type 0} (l : List A) → Ends l
+pub ends-of : {A : Type 0} (l : List A) → Ends l
 ends-of [] = empty
 ends-of {A} (x ∷ l) = go l (ends-of l)
   where
@@ -38,11 +38,11 @@ ends-of {A} (x ∷ l) = go l (ends-of l)
     go l empty = ends [] x
     go l (ends q y) = ends (x ∷ q) y
 
-longer : (a : Event) (r : List Event) → a ∷ r ≡ r → ⊥
+pub longer : (a : Event) (r : List Event) → a ∷ r ≡ r → ⊥
 longer a r e = omega (arith, ap length e)
 
 -- before a common end, behind an element that stands on both sides, nothing can have been put in that is not of this kind
-nothing-between : (P : Event → Type 0) (n : List Event) → Ends n → ((y : Event) → List·Memᴰ y n → P y) → (x : Event) → (P x → ⊥) → (a b c : List Event) → a ++ (x ∷ c) ≡ b ++ (x ∷ (n ++ c)) → n ≡ []
+pub nothing-between : (P : Event → Type 0) (n : List Event) → Ends n → ((y : Event) → List·Memᴰ y n → P y) → (x : Event) → (P x → ⊥) → (a b c : List Event) → a ++ (x ∷ c) ≡ b ++ (x ∷ (n ++ c)) → n ≡ []
 nothing-between P n empty h x np a b c k = refl
 nothing-between P n (ends r y) h x np a b c k =
     let k′ : a ++ (x ∷ c) ≡ (b ++ (x ∷ r)) ++ (y ∷ c) = k ∙ ap (λ (m : List Event). b ++ (x ∷ m)) (append-assoc r (y ∷ []) c) ∙ sym (append-assoc b (x ∷ r) (y ∷ c)) in

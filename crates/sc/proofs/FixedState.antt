@@ -33,16 +33,16 @@ unfolding cellOf
 cell-of σ c m = cell-at (σ .cells) c m
 
 module _ (π : ℕ → ℕ) where
-  event-fixed : (e : Event) → π (e .0) ≡ e .0 → movedEvent π e ≡ e
+  pub event-fixed : (e : Event) → π (e .0) ≡ e .0 → movedEvent π e ≡ e
   unfolding movedEvent
   event-fixed e h = ap (λ (x : ℕ). let z : Event = (x, e .1) in z) h
 
-  reads-fixed : (rs : List (ℕ × Event)) → ((r : ℕ × Event) → List·Memᴰ r rs → movedEvent π (r .1) ≡ r .1) → movedReads π rs ≡ rs
+  pub reads-fixed : (rs : List (ℕ × Event)) → ((r : ℕ × Event) → List·Memᴰ r rs → movedEvent π (r .1) ≡ r .1) → movedReads π rs ≡ rs
   unfolding movedReads movedRead
   reads-fixed [] h = refl
   reads-fixed (r ∷ rs) h = ap₂ (λ (a : ℕ × Event) (b : List (ℕ × Event)). a ∷ b) (ap (λ (e : Event). let z : ℕ × Event = (r .0, e) in z) (h r (List·Memᴰ·head refl))) (reads-fixed rs (λ x m. h x (List·Memᴰ·tail m)))
 
-  writes-fixed : (es : List Event) → ((e : Event) → List·Memᴰ e es → movedEvent π e ≡ e) → movedWrites π es ≡ es
+  pub writes-fixed : (es : List Event) → ((e : Event) → List·Memᴰ e es → movedEvent π e ≡ e) → movedWrites π es ≡ es
   unfolding movedWrites
   writes-fixed [] h = refl
   writes-fixed (e ∷ es) h = ap₂ (λ (a : Event) (b : List Event). a ∷ b) (h e (List·Memᴰ·head refl)) (writes-fixed es (λ x m. h x (List·Memᴰ·tail m)))
@@ -51,7 +51,7 @@ module _ (π : ℕ → ℕ) where
   unfolding movedThread
   thread-fixed h f = ap (λ (rd : List (ℕ × Event)). let z : Thread = record { local = h .local; history = record { done = h .history .done; reads = rd } } in z) (reads-fixed (h .history .reads) f)
 
-  cells-fixed : (cs : List Cell) → ((c : Cell) → List·Memᴰ c cs → (e : Event) → List·Memᴰ e (c .writes) → movedEvent π e ≡ e) → cs ≡ map (movedCell π) cs
+  pub cells-fixed : (cs : List Cell) → ((c : Cell) → List·Memᴰ c cs → (e : Event) → List·Memᴰ e (c .writes) → movedEvent π e ≡ e) → cs ≡ map (movedCell π) cs
   unfolding movedCell
   cells-fixed [] h = refl
   cells-fixed (c ∷ cs) h =

@@ -29,10 +29,10 @@ pub record Grown (σ : State) (z : Schedule) (l : ℕ) : Type 0 where
   -- it was added by a step of this run
   pub of : (x : Event) → List·Memᴰ x new → List·Memᴰ (x .0) z
 
-append-none : {A : Type 0} (a : List A) (x : A) → a ++ (x ∷ []) ≡ [] → ⊥
+pub append-none : {A : Type 0} (a : List A) (x : A) → a ++ (x ∷ []) ≡ [] → ⊥
 append-none a x e = omega (arith, ap length e, length-append a (x ∷ []))
 
-only : {A : Type 0} (x y : A) → List·Memᴰ x (y ∷ []) → x ≡ y
+pub only : {A : Type 0} (x y : A) → List·Memᴰ x (y ∷ []) → x ≡ y
 only {A} x y k = ⊎-elim (λ (e : x ≡ y). e) (λ (j : List·Memᴰ x []). absurd (List·Memᴰ·not-nil j)) (List·Memᴰ·cases-cons k)
 
 grown-step : (t : ℕ) (z : Schedule) (σ : State) → enabled σ t ≡ true → (l : ℕ) → Change σ t l → Grown (step σ t) z l → Grown σ (t ∷ z) l

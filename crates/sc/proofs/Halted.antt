@@ -19,7 +19,7 @@ use Rattle.sc.proofs.Start.{start-cases, everyone}
 use Rattle.sc.proofs.Failing.{fails-at, fails-of}
 
 -- a thread that failed has no code left
-abbrev Halts : Local → Type 0
+abbrev pub Halts : Local → Type 0
 Halts h = h .failed ≡ true → h .rest ≡ []
 
 settle-halts : (is : List Instruction) (k : ℕ) (rs : List ℕ) → Halts (settle k rs is)
@@ -39,11 +39,16 @@ next-halts h [] x b = absurd (false≢true b)
 next-halts h (Memory a ∷ is) x b = settle-halts is 0 (accessSets (h .registers) a x)
 next-halts h (Alone o ∷ is) x b = absurd (false≢true b)
 
-halts-step : (σ : State) (t : ℕ) → enabled σ t ≡ true → ((u : ℕ) → Halts (threadOf σ u .local)) → (u : ℕ) → Halts (threadOf (step σ t) u .local)
-unfolding advanced next pending
-halts-step σ t m h u = thread-cases (λ k x. Halts (x .local)) σ t (enabled-range σ t m) (next-halts (threadOf σ t .local) (threadOf σ t .local .rest) _ (enabled-pending σ t m)) u (λ ne. h u)
+-- behind its next access
+pub access-halts : (h : Local) (x : ℕ) → pending h ≡ true → Halts (next h x)
+unfolding next pending
+access-halts h x e = next-halts h (h .rest) x e
 
-halts-start : (p : Program) (u : ℕ) → Halts (threadOf (start p) u .local)
+halts-step : (σ : State) (t : ℕ) → enabled σ t ≡ true → ((u : ℕ) → Halts (threadOf σ u .local)) → (u : ℕ) → Halts (threadOf (step σ t) u .local)
+unfolding advanced
+halts-step σ t m h u = thread-cases (λ k x. Halts (x .local)) σ t (enabled-range σ t m) (access-halts (threadOf σ t .local) _ (enabled-pending σ t m)) u (λ ne. h u)
+
+pub halts-start : (p : Program) (u : ℕ) → Halts (threadOf (start p) u .local)
 unfolding noThread opened begin
 halts-start p = start-cases p (λ c. Unit {0}) (λ h. Halts (h .local)) (λ e. refl) (λ c k. settle-halts c 0 _) (everyone (p .threads))
 

@@ -30,6 +30,10 @@ pub mod Replay
 pub mod SmallRefusals
 -- a state's graph, row by row and list by list
 pub mod Rows
+-- the tests of events, reads and lists, and of exchanged graphs, are exact
+pub mod Same
+pub mod Renamed
+pub mod Standing
 -- T2: exchanging threads, from any state and for a program
 pub mod Exchange
 pub mod Permitted

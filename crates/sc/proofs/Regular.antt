@@ -41,7 +41,7 @@ place-in σ r t = omega (arith, place-below (threadOf σ t .local) (r .ranges t)
 pub changes : (σ : State) → Regular σ → (t l : ℕ) → Change σ t l
 changes σ r t l = change σ t (place-in σ r t) l
 
-latest-of : (ws : List Event) → (latest ws ≡ initialWrite) ⊎ List·Memᴰ (latest ws) ws
+pub latest-of : (ws : List Event) → (latest ws ≡ initialWrite) ⊎ List·Memᴰ (latest ws) ws
 unfolding latest
 latest-of [] = inl refl
 latest-of (e ∷ ws) = inr (List·Memᴰ·head refl)

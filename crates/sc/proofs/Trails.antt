@@ -21,7 +21,7 @@ use Rattle.sc.proofs.Reading.{same-place}
 use Rattle.sc.proofs.Orders.{action-who}
 
 -- a step that writes: what it leaves
-given-some : (o : Option ℕ) → given o ≡ true → (n : ℕ) × (o ≡ some n)
+pub given-some : (o : Option ℕ) → given o ≡ true → (n : ℕ) × (o ≡ some n)
 unfolding given
 given-some none e = absurd (false≢true e)
 given-some (some n) e = (n, refl)

@@ -19,5 +19,10 @@ pub mod Ahead
 pub mod GraphCall
 -- exchanging threads: permitted permutations, and states and graphs turned into others
 pub mod Exchange
+-- events, reads and lists compared; whether a graph is another with its threads exchanged
+pub mod Same
+pub mod Renamed
+-- where a thread stands, as tests
+pub mod Standing
 -- the steps of an exchanged run
 pub mod ExchangedActions

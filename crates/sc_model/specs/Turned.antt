@@ -1,15 +1,2 @@
--- Whether one graph is another with its threads exchanged, as a test.
-use Prim.Native.Nat.{ℕ}
-use mathlib.Core.Bool.{Bool, _&&_}
-use mathlib.Core.List.{[], map}
-use lib.ListN.{length, getD}
-use Rattle.schedules.specs.Lists.{range, all}
-use Rattle.sc.specs.Graph.{Graph}
-use Rattle.sc.specs.Exchange.{movedReads, movedWrites}
-use Rattle.consistent.specs.Same.{sameEvent, sameRead, sameList}
-
--- whether π turns the first graph into the second
-unfoldable pub renames : (ℕ → ℕ) → Graph → Graph → Bool
-renames π g h =
-    sameList (sameList sameEvent) (map (movedWrites π) (g .writes)) (h .writes)
-    && all (λ t. sameList sameRead (movedReads π (getD (g .reads) t [])) (getD (h .reads) (π t) [])) (range 0 (length (g .reads)))
+-- Whether one graph is another with its threads exchanged: the test of the crate below.
+unfoldable pub use Rattle.sc.specs.Renamed.{renames}

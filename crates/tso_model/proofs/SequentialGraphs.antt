@@ -1,0 +1,25 @@
+-- EVERY SC GRAPH of a program that this listing accepts is the graph of some full schedule here. And 22 under total store order: exactly
+-- where an output is shorter than 48 bytes.
+use Prim.Native.Nat.{ℕ, _<_}
+use mathlib.Core.Path.{_≡_}
+use mathlib.Core.Logic.{_↔_}
+use mathlib.Core.List.{List}
+use lib.ListN.{length}
+use Rattle.program.specs.Program.{Program}
+use Rattle.program.specs.Decode.{accepted, decode}
+use Rattle.schedules.specs.Order.{Schedule}
+use Rattle.model.specs.OnFile.{admit, violationFile}
+use Rattle.model.specs.Answers.{refused-by}
+use Rattle.model.proofs.Demand3.{listed-program, demand-3}
+use Rattle.sc.specs.Graph as SC
+use Rattle.tso.specs.Graph.{Full, graph}
+use Rattle.tso.proofs.Sequential.{sc-graph}
+use Rattle.tso_model.specs.TotalStoreOrder.{tso}
+use Rattle.tso_model.proofs.Laws.{tso-laws}
+
+module _ (file : List ℕ) (p : Program) (e : admit tso (decode file) ≡ accepted p) where
+  pub sc-graph-here : (s : Schedule) → SC.Full p s → (z : Schedule) × Full p z × (graph p z ≡ SC.graph p s)
+  sc-graph-here s f = sc-graph p (listed-program tso tso-laws file p e .0) s f
+
+  pub short-48 : (out : List ℕ) → (violationFile tso file out ≡ (refused-by 22 0, out)) ↔ (length out < 48)
+  short-48 out = demand-3 tso tso-laws file p e .violation-short out
