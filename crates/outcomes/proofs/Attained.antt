@@ -15,13 +15,9 @@ use Rattle.list.specs.ListOf.{listOf}
 use Rattle.list.proofs.TheList.{list-exact, list-ascends}
 use Rattle.outcomes.specs.declared.outcome.Outcome.{Outcome}
 use Rattle.outcomes.specs.Covers.{outcomeOf, Attains, Covers, FirstLacking}
-use Rattle.outcomes.specs.Same.{sameOutcome}
+use Rattle.outcomes.specs.Same.{sameOutcome, comesTo}
 use Rattle.outcomes.proofs.Listed.{listed-outcome}
 use Rattle.outcomes.proofs.Same.{same-is, is-same}
-
--- whether s has this outcome
-unfoldable pub comesTo : Program → Outcome → Schedule → Bool
-comesTo p o s = sameOutcome (outcomeOf p s) o
 
 -- whether some listed schedule of p has it
 unfoldable pub attained : Program → Outcome → Bool
@@ -39,6 +35,14 @@ lacks-same p q r s e = ap (λ (o : Outcome). not (attained p o)) e
 pub comes-same : (p : Program) (o : Outcome) (r s : Schedule) → outcomeOf p r ≡ outcomeOf p s → comesTo p o r ≡ comesTo p o s
 unfolding comesTo
 comes-same p o r s e = ap (λ (x : Outcome). sameOutcome x o) e
+
+pub comes-is : (p : Program) (o : Outcome) (s : Schedule) → comesTo p o s ≡ true → outcomeOf p s ≡ o
+unfolding comesTo
+comes-is p o s e = same-is (outcomeOf p s) o e
+
+pub comes-by : (p : Program) (o : Outcome) (s : Schedule) → sameOutcome (outcomeOf p s) o ≡ comesTo p o s
+unfolding comesTo
+comes-by p o s = refl
 
 -- what is attained is the outcome of some full schedule
 pub attained-yes : (p : Program) (o : Outcome) → attained p o ≡ true → Attains p o

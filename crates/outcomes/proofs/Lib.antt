@@ -3,6 +3,8 @@
 pub mod Covering
 -- alike schedules have one outcome, so that each outcome is a listed schedule's
 pub mod Listed
+-- the eight values, one by one
+pub mod Values
 -- the test of two outcomes
 pub mod Same
 -- outcomes looked for in the list

@@ -1,9 +1,13 @@
 -- The test of two outcomes says whether they are equal.
-use Prim.Native.Nat.{ℕ}
+use Prim.Native.Nat.{ℕ, _<_}
 use mathlib.Core.Path.{_≡_, refl, sym, ap, ap₂, subst, _∙_}
-use mathlib.Core.Bool.{Bool, true, false, false≢true}
+use mathlib.Core.Logic.{_≢_}
+use mathlib.Core.Bool.{Bool, true, false, not, _&&_, false≢true}
 use mathlib.Core.List.{List}
+use native.Mathlib.Omega.{arith}
 use lib.Dec.{eqb}
+use lib.ListN.{length, getD}
+use lib.Seq.{ext-getD}
 use borrow.Author.Tests.{eqb-true, eq-eqb}
 use Rattle.program.proofs.Tests.{both}
 use Rattle.consistent.specs.Same.{sameList}
@@ -38,3 +42,32 @@ pub is-same : (a b : Outcome) → a ≡ b → sameOutcome a b ≡ true
 unfolding sameOutcome
 is-same a b e =
     subst (λ (c : Outcome). sameOutcome a c ≡ true) e (both-and (same-list eqb (λ x. eq-eqb x x refl) (a .memory)) (same-flag (a .fails)))
+
+-- a value that differs
+pub differs : (a b : Outcome) (k : ℕ) → getD (a .memory) k 0 ≢ getD (b .memory) k 0 → sameOutcome a b ≡ false
+differs a b k n = go (sameOutcome a b) refl
+  where
+    go : (t : Bool) → sameOutcome a b ≡ t → sameOutcome a b ≡ false
+    go true e = absurd (n (ap (λ (o : Outcome). getD (o .memory) k 0) (same-is a b e)))
+    go false e = e
+
+-- all eight agree: then it goes by what failed
+module _ (a b : Outcome) (na : length (a .memory) ≡ 8) (nb : length (b .memory) ≡ 8)
+    (agree : (i : ℕ) → i < 8 → getD (a .memory) i 0 ≡ getD (b .memory) i 0) where
+  all-agree : a .memory ≡ b .memory
+  all-agree = ext-getD 0 (a .memory) (b .memory) (na ∙ sym nb) (λ i h. agree i (omega (arith, h, na)))
+
+  by-flag : sameOutcome a b ≡ sameFlag (a .fails) (b .fails)
+  unfolding sameOutcome
+  by-flag =
+      let e : sameList eqb (a .memory) (b .memory) ≡ true =
+      subst (λ (m : List ℕ). sameList eqb (a .memory) m ≡ true) all-agree (same-list eqb (λ x. eq-eqb x x refl) (a .memory)) in
+      ap (λ (t : Bool). t && sameFlag (a .fails) (b .fails)) e
+
+  pub same-fails : a .fails ≡ true → sameOutcome a b ≡ b .fails
+  unfolding sameFlag
+  same-fails e = by-flag ∙ ap (λ (t : Bool). sameFlag t (b .fails)) e
+
+  pub same-holds : a .fails ≡ false → sameOutcome a b ≡ not (b .fails)
+  unfolding sameFlag
+  same-holds e = by-flag ∙ ap (λ (t : Bool). sameFlag t (b .fails)) e

@@ -13,5 +13,7 @@ pub mod Words
 -- What each call says fits its word; the judge's by itself.
 pub mod Fitting
 pub mod JudgeFits
+-- What the call over two files says, and that it fits.
+pub mod Coverings
 -- A word of kind 1 tells how many bytes of the output are the schedule.
 pub mod InOutput
