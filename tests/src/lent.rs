@@ -1,6 +1,7 @@
 //! Calls held to the oracle: the answer, and every byte of every lent buffer.
 use crate::calls::{self, Answer, ROW};
 use crate::oracle::calls::Found;
+use crate::oracle::covers::Covers;
 use crate::oracle::Refusal;
 use crate::random::Random;
 
@@ -45,6 +46,18 @@ pub fn held_rows(random: &mut Random, file: &[u8], behind: Option<&[u8]>, output
             held_to(random, [file, last], output, shown_rows(found), |[file, last], out| calls::rows_after(file, last, out))
         }
     }
+}
+
+/// The call over two files, held to the oracle's in the same way.
+pub fn held_covers(random: &mut Random, files: [&[u8]; 2], output: usize, found: &Covers) {
+    let shown = match found {
+        Covers::Covered => (Answer::None, &[][..]),
+        Covers::Lacking(schedule) => (Answer::Answered(schedule.len() as u64), schedule.as_slice()),
+        Covers::First(refusal) => (Answer::Refused(refusal.number, refusal.place), &[][..]),
+        Covers::Second(refusal) => (Answer::SecondRefused(refusal.number, refusal.place), &[][..]),
+        Covers::Output => (Answer::Refused(22, 0), &[][..]),
+    };
+    held_to(random, files, output, shown, |[first, second], out| calls::covers(first, second, out));
 }
 
 fn held_to<const N: usize>(

@@ -84,3 +84,12 @@ pub fn rows_after(file: &[u8], schedule: &[u8], out: &mut [u8]) -> Answer {
         raw::tarczolin_rows_after(file.as_ptr(), file.len(), schedule.as_ptr(), schedule.len(), out.as_mut_ptr(), out.len())
     })
 }
+
+/// Does the first program cover the second? Else the first listed schedule of the second with an outcome that the first lacks,
+/// in front of the output.
+pub fn covers(first: &[u8], second: &[u8], out: &mut [u8]) -> Answer {
+    // safe: the call reads only the bytes of the first two slices and writes only bytes of the third
+    Answer::of_word(unsafe {
+        raw::tarczolin_covers(first.as_ptr(), first.len(), second.as_ptr(), second.len(), out.as_mut_ptr(), out.len())
+    })
+}

@@ -34,7 +34,7 @@ fn length(answer: Answer) -> Result<Option<usize>, Refusal> {
     match answer {
         Answer::Answered(length) => Ok(Some(length as usize)),
         Answer::None => Ok(None),
-        Answer::Refused(number, place) => Err(Refusal { number, place }),
+        Answer::Refused(number, place) | Answer::SecondRefused(number, place) => Err(Refusal { number, place }),
     }
 }
 
@@ -132,4 +132,9 @@ pub fn graph(file: &[u8], schedule: &[u8]) -> Result<Vec<u8>, Refusal> {
 /// The least schedule that makes this graph, or no.
 pub fn judge(file: &[u8], graph: &[u8]) -> Result<Option<Schedule>, Refusal> {
     schedule(|out| library::judge(file, graph, out))
+}
+
+/// The first listed schedule of the second program with an outcome that the first lacks, or covered.
+pub fn covers(first: &[u8], second: &[u8]) -> Result<Option<Schedule>, Refusal> {
+    schedule(|out| library::covers(first, second, out))
 }

@@ -5,6 +5,7 @@ mod check;
 mod command;
 mod complete;
 mod count;
+mod covers;
 mod cuts;
 mod disasm;
 mod graph;
