@@ -4,12 +4,10 @@
 pub enum Answer {
     /// Answered; the length of the answer in bytes, 0 where there is none; of rows their number.
     Answered(u64),
-    /// No more, none, no, or covered.
+    /// No more, none, or no.
     None,
     /// Refused, with the number and the place.
     Refused(u8, u64),
-    /// The second of two files is refused, with the number and the place.
-    SecondRefused(u8, u64),
 }
 
 impl Answer {
@@ -21,7 +19,6 @@ impl Answer {
             (1, 0) => Answer::Answered(low),
             (2, 0) if low == 0 => Answer::None,
             (3, 1..) => Answer::Refused(number, low),
-            (4, 1..) => Answer::SecondRefused(number, low),
             _ => panic!("{word:#018x} is no answer word"),
         }
     }

@@ -1,6 +1,6 @@
 //! The library's calls with answers to keep: each lends an output that is long enough and takes the answer out of it.
 use crate::schedule::Schedule;
-use tarczolin_sys::{self as library, Answer, GRAPH, ROW, SCHEDULE};
+use tarczolin_sys::{self as library, Answer, Covers, GRAPH, ROW, SCHEDULE};
 
 /// A refusal: its number and its place.
 #[derive(Clone, Copy, Debug, PartialEq, Eq)]
@@ -34,7 +34,7 @@ fn length(answer: Answer) -> Result<Option<usize>, Refusal> {
     match answer {
         Answer::Answered(length) => Ok(Some(length as usize)),
         Answer::None => Ok(None),
-        Answer::Refused(number, place) | Answer::SecondRefused(number, place) => Err(Refusal { number, place }),
+        Answer::Refused(number, place) => Err(Refusal { number, place }),
     }
 }
 
@@ -134,7 +134,13 @@ pub fn judge(file: &[u8], graph: &[u8]) -> Result<Option<Schedule>, Refusal> {
     schedule(|out| library::judge(file, graph, out))
 }
 
-/// The first listed schedule of the second program with an outcome that the first lacks, or covered.
+/// The first listed schedule of the second program with an outcome that the first lacks, or none where it is covered. Which file
+/// is refused does not stand in the refusal: the first is asked about first.
 pub fn covers(first: &[u8], second: &[u8]) -> Result<Option<Schedule>, Refusal> {
-    schedule(|out| library::covers(first, second, out))
+    let mut out = [0; SCHEDULE];
+    match library::covers(first, second, &mut out) {
+        Covers::Covered => Ok(None),
+        Covers::Lacking(length) => Ok(Some(Schedule::of_output(out, length as usize))),
+        Covers::Refused(number, place) | Covers::SecondRefused(number, place) => Err(Refusal { number, place }),
+    }
 }

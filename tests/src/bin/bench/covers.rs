@@ -1,7 +1,7 @@
 //! One program against another.
 use std::hint::black_box;
 use std::time::Instant;
-use tarczolin_tests::calls::{self, Answer};
+use tarczolin_tests::calls::{self, Answer, Covers};
 use tarczolin_tests::files::lines;
 
 /// Stores of 1, 2, .. beside loads of the same location, of which some are kept at locations of their own.
@@ -25,7 +25,7 @@ fn counted(file: &[u8]) -> (f64, u64) {
 fn row(what: &str, first: &[u8], second: &[u8]) {
     let mut best = [f64::MAX; 2];
     let mut listed = [0; 2];
-    let mut answer = Answer::None;
+    let mut answer = Covers::Covered;
     for _ in 0..3 {
         let both = [counted(first), counted(second)];
         listed = both.map(|(_, listed)| listed);
@@ -35,11 +35,7 @@ fn row(what: &str, first: &[u8], second: &[u8]) {
         best[1] = best[1].min(began.elapsed().as_nanos() as f64);
     }
     println!("{what}: {} and {} listed, {answer:?}", listed[0], listed[1]);
-    println!(
-        "  covers: {:.1} ms, {:.2} times a count of both (asked: at most 60)",
-        best[1] / 1e6,
-        best[1] / best[0]
-    );
+    println!("  covers: {:.1} ms, {:.2} times a count of both (asked: at most 60)", best[1] / 1e6, best[1] / best[0]);
 }
 
 pub fn report() {
