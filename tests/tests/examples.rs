@@ -33,6 +33,7 @@ fn examples_of_document_01() {
         "six-stores",
         "add-wraps",
         "accesses-24",
+        "message-passing",
         "queue-broken",
         "queue-repaired",
     ];

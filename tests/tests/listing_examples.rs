@@ -52,7 +52,7 @@ type Case<'a> = (&'a str, &'a [&'a [u8]], &'a [&'a [u8]]);
 
 #[test]
 fn known_lists() {
-    let all: [Case; 14] = [
+    let all: [Case; 15] = [
         ("empty-thread", &[&[]], &[]),
         ("no-thread", &[&[]], &[]),
         ("whole", &[&[0, 1, 2], &[1, 0, 2], &[1, 2, 0]], &[]),
@@ -67,6 +67,7 @@ fn known_lists() {
         ("load-assert-beside-store", &[&[0, 1], &[1, 0]], &[&[1, 0]]),
         ("six-stores", &[&[0, 1, 2, 3, 4, 5]], &[]),
         ("add-wraps", &[&[0, 0, 0]], &[]),
+        ("message-passing", &[&[0, 0, 1, 1], &[0, 1, 0, 1], &[1, 1, 0, 0]], &[]),
     ];
     for (name, schedules, failing) in all {
         list(name, &example(name), schedules, failing);

@@ -9,7 +9,7 @@ use lib.ListN.{length, getD, set, List·getD-eq-default}
 use lib.Seq.{set-out}
 use borrow.Author.Tests.{ne-eqb}
 use Rattle.program.specs.declared.instruction.Operand.{Operand}
-use Rattle.program.specs.declared.instruction.Comparison.the-variants.{Equal}
+use Rattle.program.specs.declared.instruction.Comparison.the-variants.{Equal, AtMost}
 use Rattle.program.specs.declared.instruction.Test.{Test}
 use Rattle.program.specs.declared.instruction.Own.{Own}
 use Rattle.program.specs.declared.instruction.Own.the-variants.{Assign, AddAssign, SkipUnless, Assert}
@@ -17,7 +17,7 @@ use Rattle.program.specs.declared.instruction.Instruction.{Instruction}
 use Rattle.program.specs.declared.instruction.Instruction.the-variants.{Alone}
 use Rattle.program.specs.Frames.{operand, test}
 use Rattle.rows.specs.Rows.{rowAt, instructionAt}
-use Rattle.rows.proofs.Rows.{row-store, row-load, row-fetch-add, row-compare-swap, row-assign, row-add-assign, row-skip, row-assert, row-other, row-no-access}
+use Rattle.rows.proofs.Rows.{row-store, row-load, row-fetch-add, row-compare-swap, row-assign, row-add-assign, row-skip, row-assert, row-skip-at-most, row-assert-at-most, row-other, row-no-access}
 use Rattle.sc.specs.Local.{holds, outcome, beginsWithAccess}
 use Rattle.accesses.specs.declared.local.Carried.{Carried}
 use Rattle.accesses.specs.CarriedOut.{carried, accessing, accessOf}
@@ -138,14 +138,29 @@ module _ (code : List ℕ) (k : ℕ) (h : k < 96) (rs : List ℕ) (s : Carried) 
       (row-assert code k h e ∙ ap (λ (q : Operand). Alone (Assert (test Equal (getD code (k * 16 + 1) 0) q))) (sym ep))
       (es (test Equal (getD code (k * 16 + 1) 0) p) eb)
 
-  -- none of the four, where it is no access
-  pub carried-other : (getD code (k * 16) 0 ≡ 0x20 → ⊥) → (getD code (k * 16) 0 ≡ 0x21 → ⊥) → (getD code (k * 16) 0 ≡ 0x22 → ⊥) → (getD code (k * 16) 0 ≡ 0x23 → ⊥)
-      → (p : Operand) → p ≡ operand (rowAt code k) 0 → (b : Bool) → b ≡ holds rs (test Equal (getD code (k * 16) 0) p)
+  pub carried-skip-at-most : getD code (k * 16) 0 ≡ 0x24 → (p : Operand) → p ≡ operand (rowAt code k) 2 → (b : Bool) → b ≡ holds rs (test AtMost (getD code (k * 16 + 1) 0) p)
+      → ((t : Test) → b ≡ holds rs t → s ≡ carried rs (outcome rs (SkipUnless t (getD code (k * 16 + 7) 0))))
+      → (o : Own) → instructionAt code k ≡ Alone o → s ≡ carried rs (outcome rs o)
+  carried-skip-at-most e p ep b eb es =
+      own-carried (instructionAt code k) rs s _
+      (row-skip-at-most code k h e ∙ ap (λ (q : Operand). Alone (SkipUnless (test AtMost (getD code (k * 16 + 1) 0) q) (getD code (k * 16 + 7) 0))) (sym ep))
+      (es (test AtMost (getD code (k * 16 + 1) 0) p) eb)
+
+  pub carried-assert-at-most : getD code (k * 16) 0 ≡ 0x25 → (p : Operand) → p ≡ operand (rowAt code k) 2 → (b : Bool) → b ≡ holds rs (test AtMost (getD code (k * 16 + 1) 0) p)
+      → ((t : Test) → b ≡ holds rs t → s ≡ carried rs (outcome rs (Assert t))) → (o : Own) → instructionAt code k ≡ Alone o → s ≡ carried rs (outcome rs o)
+  carried-assert-at-most e p ep b eb es =
+      own-carried (instructionAt code k) rs s _
+      (row-assert-at-most code k h e ∙ ap (λ (q : Operand). Alone (Assert (test AtMost (getD code (k * 16 + 1) 0) q))) (sym ep))
+      (es (test AtMost (getD code (k * 16 + 1) 0) p) eb)
+
+  -- none of the six, where it is no access
+  pub carried-other : (getD code (k * 16) 0 ≡ 0x20 → ⊥) → (getD code (k * 16) 0 ≡ 0x21 → ⊥) → (getD code (k * 16) 0 ≡ 0x22 → ⊥) → (getD code (k * 16) 0 ≡ 0x23 → ⊥) → (getD code (k * 16) 0 ≡ 0x24 → ⊥) → (getD code (k * 16) 0 ≡ 0x25 → ⊥)
+      → (p : Operand) → p ≡ operand (rowAt code k) 0 → (b : Bool) → b ≡ holds rs (test AtMost (getD code (k * 16) 0) p)
       → ((t : Test) → b ≡ holds rs t → s ≡ carried rs (outcome rs (Assert t))) → (o : Own) → instructionAt code k ≡ Alone o → s ≡ carried rs (outcome rs o)
   unfolding beginsWithAccess
-  carried-other n20 n21 n22 n23 p ep b eb es o eo =
+  carried-other n20 n21 n22 n23 n24 n25 p ep b eb es o eo =
       let no : beginsWithAccess (instructionAt code k ∷ []) ≡ false = ap (λ (x : Instruction). beginsWithAccess (x ∷ [])) eo in
       own-carried (instructionAt code k) rs s _
-      (row-other code k h (not-store code k h no) (not-load code k h no) (not-fetch-add code k h no) (not-compare-swap code k h no) n20 n21 n22 n23
-      ∙ ap (λ (q : Operand). Alone (Assert (test Equal (getD code (k * 16) 0) q))) (sym ep))
-      (es (test Equal (getD code (k * 16) 0) p) eb) o eo
+      (row-other code k h (not-store code k h no) (not-load code k h no) (not-fetch-add code k h no) (not-compare-swap code k h no) n20 n21 n22 n23 n24 n25
+      ∙ ap (λ (q : Operand). Alone (Assert (test AtMost (getD code (k * 16) 0) q))) (sym ep))
+      (es (test AtMost (getD code (k * 16) 0) p) eb) o eo

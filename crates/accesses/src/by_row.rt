@@ -2,6 +2,8 @@
 use crate::accessing::Access;
 use crate::accessing::done;
 use crate::accessing::found;
+use crate::comparing::is_at_most;
+use crate::comparing::is_equal;
 use crate::local::Carried;
 use crate::local::failed;
 use crate::local::passed;
@@ -16,12 +18,10 @@ use std::num::wrapping_add_u32;
 ghost use mathlib.Core.Path.{_≡_};
 ghost use mathlib.Core.List.{[], _∷_};
 ghost use Prim.Native.Nat.{_<_};
-ghost use Rattle.program.specs.declared.instruction.Comparison.the-variants.{Equal};
 ghost use Rattle.program.specs.declared.instruction.Test.{Test};
 ghost use Rattle.program.specs.declared.instruction.Own.{Own};
 ghost use Rattle.program.specs.declared.instruction.Own.the-variants.{Assign, AddAssign, SkipUnless, Assert};
 ghost use Rattle.program.specs.declared.instruction.Instruction.the-variants.{Alone};
-ghost use Rattle.program.specs.Frames.{test};
 ghost use Rattle.rows.specs.Rows.{instructionAt};
 ghost use Rattle.sc.specs.Local.{holds, outcome, beginsWithAccess};
 ghost use Rattle.accesses.specs.CarriedOut.{carried, accessOf};
@@ -62,13 +62,6 @@ fn added(registers: [u32; 4], r: u8, p: Operand) -> Carried
     let k = wide(r);
     let v = wrapping_add_u32(register_at(registers, k), value(p, registers));
     passed(with_register(registers, k, v), 0)
-}
-
-// Whether the register is the operand.
-fn is_equal(registers: [u32; 4], r: u8, p: Operand) -> bool
-    ensures { λ b. ⌜ b ≡ holds registers (test Equal r p) ⌝ }
-{
-    register_at(registers, wide(r)) == value(p, registers)
 }
 
 // A skip of n instructions unless its test holds.
@@ -112,7 +105,20 @@ pub(crate) fn carried_out(code: &Code, row: usize, registers: [u32; 4]) -> Carri
     if b == 0x23 {
         return asserted(registers, is_equal(registers, r, operand_at(code, row, 2)));
     }
-    asserted(registers, is_equal(registers, b, operand_at(code, row, 0)))
+    if b == 0x24 {
+        let held = is_at_most(registers, r, operand_at(code, row, 2));
+        return skipping(registers, held, code[at + 7]);
+    }
+    if b == 0x25 {
+        return asserted(
+            registers,
+            is_at_most(registers, r, operand_at(code, row, 2)),
+        );
+    }
+    asserted(
+        registers,
+        is_at_most(registers, b, operand_at(code, row, 0)),
+    )
 }
 
 // Does the access on finding memory so. Operands are read before the register changes.

@@ -4,6 +4,8 @@
 mod local;
 // What an access does.
 mod accessing;
+// How a register's value compares with an operand's.
+mod comparing;
 // What the instruction in a row does.
 mod by_row;
 // A thread carried to its next access.

@@ -38,8 +38,14 @@ addAssign r p = 0x21 ∷ r ∷ p
 abbrev assert : ℕ → Frame → Frame
 assert r p = 0x23 ∷ r ∷ p
 
+abbrev assertAtMost : ℕ → Frame → Frame
+assertAtMost r p = 0x25 ∷ r ∷ p
+
 abbrev alike : List ℕ → Frame
 alike ts = 0x02 ∷ ts
+
+abbrev start : ℕ → ℕ → Frame
+start l v = 0x03 ∷ l ∷ 0 ∷ 0 ∷ 0 ∷ v ∷ []
 
 -- the printed lines
 abbrev passes : List ℕ → Frame
@@ -137,4 +143,24 @@ abbrev pub asserting : Row
 asserting = record {
   file = thread ∷ load 0 0 ∷ assert 0 (constant 0) ∷ thread ∷ store 0 (constant 1) ∷ [];
   prints = passes (0 ∷ 1 ∷ []) ∷ fails (1 ∷ 0 ∷ []) ∷ counts 2 1 ∷ [];
+}
+
+-- request a: message passing, which asserts that the flag is at most the data; and a load that finds 0 or minus 1, at most 0 both times
+abbrev pub passing : Row
+passing = record {
+  file = thread ∷ store 0 (constant 1) ∷ store 1 (constant 1) ∷ thread ∷ load 0 1 ∷ load 1 0 ∷ assertAtMost 0 (register 1) ∷ [];
+  prints = passes (0 ∷ 0 ∷ 1 ∷ 1 ∷ []) ∷ passes (0 ∷ 1 ∷ 0 ∷ 1 ∷ []) ∷ passes (1 ∷ 1 ∷ 0 ∷ 0 ∷ []) ∷ counts 3 0 ∷ [];
+}
+
+abbrev pub negative : Row
+negative = record {
+  file = thread ∷ load 0 0 ∷ assertAtMost 0 (constant 0) ∷ thread ∷ store 0 (0 ∷ 0xff ∷ 0xff ∷ 0xff ∷ 0xff ∷ []) ∷ [];
+  prints = passes (0 ∷ 1 ∷ []) ∷ passes (1 ∷ 0 ∷ []) ∷ counts 2 0 ∷ [];
+}
+
+-- request e: location 0 starts with 1, a compare and swap of 1 to 2 there, beside a load: the swap succeeds, so that the order counts
+abbrev pub sentinel : Row
+sentinel = record {
+  file = start 0 1 ∷ thread ∷ compareSwap 0 0 (constant 1) (constant 2) ∷ thread ∷ load 0 0 ∷ [];
+  prints = passes (0 ∷ 1 ∷ []) ∷ passes (1 ∷ 0 ∷ []) ∷ counts 2 0 ∷ [];
 }

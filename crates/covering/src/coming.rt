@@ -34,7 +34,8 @@ pub(crate) fn outcome(program: Compiled, schedule: &[u8]) -> Outcome
 {
     let code = program.code;
     let lengths = program.lengths;
-    let r = replayed(&code, &lengths, program.threads, schedule);
+    let starting = program.starting;
+    let r = replayed(&code, &lengths, program.threads, starting, schedule);
     let m = r.machine;
     let memory = m.memory;
     Outcome {

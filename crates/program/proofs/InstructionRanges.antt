@@ -80,7 +80,13 @@ instruction-in-range f i h e =
                   λ z. ((z .register refl, z .first refl), z .skip refl .0, z .skip refl .1),
                   (
                     λ z. (z .register refl, z .first refl),
-                    tt,
+                    (
+                      λ z. ((z .register refl, z .first refl), z .skip refl .0, z .skip refl .1),
+                      (
+                        λ z. (z .register refl, z .first refl),
+                        tt,
+                      ),
+                    ),
                   ),
                 ),
               ),

@@ -8,7 +8,7 @@ use Rattle.program.specs.declared.instruction.Operand.{Operand}
 use Rattle.program.specs.declared.instruction.Operand.the-variants.{Constant, Register}
 use Rattle.program.specs.declared.instruction.Access.the-variants.{Store, Load, FetchAdd, CompareSwap}
 use Rattle.program.specs.declared.instruction.Comparison.{Comparison}
-use Rattle.program.specs.declared.instruction.Comparison.the-variants.{Equal}
+use Rattle.program.specs.declared.instruction.Comparison.the-variants.{Equal, AtMost}
 use Rattle.program.specs.declared.instruction.Test.{Test}
 use Rattle.program.specs.declared.instruction.Own.{Own}
 use Rattle.program.specs.declared.instruction.Own.the-variants.{Assign, AddAssign, SkipUnless, Assert}
@@ -55,12 +55,15 @@ inRange f =
     && (locationFits f (kind f .location)
     && (operandFits f (kind f .first) && (operandFits f (kind f .second) && skipFits f (kind f .skip))))
 
--- the two kinds that are no instruction, and the four that are accesses
+-- the three kinds that are no instruction, and the four that are accesses
 unfoldable pub opens : Frame → Bool
 opens f = eqb (byte f 0) 0x01
 
 unfoldable pub declares : Frame → Bool
 declares f = eqb (byte f 0) 0x02
+
+unfoldable pub starts : Frame → Bool
+starts f = eqb (byte f 0) 0x03
 
 unfoldable pub isAccess : Frame → Bool
 isAccess f = leb 0x10 (byte f 0) && leb (byte f 0) 0x13
@@ -83,7 +86,9 @@ buildOwn b r p n =
     cond (eqb b 0x20) (Assign r p)
     (cond (eqb b 0x21) (AddAssign r p)
     (cond (eqb b 0x22) (SkipUnless (test Equal r p) n)
-    (Assert (test Equal r p))))
+    (cond (eqb b 0x23) (Assert (test Equal r p))
+    (cond (eqb b 0x24) (SkipUnless (test AtMost r p) n)
+    (Assert (test AtMost r p))))))
 
 unfoldable pub build : ℕ → ℕ → ℕ → Operand → Operand → ℕ → Instruction
 build b r l p q n =

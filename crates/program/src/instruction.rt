@@ -22,6 +22,8 @@ pub enum Access {
 // How a register's value is compared with an operand's.
 pub enum Comparison {
     Equal,
+    // At most, both read as two's complement.
+    AtMost,
 }
 
 // What a skip and an assertion ask: r against p.
@@ -37,9 +39,9 @@ pub enum Own {
     Assign(u8, Operand),
     // 21 r p: r becomes r plus p.
     AddAssign(u8, Operand),
-    // 22 r p n: unless r is p, skip the next n instructions.
+    // 22 r p n: unless r is p, skip the next n instructions; 24 r p n: unless r is at most p.
     SkipUnless(Test, u8),
-    // 23 r p: assert that r is p.
+    // 23 r p: assert that r is p; 25 r p: that r is at most p.
     Assert(Test),
 }
 

@@ -34,8 +34,13 @@ pub fn skip_at(code: &Code, row: usize) -> usize
     ensures { λ r. ⌜ r ≡ skipOf (rowAt (now (code .entry)) row) ⌝ }
 {
     let at = row * 16;
-    if code[at] == 0x22 {
-        return wide(code[at + 7]);
+    let b = code[at];
+    let n = wide(code[at + 7]);
+    if b == 0x22 {
+        return n;
+    }
+    if b == 0x24 {
+        return n;
     }
     0
 }

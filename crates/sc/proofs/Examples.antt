@@ -3,11 +3,11 @@ use Prim.Native.Nat.{ℕ}
 use mathlib.Core.Path.{_≡_, refl}
 use mathlib.Core.Bool.{Bool, true, false}
 use mathlib.Core.List.{List, [], _∷_, map}
-use Rattle.program.specs.Program.{Program, initial}
+use Rattle.program.specs.Program.{Program, initial, zeros}
 use Rattle.program.specs.Frames.{test}
 use Rattle.program.specs.declared.instruction.Operand.the-variants.{Constant, Register}
 use Rattle.program.specs.declared.instruction.Access.the-variants.{Store, Load, FetchAdd, CompareSwap}
-use Rattle.program.specs.declared.instruction.Comparison.the-variants.{Equal}
+use Rattle.program.specs.declared.instruction.Comparison.the-variants.{Equal, AtMost}
 use Rattle.program.specs.declared.instruction.Own.the-variants.{Assign, AddAssign, SkipUnless, Assert}
 use Rattle.program.specs.declared.instruction.Instruction.the-variants.{Memory, Alone}
 use Rattle.schedules.specs.Lists.{any, find, range}
@@ -17,6 +17,7 @@ use Rattle.lines.specs.Text.{digits, text}
 use Rattle.schedules.specs.System.{run, none-enabled, ended}
 use Rattle.schedules.specs.Greedy.{greedy}
 use Rattle.schedules.specs.Orders.{trace, nextOf, clear, clearOf, ready, takeOut, leastOrder}
+use Rattle.sc.specs.Signed.{signed, atMost}
 use Rattle.sc.specs.Local.{eval, sum32, accessPlace, accessTakes, accessPuts, accessSets, compare, holds, outcome, settle, beginsWithAccess, firstPlace, firstTakes, firstPuts, firstNext, pending, placeOf, takes, puts, next, begin}
 use Rattle.sc.specs.State.{initialWrite, noThread, freshCell, threadOf, cellOf, place, latest, noted, advanced, written, met, step, enabled, SC, opened, start, failedOf, fails, valueOf, memoryOf}
 use Rattle.sc.specs.Graph.{readsOf, writesOf, graphOf, graph, endOf}
@@ -33,12 +34,12 @@ pub record Seen : Type 0 where
 
 -- what a proof names on its `unfolding` line to compute with every definition of a run
 unfoldable pub seen : Program → Schedule → Seen
-unfolding eval sum32 accessPlace accessTakes accessPuts accessSets compare holds outcome settle beginsWithAccess firstPlace firstTakes firstPuts firstNext pending placeOf takes puts next begin initialWrite noThread freshCell threadOf cellOf place latest noted advanced written met step enabled opened start failedOf fails valueOf memoryOf readsOf writesOf graphOf readFrame readFrames eventBytes writeFrame writeFrames frames run none-enabled ended any range initial
+unfolding eval sum32 accessPlace accessTakes accessPuts accessSets signed atMost compare holds outcome settle beginsWithAccess firstPlace firstTakes firstPuts firstNext pending placeOf takes puts next begin initialWrite noThread freshCell threadOf cellOf place latest noted advanced written met step enabled opened start failedOf fails valueOf memoryOf readsOf writesOf graphOf readFrame readFrames eventBytes writeFrame writeFrames frames run none-enabled ended any range initial
 seen p s = let σ = endOf p s in record { full = ended SC σ; fails = fails σ; memory = memoryOf σ; frames = frames (graphOf σ) }
 
 -- a store of 1 beside two loads
 stores : Program
-stores = record { threads = (Memory (Store 0 (Constant 1)) ∷ []) ∷ (Memory (Load 0 0) ∷ []) ∷ (Memory (Load 0 0) ∷ []) ∷ []; groups = (1 ∷ 2 ∷ []) ∷ [] }
+stores = record { threads = (Memory (Store 0 (Constant 1)) ∷ []) ∷ (Memory (Load 0 0) ∷ []) ∷ (Memory (Load 0 0) ∷ []) ∷ []; groups = (1 ∷ 2 ∷ []) ∷ []; starting = zeros }
 
 between : seen stores (1 ∷ 0 ∷ 2 ∷ []) ≡ record {
   full = true;
@@ -70,6 +71,7 @@ wraps = record {
       []
       ) ∷ [];
   groups = [];
+  starting = zeros;
 }
 
 wrapped : seen wraps (0 ∷ 0 ∷ 0 ∷ []) ≡ record {
@@ -81,9 +83,37 @@ wrapped : seen wraps (0 ∷ 0 ∷ 0 ∷ []) ≡ record {
 unfolding seen wraps
 wrapped = refl
 
+-- one thread: minus 1 is at most 0 and not skipped, the greatest value is not at most the least and skips, and the assertion that it is fails
+turns : Program
+turns = record {
+  threads = (
+      Alone (Assign 0 (Constant 0xffffffff)) ∷
+      Alone (SkipUnless (test AtMost 0 (Constant 0)) 1) ∷
+      Memory (Store 0 (Constant 1)) ∷
+      Alone (Assign 1 (Constant 0x80000000)) ∷
+      Alone (Assert (test AtMost 1 (Register 0))) ∷
+      Alone (Assign 0 (Constant 0x7fffffff)) ∷
+      Alone (SkipUnless (test AtMost 0 (Register 1)) 1) ∷
+      Memory (Store 0 (Constant 2)) ∷
+      Memory (Store 1 (Constant 3)) ∷
+      Alone (Assert (test AtMost 0 (Register 1))) ∷
+      []
+      ) ∷ [];
+  groups = [];
+}
+
+turned : seen turns (0 ∷ 0 ∷ []) ≡ record {
+  full = true;
+  fails = true;
+  memory = 1 ∷ 3 ∷ 0 ∷ 0 ∷ 0 ∷ 0 ∷ 0 ∷ 0 ∷ [];
+  frames = (0x41 ∷ 0 ∷ 0 ∷ 0 ∷ []) ∷ (0x41 ∷ 1 ∷ 0 ∷ 1 ∷ []) ∷ [];
+}
+unfolding seen turns
+turned = refl
+
 -- a store and a load in each of two threads, as text: `400001ffff`, `4001010000`, `41000000`, `41010100`, each line with its 0a
 pair : Program
-pair = record { threads = (Memory (Store 0 (Constant 1)) ∷ Memory (Load 0 1) ∷ []) ∷ (Memory (Store 1 (Constant 1)) ∷ Memory (Load 0 0) ∷ []) ∷ []; groups = [] }
+pair = record { threads = (Memory (Store 0 (Constant 1)) ∷ Memory (Load 0 1) ∷ []) ∷ (Memory (Store 1 (Constant 1)) ∷ Memory (Load 0 0) ∷ []) ∷ []; groups = []; starting = zeros }
 
 spelt : List ℕ
 spelt =
@@ -95,6 +125,32 @@ spelt =
 pair-text : graphText (graph pair (0 ∷ 0 ∷ 1 ∷ 1 ∷ [])) ≡ spelt
 unfolding seen pair spelt textOf graphText text digits digitOf
 pair-text = refl
+
+-- memory starts with ffffffff at location 3: a compare and swap that expects it succeeds and reads from the initial write, adding 2 wraps
+filled : Program
+filled = record {
+  threads = (Memory (CompareSwap 0 3 (Constant 0xffffffff) (Constant 7)) ∷ []) ∷ (Memory (FetchAdd 0 3 (Constant 2)) ∷ []) ∷ [];
+  groups = [];
+  starting = 0 ∷ 5 ∷ 0 ∷ 0xffffffff ∷ 0 ∷ 0 ∷ 0 ∷ 0 ∷ [];
+}
+
+swapped : seen filled (0 ∷ 1 ∷ []) ≡ record {
+  full = true;
+  fails = false;
+  memory = 0 ∷ 5 ∷ 0 ∷ 9 ∷ 0 ∷ 0 ∷ 0 ∷ 0 ∷ [];
+  frames = (0x40 ∷ 0 ∷ 0 ∷ 255 ∷ 255 ∷ []) ∷ (0x40 ∷ 1 ∷ 0 ∷ 0 ∷ 0 ∷ []) ∷ (0x41 ∷ 3 ∷ 0 ∷ 0 ∷ 1 ∷ 0 ∷ []) ∷ [];
+}
+unfolding seen filled
+swapped = refl
+
+added : seen filled (1 ∷ 0 ∷ []) ≡ record {
+  full = true;
+  fails = false;
+  memory = 0 ∷ 5 ∷ 0 ∷ 1 ∷ 0 ∷ 0 ∷ 0 ∷ 0 ∷ [];
+  frames = (0x40 ∷ 0 ∷ 0 ∷ 1 ∷ 0 ∷ []) ∷ (0x40 ∷ 1 ∷ 0 ∷ 255 ∷ 255 ∷ []) ∷ (0x41 ∷ 3 ∷ 1 ∷ 0 ∷ []) ∷ [];
+}
+unfolding seen filled
+added = refl
 
 -- a byte that names no thread, one behind the end, and a schedule that is not full
 refusals : map (replay pair) ((1 ∷ 2 ∷ []) ∷ (0 ∷ 0 ∷ 1 ∷ 1 ∷ 0 ∷ []) ∷ (0 ∷ 0 ∷ 1 ∷ []) ∷ (0 ∷ 9 ∷ []) ∷ []) ≡ refused 20 1 ∷ refused 20 4 ∷ refused 21 3 ∷ refused 20 1 ∷ []

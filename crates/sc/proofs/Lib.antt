@@ -1,6 +1,8 @@
 -- The laws, in the order in which they rest on each other.
 -- the definitions computed
 pub mod Examples
+-- two's complement, computed and as the code compares
+pub mod Signed
 -- what holds of every member; ends of a list
 pub mod Everywhere
 pub mod Suffix

@@ -1,4 +1,6 @@
 -- What a reader of this crate must believe, in reading order.
+-- the integer that 32 bits mean in two's complement
+pub mod Signed
 -- a thread by itself: settling, and the four functions by which an access is seen
 pub mod Local
 -- threads and memory, steps, and sequential consistency as a step system

@@ -12,12 +12,13 @@ use Rattle.program.specs.declared.instruction.Operand.the-variants.{Constant, R
 use Rattle.program.specs.declared.instruction.Access.{Access}
 use Rattle.program.specs.declared.instruction.Access.the-variants.{Store, Load, FetchAdd, CompareSwap}
 use Rattle.program.specs.declared.instruction.Comparison.{Comparison}
-use Rattle.program.specs.declared.instruction.Comparison.the-variants.{Equal}
+use Rattle.program.specs.declared.instruction.Comparison.the-variants.{Equal, AtMost}
 use Rattle.program.specs.declared.instruction.Test.{Test}
 use Rattle.program.specs.declared.instruction.Own.{Own}
 use Rattle.program.specs.declared.instruction.Own.the-variants.{Assign, AddAssign, SkipUnless, Assert}
 use Rattle.program.specs.declared.instruction.Instruction.{Instruction}
 use Rattle.program.specs.declared.instruction.Instruction.the-variants.{Memory, Alone}
+use Rattle.sc.specs.Signed.{atMost}
 
 -- registers, what is left of the code, and whether an assertion failed; a thread has ended when nothing is left
 pub record Local : Type 0 where
@@ -67,6 +68,7 @@ accessSets rs (CompareSwap r l e v) x = set rs r x
 -- a comparison of two values
 unfoldable pub compare : Comparison → ℕ → ℕ → Bool
 compare Equal a b = eqb a b
+compare AtMost a b = atMost a b
 
 -- whether a test holds
 unfoldable pub holds : List ℕ → Test → Bool

@@ -37,6 +37,11 @@ impl Thread {
         }
     }
 
+    /// Is the register at most the operand, both read as two's complement?
+    fn at_most(&self, r: u8, p: Operand) -> bool {
+        self.registers[r as usize] as i32 <= self.value(p) as i32
+    }
+
     pub fn ended(&self, code: &[Instruction]) -> bool {
         self.failed || self.next >= code.len()
     }
@@ -57,6 +62,12 @@ impl Thread {
                     }
                 }
                 Instruction::Assert { r, p } => self.failed = self.registers[r as usize] != self.value(p),
+                Instruction::SkipUnlessAtMost { r, p, n } => {
+                    if !self.at_most(r, p) {
+                        self.next += n as usize;
+                    }
+                }
+                Instruction::AssertAtMost { r, p } => self.failed = !self.at_most(r, p),
                 _ => unreachable!("an access"),
             }
         }
@@ -120,7 +131,7 @@ pub struct Machine<'a> {
 impl<'a> Machine<'a> {
     pub fn new(program: &'a Program) -> Machine<'a> {
         let threads = program.threads.iter().map(|code| opened(code)).collect();
-        Machine { program, threads, memory: [0; 8], done: Vec::new() }
+        Machine { program, threads, memory: program.memory, done: Vec::new() }
     }
 
     /// May this byte be the next step: does it name a thread that has not ended?

@@ -9,7 +9,7 @@ pub struct Size {
     pub accesses: usize,
     pub locations: usize,
     pub registers: usize,
-    /// Constants are below this; 0: any 32 bits, often at the ends of the range.
+    /// Most constants are below this, some where two's complement turns; 0: any 32 bits, often there.
     pub constants: usize,
 }
 
@@ -19,10 +19,11 @@ pub const ANY: Size = Size { threads: 6, instructions: 16, accesses: 24, locatio
 /// Small enough to walk every schedule: values and places meet often.
 pub const SMALL: Size = Size { threads: 3, instructions: 5, accesses: 8, locations: 2, registers: 2, constants: 3 };
 
-/// The frames of a random accepted program; of one in fifty there are none.
+/// The frames of a random accepted program; one in fifty has no thread, one in three lets locations start with values.
 pub fn frames(random: &mut Random, size: Size) -> Vec<Vec<u8>> {
+    let mut all = if random.one_in(3) { starts(random, size) } else { Vec::new() };
     if random.one_in(50) {
-        return Vec::new();
+        return all;
     }
     let threads = random.between(1, size.threads);
     // threads of one class have equal code; most classes of two or more are declared alike
@@ -37,7 +38,6 @@ pub fn frames(random: &mut Random, size: Size) -> Vec<Vec<u8>> {
         left -= members * code.iter().filter(|f| is_access(f)).count();
         codes.push(code);
     }
-    let mut all = Vec::new();
     for &c in &class {
         all.push(vec![0x01]);
         all.extend(codes[c].iter().cloned());
@@ -51,6 +51,19 @@ pub fn frames(random: &mut Random, size: Size) -> Vec<Vec<u8>> {
         }
     }
     all
+}
+
+/// `03` lines, each for another location.
+fn starts(random: &mut Random, size: Size) -> Vec<Vec<u8>> {
+    let mut locations: Vec<u8> = (0..size.locations as u8).collect();
+    random.shuffle(&mut locations);
+    locations.truncate(random.between(1, size.locations));
+    locations.into_iter().map(|l| start(random, size, l)).collect()
+}
+
+/// A `03` line of this location.
+pub fn start(random: &mut Random, size: Size, l: u8) -> Vec<u8> {
+    [vec![0x03, l], constant(random, size).to_be_bytes().to_vec()].concat()
 }
 
 /// The frames of a random accepted program whose `02` lines sometimes leave a thread of that code out, or part in two.
@@ -90,6 +103,11 @@ pub fn is_access(frame: &[u8]) -> bool {
     (0x10..=0x13).contains(&frame[0])
 }
 
+/// Does an instruction of this kind skip?
+fn is_skip(kind: u8) -> bool {
+    matches!(kind, 0x22 | 0x24)
+}
+
 /// The code of one thread: so many instructions, at most so many accesses, and skips that end within it.
 pub fn code(random: &mut Random, size: Size, instructions: usize, accesses: usize) -> Vec<Vec<u8>> {
     let mut left = accesses;
@@ -97,14 +115,14 @@ pub fn code(random: &mut Random, size: Size, instructions: usize, accesses: usiz
     for k in 0..instructions {
         let behind = instructions - 1 - k;
         let kind = loop {
-            let kind = random.pick(&[0x10, 0x11, 0x12, 0x13, 0x10, 0x11, 0x20, 0x21, 0x22, 0x23]);
-            if (kind < 0x20 && left == 0) || (kind == 0x22 && behind == 0) {
+            let kind = random.pick(&[0x10, 0x11, 0x12, 0x13, 0x10, 0x11, 0x20, 0x21, 0x22, 0x23, 0x24, 0x25]);
+            if (kind < 0x20 && left == 0) || (is_skip(kind) && behind == 0) {
                 continue;
             }
             break kind;
         };
         let mut frame = instruction(random, size, kind);
-        if kind == 0x22 {
+        if is_skip(kind) {
             frame[7] = if random.one_in(3) { behind } else { random.between(1, behind) } as u8;
         }
         left -= is_access(&frame) as usize;
@@ -131,22 +149,33 @@ pub fn instruction(random: &mut Random, size: Size, kind: u8) -> Vec<u8> {
     if kind != 0x11 {
         frame.extend(operand(random, size));
     }
-    if kind == 0x22 {
+    if is_skip(kind) {
         frame.push(random.between(1, 15) as u8);
     }
     frame
+}
+
+/// A value at one of the points where two's complement turns, or one or two beside it.
+fn near_a_turn(random: &mut Random) -> u32 {
+    let turn: u32 = random.pick(&[0x7fff_ffff, 0x8000_0000, 0xffff_ffff]);
+    turn.wrapping_add(random.below(4) as u32).wrapping_sub(2)
 }
 
 fn operand(random: &mut Random, size: Size) -> Vec<u8> {
     if random.one_in(4) {
         return vec![1, 0, 0, 0, random.below(size.registers) as u8];
     }
-    let value = if size.constants > 0 {
+    [vec![0], constant(random, size).to_be_bytes().to_vec()].concat()
+}
+
+fn constant(random: &mut Random, size: Size) -> u32 {
+    if size.constants > 0 && !random.one_in(6) {
         random.below(size.constants) as u32
-    } else if random.one_in(2) {
-        random.pick(&[0, 1, 2, 0x7fff_ffff, 0x8000_0000, 0xffff_fffe, 0xffff_ffff])
+    } else if size.constants > 0 || random.one_in(3) {
+        near_a_turn(random)
+    } else if random.one_in(3) {
+        random.below(3) as u32
     } else {
         random.word() as u32
-    };
-    [vec![0], value.to_be_bytes().to_vec()].concat()
+    }
 }

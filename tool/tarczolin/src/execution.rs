@@ -2,7 +2,7 @@
 use crate::ask::{self, Listed, Refusal};
 use crate::graph::{Event, Graph};
 use crate::machine::{Done, Failure, Machine};
-use crate::program::{number, Instruction, Operand, Program};
+use crate::program::{number, Comparison, Instruction, Operand, Program};
 use crate::schedule::Schedule;
 use std::collections::BTreeMap;
 
@@ -124,17 +124,21 @@ impl<'a> Execution<'a> {
     /// A failed assertion for the eye, as the program's text has it.
     pub fn failure(&self, t: u8, failure: &Failure) -> String {
         let names = &self.program.names;
-        let Failure { at, r, asserted, value, wanted } = failure;
-        let (name, value) = (names.register(t, *r), number(*value));
-        match (names.statement(t, *at), asserted) {
+        let Failure { at, test, r, asserted, value, wanted } = failure;
+        let (name, sign) = (names.register(t, *r), test.signs().0);
+        let statement = names.statement(t, *at);
+        // a statement that compares as two's complement may end in another assertion
+        let signed = statement.is_some_and(|statement| statement.contains(['<', '>']));
+        let read = |value: &u32| if signed { Comparison::AtMost.number(*value) } else { test.number(*value) };
+        match (statement, asserted) {
             (Some("fail"), _) => "fail FAILS".to_string(),
-            (Some(statement), _) => format!("{statement} FAILS: {name} = {value}"),
+            (Some(statement), _) => format!("{statement} FAILS: {name} = {}", read(value)),
             (None, Operand::Register(p)) => {
                 let other = names.register(t, *p);
-                format!("assert {name} == {other} FAILS: {name} = {value}, {other} = {}", number(*wanted))
+                format!("assert {name} {sign} {other} FAILS: {name} = {}, {other} = {}", read(value), read(wanted))
             }
             (None, Operand::Constant(_)) => {
-                format!("assert {name} == {} FAILS: {name} = {value}", names.operand(t, *asserted))
+                format!("assert {name} {sign} {} FAILS: {name} = {}", names.compared(t, *test, *asserted), read(value))
             }
         }
     }

@@ -1,13 +1,14 @@
 //! A run replayed step by step, for the values that are shown. Nothing here is proved; the schedules themselves, their order,
 //! their counts and whether they fail are the library's.
 use crate::graph::Event;
-use crate::program::{Instruction, Operand, Program};
+use crate::program::{Comparison, Instruction, Operand, Program};
 use Instruction::*;
 
-/// An assertion that failed: its place in the thread's code, the value of its register, and the value that it asked for.
+/// An assertion that failed: its place in the thread's code, how it compares, the value of its register, and the operand's.
 #[derive(Clone, Copy, Debug, PartialEq, Eq, PartialOrd, Ord)]
 pub struct Failure {
     pub at: usize,
+    pub test: Comparison,
     pub r: u8,
     pub asserted: Operand,
     pub value: u32,
@@ -55,11 +56,12 @@ impl Thread {
             match code[self.next] {
                 Set { r, p } => self.registers[r as usize] = self.value(p),
                 Add { r, p } => self.registers[r as usize] = self.registers[r as usize].wrapping_add(self.value(p)),
-                SkipUnless { r, p, n } if self.registers[r as usize] != self.value(p) => self.next += n as usize,
+                SkipUnless { test, r, p, n } if !test.holds(self.registers[r as usize], self.value(p)) => self.next += n as usize,
                 SkipUnless { .. } => {}
-                Assert { r, p } => {
+                Assert { test, r, p } => {
                     let (value, wanted) = (self.registers[r as usize], self.value(p));
-                    self.failure = (value != wanted).then_some(Failure { at: self.next, r, asserted: p, value, wanted });
+                    let failure = Failure { at: self.next, test, r, asserted: p, value, wanted };
+                    self.failure = (!test.holds(value, wanted)).then_some(failure);
                 }
                 _ => return,
             }
@@ -112,7 +114,7 @@ impl<'a> Machine<'a> {
         for (thread, code) in threads.iter_mut().zip(&program.threads) {
             thread.settle(code);
         }
-        Machine { program, threads, memory: [0; 8] }
+        Machine { program, threads, memory: program.memory() }
     }
 
     /// The threads that have not ended, ascending.

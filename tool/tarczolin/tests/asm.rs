@@ -47,16 +47,19 @@ thread
   if r0 != 1 skip 2
   assert r0 == 1
   store y r1
+  if r0 > -1 skip 1
+  assert r0 <= r1
 thread
 thread
 alike 1 2
 ";
     let file = "01\n10000000000001\n110000\n1200000000000001\n13010000000000000000000001\n20000000000005\n21000000000001\n\
-                2200000000000102\n23000000000001\n10010100000001\n01\n01\n020102\n";
+                2200000000000102\n23000000000001\n10010100000001\n240000ffffffff01\n25000100000001\n01\n01\n020102\n";
     assert_eq!(run_with(&["asm", "-"], form.as_bytes()).out, file);
     let back = run_with(&["disasm", "-"], file.as_bytes());
     assert_eq!(run_with(&["asm", "-"], back.out.as_bytes()).out, file);
     assert!(back.out.contains("  r1 = cas x0 0 1\n") && back.out.ends_with("alike 1 2\n"), "{}", back.out);
+    assert!(back.out.contains("  if r0 > -1 skip 1\n  assert r0 <= r1\n"), "{}", back.out);
 }
 
 /// Names take the least numbers that nothing else has; numbers are decimal, hexadecimal or negative.
@@ -70,14 +73,16 @@ fn names_and_numbers() {
 
 #[test]
 fn examples_of_the_text_form() {
-    for name in ["queue-broken", "queue-repaired"] {
+    for name in ["queue-broken", "queue-repaired", "message-passing"] {
         let form = String::from_utf8(read(&format!("examples/{name}.asm"))).unwrap();
         assert_eq!(file_of(&form), read(&format!("examples/{name}.hex")), "{name}");
     }
     let ran = run(&["violation", "examples/queue-broken.hex"]);
     assert_eq!((ran.status, ran.out.as_str()), (1, "00000102020201\n"));
-    let ran = run(&["violation", "examples/queue-repaired.hex"]);
-    assert_eq!((ran.status, ran.out.as_str()), (0, "none\n"));
+    for name in ["queue-repaired", "message-passing"] {
+        let ran = run(&["violation", &format!("examples/{name}.hex")]);
+        assert_eq!((ran.status, ran.out.as_str()), (0, "none\n"), "{name}");
+    }
 }
 
 /// What is wrong, where, and a word of the message.
@@ -98,10 +103,15 @@ fn errors_by_line_and_column() {
         ("thread\n  load x", 2, 3, "needs a register"),
         ("thread\n  r0 = 4294967296", 2, 8, "32 bits"),
         ("thread\n  r0 = 0xg", 2, 8, "32 bits"),
-        ("thread\n  if r0 = 1 skip 2", 2, 9, "== or != is expected"),
-        ("thread\n  if r0 <= 1 skip 2", 2, 9, "signed comparisons, which the library does not have yet"),
-        ("thread\n  assert r0 <= 1", 2, 13, "signed comparisons"),
-        ("init tail 1\nthread", 1, 1, "does not have yet"),
+        ("thread\n  if r0 = 1 skip 2", 2, 9, "==, !=, <=, >, < or >= is expected"),
+        ("thread\n  if r0 <> 1 skip 2", 2, 9, "not <>"),
+        ("thread\n  if r0 < -2147483648 skip 2\n  r0 = 1\n  r0 = 2", 2, 11, "-2147483648 is the least value"),
+        ("thread\n  assert r0 >= 0x80000000", 2, 16, "0x80000000 is the least value"),
+        ("thread\ninit tail 1", 2, 1, "in front of the first thread"),
+        ("init tail 1\ninit tail 1\nthread", 2, 6, "has a starting value already, in line 1"),
+        ("init tail rest\nthread", 1, 11, "a number is expected here"),
+        ("init x8 1\nthread", 1, 6, "there is no location x8"),
+        ("init tail\nthread", 1, 10, "a number is missing"),
         ("thread\n  goto end\n  r0 = 1", 2, 8, "no label end"),
         ("thread\n  goto ned\n  r0 = 1\nend:", 2, 8, "is it end?"),
         ("thread\nagain:\n  r0 = load x\n  if r0 != 1 goto again", 4, 19, "stands above, in line 2"),
@@ -117,7 +127,7 @@ fn errors_by_line_and_column() {
         ("thread\n  a = 1\n  b = 1\n  c = 1\n  d = 1\n  e = 1", 6, 3, "one register too many"),
         ("thread\n  store if 1", 2, 9, "a location"),
         ("thread\n  if r0 != 1 skip 16", 2, 19, "1 to 15"),
-        ("thread\n  assert r0 = 1", 2, 13, "== or != is expected"),
+        ("thread\n  assert r0 = 1", 2, 13, "< or >= is expected"),
         ("thread\n  store x $", 2, 11, "the character $"),
         ("thread\n  \u{e9} = 1", 2, 3, "the character \u{e9}"),
         ("thread\nthread\nalike 0", 3, 8, "missing"),
@@ -176,6 +186,9 @@ fn any_text() {
         "==",
         "+=",
         "!=",
+        "<=",
+        ">",
+        "<",
         "if",
         "skip",
         "assert",

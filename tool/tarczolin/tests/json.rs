@@ -42,7 +42,7 @@ fn every_command_fits_the_schema() {
         (&["violation", QUEUE], b"", 1, 1),
         (&["violation", QUEUE, "--show"], b"", 1, 1),
         (&["outcomes", QUEUE], b"", 1, 7),
-        (&["outcomes", QUEUE, "--where", "second.mine = 0"], b"", 1, 7),
+        (&["outcomes", QUEUE, "--where", "second.mine = 1"], b"", 1, 7),
         (&["covers", QUEUE, QUEUE], b"", 0, 1),
         (&["covers", QUEUE, pair], b"", 1, 1),
         (&["covers", QUEUE, "-"], b"01\n110400\n", 2, 1),

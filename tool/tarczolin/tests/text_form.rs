@@ -27,8 +27,18 @@ fn conditions_and_jumps() {
         for k in VALUES {
             for (set, operand) in [(String::new(), k.to_string()), (format!("r1 = {k}\n"), "r1".to_string())] {
                 let front = format!("r0 = {v}\n{set}");
-                let holds = |sign: &str| if sign == "==" { v == k } else { v != k };
-                for sign in ["==", "!="] {
+                let holds = |sign: &str| match sign {
+                    "==" => v == k,
+                    "!=" => v != k,
+                    "<=" => v as i32 <= k as i32,
+                    ">" => v as i32 > k as i32,
+                    "<" => (v as i32) < k as i32,
+                    _ => v as i32 >= k as i32,
+                };
+                for sign in ["==", "!=", "<=", ">", "<", ">="] {
+                    if k == 0x8000_0000 && set.is_empty() && ["<", ">="].contains(&sign) {
+                        continue;
+                    }
                     let jump = ran(&format!("{front}if r0 {sign} {operand} goto there\nstore x7 5\nthere:\n"));
                     assert_eq!(jump, (if holds(sign) { 0 } else { 5 }, false), "if {v} {sign} {operand} goto");
                     let skip = ran(&format!("{front}if r0 {sign} {operand} skip 2\nstore x7 5\nr2 = 1\nr3 = 1"));
@@ -62,7 +72,7 @@ thread producer
 thread consumer
   stor slot 1
   item = load slot
-  if item <= 7 skip 1
+  if item =< 7 skip 1
 alike producer consumr
 ";
 
@@ -72,7 +82,13 @@ fn all_errors_at_once() {
     let ran = run_with(&["count", "-"], SLIPS.as_bytes());
     assert_eq!((ran.status, ran.out.as_str()), (2, ""));
     let places: Vec<&str> = ran.err.lines().filter(|line| line.contains("standard input:")).collect();
-    let wanted = ["4:8: there is no label nowhere", "5:10: a register", "7:3: a statement", "9:11: <= needs", "10:16: a thread"];
+    let wanted = [
+        "4:8: there is no label nowhere",
+        "5:10: a register",
+        "7:3: a statement",
+        "9:11: ==, !=, <=, >, < or >= is expected here, not =<",
+        "10:16: a thread",
+    ];
     assert_eq!(places.len(), wanted.len(), "{}", ran.err);
     for (place, words) in places.iter().zip(wanted) {
         assert!(place.contains(&format!("standard input:{words}")), "{place}: {words}");
@@ -99,7 +115,7 @@ fn warnings() {
     let short = run_with(&["check", "-"], b"thread\n  store x 1\n  n = load y\nthread\n  store y 1\n  n = load x\n");
     assert_eq!(short.err, "", "x and y are meant to differ");
     let quiet = run(&["check", "examples/queue-broken.asm"]);
-    assert_eq!(quiet.err, "", "slot0 and slot1 are meant to differ");
+    assert_eq!(quiet.err, "", "slot1 and slot2 are meant to differ");
 }
 
 /// A statement that would pass the limit of a thread, and a jump backwards: errors that say so.
@@ -145,11 +161,11 @@ fn every_command_takes_a_text() {
 fn names_in_columns_page_messages_and_disasm() {
     let form = "examples/queue-broken.asm";
     let columns = run(&["show", form, "--only", "failing"]).out;
-    assert!(columns.contains("#0   consumer  load tail -> filled = 2                 second fetch_add #0\n"), "{columns}");
+    assert!(columns.contains("#0   consumer  load tail -> filled = 3                 second fetch_add #0\n"), "{columns}");
     assert!(columns.contains("!!   consumer  assert item == 7 FAILS: item = 0\n"));
     let page = run(&["show", form, "--html", "-"]).out;
     for words in
-        [">consumer</text>", "load slot1 -&gt; item = 0", "<div>first store #1</div></td>", "✗ assert item", "#0 load tail: 2"]
+        [">consumer</text>", "load slot2 -&gt; item = 0", "<div>first store #1</div></td>", "✗ assert item", "#0 load tail: 3"]
     {
         assert!(page.contains(words), "{words}");
     }
@@ -167,4 +183,8 @@ fn failures_by_their_statements() {
     assert!(show("assert n != 0").contains("!!   T0  assert n != 0 FAILS: n = 0\n"));
     assert!(show("fail").contains("!!   T0  fail FAILS\n"));
     assert!(show("assert n == n\n  m = 1\n  assert n == m").contains("assert n == m FAILS: n = 0, m = 1\n"));
+    assert!(show("assert n <= -1").contains("!!   T0  assert n <= -1 FAILS: n = 0\n"));
+    assert!(show("m = 0x80000000\n  assert n <= m").contains("assert n <= m FAILS: n = 0, m = -0x80000000\n"));
+    assert!(show("assert n > 0").contains("!!   T0  assert n > 0 FAILS: n = 0\n"));
+    assert!(show("m = -1\n  assert m > 0").contains("!!   T0  assert m > 0 FAILS: m = -1\n"));
 }

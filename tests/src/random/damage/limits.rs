@@ -81,7 +81,8 @@ pub fn skip(random: &mut Random, frames: &mut Vec<Vec<u8>>) {
         }
         let at = random.pick(&code);
         let behind = frames[at + 1..].iter().position(|f| f[0] < 0x10).unwrap_or(frames.len() - at - 1);
-        let mut frame = instruction(random, ANY, 0x22);
+        let kind = random.pick(&[0x22, 0x24]);
+        let mut frame = instruction(random, ANY, kind);
         frame[7] = (behind + random.below(3)).clamp(1, 15) as u8;
         frames[at] = frame;
     }
@@ -121,7 +122,7 @@ pub fn alike(random: &mut Random, damage: Damage, frames: &mut Vec<Vec<u8>>) {
                 let new = instruction(random, ANY, kind);
                 let n = frames[at].get(7).copied();
                 frames[at] = new;
-                if let (0x22, Some(n)) = (kind, n) {
+                if let (0x22 | 0x24, Some(n)) = (kind, n) {
                     frames[at][7] = n;
                 }
             }

@@ -1,4 +1,5 @@
 //! The text form of a program: a statement a line, translated to the lines of the program file.
+mod condition;
 mod parse;
 mod remarks;
 mod resolve;

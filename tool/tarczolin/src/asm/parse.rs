@@ -125,7 +125,7 @@ impl<'a> Reader<'a> {
                 self.expect("=")?;
                 Kind::Constant { name, value: self.word("a number")? }
             }
-            "init" => return self.error(first.column, not_yet("init needs memory that starts with other values than 0")),
+            "init" => Kind::Init { l: self.location()?, value: self.word("a number")? },
             "store" => Kind::Store { l: self.location()?, p: self.operand()? },
             "assert" => {
                 let (r, test, p) = self.condition()?;
@@ -141,17 +141,18 @@ impl<'a> Reader<'a> {
         })
     }
 
-    /// `r0 == 1` or `r0 != 1`.
+    /// `r0 == 1`, or another sign between the two.
     fn condition(&mut self) -> Result<(Word, Test, Word), Wrong> {
         let r = self.register()?;
-        let sign = self.token("== or !=")?;
+        let sign = self.token("a comparison")?;
         let test = match sign.text {
             "==" => Test::Equal,
             "!=" => Test::Unequal,
-            "<=" | "<" | ">" | ">=" => {
-                return self.error(sign.column, not_yet(&format!("{} needs signed comparisons", sign.text)));
-            }
-            other => return self.error(sign.column, format!("== or != is expected here, not {other}")),
+            "<=" => Test::AtMost,
+            ">" => Test::Above,
+            "<" => Test::Below,
+            ">=" => Test::AtLeast,
+            other => return self.error(sign.column, format!("==, !=, <=, >, < or >= is expected here, not {other}")),
         };
         Ok((r, test, self.operand()?))
     }
@@ -209,18 +210,13 @@ impl<'a> Reader<'a> {
     }
 }
 
-/// What the library cannot do yet.
-fn not_yet(what: &str) -> String {
-    format!("{what}, which the library does not have yet")
-}
-
 /// A statement that begins with an unknown word.
 fn unknown(word: &str) -> String {
     match (word, near(word, KEYWORDS)) {
         ("load" | "fetch_add" | "cas", _) => format!("{word} needs a register for the old value: r0 = {word} .."),
         (_, Some(known)) => format!("a statement does not begin with {word}; is it {known}?"),
         _ => format!(
-            "a statement does not begin with {word}; it begins with thread, alike, const, store, if, goto, assert, fail or a register"
+            "a statement does not begin with {word}; it begins with thread, alike, const, init, store, if, goto, assert, fail or a register"
         ),
     }
 }

@@ -1,4 +1,5 @@
 //! The code of one thread with numbers in place of names.
+use super::condition::Condition;
 use super::statement::{Jump, Kind, Statement, Test, Word};
 use super::symbols::Symbols;
 use super::words;
@@ -11,9 +12,9 @@ use std::collections::BTreeMap;
 #[derive(Clone, Copy, Debug, PartialEq, Eq)]
 pub enum Code {
     Plain(Instruction),
-    If { r: u8, test: Test, p: Operand, to: usize },
+    If { condition: Condition, to: usize },
     Goto(usize),
-    Assert { r: u8, test: Test, p: Operand },
+    Assert(Condition),
     Fail,
 }
 
@@ -95,10 +96,12 @@ impl<'a> Scope<'a> {
             }
             Kind::Set { r, p } => Code::Plain(Instruction::Set { r: line.register(r), p: line.operand(p) }),
             Kind::Add { r, p } => Code::Plain(Instruction::Add { r: line.register(r), p: line.operand(p) }),
-            Kind::If { r, test, p, to } => Code::If { r: line.register(r), test: *test, p: line.operand(p), to: line.jump(to) },
+            Kind::If { r, test, p, to } => Code::If { condition: line.condition(r, *test, p), to: line.jump(to) },
             Kind::Goto(label) => Code::Goto(line.label(label)),
-            Kind::Assert { r, test, p } => Code::Assert { r: line.register(r), test: *test, p: line.operand(p) },
-            Kind::Fail | Kind::Thread(_) | Kind::Alike(_) | Kind::Constant { .. } | Kind::Label(_) => Code::Fail,
+            Kind::Assert { r, test, p } => Code::Assert(line.condition(r, *test, p)),
+            Kind::Fail | Kind::Thread(_) | Kind::Alike(_) | Kind::Constant { .. } | Kind::Init { .. } | Kind::Label(_) => {
+                Code::Fail
+            }
         }
     }
 
@@ -171,6 +174,15 @@ impl Line<'_, '_> {
             },
         }
         Operand::Constant(0)
+    }
+
+    fn condition(&mut self, r: &Word, test: Test, p: &Word) -> Condition {
+        let (register, operand) = (self.register(r), self.operand(p));
+        Condition::of(register, test, operand).unwrap_or_else(|| {
+            let message = format!("{} is the least value: none is below it, and all are at least it", p.text);
+            self.wrong.add(self.statement, p, message);
+            Condition::FIRST
+        })
     }
 
     /// What an unknown name may have been meant for.

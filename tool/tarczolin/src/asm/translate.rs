@@ -1,7 +1,8 @@
 //! From statements to the instructions there are. What takes more than one instruction changes no register.
+use super::condition::Condition;
 use super::resolve::Code;
-use super::statement::{Statement, Test};
-use crate::program::{Instruction, Operand};
+use super::statement::Statement;
+use crate::program::{Comparison, Instruction, Operand};
 use Instruction::{Assert, SkipUnless};
 
 /// An instruction, and the statement that it is made of.
@@ -32,42 +33,41 @@ pub fn instructions<'a>(code: &[(&'a Statement, Code)]) -> Vec<Made<'a>> {
 fn translated(code: Code, distance: usize) -> Vec<Instruction> {
     match code {
         Code::Plain(instruction) => vec![instruction],
-        Code::Assert { r, test: Test::Equal, p } => vec![Assert { r, p }],
-        Code::Assert { r, test: Test::Unequal, p } => guarded(r, p, failing(r, p)),
-        Code::Fail => failing(0, Operand::Register(0)),
+        Code::Assert(Condition { comparison: test, r, p, wanted: true }) => vec![Assert { test, r, p }],
+        Code::Assert(condition) => guarded(condition, failing(condition)),
+        Code::Fail => failing(NOTHING),
         Code::If { .. } | Code::Goto(_) if distance == 0 => Vec::new(),
-        Code::If { r, test: Test::Unequal, p, .. } => vec![skip(r, p, distance)],
-        Code::If { r, test: Test::Equal, p, .. } => guarded(r, p, jump(r, p, distance)),
-        Code::Goto(_) => jump(0, Operand::Register(0), distance),
+        Code::If { condition, .. } if condition.wanted => guarded(condition, jump(condition, distance)),
+        Code::If { condition, .. } => vec![unless(condition, distance)],
+        Code::Goto(_) => jump(NOTHING, distance),
     }
 }
 
-/// More than 15 is too long for a thread, and is told as such.
-fn skip(r: u8, p: Operand, distance: usize) -> Instruction {
-    SkipUnless { r, p, n: distance.min(15) as u8 }
+/// What is known of a register where nothing is: it equals itself.
+const NOTHING: Condition = Condition { comparison: Comparison::Equal, r: 0, p: Operand::Register(0), wanted: true };
+
+/// A skip unless the comparison holds. More than 15 is too long for a thread, and is told as such.
+fn unless(Condition { comparison: test, r, p, .. }: Condition, distance: usize) -> Instruction {
+    SkipUnless { test, r, p, n: distance.min(15) as u8 }
 }
 
-/// These instructions where r equals p, else nothing.
-fn guarded(r: u8, p: Operand, inner: Vec<Instruction>) -> Vec<Instruction> {
-    [vec![skip(r, p, inner.len())], inner].concat()
+/// These instructions where the comparison holds, else nothing.
+fn guarded(condition: Condition, inner: Vec<Instruction>) -> Vec<Instruction> {
+    [vec![unless(condition, inner.len())], inner].concat()
 }
 
-/// Two values that no register has both; only the second where r is known to have p.
-fn other_values(p: Operand) -> Vec<Operand> {
-    match p {
-        Operand::Constant(value) => vec![Operand::Constant(value.wrapping_add(1))],
-        Operand::Register(_) => vec![Operand::Constant(0), Operand::Constant(1)],
-    }
-}
-
-/// A jump that is always taken, where r equals p.
-fn jump(r: u8, p: Operand, distance: usize) -> Vec<Instruction> {
-    let values = other_values(p);
+/// A jump that is always taken where the comparison holds: r is not all of the other values.
+fn jump(condition: Condition, distance: usize) -> Vec<Instruction> {
+    let values = condition.other_values();
     let behind = values.len() - 1;
-    values.iter().enumerate().map(|(k, value)| skip(r, *value, distance + behind - k)).collect()
+    let skip = |(k, p): (usize, &Operand)| {
+        unless(Condition { comparison: Comparison::Equal, p: *p, ..condition }, distance + behind - k)
+    };
+    values.iter().enumerate().map(skip).collect()
 }
 
-/// Assertions of which one fails, where r equals p.
-fn failing(r: u8, p: Operand) -> Vec<Instruction> {
-    other_values(p).into_iter().map(|value| Assert { r, p: value }).collect()
+/// Assertions of which one fails where the comparison holds.
+fn failing(condition: Condition) -> Vec<Instruction> {
+    let assert = |p| Assert { test: Comparison::Equal, r: condition.r, p };
+    condition.other_values().into_iter().map(assert).collect()
 }

@@ -1,5 +1,5 @@
 //! Frames: what one line of a program file says.
-use super::instruction::{Instruction, Operand};
+use super::instruction::{Comparison, Instruction, Operand};
 use super::limits::{LOCATIONS, LONGEST_SKIP, REGISTERS};
 use Instruction::*;
 
@@ -9,6 +9,8 @@ pub enum Frame {
     Instruction(Instruction),
     /// Threads declared alike.
     Alike(Vec<u8>),
+    /// A location and the value that it starts with.
+    Start(u8, u32),
 }
 
 /// The five bytes of an operand.
@@ -20,11 +22,27 @@ fn of_operand(p: Operand) -> Vec<u8> {
     [vec![kind], value.to_be_bytes().to_vec()].concat()
 }
 
+/// The first byte of a skip or an assertion, from that of the one that asks for equality; and back.
+fn tested(equal: u8, test: Comparison) -> u8 {
+    match test {
+        Comparison::Equal => equal,
+        Comparison::AtMost => equal + 2,
+    }
+}
+
+fn test_of(kind: u8) -> Comparison {
+    match kind {
+        0x24 | 0x25 => Comparison::AtMost,
+        _ => Comparison::Equal,
+    }
+}
+
 impl Frame {
     pub fn bytes(&self) -> Vec<u8> {
         let instruction = match self {
             Frame::Thread => return vec![0x01],
             Frame::Alike(members) => return [vec![0x02], members.clone()].concat(),
+            Frame::Start(l, value) => return [vec![0x03, *l], value.to_be_bytes().to_vec()].concat(),
             Frame::Instruction(instruction) => *instruction,
         };
         match instruction {
@@ -34,8 +52,8 @@ impl Frame {
             CompareSwap { r, l, e, v } => [vec![0x13, r, l], of_operand(e), of_operand(v)].concat(),
             Set { r, p } => [vec![0x20, r], of_operand(p)].concat(),
             Add { r, p } => [vec![0x21, r], of_operand(p)].concat(),
-            SkipUnless { r, p, n } => [vec![0x22, r], of_operand(p), vec![n]].concat(),
-            Assert { r, p } => [vec![0x23, r], of_operand(p)].concat(),
+            SkipUnless { test, r, p, n } => [vec![tested(0x22, test), r], of_operand(p), vec![n]].concat(),
+            Assert { test, r, p } => [vec![tested(0x23, test), r], of_operand(p)].concat(),
         }
     }
 
@@ -46,6 +64,7 @@ impl Frame {
         let frame = match *kind {
             0x01 => Frame::Thread,
             0x02 => Frame::Alike(std::mem::take(&mut fields.0).to_vec()),
+            0x03 => Frame::Start(fields.location()?, fields.word()?),
             kind => Frame::Instruction(fields.instruction(kind)?),
         };
         fields.0.is_empty().then_some(frame)
@@ -64,8 +83,8 @@ impl Fields<'_> {
             0x13 => CompareSwap { r: self.register()?, l: self.location()?, e: self.operand()?, v: self.operand()? },
             0x20 => Set { r: self.register()?, p: self.operand()? },
             0x21 => Add { r: self.register()?, p: self.operand()? },
-            0x22 => SkipUnless { r: self.register()?, p: self.operand()?, n: self.skip()? },
-            0x23 => Assert { r: self.register()?, p: self.operand()? },
+            0x22 | 0x24 => SkipUnless { test: test_of(kind), r: self.register()?, p: self.operand()?, n: self.skip()? },
+            0x23 | 0x25 => Assert { test: test_of(kind), r: self.register()?, p: self.operand()? },
             _ => return None,
         })
     }
@@ -88,11 +107,16 @@ impl Fields<'_> {
         self.byte().filter(|n| (1..=LONGEST_SKIP).contains(n))
     }
 
-    fn operand(&mut self) -> Option<Operand> {
-        let kind = self.byte()?;
+    /// Four bytes, most significant first.
+    fn word(&mut self) -> Option<u32> {
         let (value, rest) = self.0.split_at_checked(4)?;
         self.0 = rest;
-        let value = u32::from_be_bytes(value.try_into().ok()?);
+        Some(u32::from_be_bytes(value.try_into().ok()?))
+    }
+
+    fn operand(&mut self) -> Option<Operand> {
+        let kind = self.byte()?;
+        let value = self.word()?;
         match kind {
             0 => Some(Operand::Constant(value)),
             1 if value < REGISTERS as u32 => Some(Operand::Register(value as u8)),

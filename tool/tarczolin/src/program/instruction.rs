@@ -6,7 +6,39 @@ pub enum Operand {
     Register(u8),
 }
 
-/// An instruction; `r` is a register, `l` a location. `SkipUnless`: if `r` is not `p`, skip the next `n` instructions.
+/// How a skip and an assertion compare a register with an operand: `AtMost` reads both as two's complement.
+#[derive(Clone, Copy, Debug, PartialEq, Eq, PartialOrd, Ord)]
+pub enum Comparison {
+    Equal,
+    AtMost,
+}
+
+impl Comparison {
+    pub fn holds(self, a: u32, b: u32) -> bool {
+        match self {
+            Comparison::Equal => a == b,
+            Comparison::AtMost => a as i32 <= b as i32,
+        }
+    }
+
+    /// The sign of the text form where it holds, and where it does not.
+    pub fn signs(self) -> (&'static str, &'static str) {
+        match self {
+            Comparison::Equal => ("==", "!="),
+            Comparison::AtMost => ("<=", ">"),
+        }
+    }
+
+    /// A value for the eye, as the comparison reads it.
+    pub fn number(self, value: u32) -> String {
+        match self {
+            Comparison::AtMost if (value as i32) < 0 => format!("-{}", number((value as i32).unsigned_abs())),
+            _ => number(value),
+        }
+    }
+}
+
+/// An instruction; `r` is a register, `l` a location. `SkipUnless`: unless `r` compares so with `p`, skip the next `n` instructions.
 #[derive(Clone, Copy, Debug, PartialEq, Eq)]
 pub enum Instruction {
     Store { l: u8, p: Operand },
@@ -15,8 +47,8 @@ pub enum Instruction {
     CompareSwap { r: u8, l: u8, e: Operand, v: Operand },
     Set { r: u8, p: Operand },
     Add { r: u8, p: Operand },
-    SkipUnless { r: u8, p: Operand, n: u8 },
-    Assert { r: u8, p: Operand },
+    SkipUnless { test: Comparison, r: u8, p: Operand, n: u8 },
+    Assert { test: Comparison, r: u8, p: Operand },
 }
 
 use Instruction::*;
@@ -36,7 +68,9 @@ impl Instruction {
             Store { p, .. } => (None, vec![p]),
             Load { r, .. } => (Some(r), vec![]),
             CompareSwap { r, e, v, .. } => (Some(r), vec![e, v]),
-            FetchAdd { r, p, .. } | Set { r, p } | Add { r, p } | SkipUnless { r, p, .. } | Assert { r, p } => (Some(r), vec![p]),
+            FetchAdd { r, p, .. } | Set { r, p } | Add { r, p } | SkipUnless { r, p, .. } | Assert { r, p, .. } => {
+                (Some(r), vec![p])
+            }
         };
         let named = operands.into_iter().filter_map(|p| match p {
             Operand::Register(r) => Some(r),

@@ -1,5 +1,5 @@
 //! Names that the text form gives to locations, threads and registers, and how things are called by them.
-use super::instruction::{number, Instruction, Operand};
+use super::instruction::{number, Comparison, Instruction, Operand};
 use super::limits::{LOCATIONS, REGISTERS};
 use Instruction::*;
 
@@ -41,6 +41,14 @@ impl Names {
         }
     }
 
+    /// An operand as a comparison reads it.
+    pub fn compared(&self, t: u8, test: Comparison, p: Operand) -> String {
+        match p {
+            Operand::Constant(value) => test.number(value),
+            Operand::Register(r) => self.register(t, r),
+        }
+    }
+
     /// The statement that a thread's instruction was made of, where that is another one.
     pub fn statement(&self, t: u8, at: usize) -> Option<&str> {
         self.threads.get(t as usize)?.statements.get(at)?.as_deref()
@@ -57,8 +65,10 @@ impl Names {
             CompareSwap { r, l, e, v } => format!("{} = cas {} {} {}", register(r), location(l), operand(e), operand(v)),
             Set { r, p } => format!("{} = {}", register(r), operand(p)),
             Add { r, p } => format!("{} += {}", register(r), operand(p)),
-            SkipUnless { r, p, n } => format!("if {} != {} skip {n}", register(r), operand(p)),
-            Assert { r, p } => format!("assert {} == {}", register(r), operand(p)),
+            SkipUnless { test, r, p, n } => {
+                format!("if {} {} {} skip {n}", register(r), test.signs().1, self.compared(t, test, p))
+            }
+            Assert { test, r, p } => format!("assert {} {} {}", register(r), test.signs().0, self.compared(t, test, p)),
         }
     }
 }

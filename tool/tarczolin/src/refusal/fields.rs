@@ -8,12 +8,15 @@ enum Field {
     Location,
     Operand,
     Skip,
+    /// Four bytes of any value.
+    Value,
 }
 
 use Field::*;
 
-/// The kinds of instructions: the first byte, a name, and the fields behind it.
-const KINDS: [(u8, &str, &[Field]); 8] = [
+/// The kinds of lines with fields: the first byte, a name, and the fields behind it.
+const KINDS: [(u8, &str, &[Field]); 11] = [
+    (0x03, "starting value", &[Location, Value]),
     (0x10, "store", &[Location, Operand]),
     (0x11, "load", &[Register, Location]),
     (0x12, "fetch and add", &[Register, Location, Operand]),
@@ -22,12 +25,15 @@ const KINDS: [(u8, &str, &[Field]); 8] = [
     (0x21, "register add", &[Register, Operand]),
     (0x22, "skip", &[Register, Operand, Skip]),
     (0x23, "assertion", &[Register, Operand]),
+    (0x24, "signed skip", &[Register, Operand, Skip]),
+    (0x25, "signed assertion", &[Register, Operand]),
 ];
 
 impl Field {
     fn length(self) -> usize {
         match self {
             Operand => 5,
+            Value => 4,
             _ => 1,
         }
     }
@@ -62,7 +68,7 @@ pub fn kind(frame: &[u8]) -> String {
                 let right = 1 + fields.iter().map(|f| f.length()).sum::<usize>();
                 format!("{first:02x} is a {name} and takes {right} bytes; this line has {length}")
             }
-            None => format!("the first byte {first:02x} is not known; lines begin with 01, 02, 10 to 13 or 20 to 23"),
+            None => format!("the first byte {first:02x} is not known; lines begin with 01 to 03, 10 to 13 or 20 to 25"),
         },
     }
 }

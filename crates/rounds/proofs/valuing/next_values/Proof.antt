@@ -10,10 +10,10 @@ use Rattle.rounds.proofs.valuing.next_values.Statement.{statement}
 use Rattle.rounds.proofs.valuing.next_values.Tie as tie
 
 abbrev Inv-loop : tie.InvT-loop
-Inv-loop pairs left vs₀ k₀ vs k = (k ≤ 96) × (length vs ≡ 96) × ((j : ℕ) → j < k → getD vs j 0 ≡ sourced pairs left j)
+Inv-loop pairs left places starting vs₀ k₀ vs k = (k ≤ 96) × (length vs ≡ 96) × ((j : ℕ) → j < k → getD vs j 0 ≡ sourced pairs left places starting j)
 
 abbrev μ-loop : tie.MeasureT-loop
-μ-loop pairs left vs₀ k₀ vs k = 96 - k
+μ-loop pairs left places starting vs₀ k₀ vs k = 96 - k
 
 loop-holds : tie.Need-loop-holds Inv-loop μ-loop
 loop-holds c = (search needs, search needs, λ j h. absurd (omega arith))
@@ -23,7 +23,7 @@ loop-again c =
     let args = c .before .before .before .args in
     let loop = c .before .before .loop in
     let loop-test = c .before .loop-test in
-    (search needs, length-set (loop .vs) (loop .k) (c .found .result) ∙ loop .inv .1, filled (args .pairs) (args .left) (loop .vs) (loop .k) (c .found .result) (loop .inv .1) (loop-test .taken) (loop .inv .2) (c .found .ensures))
+    (search needs, length-set (loop .vs) (loop .k) (c .found .result) ∙ loop .inv .1, filled (args .pairs) (args .left) (args .places) (args .starting) (loop .vs) (loop .k) (c .found .result) (loop .inv .1) (loop-test .taken) (loop .inv .2) (c .found .ensures))
 
 returns : tie.Need-returns Inv-loop μ-loop
 returns c = λ j h. c .before .loop .inv .2 j (omega (arith, c .before .loop .inv .0))

@@ -35,40 +35,22 @@ returns-7 c = rw (c .before .if7 .taken) (c .plain5 .ensures)
 
 returns-8 : tie.Need-returns-8
 unfolding kindOf lookup kinds
-returns-8 c = rw (c .before .if8 .taken) (c .plain6 .ensures)
-
-returns-9 : tie.Need-returns-9
-unfolding kindOf lookup kinds
-returns-9 c = rw (c .if9 .taken)
-
-returns-10 : tie.Need-returns-10
-unfolding kindOf lookup kinds
-returns-10 c = rw (c .before .if10 .taken) (c .plain7 .ensures)
-
-returns-11 : tie.Need-returns-11
-unfolding kindOf lookup kinds
-returns-11 c =
-    let c3 = c .before .before .before in
+returns-8 c =
+    let c2 = c .before .before in
+    let c3 = c2 .before in
     let c4 = c3 .before in
     let c5 = c4 .before in
     let c6 = c5 .before in
     let c7 = c6 .before in
-    let c8 = c7 .before in
-    let c9 = c8 .before in
-    let c10 = c9 .before in
     rw (
-      ne-eqb _ _ (c10 .if1 .left),
-      ne-eqb _ _ (c9 .if2 .left),
-      ne-eqb _ _ (c8 .if3 .left),
-      ne-eqb _ _ (c7 .if4 .left),
-      ne-eqb _ _ (c6 .if5 .left),
-      ne-eqb _ _ (c5 .if6 .left),
-      ne-eqb _ _ (c4 .if7 .left),
-      ne-eqb _ _ (c3 .if8 .left),
-      ne-eqb _ _ (c .before .before .if9 .left),
-      ne-eqb _ _ (c
-          .before .if10 .left),
-    ) (c .bare3 .ensures)
+      ne-eqb _ _ (c7 .if1 .left),
+      ne-eqb _ _ (c6 .if2 .left),
+      ne-eqb _ _ (c5 .if3 .left),
+      ne-eqb _ _ (c4 .if4 .left),
+      ne-eqb _ _ (c3 .if5 .left),
+      ne-eqb _ _ (c2 .if6 .left),
+      ne-eqb _ _ (c .before .if7 .left),
+    ) (c .own-kind .ensures)
 
 pub kind-of-spec : {M : Type 1} → statement M
-kind-of-spec = tie.close (tie.spec (λ c κs. search needs) returns (λ c κs. search needs) returns-2 (λ c κs. search needs) returns-3 (λ c κs. search needs) returns-4 (λ c κs. search needs) returns-5 (λ c κs. search needs) returns-6 (λ c κs. search needs) returns-7 (λ c κs. search needs) returns-8 returns-9 (λ c κs. search needs) returns-10 (λ c κs. search needs) returns-11)
+kind-of-spec = tie.close (tie.spec (λ c κs. search needs) returns (λ c κs. search needs) returns-2 (λ c κs. search needs) returns-3 (λ c κs. search needs) returns-4 (λ c κs. search needs) returns-5 (λ c κs. search needs) returns-6 (λ c κs. search needs) returns-7 (λ c κs. search needs) returns-8)

@@ -1,20 +1,29 @@
--- `skip_at` reads the skip of a `22`, and 0 of any other row.
+-- `skip_at` reads the skip of a `22` and of a `24`, and 0 of any other row.
 use borrow.Author.Needs.{needs}
 use mathlib.Core.Path.{_∙_, sym}
 use lib.Dec.{lit<}
-use Rattle.program.proofs.Skips.{no-skip, one-skip}
+use Rattle.program.proofs.Skips.{no-skip, equal-skip, at-most-skip}
 use Rattle.rows.proofs.Rows.{row-byte, row-first}
 use Rattle.rows.proofs.row.skip_at.Statement.{statement}
 use Rattle.rows.proofs.row.skip_at.Tie as tie
 
 returns : tie.Need-returns
 returns c =
-    let c4 = c .before .before .before .before in
-    c .wide .ensures .0 ∙ sym (one-skip _ (row-first (c4 .args .code .now) (c4 .args .row) ∙ c .before .before .if1 .taken) ∙ row-byte (c4 .args .code
-    .now) (c4 .args .row) 7 (lit< tt))
+    let entry = c .before .before .before .before in
+    let args = entry .args in
+    c .before .wide .ensures .0 ∙ sym (equal-skip _ (row-first (args .code .now) (args .row) ∙ c .if1 .taken) ∙ row-byte (args .code .now) (args .row) 7 (lit< tt))
 
 returns-2 : tie.Need-returns-2
-returns-2 c = sym (no-skip _ (λ e. c .if1 .left (sym (row-first (c .before .before .args .code .now) (c .before .before .args .row)) ∙ e)))
+returns-2 c =
+    let entry = c .before .before .before .before .before in
+    let args = entry .args in
+    c .before .before .wide .ensures .0 ∙ sym (at-most-skip _ (row-first (args .code .now) (args .row) ∙ c .if2 .taken) ∙ row-byte (args .code .now) (args .row) 7 (lit< tt))
+
+returns-3 : tie.Need-returns-3
+returns-3 c =
+    let entry = c .before .before .before .before .before in
+    let first = row-first (entry .args .code .now) (entry .args .row) in
+    sym (no-skip _ (λ e. c .before .if1 .left (sym first ∙ e)) (λ e. c .if2 .left (sym first ∙ e)))
 
 pub skip-at-spec : {M : Type 1} → statement M
-skip-at-spec = tie.close (tie.spec (λ c. search needs) (λ c. search needs) (λ c. search needs) (λ c. search needs) (λ c κs. search needs) returns returns-2)
+skip-at-spec = tie.close (tie.spec (λ c. search needs) (λ c. search needs) (λ c. search needs) (λ c. search needs) (λ c κs. search needs) returns returns-2 returns-3)

@@ -1,0 +1,11 @@
+# Message passing. The writer puts the data in place and then raises the flag; the reader asserts that the flag which it saw
+# is at most the data which it saw behind it.
+
+thread writer
+  store data 1
+  store flag 1
+
+thread reader
+  raised = load flag
+  got = load data
+  assert raised <= got
