@@ -82,11 +82,12 @@ module _ (p : Program) (rows : List ℕ) (n : ℕ) (a b : Batch) (k : ℕ) (g : 
       few = omega (arith, g .few, ap (λ (x : Batch). x .size) e);
       room = l;
       held = λ ss r es q.
-          let x = g .held ss r es q in
-          (x .0 ++ (getD ss k [] ∷ []),
-          subst (Held p (x .0 ++ (getD ss k [] ∷ []))) (sym e)
-          (held-more p (x .0) b (x .1) (omega (arith, room, g .room)) (getD ss k []) f (entry ss r) (b .size + 1) refl),
-          next-firsts ss r es (x .0) (x .2));
+          let x = g .held ss r es q in (
+            x .0 ++ (getD ss k [] ∷ []),
+            subst (Held p (x .0 ++ (getD ss k [] ∷ []))) (sym e)
+                (held-more p (x .0) b (x .1) (omega (arith, room, g .room)) (getD ss k []) f (entry ss r) (b .size + 1) refl),
+            next-firsts ss r es (x .0) (x .2),
+          );
     }
 
 pub gathering-over : (p : Program) (rows : List ℕ) (n : ℕ) (a b : Batch) (k : ℕ) → Gathering p rows n a b k → n ≤ k → (ss : List Schedule) → Rows p ss rows n → Gathers p ss a b
@@ -94,9 +95,12 @@ gathering-over p rows n a b k g h ss r = record {
   few = omega (arith, g .few, g .within, r .shown .counted);
   room = g .room;
   held = λ es q.
-      let x = g .held ss r es q in
-      (x .0, x .1, λ f y rest.
-          sym (ap (λ (l : List Schedule). find f ((es ++ l) ++ rest)) (take-all k ss (omega (arith, h, r .shown .counted)))) ∙ x .2 f y rest);
+      let x = g .held ss r es q in (
+        x .0,
+        x .1,
+        λ f y rest.
+            sym (ap (λ (l : List Schedule). find f ((es ++ l) ++ rest)) (take-all k ss (omega (arith, h, r .shown .counted)))) ∙ x .2 f y rest,
+      );
 }
 
 -- ---- the list walked

@@ -86,15 +86,15 @@ module _ (wanted others : Batch) (before behind : List Bool) (k : ℕ) (m : Mark
   marking-yes e behind' q n =
       one-more behind' (λ i ne. ap (λ (l : List Bool). getD l i false) q ∙ getD-set-other behind k i true false ne) n
       (λ p q' ss rs a b.
-          ap (λ (l : List Bool). getD l k false) q ∙ getD-set-same behind k true false (omega (arith, m .size, h, few))
-          ∙ sym (or-true (getD before k false)) ∙ ap (λ (x : Bool). getD before k false || x) (sym e ∙ is-met p q' ss rs a b))
+      ap (λ (l : List Bool). getD l k false) q ∙ getD-set-same behind k true false (omega (arith, m .size, h, few))
+      ∙ sym (or-true (getD before k false)) ∙ ap (λ (x : Bool). getD before k false || x) (sym e ∙ is-met p q' ss rs a b))
 
   pub marking-no : found ≡ false → (behind' : List Bool) → behind' ≡ behind → Marking wanted others before behind' (k + 1)
   marking-no e behind' q =
       one-more behind' (λ i ne. ap (λ (l : List Bool). getD l i false) q) (ap length q ∙ m .size)
       (λ p q' ss rs a b.
-          ap (λ (l : List Bool). getD l k false) q ∙ m .rest k (omega arith)
-          ∙ sym (or-false (getD before k false)) ∙ ap (λ (x : Bool). getD before k false || x) (sym e ∙ is-met p q' ss rs a b))
+      ap (λ (l : List Bool). getD l k false) q ∙ m .rest k (omega arith)
+      ∙ sym (or-false (getD before k false)) ∙ ap (λ (x : Bool). getD before k false || x) (sym e ∙ is-met p q' ss rs a b))
 
 -- ---- one batch against the whole list of p
 -- marked so far; with what is yet to come, all that p's list has

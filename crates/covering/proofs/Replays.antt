@@ -31,9 +31,9 @@ module _ (code lengths : List ℕ) (p : Program) (s : Schedule) (r : Run) (held 
   goes-whole : (v : Verdict) → r .verdict ≡ v → r .verdict ≡ Whole
   goes-whole Whole e = e
   goes-whole (Refused n k) e = absurd (
-    let z : refused n k ≡ whole (endOf p s) = sym (verdict-refused code lengths p s r held n k e) ∙ replay-whole p s (endOf p s) .1 (full, refl) in
-    let y : _≡_ {A = ℕ} 0 1 = cc in
-    omega arith)
+      let z : refused n k ≡ whole (endOf p s) = sym (verdict-refused code lengths p s r held n k e) ∙ replay-whole p s (endOf p s) .1 (full, refl) in
+      let y : _≡_ {A = ℕ} 0 1 = cc in
+      omega arith)
 
   end-held : Holds code lengths (r .machine) (endOf p s)
   end-held = subst (λ (x : Schedule). Holds code lengths (r .machine) (run SC (start p) x)) (held .all (goes-whole (r .verdict) refl)) (held .holds)

@@ -123,6 +123,6 @@ module _ (first second : List ℕ) (room : ℕ) where
       go : C covered → (o : Option Schedule) → find (lacksOf p q) (listOf q) ≡ o → Covers p q
       go c none e = none-covers p q (accepted-well-formed first p (a .one)) (accepted-well-formed second q (a .other)) e
       go c (some s) e = absurd (
-        let z : covered ≡ lacking s = comparison-unique covered (lacking s) c (compared p q a h (some s) e) in
-        let y : _≡_ {A = ℕ} 0 1 = cc in
-        omega arith)
+          let z : covered ≡ lacking s = comparison-unique covered (lacking s) c (compared p q a h (some s) e) in
+          let y : _≡_ {A = ℕ} 0 1 = cc in
+          omega arith)

@@ -45,9 +45,11 @@ part-entry-end c = omega (arith, few c, c .before .before .loop-test .taken, c .
 
 entry-requires : tie.Need-entry-requires Inv-loop μ-loop
 entry-requires c κs =
-    let entry = c .before .before .before .before .before .before in
-    (entry .pre .0, row-length (programOf (entry .args .program)) (entry .pre .0) (entry .pre .4 .0) (entry .args .rows .now) (entry .args .n) (entry .pre .4 .1) (c .before .before .before .before .loop .k)
-    (c .before .before .before .loop-test .taken) (c .before .wide .result) (c .before .wide .ensures .0))
+    let entry = c .before .before .before .before .before .before in (
+      entry .pre .0,
+      row-length (programOf (entry .args .program)) (entry .pre .0) (entry .pre .4 .0) (entry .args .rows .now) (entry .args .n) (entry .pre .4 .1) (c .before .before .before .before .loop .k)
+          (c .before .before .before .loop-test .taken) (c .before .wide .result) (c .before .wide .ensures .0),
+    )
 
 is-in-requires : tie.Need-is-in-requires Inv-loop μ-loop
 is-in-requires c κs =
@@ -74,7 +76,7 @@ loop-again c =
     λ ss r. row-entry p (entry .pre .0) ss (entry .args .rows .now) (entry .args .n) r (loop .k) h (c .before .before .before .before .before .wide .result) (c .before .before .before .before .before .wide .ensures .0) (f .result) (f .ensures) in
     ⊎-elim
     (λ w. gathering-more p _ _ _ _ (loop .k) (loop .inv) h (f .result) own (c .before .is-in .result) (c .before .is-in .ensures)
-        (omega (arith, loop .inv .few, h, entry .pre .2)) _ (w .1) (ap (λ (x : Batch). length (x .table)) (w .1) ∙ length-set (loop .all .table) (loop .all .size) (f .result) ∙ loop .inv .room))
+    (omega (arith, loop .inv .few, h, entry .pre .2)) _ (w .1) (ap (λ (x : Batch). length (x .table)) (w .1) ∙ length-set (loop .all .table) (loop .all .size) (f .result) ∙ loop .inv .room))
     (λ w. gathering-known p _ _ _ _ (loop .k) (loop .inv) h (f .result) own (c .before .is-in .result) (c .before .is-in .ensures) (not-false _ (w .0 .left)) _ (w .1))
     (c .if1 .came)
 

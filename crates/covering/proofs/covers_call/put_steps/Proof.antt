@@ -27,7 +27,7 @@ loop-again c =
       search needs,
       search needs,
       over-more (entry .args .t2) (entry .args .out .now) (loop .out) (loop .k) _ (omega (arith, h, size, entry .pre .0)) (omega (arith, h, entry .pre .0, entry .pre .1))
-      (loop .inv .2) refl,
+          (loop .inv .2) refl,
     )
 
 returns : tie.Need-returns Inv-loop μ-loop

@@ -30,9 +30,9 @@ loop-again c =
     let is-in = c .before .is-in in
     ⊎-elim
     (λ w. marking-yes (entry .args .t1) (entry .args .others) (entry .args .marks) (loop .all) (loop .k) (loop .inv) h (entry .pre .0) _ refl (is-in .result) (is-in .ensures)
-        (w .0 .taken) _ (w .1) (ap length (w .1) ∙ length-set (loop .all) (loop .k) true ∙ loop .inv .size))
+    (w .0 .taken) _ (w .1) (ap length (w .1) ∙ length-set (loop .all) (loop .k) true ∙ loop .inv .size))
     (λ w. marking-no (entry .args .t1) (entry .args .others) (entry .args .marks) (loop .all) (loop .k) (loop .inv) h (entry .pre .0) _ refl (is-in .result) (is-in .ensures)
-        (w .0 .left) _ (w .1))
+    (w .0 .left) _ (w .1))
     (c .if1 .came)
 
 returns : tie.Need-returns Inv-loop μ-loop
