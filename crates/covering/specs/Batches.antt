@@ -1,5 +1,5 @@
--- Batches: schedules of one program with their outcomes in a table. A list of schedules and a batch of it have the same outcomes, each first
--- by the same schedule: whatever goes by outcomes alone is found first at the same schedule in both.
+-- Batches: schedules of one program with their outcomes in a table. A list of schedules and a batch of it have the same outcomes, each
+-- first by the same schedule: whatever goes by outcomes alone is found first at the same schedule in both.
 use Prim.Native.Nat.{ℕ, _+_, _<_, _≤_}
 use mathlib.Core.Path.{_≡_}
 use mathlib.Core.Bool.{Bool, true, false, _||_}
@@ -66,7 +66,8 @@ pub record Collects (p : Program) (c : Cursor) (r : Collected) : Type 0 where
 
 -- of q's schedules, so many, those are marked that were marked, and those whose outcome one of these schedules of p has
 abbrev pub Marks : Program → Program → List Schedule → List Schedule → ℕ → List Bool → List Bool → Type 0
-Marks p q ss rs n before behind = (k : ℕ) → k < n → getD behind k false ≡ (getD before k false || any (comesTo p (outcomeOf q (getD ss k []))) rs)
+Marks p q ss rs n before behind =
+    (k : ℕ) → k < n → getD behind k false ≡ (getD before k false || any (comesTo p (outcomeOf q (getD ss k []))) rs)
 
 -- the first of q's schedules with an outcome that no listed one of p has, or their number
 pub record Lacks (p q : Program) (ss : List Schedule) (k : ℕ) : Type 0 where
