@@ -99,8 +99,8 @@ fn every_program_covers_itself_and_covering_is_transitive() {
         let third = changed(&mut random, size, &other);
         let files = [one, other, third].map(|frames| text(&frames));
         let says = |a: usize, b: usize| calls::covers(&files[a], &files[b], &mut [0; 24]) == calls::Covers::Covered;
-        for a in 0..3 {
-            assert_eq!(says(a, a), decode(&files[a]).is_ok());
+        for (k, file) in files.iter().enumerate() {
+            assert_eq!(says(k, k), decode(file).is_ok());
         }
         if says(0, 1) && says(1, 2) {
             chains += 1;
