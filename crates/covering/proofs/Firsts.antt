@@ -10,6 +10,7 @@ use Rattle.schedules.specs.Lists.{any, find}
 use Rattle.schedules.specs.Order.{Schedule}
 use Rattle.schedules.proofs.Lists.{any-yes, any-cons, find-yes, find-no}
 use Rattle.schedules.proofs.Loops.{any-nil}
+use Rattle.schedules.proofs.First.{find-none}
 use Rattle.outcomes.specs.Covers.{outcomeOf}
 use Rattle.outcomes.specs.Same.{comesTo}
 use Rattle.outcomes.proofs.Attained.{comes-is}
@@ -42,8 +43,8 @@ module _ (f : Schedule → Bool) where
   isSome (some s) = true
 
   any-found : (l : List Schedule) → any f l ≡ isSome (find f l)
-  unfolding any find isSome
-  any-found [] = refl
+  unfolding isSome
+  any-found [] = any-nil f ∙ sym (ap isSome (find-none f [] (λ x m. absurd (List·Memᴰ·not-nil m))))
   any-found (x ∷ l) = go (f x) refl (any-found l)
     where
       go : (b : Bool) → f x ≡ b → any f l ≡ isSome (find f l) → any f (x ∷ l) ≡ isSome (find f (x ∷ l))
