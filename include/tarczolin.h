@@ -2,7 +2,7 @@
  *
  * Every call answers one word:
  *
- *   bits 56 to 63   the kind: 1 answered; 2 no more, none, or no; 3 refused
+ *   bits 56 to 63   the kind: 1 answered; 2 no more, none, no, or covered; 3 refused; 4 of two files the second is refused
  *   bits 48 to 55   a refusal's number, else 0
  *   bits  0 to 47   the length of an answer in bytes, 0 where there is none; of rows their number; of a class its size;
  *                   or a refusal's place. All of them fit these bits: of rows where the output is shorter than 26 * 2^48 bytes,
@@ -42,6 +42,7 @@
 #define TARCZOLIN_ANSWERED 1u
 #define TARCZOLIN_NONE 2u
 #define TARCZOLIN_REFUSED 3u
+#define TARCZOLIN_SECOND_REFUSED 4u
 
 #ifdef __cplusplus
 extern "C" {
@@ -94,6 +95,14 @@ uint64_t tarczolin_count(const uint8_t *file, size_t file_len, uint64_t *listed,
  * more or no room. Refused: the program's (1 to 8, 40), and no byte changes. */
 uint64_t tarczolin_rows(const uint8_t *file, size_t file_len, uint8_t *out, size_t out_len);
 uint64_t tarczolin_rows_after(const uint8_t *file, size_t file_len, const uint8_t *schedule, size_t schedule_len, uint8_t *out, size_t out_len);
+
+/* Does the first program cover the second: is each outcome of a full schedule of the second one of the first? The outcome of a
+ * full schedule is the eight final values and whether it fails. Covered: kind 2. Not covered: kind 1, the first listed schedule
+ * of the second with an outcome that the first lacks stands in front of the output, the answer carries its length, and the bytes
+ * behind it keep their value. Refused, in this order: the first file (1 to 8, 40), kind 3; the second file, kind 4; 22 at place 0, an
+ * output of under 24 bytes, kind 3, also where the answer would be covered. Covered and a refusal change no byte. The two files
+ * may be the same bytes. */
+uint64_t tarczolin_covers(const uint8_t *first, size_t first_len, const uint8_t *second, size_t second_len, uint8_t *out, size_t out_len);
 
 #ifdef __cplusplus
 }

@@ -1,6 +1,7 @@
 //! Calls held to the oracle: the answer, and every byte of every lent buffer.
 use crate::calls::{self, Answer, ROW};
 use crate::oracle::calls::Found;
+use crate::oracle::covers::Covers;
 use crate::oracle::Refusal;
 use crate::random::Random;
 
@@ -47,12 +48,24 @@ pub fn held_rows(random: &mut Random, file: &[u8], behind: Option<&[u8]>, output
     }
 }
 
-fn held_to<const N: usize>(
+/// The call over two files, held to the oracle's in the same way.
+pub fn held_covers(random: &mut Random, files: [&[u8]; 2], output: usize, found: &Covers) {
+    let shown = match found {
+        Covers::Covered => (calls::Covers::Covered, &[][..]),
+        Covers::Lacking(schedule) => (calls::Covers::Lacking(schedule.len() as u64), schedule.as_slice()),
+        Covers::First(refusal) => (calls::Covers::Refused(refusal.number, refusal.place), &[][..]),
+        Covers::Second(refusal) => (calls::Covers::SecondRefused(refusal.number, refusal.place), &[][..]),
+        Covers::Output => (calls::Covers::Refused(22, 0), &[][..]),
+    };
+    held_to(random, files, output, shown, |[first, second], out| calls::covers(first, second, out));
+}
+
+fn held_to<const N: usize, A: PartialEq + std::fmt::Debug>(
     random: &mut Random,
     inputs: [&[u8]; N],
     output: usize,
-    (expected, front): (Answer, &[u8]),
-    call: impl FnOnce([&[u8]; N], &mut [u8]) -> Answer,
+    (expected, front): (A, &[u8]),
+    call: impl FnOnce([&[u8]; N], &mut [u8]) -> A,
 ) {
     let lent = inputs.map(<[u8]>::to_vec);
     let mut around = vec![0; output + 2 * AROUND];

@@ -6,6 +6,7 @@ use tarczolin_tests::calls::{self, Answer, GRAPH, ROW, SCHEDULE};
 use tarczolin_tests::files::text;
 use tarczolin_tests::lent;
 use tarczolin_tests::oracle::calls::Found;
+use tarczolin_tests::oracle::covers::Covers;
 use tarczolin_tests::oracle::decode::decode;
 use tarczolin_tests::oracle::Refusal;
 use tarczolin_tests::random::program::{frames, Size, ANY, SMALL};
@@ -120,6 +121,28 @@ fn ask_all(random: &mut Random, file: &[u8], beside: &[u8]) {
         held(random, [file], out, [SCHEDULE, 24], true, |[f], out| calls::violation(f, out));
         counts(random, file);
         rows(random, file, beside);
+        against(random, file, beside);
+    }
+}
+
+/// Two files, of which one is often refused, the same twice, or overlap: whose refusal it is stands in the answer.
+fn against(random: &mut Random, file: &[u8], beside: &[u8]) {
+    let other = text(&frames(random, QUICK));
+    for [first, second] in [[file, beside], [beside, file], [file, &other], [&other, file], [file, file]] {
+        let output = output(random, SCHEDULE);
+        let refused = |file: &[u8]| decode(file).err();
+        let mut out = vec![0; output];
+        let answer = calls::covers(first, second, &mut out);
+        let found = match (refused(first), refused(second), answer) {
+            (Some(refusal), _, _) => Covers::First(refusal),
+            (None, Some(refusal), _) => Covers::Second(refusal),
+            _ if output < SCHEDULE => Covers::Output,
+            (_, _, calls::Covers::Lacking(length)) if length <= 24 => Covers::Lacking(out[..length as usize].to_vec()),
+            (_, _, calls::Covers::Covered) => Covers::Covered,
+            _ => panic!("{answer:?} with an output of {output} bytes: {first:?} {second:?}"),
+        };
+        assert!(first != second || !matches!(found, Covers::Lacking(_)), "every program covers itself: {first:?}");
+        lent::held_covers(random, [first, second], output, &found);
     }
 }
 

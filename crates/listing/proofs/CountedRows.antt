@@ -18,10 +18,10 @@ use Rattle.list.specs.Search.{sought}
 use Rattle.walker.specs.declared.cursor.Cursor.{Cursor}
 use Rattle.walker.specs.declared.paging.Page.{Page}
 use Rattle.walker.specs.Rows.{rowOf, rowBytes, Shown}
-use Rattle.walker.specs.Cursor.{remaining, isEnd, Paged}
+use Rattle.walker.specs.Cursor.{remaining, isEnd, pages, Paged}
 use Rattle.walker.proofs.RowsRead.{shown-at}
 use Rattle.walker.proofs.CursorLaws.{remaining-end}
-use Rattle.walker.proofs.PageLaws.{page-split, page-size}
+use Rattle.walker.proofs.PageLaws.{page-split, page-size, page-lengths, page-less}
 
 -- ---- rows that fail
 module _ (p : Program) (ss : List Schedule) (held rows : List ℕ) (n : ℕ) (shown : Shown p ss held rows n) where
@@ -75,10 +75,6 @@ pub record Counting (p : Program) (c : Cursor) (rows : List ℕ) (listed failed 
   pub all : listed + length (remaining p false c) ≡ length (listOf p)
   pub fail : failed + length (filter (failing p) (remaining p false c)) ≡ length (filter (failing p) (listOf p))
 
--- the pages to come are at most so many
-abbrev pub pages : Program → Cursor → ℕ
-pages p c = length (remaining p false c) + cond (isEnd (c .position)) 0 1
-
 pub counting-start : (p : Program) (c : Cursor) (rows : List ℕ) → length rows ≡ 1664 → remaining p false c ≡ sought false p → Counting p c rows 0 0
 unfolding sought
 counting-start p c rows n e = record {
@@ -112,8 +108,7 @@ module _ (p : Program) (c : Cursor) (rows : List ℕ) (listed failed : ℕ) (k :
   counting-64 = omega (arith, page .shown .counted, length-take (length rows / 26) to-come, room)
 
   split-length : length to-come ≡ r .rows + length (remaining p false (r .cursor))
-  split-length =
-      ap length (page-split p false c rows rows' r page) ∙ length-append shown-now (remaining p false (r .cursor)) ∙ omega (arith, page .shown .counted)
+  split-length = page-lengths p false c rows rows' r page
 
   split-fails : length (filter (failing p) to-come) ≡ length (filter (failing p) shown-now) + length (filter (failing p) (remaining p false (r .cursor)))
   split-fails =
@@ -145,19 +140,5 @@ module _ (p : Program) (c : Cursor) (rows : List ℕ) (listed failed : ℕ) (k :
       }
 
   -- there are fewer pages to come
-  pub counting-less : isEnd (c .position) ≡ false → pages p (r .cursor) < pages p c
-  counting-less e = go (isEnd (r .cursor .position)) refl
-    where
-      some-left : pages p c ≡ length to-come + 1
-      some-left = ap (λ (b : Bool). length to-come + cond b 0 1) e
-
-      go : (b : Bool) → isEnd (r .cursor .position) ≡ b → pages p (r .cursor) < pages p c
-      go true q =
-          let z : pages p (r .cursor) ≡ length (remaining p false (r .cursor)) + 0 =
-          ap (λ (b : Bool). length (remaining p false (r .cursor)) + cond b 0 1) q in
-          omega (arith, z, some-left, split-length)
-      go false q =
-          let z : pages p (r .cursor) ≡ length (remaining p false (r .cursor)) + 1 =
-          ap (λ (b : Bool). length (remaining p false (r .cursor)) + cond b 0 1) q in
-          let full : (r .rows < length rows / 26) → ⊥ = λ h. false≢true (sym q ∙ page .ends h) in
-          omega (arith, z, some-left, split-length, full, room)
+  pub counting-less : isEnd (c .position) ≡ false → pages p false (r .cursor) < pages p false c
+  counting-less e = page-less p false c rows rows' r page (omega (arith, room)) e

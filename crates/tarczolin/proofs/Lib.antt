@@ -18,5 +18,7 @@ pub mod JudgeFits
 pub mod ClassFits
 -- The sizes of classes sum to what count says of the file without its `02` lines.
 pub mod ClassSums
+-- What the call over two files says, and that it fits.
+pub mod Coverings
 -- A word of kind 1 tells how many bytes of the output are the schedule.
 pub mod InOutput

@@ -17,3 +17,5 @@ pub mod Listed
 pub mod Tallied
 -- what the calls by rows say
 pub mod ByRows
+-- what the call over two files says
+pub mod Against

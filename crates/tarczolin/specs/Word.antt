@@ -6,22 +6,26 @@ use Prim.Native.Nat.{ℕ, _+_, _*_, _/_, _%_, _^_, _<_}
 use mathlib.Core.Bool.{cond}
 use lib.Dec.{eqb}
 
--- kind 1: answered, with so many bytes; kind 2: no more, none or no; kind 3: refused by a number at a place
+-- kind 1: answered, with so many bytes; kind 2: no more, none, no or covered; kind 3: refused by a number at a place; kind 4: of two files
+-- the second is, by a number at a place
 pub data Reply : Type 0 where
   answered : ℕ → Reply
   nothing : Reply
   refused : ℕ → ℕ → Reply
+  second-refused : ℕ → ℕ → Reply
 
 unfoldable pub wordOf : Reply → ℕ
 wordOf (answered n) = 2 ^ 56 + n % 2 ^ 48
 wordOf nothing = 2 * 2 ^ 56
 wordOf (refused k n) = 3 * 2 ^ 56 + k * 2 ^ 48 + n % 2 ^ 48
+wordOf (second-refused k n) = 4 * 2 ^ 56 + k * 2 ^ 48 + n % 2 ^ 48
 
 -- it fits: a length and a place have 48 bits, a number has eight
 abbrev pub Fits : Reply → Type 0
 Fits (answered n) = n < 2 ^ 48
 Fits nothing = Unit {0}
 Fits (refused k n) = (k < 256) × (n < 2 ^ 48)
+Fits (second-refused k n) = (k < 256) × (n < 2 ^ 48)
 
 -- what a reader takes out of a word: bits 56 to 63, bits 48 to 55, bits 0 to 47
 unfoldable pub kindIn : ℕ → ℕ
@@ -35,4 +39,6 @@ restIn w = w % 2 ^ 48
 
 -- what a call said, by those three
 unfoldable pub readIn : ℕ → Reply
-readIn w = cond (eqb (kindIn w) 1) (answered (restIn w)) (cond (eqb (kindIn w) 2) nothing (refused (numberIn w) (restIn w)))
+readIn w =
+    cond (eqb (kindIn w) 1) (answered (restIn w)) (cond (eqb (kindIn w) 2) nothing
+    (cond (eqb (kindIn w) 3) (refused (numberIn w) (restIn w)) (second-refused (numberIn w) (restIn w))))

@@ -16,7 +16,10 @@ mod listed;
 mod tally;
 // Many listed schedules at a time: tarczolin_rows, tarczolin_rows_after.
 mod by_rows;
+// One program against another: tarczolin_covers.
+mod against;
 
+pub use against::tarczolin_covers;
 pub use by_rows::tarczolin_rows;
 pub use by_rows::tarczolin_rows_after;
 pub use check::tarczolin_check;

@@ -13,7 +13,7 @@ pub(crate) fn answered(length: usize) -> u64
     KIND + (length as u64) % NUMBER
 }
 
-// No more, none, or no.
+// No more, none, no, or covered.
 pub(crate) fn nothing() -> u64
     ensures { λ r. ⌜ r ≡ wordOf Reply.nothing ⌝ }
 {
@@ -25,4 +25,11 @@ pub(crate) fn refused(number: u8, place: usize) -> u64
     ensures { λ r. ⌜ r ≡ wordOf (Reply.refused number place) ⌝ }
 {
     3 * KIND + (number as u64) * NUMBER + (place as u64) % NUMBER
+}
+
+// The second of two files refused by a number, at a place.
+pub(crate) fn second_refused(number: u8, place: usize) -> u64
+    ensures { λ r. ⌜ r ≡ wordOf (Reply.second-refused number place) ⌝ }
+{
+    4 * KIND + (number as u64) * NUMBER + (place as u64) % NUMBER
 }

@@ -2,11 +2,11 @@
 use Prim.Native.Nat.{ℕ, zero, suc, _+_, _-_, _*_, _/_, _<_, _≤_}
 use mathlib.Core.Path.{_≡_, refl, sym, ap, subst, _∙_}
 use mathlib.Core.Logic.{_≢_}
-use mathlib.Core.Bool.{Bool, true}
+use mathlib.Core.Bool.{Bool, true, false, false≢true, cond}
 use mathlib.Core.Option.{Option, some}
 use mathlib.Core.List.{List, [], _∷_, _++_, flatMap, List·Memᴰ, List·Memᴰ·head, Memᴰ·append-right}
 use native.Mathlib.Omega.{arith}
-use lib.ListN.{length, getD, take, drop, length-take, take-append-drop, drop-of-length-le}
+use lib.ListN.{length, getD, take, drop, length-append, length-take, take-append-drop, drop-of-length-le}
 use lib.Seq.{take-nil, split-at, getD-take}
 use Rattle.lines.proofs.Over.{over-nil, length-over}
 use Rattle.program.specs.Program.{Program}
@@ -19,7 +19,7 @@ use Rattle.walker.specs.declared.cursor.Cursor.{Cursor}
 use Rattle.walker.specs.declared.paging.Page.{Page}
 use Rattle.walker.specs.Bounds.{boundAt}
 use Rattle.walker.specs.Rows.{rowsOf, Shown}
-use Rattle.walker.specs.Cursor.{remaining, positionAt, isEnd, Paged}
+use Rattle.walker.specs.Cursor.{remaining, positionAt, isEnd, pages, Paged}
 use Rattle.walker.proofs.AddedRows.{rows-length}
 use Rattle.walker.proofs.RowsRead.{shown-length, shown-steps}
 use Rattle.walker.proofs.CursorLaws.{sought-24, remaining-end, remaining-tight}
@@ -47,6 +47,29 @@ module _ (p : Program) (failures : Bool) (c : Cursor) (held out : List ℕ) (r :
   pub page-size : length out ≡ length held
   page-size =
       shown-size p (take (length held / 26) (remaining p failures c)) held out (r .rows) (omega (arith, length-take (length held / 26) (remaining p failures c))) (page .shown)
+
+  pub page-lengths : length (remaining p failures c) ≡ r .rows + length (remaining p failures (r .cursor))
+  page-lengths =
+      ap length page-split ∙ length-append (take (length held / 26) (remaining p failures c)) (remaining p failures (r .cursor))
+      ∙ omega (arith, page .shown .counted)
+
+  -- with room for a row there are fewer pages to come behind it
+  pub page-less : 0 < length held / 26 → isEnd (c .position) ≡ false → pages p failures (r .cursor) < pages p failures c
+  page-less room-for e = go (isEnd (r .cursor .position)) refl
+    where
+      left : pages p failures c ≡ length (remaining p failures c) + 1
+      left = ap (λ (b : Bool). length (remaining p failures c) + cond b 0 1) e
+
+      go : (b : Bool) → isEnd (r .cursor .position) ≡ b → pages p failures (r .cursor) < pages p failures c
+      go true q =
+          let z : pages p failures (r .cursor) ≡ length (remaining p failures (r .cursor)) + 0 =
+          ap (λ (b : Bool). length (remaining p failures (r .cursor)) + cond b 0 1) q in
+          omega (arith, z, left, page-lengths)
+      go false q =
+          let z : pages p failures (r .cursor) ≡ length (remaining p failures (r .cursor)) + 1 =
+          ap (λ (b : Bool). length (remaining p failures (r .cursor)) + cond b 0 1) q in
+          let full : (r .rows < length held / 26) → ⊥ = λ h. false≢true (sym q ∙ page .ends h) in
+          omega (arith, z, left, page-lengths, full, room-for)
 
 -- at the end there are no rows
 pub page-over : (p : Program) (failures : Bool) (c : Cursor) (held : List ℕ) → isEnd (c .position) ≡ true → Paged p failures c held held (record { rows = 0; cursor = c })

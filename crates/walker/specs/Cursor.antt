@@ -1,7 +1,7 @@
 -- A cursor in the list that is walked, and a page: the rows of the first so many of what is yet to come, with the cursor behind them.
-use Prim.Native.Nat.{ℕ, _/_, _<_}
+use Prim.Native.Nat.{ℕ, _+_, _/_, _<_}
 use mathlib.Core.Path.{_≡_}
-use mathlib.Core.Bool.{Bool, true, false}
+use mathlib.Core.Bool.{Bool, true, false, cond}
 use mathlib.Core.Option.{some}
 use mathlib.Core.List.{List, []}
 use lib.ListN.{length, take, drop}
@@ -35,6 +35,10 @@ abbrev pub isEnd : Position → Bool
 isEnd Beginning = false
 isEnd Behind = false
 isEnd End = true
+
+-- the pages to come are at most so many
+abbrev pub pages : Program → Bool → Cursor → ℕ
+pages p failures c = length (remaining p failures c) + cond (isEnd (c .position)) 0 1
 
 pub record Paged (p : Program) (failures : Bool) (c : Cursor) (held out : List ℕ) (r : Page) : Type 0 where
   -- the rows of what is yet to come, as many as there is room for, stand over the front of what the buffer held

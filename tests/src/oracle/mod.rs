@@ -1,5 +1,6 @@
 //! An oracle: document 01 written a second time, in plain Rust, by its words and without regard to speed.
 pub mod calls;
+pub mod covers;
 pub mod decode;
 pub mod graph;
 pub mod judge;

@@ -4,11 +4,13 @@
 //! of pointers and lengths. No call keeps anything for the next, so all may be made from many threads at once.
 mod answer;
 mod closed;
+mod covers;
 mod interrupt;
 mod raw;
 
 pub use answer::Answer;
 pub use closed::standard_output_was_closed;
+pub use covers::Covers;
 pub use interrupt::{note_interrupts, was_interrupted};
 
 /// A schedule needs an output of so many bytes.
@@ -88,5 +90,14 @@ pub fn rows_after(file: &[u8], schedule: &[u8], out: &mut [u8]) -> Answer {
     // safe: the call reads only the bytes of the first two slices and writes only bytes of the third
     Answer::of_word(unsafe {
         raw::tarczolin_rows_after(file.as_ptr(), file.len(), schedule.as_ptr(), schedule.len(), out.as_mut_ptr(), out.len())
+    })
+}
+
+/// Does the first program cover the second? Else the first listed schedule of the second with an outcome that the first lacks,
+/// in front of the output.
+pub fn covers(first: &[u8], second: &[u8], out: &mut [u8]) -> Covers {
+    // safe: the call reads only the bytes of the first two slices and writes only bytes of the third
+    Covers::of_word(unsafe {
+        raw::tarczolin_covers(first.as_ptr(), first.len(), second.as_ptr(), second.len(), out.as_mut_ptr(), out.len())
     })
 }

@@ -39,4 +39,12 @@ extern "C" {
         out: *mut u8,
         out_len: usize,
     ) -> u64;
+    pub fn tarczolin_covers(
+        first: *const u8,
+        first_len: usize,
+        second: *const u8,
+        second_len: usize,
+        out: *mut u8,
+        out_len: usize,
+    ) -> u64;
 }

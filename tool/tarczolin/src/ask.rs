@@ -1,6 +1,6 @@
 //! The library's calls with answers to keep: each lends an output that is long enough and takes the answer out of it.
 use crate::schedule::Schedule;
-use tarczolin_sys::{self as library, Answer, GRAPH, ROW, SCHEDULE};
+use tarczolin_sys::{self as library, Answer, Covers, GRAPH, ROW, SCHEDULE};
 
 /// A refusal: its number and its place.
 #[derive(Clone, Copy, Debug, PartialEq, Eq)]
@@ -137,4 +137,15 @@ pub fn class(file: &[u8], schedule: &[u8]) -> Result<u64, Refusal> {
 /// The least schedule that makes this graph, or no.
 pub fn judge(file: &[u8], graph: &[u8]) -> Result<Option<Schedule>, Refusal> {
     schedule(|out| library::judge(file, graph, out))
+}
+
+/// The first listed schedule of the second program with an outcome that the first lacks, or none where it is covered. Which file
+/// is refused does not stand in the refusal: the first is asked about first.
+pub fn covers(first: &[u8], second: &[u8]) -> Result<Option<Schedule>, Refusal> {
+    let mut out = [0; SCHEDULE];
+    match library::covers(first, second, &mut out) {
+        Covers::Covered => Ok(None),
+        Covers::Lacking(length) => Ok(Some(Schedule::of_output(out, length as usize))),
+        Covers::Refused(number, place) | Covers::SecondRefused(number, place) => Err(Refusal { number, place }),
+    }
 }

@@ -4,7 +4,7 @@ use std::process::ExitCode;
 #[derive(Clone, Copy, Debug, PartialEq, Eq, PartialOrd, Ord)]
 pub enum End {
     Answered,
-    /// A violation was found, or the judge says no.
+    /// A violation was found, the judge says no, or a program is not covered.
     Violation,
     /// Refused, or bad usage: what is wrong has been told.
     Refused,

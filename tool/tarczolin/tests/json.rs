@@ -35,7 +35,7 @@ fn every_command_fits_the_schema() {
     let (graph, piece) = (graph.display().to_string(), piece.display().to_string());
     let no = b"400001ffff\n400101ffff\n41000000\n41010100\n";
     let pair = "examples/store-load-pair.hex";
-    let cases: [(&[&str], &[u8], i32, usize); 20] = [
+    let cases: [(&[&str], &[u8], i32, usize); 23] = [
         (&["list", QUEUE], b"", 1, 7),
         (&["count", QUEUE], b"", 1, 1),
         (&["count", QUEUE, "--jobs", "2"], b"", 1, 1),
@@ -43,6 +43,9 @@ fn every_command_fits_the_schema() {
         (&["violation", QUEUE, "--show"], b"", 1, 1),
         (&["outcomes", QUEUE], b"", 1, 7),
         (&["outcomes", QUEUE, "--where", "second.mine = 1"], b"", 1, 7),
+        (&["covers", QUEUE, QUEUE], b"", 0, 1),
+        (&["covers", QUEUE, pair], b"", 1, 1),
+        (&["covers", QUEUE, "-"], b"01\n110400\n", 2, 1),
         (&["show", QUEUE], b"", 1, 7),
         (&["show", QUEUE, "00000102020201"], b"", 1, 1),
         (&["show", "-"], b"01\n23000000000001\n", 1, 2),

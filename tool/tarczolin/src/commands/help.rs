@@ -10,7 +10,7 @@ const FRONT: &str = "tarczolin explores the executions of a small concurrent pro
 const END: &str = "
 FILE is a program file or a program in the text form, GRAPH a graph text; - is standard input. SCHEDULE is digits,
 two a step: 00000101. -- ends the options. `tarczolin COMMAND -h` tells a command's options and an example, --version the version.
-Exit status: 0 answered; 1 a violation was found, an outcome matches, or the judge says no; 2 refused, or bad usage.
+Exit status: 0 answered; 1 a violation was found, an outcome matches, NEW is not covered, or the judge says no; 2 refused, or bad usage.
 ";
 
 /// All commands, each with what it does.

@@ -19,5 +19,5 @@ pub fn page(commands: &[&Command]) -> String {
         }
         write!(text, ".br\nExample: {}\n", escaped(command.example)).expect("text grows");
     }
-    text + ".SH EXIT STATUS\n0 answered; 1 a violation was found, an outcome matches, or the judge says no; 2 refused, or bad usage.\n"
+    text + ".SH EXIT STATUS\n0 answered; 1 a violation was found, an outcome matches, NEW is not covered, or the judge says no; 2 refused, or bad usage.\n"
 }

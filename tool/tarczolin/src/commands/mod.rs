@@ -5,6 +5,7 @@ mod check;
 mod command;
 mod complete;
 mod count;
+mod covers;
 mod cuts;
 mod disasm;
 mod graph;
@@ -66,7 +67,7 @@ fn command(words: &[String]) -> Result<End, Error> {
     })
 }
 
-/// Carries out a command: 0 answered, 1 a violation was found or the judge says no, 2 refused or bad usage.
+/// Carries out a command: 0 answered, 1 a violation was found, the judge says no or a program is not covered, 2 refused or bad usage.
 pub fn run(words: &[String]) -> ExitCode {
     let end = command(words).unwrap_or_else(|error| {
         eprintln!("tarczolin: {error}");

@@ -4,7 +4,7 @@ use super::count::CLASSES;
 use super::opt::Opt;
 use super::piece::{AFTER, JOBS_OPTION, UNTIL};
 use super::reply::JSON;
-use super::{asm, check, count, cuts, disasm, graph, join, judge, list, litmus, outcomes, show, violation};
+use super::{asm, check, count, covers, cuts, disasm, graph, join, judge, list, litmus, outcomes, show, violation};
 
 const SHOW: Opt = Opt { name: "--show", value: None, about: "the whole execution in two columns, not only its schedule" };
 const WHERE: Opt = Opt {
@@ -22,7 +22,7 @@ const SHOW_OPTIONS: &[Opt] = &[
     JSON,
 ];
 
-pub const COMMANDS: [Command; 14] = [
+pub const COMMANDS: [Command; 15] = [
     Command {
         name: "list",
         words: "FILE..",
@@ -54,6 +54,14 @@ pub const COMMANDS: [Command; 14] = [
         options: &[WHERE, JOBS_OPTION, JSON],
         example: "tarczolin outcomes examples/queue-broken.asm --where 'consumer.item = 0 & tail = 3'",
         run: outcomes::run,
+    },
+    Command {
+        name: "covers",
+        words: "OLD NEW",
+        about: "can NEW end as OLD cannot? covered, or the first execution of NEW that does, and all outcomes of OLD",
+        options: &[JSON],
+        example: "tarczolin covers examples/whole.hex examples/store-load-pair.hex",
+        run: covers::run,
     },
     Command {
         name: "show",

@@ -7,8 +7,9 @@ use native.Mathlib.Omega.{arith}
 use Rattle.program.specs.WellFormed.{WellFormed}
 use Rattle.decoder.specs.Compiled.{programOf}
 use Rattle.sc.proofs.Lawful.{fits-64-bits}
+use Rattle.walker.specs.Cursor.{pages}
 use Rattle.list.proofs.TheList.{list-length}
-use Rattle.listing.proofs.CountedRows.{Counting, pages, counting-start, counting-64, counting-within, counting-fails, counting-over, counting-next, counting-less}
+use Rattle.listing.proofs.CountedRows.{Counting, counting-start, counting-64, counting-within, counting-fails, counting-over, counting-next, counting-less}
 use Rattle.listing.proofs.counting.counts.Statement.{statement}
 use Rattle.listing.proofs.counting.counts.Tie as tie
 
@@ -16,7 +17,7 @@ abbrev Inv-loop : tie.InvT-loop
 Inv-loop program rows₀ cursor₀ listed₀ failing₀ rows cursor listed failed = Counting (programOf program) cursor rows listed failed
 
 abbrev μ-loop : tie.MeasureT-loop
-μ-loop program rows₀ cursor₀ listed₀ failing₀ rows cursor listed failed = pages (programOf program) cursor
+μ-loop program rows₀ cursor₀ listed₀ failing₀ rows cursor listed failed = pages (programOf program) false cursor
 
 well : (c : tie.At-loop Inv-loop μ-loop) → WellFormed (programOf (c .before .before .args .program))
 well c = c .before .before .pre

@@ -1,0 +1,49 @@
+//! One program against another.
+use std::hint::black_box;
+use std::time::Instant;
+use tarczolin_tests::calls::{self, Answer, Covers};
+use tarczolin_tests::files::lines;
+
+/// Stores of 1, 2, .. beside loads of the same location, of which some are kept at locations of their own.
+fn program(stores: usize, loads: usize, kept: &[usize]) -> Vec<u8> {
+    let writer: String = (1..=stores).map(|value| format!("100000{value:08x} ")).collect();
+    let load = |k: usize| match kept.iter().position(|at| *at == k) {
+        Some(l) => format!("110000 10{:02x}0100000000 ", l + 1),
+        None => "110100 ".to_string(),
+    };
+    lines(&format!("01 {writer} 01 {}", (0..loads).map(load).collect::<String>()))
+}
+
+fn counted(file: &[u8]) -> (f64, u64) {
+    let (mut listed, mut failing) = (0, 0);
+    let began = Instant::now();
+    assert_eq!(black_box(calls::count(file, &mut listed, &mut failing)), Answer::Answered(0));
+    (began.elapsed().as_nanos() as f64, listed)
+}
+
+/// The best of three, as a ratio to a count of both files, each measured in turns.
+fn row(what: &str, first: &[u8], second: &[u8]) {
+    let mut best = [f64::MAX; 2];
+    let mut listed = [0; 2];
+    let mut answer = Covers::Covered;
+    for _ in 0..3 {
+        let both = [counted(first), counted(second)];
+        listed = both.map(|(_, listed)| listed);
+        best[0] = best[0].min(both[0].0 + both[1].0);
+        let began = Instant::now();
+        answer = black_box(calls::covers(first, second, &mut [0; 24]));
+        best[1] = best[1].min(began.elapsed().as_nanos() as f64);
+    }
+    println!("{what}: {} and {} listed, {answer:?}", listed[0], listed[1]);
+    println!("  covers: {:.1} ms, {:.2} times a count of both (asked: at most 60)", best[1] / 1e6, best[1] / best[0]);
+}
+
+pub fn report() {
+    let few = program(10, 10, &[9]);
+    row("ten stores beside ten loads, the last one kept, against itself", &few, &few);
+    let many = program(8, 13, &[5, 12]);
+    row("eight stores beside thirteen loads, two of them kept, against itself", &many, &many);
+    row("the same against a program that keeps another load", &many, &program(8, 13, &[5, 11]));
+    let far = lines(&(0..6).map(|t| format!("01 1200000000000001 10{:02x}0100000000 ", t + 1)).collect::<String>());
+    row("six threads, 720 outcomes, more than a batch holds, against itself", &far, &far);
+}
