@@ -7,3 +7,9 @@ pub mod Against
 pub mod Composed
 -- who wins by the recursion can force: exactly one side can
 pub mod Determined
+-- what decides a game at once
+pub mod Decided
+-- a failed assertion does, and so does a state from which no assertion can be reached
+pub mod Early
+-- the answer: it exists by the recursion, and is the only one
+pub mod Answers

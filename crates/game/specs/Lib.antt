@@ -5,3 +5,5 @@ pub mod Game
 pub mod Value
 -- a program's game, and the answer to a file and a set of threads
 pub mod Forced
+-- states from which no assertion can be reached
+pub mod Silent
