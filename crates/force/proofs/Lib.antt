@@ -7,5 +7,7 @@ pub mod TailLaws
 pub mod Steps
 -- the two moves
 pub mod Moves
+-- whether the set names threads only
+pub mod Names
 -- the promise
 pub mod Forcing

@@ -1,4 +1,4 @@
--- THE PROMISE about an accepted file and a set that names threads of it only, as one claim. `violationFile` is what the contract of the
+-- THE PROMISE about an accepted file and a set, as one claim. `violationFile` is what the contract of the
 -- violation call equates its answer and the later content of its output with.
 use Prim.Native.Nat.{ℕ, _≤_}
 use mathlib.Core.Path.{_≡_}
@@ -17,7 +17,7 @@ pub record Forcing (file : List ℕ) (set : ℕ) (p : Program) : Type 0 where
   -- EXACTLY ONE side can force its end
   pub exactly-one : ExactlyOne (gameOf set) hostile (start p)
   -- IF THE HOSTILE SIDE CAN, the violation call, with an output that is not too short, reports a schedule
-  pub violation : CanForce hostile set p → (out : List ℕ) → 24 ≤ length out → (s : Schedule) × (violationFile file out ≡ (fails-first s, over s out))
-  -- ONE ANSWER is right, and only one
-  pub answer : (a : Answer) × Forced file set a
+  pub violation : CanForce hostile set p → (out : List ℕ) → 24 ≤ length out
+      → (s : Schedule) × (violationFile file out ≡ (fails-first s, over s out))
+  -- ONLY ONE ANSWER is right: what the call's contract equates its answer with
   pub only : (a b : Answer) → Forced file set a → Forced file set b → a ≡ b
