@@ -15,3 +15,5 @@ pub mod Fitting
 pub mod JudgeFits
 -- A word of kind 1 tells how many bytes of the output are the schedule.
 pub mod InOutput
+-- who can force the failure
+pub mod Forces

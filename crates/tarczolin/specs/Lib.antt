@@ -13,3 +13,5 @@ pub mod Listed
 pub mod Tallied
 -- what the calls by rows say
 pub mod ByRows
+-- who can force the failure
+pub mod Forced

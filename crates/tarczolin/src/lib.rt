@@ -14,10 +14,13 @@ mod listed;
 mod tally;
 // Many listed schedules at a time: tarczolin_rows, tarczolin_rows_after.
 mod by_rows;
+// Who can force the failure: tarczolin_force.
+mod forcing;
 
 pub use by_rows::tarczolin_rows;
 pub use by_rows::tarczolin_rows_after;
 pub use check::tarczolin_check;
+pub use forcing::tarczolin_force;
 pub use graph::tarczolin_graph;
 pub use judgement::tarczolin_judge;
 pub use listed::tarczolin_continue;
