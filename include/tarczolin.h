@@ -4,7 +4,7 @@
  *
  *   bits 56 to 63   the kind: 1 answered; 2 no more, none, or no; 3 refused
  *   bits 48 to 55   a refusal's number, else 0
- *   bits  0 to 47   the length of an answer in bytes, 0 where there is none; of rows their number;
+ *   bits  0 to 47   the length of an answer in bytes, 0 where there is none; of rows their number; of tarczolin_force a step;
  *                   or a refusal's place. All of them fit these bits: of rows where the output is shorter than 26 * 2^48 bytes,
  *                   of a graph text's refusal where the text is shorter than 2^48 bytes
  *
@@ -88,6 +88,15 @@ uint64_t tarczolin_count(const uint8_t *file, size_t file_len, uint64_t *listed,
  * more or no room. Refused: the program's (1 to 8, 40), and no byte changes. */
 uint64_t tarczolin_rows(const uint8_t *file, size_t file_len, uint8_t *out, size_t out_len);
 uint64_t tarczolin_rows_after(const uint8_t *file, size_t file_len, const uint8_t *schedule, size_t schedule_len, uint8_t *out, size_t out_len);
+
+/* Who can force the failure of an assertion? Two sides divide the threads: bit t of the set says that thread t is the hostile
+ * side's; an empty set and all threads are allowed. They step alternately, hostile first, each one of its own threads not yet
+ * ended; a side with none left passes. Exactly one side can force its end, whatever the other does. The hostile side can force
+ * that the full schedule fails: kind 1, with 0 where it has no step before the first one, else its least first step that keeps
+ * the win, plus 1; tarczolin_violation then reports a schedule. The friendly side can force that it does not fail: kind 2.
+ * Refused, in this order: the program's (1 to 8); 48, the set names a thread that is not there, at the lowest such number, 6 and
+ * 7 too. The file is only read. The time grows with the number of plays. */
+uint64_t tarczolin_force(const uint8_t *file, size_t file_len, uint8_t set);
 
 #ifdef __cplusplus
 }

@@ -80,9 +80,10 @@ module _ (code : List ℕ) (t n : ℕ) where
 
   pub clear-more : (k : ℕ) → 0 < k → k ≤ n → Clear k → Harmless (instructionAt code (t * 16 + k - 1)) → Clear (k - 1)
   clear-more k h b c f =
-      subst (Everywhere Harmless) (sym (code-at code t n (k - 1) (omega arith)))
-      (subst (λ (j : ℕ). Harmless (instructionAt code j)) (let e : t * 16 + k - 1 ≡ t * 16 + (k - 1) = omega arith in e) f,
-       subst Clear (let e : k ≡ suc (k - 1) = omega arith in e) c)
+      subst (Everywhere Harmless) (sym (code-at code t n (k - 1) (omega arith))) (
+        subst (λ (j : ℕ). Harmless (instructionAt code j)) (let e : t * 16 + k - 1 ≡ t * 16 + (k - 1) = omega arith in e) f,
+        subst Clear (let e : k ≡ suc (k - 1) = omega arith in e) c,
+      )
 
 -- ---- all threads
 pub at-most-six : (code lengths : List ℕ) (threads : ℕ) (p : Program) → Loaded code lengths threads p → threads ≤ 6

@@ -7,13 +7,16 @@ use mathlib.Core.Logic.{_⊎_, inl, inr}
 use mathlib.Core.Bool.{Bool, true, false, true≢false}
 use mathlib.Core.Option.{none, some}
 use mathlib.Core.List.{List, List·Memᴰ}
+use lib.Dec.{leb}
 use lib.ListN.{length}
+use borrow.Author.Tests.{le-leb, leb-true}
 use Rattle.program.specs.Program.{Program}
 use Rattle.program.specs.WellFormed.{WellFormed}
 use Rattle.program.specs.Decode.{Decoded, accepted, refused, decode}
-use Rattle.schedules.specs.Lists.{any}
+use Rattle.program.proofs.AcceptedWellFormed.{accepted-well-formed}
+use Rattle.schedules.specs.Lists.{both, any}
 use Rattle.schedules.specs.Order.{Schedule}
-use Rattle.schedules.proofs.Lists.{any-yes, any-of, of-range}
+use Rattle.schedules.proofs.Lists.{true-both, both-left, both-right, any-yes, any-of, of-range}
 use Rattle.sc.specs.State.{State, step, SC, start, fails, size}
 use Rattle.sc.specs.Graph.{Full, endOf}
 use Rattle.sc.proofs.Lawful.{lawful, falls, start-24}
@@ -101,6 +104,68 @@ module _ (set : ℕ) (p : Program) (w : WellFormed p) where
   pub pass-lost : able (gameOf set) hostile σ ≡ false → ahead σ ≡ friendly → Said set p friendly-can
   unfolding other
   pass-lost a e = friendly-forces (can friendly (value-passes (gameOf set) 48 hostile σ a ∙ e))
+
+-- ---- there is an answer
+-- the first number below n that passes the test, or none does
+abbrev First : (ℕ → Bool) → ℕ → Type 0
+First f n = ((t : ℕ) × (t < n) × (f t ≡ true) × ((u : ℕ) → u < t → f u ≡ false)) ⊎ ((u : ℕ) → u < n → f u ≡ false)
+
+first-below : (f : ℕ → Bool) (n : ℕ) → First f n
+first-below f zero = inr (λ u b. absurd (omega arith))
+first-below f (suc n) = go (first-below f n)
+  where
+    more : ((u : ℕ) → u < n → f u ≡ false) → (b : Bool) → f n ≡ b → First f (suc n)
+    more h true e = inl (n, omega arith, e, h)
+    more h false e = inr (λ u b. last u b h e (decLt u n))
+      where
+        last : (u : ℕ) → u < suc n → ((u : ℕ) → u < n → f u ≡ false) → f n ≡ false → Dec (u < n) → f u ≡ false
+        last u b h e (yes l) = h u l
+        last u b h e (no l) = ap f (let q : u ≡ n = omega (arith, b, l) in q) ∙ e
+
+    go : First f n → First f (suc n)
+    go (inl r) = inl (r .0, omega (arith, r .1), r .2, r .3)
+    go (inr h) = more h (f n) refl
+
+said-exists : (set : ℕ) (p : Program) → WellFormed p → (a : Answer) × Said set p a
+said-exists set p w = go (able (gameOf set) hostile (start p)) refl
+  where
+    steps : able (gameOf set) hostile (start p) ≡ true → First (keepsBy (gameOf set) (ahead set p w) hostile (start p)) 6 → (a : Answer) × Said set p a
+    steps e (inl r) = (hostile-can (some (r .0)), steps-said set p w (r .0) (r .1) e (r .2) (r .3))
+    steps e (inr h) = (friendly-can, steps-lost set p w e h)
+
+    passes : able (gameOf set) hostile (start p) ≡ false → (y : Side) → ahead set p w (start p) ≡ y → (a : Answer) × Said set p a
+    passes e hostile q = (hostile-can none, pass-won set p w e q)
+    passes e friendly q = (friendly-can, pass-lost set p w e q)
+
+    go : (b : Bool) → able (gameOf set) hostile (start p) ≡ b → (a : Answer) × Said set p a
+    go true e = steps e (first-below (keepsBy (gameOf set) (ahead set p w) hostile (start p)) 6)
+    go false e = passes e (ahead set p w (start p)) refl
+
+-- AN ANSWER for every file and every set
+pub forced-exists : (file : List ℕ) (set : ℕ) → (a : Answer) × Forced file set a
+forced-exists file set = go (decode file) refl
+  where
+    small : (p : Program) (j : ℕ) → has set j ≡ true → both (has set j) (leb (length (p .threads)) j) ≡ false → Dec (j < length (p .threads)) → j < length (p .threads)
+    small p j m n (yes l) = l
+    small p j m n (no l) = absurd (true≢false (sym (ap (λ (x : Bool). both x (leb (length (p .threads)) j)) m ∙ true-both (leb (length (p .threads)) j) ∙ le-leb (length (p .threads)) j (omega (arith, l))) ∙ n))
+
+    by : (p : Program) → decode file ≡ accepted p → First (λ k. both (has set k) (leb (length (p .threads)) k)) 8 → (a : Answer) × Forced file set a
+    by p e (inl (k, b, q, h)) = (
+      refusing 48 k,
+      set-refused p k e (record {
+        eight = b;
+        named = both-left (has set k) (leb (length (p .threads)) k) q;
+        missing = leb-true (length (p .threads)) k (both-right (has set k) (leb (length (p .threads)) k) q);
+        lowest = λ j l m. small p j m (h j l) (decLt j (length (p .threads)));
+      }),
+    )
+    by p e (inr h) =
+        let r = said-exists set p (accepted-well-formed file p e) in
+        (r .0, played p (r .0) (record { accepts = e; names = λ k b m. small p k m (h k b) (decLt k (length (p .threads))) }) (r .1))
+
+    go : (d : Decoded) → decode file ≡ d → (a : Answer) × Forced file set a
+    go (accepted p) e = by p e (first-below (λ k. both (has set k) (leb (length (p .threads)) k)) 8)
+    go (refused n k) e = (refusing n k, program-refused n k e)
 
 -- ---- there is only one answer
 first-unique : (set : ℕ) (p : Program) (t u : ℕ) → LeastFirst set p t → LeastFirst set p u → t ≡ u

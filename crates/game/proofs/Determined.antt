@@ -157,8 +157,8 @@ module _ (G : Game) where
             let r = value-steps k x σ e h in
             subst (λ (y : Side). Forces G y x σ) (sym (r .2))
             (best-forces x σ e (r .0) (λ t q.
-              let less = L .falls σ t (mine-enabled G (mover G x σ) σ t q) in
-              ih (r .0) (turnBehind G x σ) (G .system .step σ t) (omega (arith, less)) (omega (arith, less, r .1))))
+            let less = L .falls σ t (mine-enabled G (mover G x σ) σ t q) in
+            ih (r .0) (turnBehind G x σ) (G .system .step σ t) (omega (arith, less)) (omega (arith, less, r .1))))
 
     -- WHO WINS BY THE RECURSION CAN FORCE
     pub value-forces : (k : ℕ) (x : Side) (σ : S) → 2 * G .system .size σ + 1 ≤ k → Forces G (value G k x σ) x σ

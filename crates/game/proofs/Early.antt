@@ -33,8 +33,7 @@ Failed p σ = (v : Schedule) × Allowed SC (start p) v × (endOf p v ≡ σ) × 
 failed-step : (p : Program) (σ : State) (t : ℕ) → Failed p σ → enabled σ t ≡ true → Failed p (step σ t)
 failed-step p σ t (v, a, e, f) m =
     let at : enabled (endOf p v) t ≡ true = subst (λ (τ : State). enabled τ t ≡ true) (sym e) m in
-    let moved : endOf p (v ++ (t ∷ [])) ≡ step σ t = run-snoc SC (start p) v t ∙ ap (λ (τ : State). step τ t) e in
-    (
+    let moved : endOf p (v ++ (t ∷ [])) ≡ step σ t = run-snoc SC (start p) v t ∙ ap (λ (τ : State). step τ t) e in (
       v ++ (t ∷ []),
       allowed-join SC (start p) v (t ∷ []) a (at, tt),
       moved,

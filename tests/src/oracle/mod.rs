@@ -1,6 +1,7 @@
 //! An oracle: document 01 written a second time, in plain Rust, by its words and without regard to speed.
 pub mod calls;
 pub mod decode;
+pub mod force;
 pub mod graph;
 pub mod judge;
 pub mod listing;

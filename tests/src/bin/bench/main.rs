@@ -1,5 +1,6 @@
 //! Times of the library beside plain Rust, both measured in one run. Nothing is asserted.
 mod check;
+mod force;
 mod graph;
 mod judge;
 mod listing;
@@ -14,4 +15,5 @@ fn main() {
     judge::report();
     search::report();
     listing::report();
+    force::report();
 }

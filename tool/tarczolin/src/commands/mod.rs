@@ -7,6 +7,7 @@ mod complete;
 mod count;
 mod cuts;
 mod disasm;
+mod force;
 mod graph;
 mod help;
 mod join;

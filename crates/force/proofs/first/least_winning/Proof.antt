@@ -56,14 +56,14 @@ returns c =
     let may-step = c .before .before .before .before .before .may-step in
     let loop = c .before .before .before .before .before .before .before .loop in
     λ threads p st.
-        let mine = may-step .ensures (args .code .now) (endOf p []) (st .holds) in
-        let ok = turn-enabled (args .set) 49 hostile p [] (loop .t) (may-step .result) mine (c .before .before .before .before .if1 .taken) in
-        record {
-          most = loop .inv .0;
-          found = λ b. turn-won (args .set) 49 hostile p [] (loop .t) (may-step .result) mine (c .before .before .before .before .if1 .taken) (moved .result)
-              (moved .ensures threads p (loop .t ∷ []) (standing-step (args .code .now) (args .lengths .now) (args .tails .now) threads (args .m) p [] st (loop .t) ok (step .result) (step .ensures) (step .result .machine) refl)) (c .if2 .taken);
-          below = loop .inv .1 threads p st;
-        }
+    let mine = may-step .ensures (args .code .now) (endOf p []) (st .holds) in
+    let ok = turn-enabled (args .set) 49 hostile p [] (loop .t) (may-step .result) mine (c .before .before .before .before .if1 .taken) in
+    record {
+      most = loop .inv .0;
+      found = λ b. turn-won (args .set) 49 hostile p [] (loop .t) (may-step .result) mine (c .before .before .before .before .if1 .taken) (moved .result)
+          (moved .ensures threads p (loop .t ∷ []) (standing-step (args .code .now) (args .lengths .now) (args .tails .now) threads (args .m) p [] st (loop .t) ok (step .result) (step .ensures) (step .result .machine) refl)) (c .if2 .taken);
+      below = loop .inv .1 threads p st;
+    }
 
 loop-again : tie.Need-loop-again Inv-loop μ-loop
 unfolding sideOf other run
@@ -77,9 +77,9 @@ loop-again c =
           one-more (λ (u : ℕ). keepsFirst (args .set) p u ≡ false) (loop .t) (loop .inv .1 threads p st)
           (⊎-elim
           (λ w.
-            let ok = turn-enabled (args .set) 49 hostile p [] (loop .t) (may-step .result) mine (w .0 .taken) in
-            turn-lost (args .set) 49 hostile p [] (loop .t) (may-step .result) mine (w .0 .taken) (w .3 .result)
-            (w .3 .ensures threads p (loop .t ∷ []) (standing-step (args .code .now) (args .lengths .now) (args .tails .now) threads (args .m) p [] st (loop .t) ok (w .1 .result) (w .1 .ensures) (w .1 .result .machine) refl)) (w .4 .left))
+          let ok = turn-enabled (args .set) 49 hostile p [] (loop .t) (may-step .result) mine (w .0 .taken) in
+          turn-lost (args .set) 49 hostile p [] (loop .t) (may-step .result) mine (w .0 .taken) (w .3 .result)
+          (w .3 .ensures threads p (loop .t ∷ []) (standing-step (args .code .now) (args .lengths .now) (args .tails .now) threads (args .m) p [] st (loop .t) ok (w .1 .result) (w .1 .ensures) (w .1 .result .machine) refl)) (w .4 .left))
           (λ w. turn-skipped (args .set) 49 hostile p [] (loop .t) (may-step .result) mine (w .left))
           (c .if1 .came)),
     )

@@ -123,11 +123,11 @@ friendly-move-returns-5 t c =
     let loop = c .before .before .before .before .before .before .before .loop in
     let has-step = c .before .before .before .before .before .before .before .before .before .has-step in
     λ threads p v st.
-        let mine = may-step .ensures (args .code .now) (endOf p v) (st .holds) in
-        let ok = turn-enabled (args .set) (args .left) friendly p v (loop .t) (may-step .result) mine (c .before .before .before .before .if5 .taken) in
-        move-won (args .code .now) (args .lengths .now) (args .tails .now) threads (args .m) p v st (args .set) (args .left) friendly (c .before .before .before .before .before .before .before .before .before .before .before .before .if2 .left) (has-step .result) (has-step .ensures (args .code .now) (endOf p v) (st .holds)) (c .before .before .before .before .before .before .before .before .if4 .left) (loop .t)
-        (turn-won (args .set) (args .left) friendly p v (loop .t) (may-step .result) mine (c .before .before .before .before .if5 .taken) (moved .result)
-        (moved .ensures threads p (v ++ (loop .t ∷ [])) (standing-step (args .code .now) (args .lengths .now) (args .tails .now) threads (args .m) p v st (loop .t) ok (step .result) (step .ensures) (step .result .machine) refl)) (c .if6 .taken))
+    let mine = may-step .ensures (args .code .now) (endOf p v) (st .holds) in
+    let ok = turn-enabled (args .set) (args .left) friendly p v (loop .t) (may-step .result) mine (c .before .before .before .before .if5 .taken) in
+    move-won (args .code .now) (args .lengths .now) (args .tails .now) threads (args .m) p v st (args .set) (args .left) friendly (c .before .before .before .before .before .before .before .before .before .before .before .before .if2 .left) (has-step .result) (has-step .ensures (args .code .now) (endOf p v) (st .holds)) (c .before .before .before .before .before .before .before .before .if4 .left) (loop .t)
+    (turn-won (args .set) (args .left) friendly p v (loop .t) (may-step .result) mine (c .before .before .before .before .if5 .taken) (moved .result)
+    (moved .ensures threads p (v ++ (loop .t ∷ [])) (standing-step (args .code .now) (args .lengths .now) (args .tails .now) threads (args .m) p v st (loop .t) ok (step .result) (step .ensures) (step .result .machine) refl)) (c .if6 .taken))
 
 friendly-move-loop-again : (t : ℕ) → friendly-move-lts.Need-loop-again (friendly-move-callees t) (friendly-move-at t) friendly-move.Post friendly-move-Inv-loop friendly-move-μ-loop
 unfolding sideOf other
@@ -141,9 +141,9 @@ friendly-move-loop-again t c =
           one-more (λ (u : ℕ). keeps (args .set) (args .left) friendly (endOf p v) u ≡ false) (loop .t) (loop .inv .1 threads p v st)
           (⊎-elim
           (λ w.
-            let ok = turn-enabled (args .set) (args .left) friendly p v (loop .t) (may-step .result) mine (w .0 .taken) in
-            turn-lost (args .set) (args .left) friendly p v (loop .t) (may-step .result) mine (w .0 .taken) (w .3 .result)
-            (w .3 .ensures threads p (v ++ (loop .t ∷ [])) (standing-step (args .code .now) (args .lengths .now) (args .tails .now) threads (args .m) p v st (loop .t) ok (w .1 .result) (w .1 .ensures) (w .1 .result .machine) refl)) (w .4 .left))
+          let ok = turn-enabled (args .set) (args .left) friendly p v (loop .t) (may-step .result) mine (w .0 .taken) in
+          turn-lost (args .set) (args .left) friendly p v (loop .t) (may-step .result) mine (w .0 .taken) (w .3 .result)
+          (w .3 .ensures threads p (v ++ (loop .t ∷ [])) (standing-step (args .code .now) (args .lengths .now) (args .tails .now) threads (args .m) p v st (loop .t) ok (w .1 .result) (w .1 .ensures) (w .1 .result .machine) refl)) (w .4 .left))
           (λ w. turn-skipped (args .set) (args .left) friendly p v (loop .t) (may-step .result) mine (w .left))
           (c .if5 .came)),
     )
@@ -155,7 +155,7 @@ friendly-move-returns-6 t c =
     let loop = c .before .loop in
     let has-step = c .before .before .before .has-step in
     λ threads p v st. move-lost (args .code .now) (args .lengths .now) (args .tails .now) threads (args .m) p v st (args .set) (args .left) friendly (c .before .before .before .before .before .before .if2 .left) (has-step .result) (has-step .ensures (args .code .now) (endOf p v) (st .holds)) (c .before .before .if4 .left) refl
-        (λ u b. loop .inv .1 threads p v st u (omega (arith, b, c .loop-test .left)))
+    (λ u b. loop .inv .1 threads p v st u (omega (arith, b, c .loop-test .left)))
 
 -- ---- the hostile side's move
 abbrev hostile-move-callees : ℕ → hostile-move-lts.Claims
@@ -233,11 +233,11 @@ hostile-move-returns-5 t c =
     let loop = c .before .before .before .before .before .before .before .loop in
     let has-step = c .before .before .before .before .before .before .before .before .before .has-step in
     λ threads p v st.
-        let mine = may-step .ensures (args .code .now) (endOf p v) (st .holds) in
-        let ok = turn-enabled (args .set) (args .left) hostile p v (loop .t) (may-step .result) mine (c .before .before .before .before .if5 .taken) in
-        move-won (args .code .now) (args .lengths .now) (args .tails .now) threads (args .m) p v st (args .set) (args .left) hostile (c .before .before .before .before .before .before .before .before .before .before .before .before .if2 .left) (has-step .result) (has-step .ensures (args .code .now) (endOf p v) (st .holds)) (c .before .before .before .before .before .before .before .before .if4 .left) (loop .t)
-        (turn-won (args .set) (args .left) hostile p v (loop .t) (may-step .result) mine (c .before .before .before .before .if5 .taken) (moved .result)
-        (moved .ensures threads p (v ++ (loop .t ∷ [])) (standing-step (args .code .now) (args .lengths .now) (args .tails .now) threads (args .m) p v st (loop .t) ok (step .result) (step .ensures) (step .result .machine) refl)) (c .if6 .taken))
+    let mine = may-step .ensures (args .code .now) (endOf p v) (st .holds) in
+    let ok = turn-enabled (args .set) (args .left) hostile p v (loop .t) (may-step .result) mine (c .before .before .before .before .if5 .taken) in
+    move-won (args .code .now) (args .lengths .now) (args .tails .now) threads (args .m) p v st (args .set) (args .left) hostile (c .before .before .before .before .before .before .before .before .before .before .before .before .if2 .left) (has-step .result) (has-step .ensures (args .code .now) (endOf p v) (st .holds)) (c .before .before .before .before .before .before .before .before .if4 .left) (loop .t)
+    (turn-won (args .set) (args .left) hostile p v (loop .t) (may-step .result) mine (c .before .before .before .before .if5 .taken) (moved .result)
+    (moved .ensures threads p (v ++ (loop .t ∷ [])) (standing-step (args .code .now) (args .lengths .now) (args .tails .now) threads (args .m) p v st (loop .t) ok (step .result) (step .ensures) (step .result .machine) refl)) (c .if6 .taken))
 
 hostile-move-loop-again : (t : ℕ) → hostile-move-lts.Need-loop-again (hostile-move-callees t) (hostile-move-at t) hostile-move.Post hostile-move-Inv-loop hostile-move-μ-loop
 unfolding sideOf other
@@ -251,9 +251,9 @@ hostile-move-loop-again t c =
           one-more (λ (u : ℕ). keeps (args .set) (args .left) hostile (endOf p v) u ≡ false) (loop .t) (loop .inv .1 threads p v st)
           (⊎-elim
           (λ w.
-            let ok = turn-enabled (args .set) (args .left) hostile p v (loop .t) (may-step .result) mine (w .0 .taken) in
-            turn-lost (args .set) (args .left) hostile p v (loop .t) (may-step .result) mine (w .0 .taken) (w .3 .result)
-            (w .3 .ensures threads p (v ++ (loop .t ∷ [])) (standing-step (args .code .now) (args .lengths .now) (args .tails .now) threads (args .m) p v st (loop .t) ok (w .1 .result) (w .1 .ensures) (w .1 .result .machine) refl)) (w .4 .left))
+          let ok = turn-enabled (args .set) (args .left) hostile p v (loop .t) (may-step .result) mine (w .0 .taken) in
+          turn-lost (args .set) (args .left) hostile p v (loop .t) (may-step .result) mine (w .0 .taken) (w .3 .result)
+          (w .3 .ensures threads p (v ++ (loop .t ∷ [])) (standing-step (args .code .now) (args .lengths .now) (args .tails .now) threads (args .m) p v st (loop .t) ok (w .1 .result) (w .1 .ensures) (w .1 .result .machine) refl)) (w .4 .left))
           (λ w. turn-skipped (args .set) (args .left) hostile p v (loop .t) (may-step .result) mine (w .left))
           (c .if5 .came)),
     )
@@ -265,7 +265,7 @@ hostile-move-returns-6 t c =
     let loop = c .before .loop in
     let has-step = c .before .before .before .has-step in
     λ threads p v st. move-lost (args .code .now) (args .lengths .now) (args .tails .now) threads (args .m) p v st (args .set) (args .left) hostile (c .before .before .before .before .before .before .if2 .left) (has-step .result) (has-step .ensures (args .code .now) (endOf p v) (st .holds)) (c .before .before .if4 .left) refl
-        (λ u b. loop .inv .1 threads p v st u (omega (arith, b, c .loop-test .left)))
+    (λ u b. loop .inv .1 threads p v st u (omega (arith, b, c .loop-test .left)))
 
 pub +friendly-move+hostile-move-spec : {M : Type 1} → statement M
 +friendly-move+hostile-move-spec = close μ-friendly-move μ-hostile-move
