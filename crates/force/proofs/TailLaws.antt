@@ -13,7 +13,7 @@ use Rattle.program.specs.WellFormed.{Everywhere}
 use Rattle.program.specs.declared.instruction.Instruction.{Instruction}
 use Rattle.program.specs.declared.instruction.Instruction.the-variants.{Memory, Alone}
 use Rattle.rows.specs.Rows.{instructionAt, threadCode}
-use Rattle.rows.proofs.Rows.{row-store, row-load, row-fetch-add, row-compare-swap, row-assign, row-add-assign, row-skip}
+use Rattle.rows.proofs.Rows.{row-store, row-load, row-fetch-add, row-compare-swap, row-assign, row-add-assign, row-skip, row-skip-at-most}
 use Rattle.accesses.proofs.HeldSettling.{code-at, code-end}
 use Rattle.schedules.specs.Order.{Schedule}
 use Rattle.sc.specs.Local.{Outcome, continues, stops, outcome}
@@ -59,6 +59,10 @@ module _ (code : List ℕ) (row : ℕ) (h : row < 96) where
   pub fine-skip : getD code (row * 16) 0 ≡ 0x22 → Fine
   unfolding outcome
   fine-skip e = subst Harmless (sym (row-skip code row h e)) (λ rs q. continues-not _ _ q)
+
+  pub fine-skip-at-most : getD code (row * 16) 0 ≡ 0x24 → Fine
+  unfolding outcome
+  fine-skip-at-most e = subst Harmless (sym (row-skip-at-most code row h e)) (λ rs q. continues-not _ _ q)
 
 -- ---- one thread
 everywhere-drop : (P : Instruction → Type 0) (j : ℕ) (l : List Instruction) → Everywhere P l → Everywhere P (drop j l)

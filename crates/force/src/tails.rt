@@ -36,7 +36,10 @@ fn is_harmless(code: &Code, row: usize) -> bool
     if b == 0x21 {
         return true;
     }
-    b == 0x22
+    if b == 0x22 {
+        return true;
+    }
+    b == 0x24
 }
 
 // The number of the instruction behind the last of thread t's n that could fail.

@@ -1,6 +1,7 @@
--- Who can force the failure of a program's assertion, for a set of hostile threads given as one byte: bit t for thread t. Refusals in order:
--- the program's; then 48, where the set names a thread that is not there, at the lowest such number. Otherwise exactly one side can force
--- its end; where it is the hostile side and it has a step before the first one, the answer gives its least first step that keeps the win.
+-- Who can force the failure of a program's assertion, for a set of hostile threads given as one byte: bit t for thread t. Refusals in
+-- order: the program's; then 48, where the set names a thread that is not there, at the lowest such number. Otherwise exactly one side can
+-- force its end; where it is the hostile side and it has a step before the first one, the answer gives its least first step that keeps the
+-- win.
 use Prim.Native.Nat.{ℕ, _<_, _≤_}
 use mathlib.Core.Path.{_≡_}
 use mathlib.Core.Bool.{true, false}

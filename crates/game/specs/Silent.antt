@@ -1,4 +1,5 @@
--- States from which no assertion can be reached: nothing that is left to a thread can fail. For the code, which decides such a game at once.
+-- States from which no assertion can be reached: nothing that is left to a thread can fail. For the code, which decides such a game at
+-- once.
 use Prim.Native.Nat.{ℕ}
 use mathlib.Core.Path.{_≡_}
 use mathlib.Core.Bool.{false}
