@@ -2,6 +2,7 @@
 use crate::first::least_winning;
 use crate::moving::friendly_move;
 use crate::sides::has_step;
+use crate::tails::is_silent;
 use crate::tails::tails_of;
 use decoder::Compiled;
 use listing::ListAnswer;
@@ -62,11 +63,18 @@ fn decided(program: Compiled, set: u8) -> ForceAnswer
     ForceAnswer::Hostile(0)
 }
 
-// Where no schedule fails the friendly side can; else the game decides.
+// Where no schedule fails the friendly side can; else the game decides. The list is not asked where no assertion can be reached.
 fn played(file: &[u8], program: Compiled, set: u8) -> ForceAnswer
     requires { ⌜ decode (now file) ≡ accepted (programOf program) ⌝ }
     ensures { λ r. ⌜ ((a : Answer) × Said set (programOf program) a × (r ≡ answerOf a)) ⌝ }
 {
+    let code = program.code;
+    let lengths = program.lengths;
+    let tails = tails_of(&code, &lengths, program.threads);
+    let m = started(&code, &lengths, program.threads);
+    if is_silent(&tails, m) {
+        return decided(program, set);
+    }
     let mut out = [0u8; STEPS];
     let v = listing::violation(file, &mut out);
     match v {
