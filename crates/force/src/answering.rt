@@ -49,7 +49,8 @@ fn decided(program: Compiled, set: u8) -> ForceAnswer
     let code = program.code;
     let lengths = program.lengths;
     let tails = tails_of(&code, &lengths, program.threads);
-    let m = started(&code, &lengths, program.threads);
+    let starting = program.starting;
+    let m = started(&code, &lengths, program.threads, starting);
     if has_step(&lengths, m, set, true) {
         let t = least_winning(&code, &lengths, &tails, set, m);
         if t < 6 {
@@ -63,16 +64,23 @@ fn decided(program: Compiled, set: u8) -> ForceAnswer
     ForceAnswer::Hostile(0)
 }
 
+// Whether no assertion can be reached from the start.
+fn asserts_nothing(program: Compiled) -> bool
+    requires { ⌜ WellFormed (programOf program) ⌝ }
+{
+    let code = program.code;
+    let lengths = program.lengths;
+    let tails = tails_of(&code, &lengths, program.threads);
+    let starting = program.starting;
+    is_silent(&tails, started(&code, &lengths, program.threads, starting))
+}
+
 // Where no schedule fails the friendly side can; else the game decides. The list is not asked where no assertion can be reached.
 fn played(file: &[u8], program: Compiled, set: u8) -> ForceAnswer
     requires { ⌜ decode (now file) ≡ accepted (programOf program) ⌝ }
     ensures { λ r. ⌜ ((a : Answer) × Said set (programOf program) a × (r ≡ answerOf a)) ⌝ }
 {
-    let code = program.code;
-    let lengths = program.lengths;
-    let tails = tails_of(&code, &lengths, program.threads);
-    let m = started(&code, &lengths, program.threads);
-    if is_silent(&tails, m) {
+    if asserts_nothing(program) {
         return decided(program, set);
     }
     let mut out = [0u8; STEPS];

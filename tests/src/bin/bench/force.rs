@@ -60,17 +60,29 @@ fn row(name: &str, words: &str, set: u8, rounds: usize) {
     );
 }
 
+/// A thread that stores three times at a location of its own, loads it, and asserts what it stored.
+fn own(l: usize) -> String {
+    let store = format!("10{l:02x}0000000001 ");
+    format!("01 {}1100{l:02x} 23000000000001 ", store.repeat(3))
+}
+
+/// Four loads of a location that nobody writes.
+fn idle(loads: usize) -> String {
+    format!("01 {}", "110007 ".repeat(loads))
+}
+
 pub fn report() {
     println!("Who can force the failure: tarczolin_force beside a plain recursion that decides nothing before a play has ended");
-    let increments = "01 110000 21000000000001 10000100000000 ";
-    let last = format!("{increments} 110000 23000000000003 ");
-    let first = format!("01 110000 23000000000000 {}", "10010000000001 ".repeat(3));
-    row("an assertion at the end of one of three threads", &format!("{}{last}", increments.repeat(2)), 0b011, 20);
+    let never: String = (0..6).map(own).collect();
     row(
-        "an assertion at the beginning of one of four threads",
-        &format!("{first}{}", "01 10000000000001 110001 ".repeat(3)),
-        0b0010,
-        5,
+        "six threads that assert what nobody else writes, three of them hostile: one schedule is listed, and none fails",
+        &never,
+        0b000111,
+        3,
     );
-    row("four threads of three accesses, nothing asserted", &"01 1200000000000001 110001 10000000000001 ".repeat(4), 0b0101, 1);
+    let late = format!("01 110007 10000000000001 110007 {}{}01 110000 23000000000000 110007 ", idle(3), idle(3).repeat(2));
+    row("a load that is asserted, which the friendly side can make before the hostile store", &late, 0b00011, 20);
+    let soon = format!("01 10000000000001 110007 {}01 110000 23000000000000 110007 ", idle(3).repeat(3));
+    row("a load that is asserted, behind the hostile store", &soon, 0b00011, 20);
+    row("four threads of six loads, nothing asserted", &idle(6).repeat(4), 0b0011, 3);
 }
