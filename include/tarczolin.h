@@ -4,7 +4,7 @@
  *
  *   bits 56 to 63   the kind: 1 answered; 2 no more, none, no, or covered; 3 refused; 4 of two files the second is refused
  *   bits 48 to 55   a refusal's number, else 0
- *   bits  0 to 47   the length of an answer in bytes, 0 where there is none; of rows their number; of a class its size;
+ *   bits  0 to 47   the length of an answer in bytes, 0 where there is none; of rows their number; of a class its size; of tarczolin_force a step;
  *                   or a refusal's place. All of them fit these bits: of rows where the output is shorter than 26 * 2^48 bytes,
  *                   of a graph text's refusal where the text is shorter than 2^48 bytes
  *
@@ -103,6 +103,15 @@ uint64_t tarczolin_rows_after(const uint8_t *file, size_t file_len, const uint8_
  * output of under 24 bytes, kind 3, also where the answer would be covered. Covered and a refusal change no byte. The two files
  * may be the same bytes. */
 uint64_t tarczolin_covers(const uint8_t *first, size_t first_len, const uint8_t *second, size_t second_len, uint8_t *out, size_t out_len);
+
+/* Who can force the failure of an assertion? Two sides divide the threads: bit t of the set says that thread t is the hostile
+ * side's; an empty set and all threads are allowed. They step alternately, hostile first, each one of its own threads not yet
+ * ended; a side with none left passes. Exactly one side can force its end, whatever the other does. The hostile side can force
+ * that the full schedule fails: kind 1, with 0 where it has no step before the first one, else its least first step that keeps
+ * the win, plus 1; tarczolin_violation then reports a schedule. The friendly side can force that it does not fail: kind 2.
+ * Refused, in this order: the program's (1 to 8); 48, the set names a thread that is not there, at the lowest such number, 6 and
+ * 7 too. The file is only read. The time grows with the number of plays. */
+uint64_t tarczolin_force(const uint8_t *file, size_t file_len, uint8_t set);
 
 #ifdef __cplusplus
 }

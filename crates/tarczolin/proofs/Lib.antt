@@ -22,3 +22,5 @@ pub mod ClassSums
 pub mod Coverings
 -- A word of kind 1 tells how many bytes of the output are the schedule.
 pub mod InOutput
+-- who can force the failure
+pub mod Forces

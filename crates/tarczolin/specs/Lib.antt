@@ -19,3 +19,5 @@ pub mod Tallied
 pub mod ByRows
 -- what the call over two files says
 pub mod Against
+-- who can force the failure
+pub mod Forced

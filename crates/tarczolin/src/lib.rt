@@ -18,12 +18,15 @@ mod tally;
 mod by_rows;
 // One program against another: tarczolin_covers.
 mod against;
+// Who can force the failure: tarczolin_force.
+mod forcing;
 
 pub use against::tarczolin_covers;
 pub use by_rows::tarczolin_rows;
 pub use by_rows::tarczolin_rows_after;
 pub use check::tarczolin_check;
 pub use class::tarczolin_class;
+pub use forcing::tarczolin_force;
 pub use graph::tarczolin_graph;
 pub use judgement::tarczolin_judge;
 pub use listed::tarczolin_continue;

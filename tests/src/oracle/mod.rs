@@ -2,6 +2,7 @@
 pub mod calls;
 pub mod covers;
 pub mod decode;
+pub mod force;
 pub mod graph;
 pub mod judge;
 pub mod listing;

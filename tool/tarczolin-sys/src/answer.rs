@@ -2,7 +2,7 @@
 
 #[derive(Clone, Copy, Debug, PartialEq, Eq, PartialOrd, Ord, Hash)]
 pub enum Answer {
-    /// Answered; the length of the answer in bytes, 0 where there is none; of rows their number.
+    /// Answered; the length of the answer in bytes, 0 where there is none; of rows their number; of `force` a step plus 1, or 0.
     Answered(u64),
     /// No more, none, or no.
     None,

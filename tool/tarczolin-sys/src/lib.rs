@@ -101,3 +101,10 @@ pub fn covers(first: &[u8], second: &[u8], out: &mut [u8]) -> Covers {
         raw::tarczolin_covers(first.as_ptr(), first.len(), second.as_ptr(), second.len(), out.as_mut_ptr(), out.len())
     })
 }
+
+/// Who can force its end, where the hostile side has the threads in the set, bit t for thread t? Answered where the hostile side can: 0
+/// where it has no step before the first one, else its least first step that keeps the win, plus 1. None where the friendly side can.
+pub fn force(file: &[u8], set: u8) -> Answer {
+    // safe: the call only reads, and only the bytes of the slice
+    Answer::of_word(unsafe { raw::tarczolin_force(file.as_ptr(), file.len(), set) })
+}

@@ -47,4 +47,5 @@ extern "C" {
         out: *mut u8,
         out_len: usize,
     ) -> u64;
+    pub fn tarczolin_force(file: *const u8, file_len: usize, set: u8) -> u64;
 }

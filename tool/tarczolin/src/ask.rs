@@ -149,3 +149,19 @@ pub fn covers(first: &[u8], second: &[u8]) -> Result<Option<Schedule>, Refusal> 
         Covers::Refused(number, place) | Covers::SecondRefused(number, place) => Err(Refusal { number, place }),
     }
 }
+
+/// Who can force its end.
+#[derive(Clone, Copy, Debug, PartialEq, Eq)]
+pub enum Force {
+    /// The hostile side, with its least first step that keeps the win, if it has a step before the first one.
+    Hostile(Option<u8>),
+    Friendly,
+}
+
+/// Who can force its end where the hostile side has the threads in the set, bit t for thread t?
+pub fn force(file: &[u8], set: u8) -> Result<Force, Refusal> {
+    Ok(match length(library::force(file, set))? {
+        Some(step) => Force::Hostile(step.checked_sub(1).map(|t| t as u8)),
+        None => Force::Friendly,
+    })
+}

@@ -37,6 +37,8 @@ pub enum Subject {
     File(String),
     /// A schedule: the place is a step.
     Schedule,
+    /// A set of threads: the place is a thread's number.
+    Threads,
 }
 
 /// A refusal of the library: a sentence about what is wrong, and the line or the steps to look at.
@@ -141,6 +143,7 @@ impl fmt::Display for Refused {
                 write!(f, "{name}: refusal {number} at line {place}: {sentence}\n{place:>6} | {shown}")
             }
             (Subject::Schedule, _) => write!(f, "refusal {number} at step {place}: {sentence}\n       | {shown}"),
+            (Subject::Threads, _) => write!(f, "refusal {number} at thread {place}: {sentence}"),
         }
     }
 }

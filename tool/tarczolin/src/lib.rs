@@ -20,6 +20,7 @@ pub mod machine;
 pub mod near;
 pub mod outcome;
 pub mod output;
+pub mod play;
 pub mod program;
 pub mod progress;
 pub mod refusal;

@@ -156,6 +156,11 @@ impl<'a> Machine<'a> {
         (self.memory, self.threads[..self.program.threads.len()].iter().map(|thread| thread.registers).collect())
     }
 
+    /// Where each thread stands in its code.
+    pub fn places(&self) -> Vec<u8> {
+        self.threads[..self.program.threads.len()].iter().map(|thread| thread.next as u8).collect()
+    }
+
     /// Has some assertion failed?
     pub fn fails(&self) -> bool {
         self.threads.iter().any(|thread| thread.failure.is_some())

@@ -35,12 +35,15 @@ fn every_command_fits_the_schema() {
     let (graph, piece) = (graph.display().to_string(), piece.display().to_string());
     let no = b"400001ffff\n400101ffff\n41000000\n41010100\n";
     let pair = "examples/store-load-pair.hex";
-    let cases: [(&[&str], &[u8], i32, usize); 23] = [
+    let cases: [(&[&str], &[u8], i32, usize); 26] = [
         (&["list", QUEUE], b"", 1, 7),
         (&["count", QUEUE], b"", 1, 1),
         (&["count", QUEUE, "--jobs", "2"], b"", 1, 1),
         (&["violation", QUEUE], b"", 1, 1),
         (&["violation", QUEUE, "--show"], b"", 1, 1),
+        (&["force", QUEUE, "--hostile", "0,1"], b"", 1, 1),
+        (&["force", QUEUE, "--hostile", "2", "--play"], b"", 0, 1),
+        (&["force", QUEUE, "--hostile", "3"], b"", 2, 1),
         (&["outcomes", QUEUE], b"", 1, 7),
         (&["outcomes", QUEUE, "--where", "second.mine = 1"], b"", 1, 7),
         (&["covers", QUEUE, QUEUE], b"", 0, 1),

@@ -1,6 +1,7 @@
 //! Times of the library beside plain Rust, both measured in one run. Nothing is asserted.
 mod check;
 mod covers;
+mod force;
 mod graph;
 mod judge;
 mod listing;
@@ -16,4 +17,5 @@ fn main() {
     search::report();
     listing::report();
     covers::report();
+    force::report();
 }

@@ -8,6 +8,7 @@ mod count;
 mod covers;
 mod cuts;
 mod disasm;
+mod force;
 mod graph;
 mod help;
 mod join;

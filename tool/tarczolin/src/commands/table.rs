@@ -4,7 +4,7 @@ use super::count::CLASSES;
 use super::opt::Opt;
 use super::piece::{AFTER, JOBS_OPTION, UNTIL};
 use super::reply::JSON;
-use super::{asm, check, count, covers, cuts, disasm, graph, join, judge, list, litmus, outcomes, show, violation};
+use super::{asm, check, count, covers, cuts, disasm, force, graph, join, judge, list, litmus, outcomes, show, violation};
 
 const SHOW: Opt = Opt { name: "--show", value: None, about: "the whole execution in two columns, not only its schedule" };
 const WHERE: Opt = Opt {
@@ -22,7 +22,7 @@ const SHOW_OPTIONS: &[Opt] = &[
     JSON,
 ];
 
-pub const COMMANDS: [Command; 15] = [
+pub const COMMANDS: [Command; 16] = [
     Command {
         name: "list",
         words: "FILE..",
@@ -46,6 +46,14 @@ pub const COMMANDS: [Command; 15] = [
         options: &[SHOW, JOBS_OPTION, JSON],
         example: "tarczolin violation --show examples/queue-broken.asm",
         run: violation::run,
+    },
+    Command {
+        name: "force",
+        words: "FILE",
+        about: "can the hostile threads force a failure, stepping in turn with the others? who can, and the first step",
+        options: force::OPTIONS,
+        example: "tarczolin force examples/queue-broken.asm --hostile first,second --play",
+        run: force::run,
     },
     Command {
         name: "outcomes",

@@ -59,3 +59,12 @@ pub fn of_graph([name, graph]: [&str; 2], file: &[u8], text: &[u8], refusal: Ref
     }
     at_line(graph, text, refusal, graph::sentence(file, text, refusal))
 }
+
+/// The message about a refused set of threads, or about its refused program.
+pub fn of_threads(name: &str, file: &[u8], threads: usize, refusal: Refusal) -> Error {
+    if refusal.number < 20 {
+        return of_program(name, file, refusal);
+    }
+    let sentence = format!("there is no thread {}; the program has {threads}, numbered from 0", refusal.place);
+    Error::Refused(Refused { subject: Subject::Threads, refusal, sentence, shown: String::new() })
+}

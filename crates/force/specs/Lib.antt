@@ -1,0 +1,7 @@
+-- What a reader of this crate must believe, in reading order.
+-- the call's answer as the code gives it
+pub mod Answered
+-- the promise as a whole
+pub mod Forcing
+-- how the arrays hold a play; for the crate's own functions
+pub mod Standing

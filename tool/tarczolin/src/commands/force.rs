@@ -1,0 +1,97 @@
+//! force: which side can force its end, and one play in which it does.
+use super::arguments::Arguments;
+use super::opt::Opt;
+use super::record;
+use super::reply::{asked, Question, JSON};
+use crate::ask::{self, Force};
+use crate::end::End;
+use crate::error::Error;
+use crate::execution::Execution;
+use crate::json::{list, Json};
+use crate::play::play;
+use crate::program::Program;
+use crate::progress::waiting;
+use crate::refusal;
+use crate::show::{columns, By};
+
+pub const OPTIONS: &[Opt] = &[
+    Opt { name: "--hostile", value: Some("THREADS"), about: "the hostile threads, by number or name: 0,2; '' is no thread" },
+    Opt { name: "--play", value: None, about: "one play in which the winner follows its strategy, in two columns" },
+    JSON,
+];
+
+pub fn run(arguments: &Arguments) -> Result<End, Error> {
+    let [name] = arguments.files()?;
+    let Some(threads) = arguments.option("--hostile") else {
+        return Err(Error::usage("force needs --hostile THREADS, as in --hostile 0,2"));
+    };
+    asked(&Question::of("force", arguments, name), |question| forced(question, threads, arguments.flag("--play")))
+}
+
+/// The set of these threads, by number or by name.
+fn set(program: &Program, threads: &str) -> Result<u8, Error> {
+    let mut set = 0;
+    for word in threads.split(',').map(str::trim).filter(|word| !word.is_empty()) {
+        let named = program.numbers().find(|&t| program.names.thread(t) == word);
+        let t = named.or_else(|| word.parse().ok().filter(|t| *t < 8));
+        let t =
+            t.ok_or_else(|| Error::usage(format!("--hostile takes threads by number, 0 to 7, or by name, and {word} is none")))?;
+        set |= 1 << t;
+    }
+    Ok(set)
+}
+
+fn forced(question: &Question, threads: &str, wanted: bool) -> Result<End, Error> {
+    let source = question.source()?;
+    let program = Program::of_accepted(&source.file).named(&source.names);
+    let set = set(&program, threads)?;
+    let answer = waiting(|| ask::force(&source.file, set));
+    let answer = answer.map_err(|r| refusal::of_threads(&source.name, &source.file, program.threads.len(), r))?;
+    let (words, side, step) = told(&program, answer);
+    let end = if side == "hostile" { End::Violation } else { End::Answered };
+    let fields = [("hostile", list(members(set).map(Json::from))), ("forces", side.into()), ("first", step.into())];
+    if !wanted {
+        return question.answer(&words, fields, end);
+    }
+    let schedule = play(&program, set);
+    let execution = Execution::replayed(&source.file, &program, &schedule).expect("a play is a full schedule");
+    assert_eq!(execution.fails, side == "hostile", "the winner of the play is the library's");
+    let [hostile, forces, first] = fields;
+    let [_, schedule, fails, _, steps, at_once, memory, registers] = record::execution(&execution);
+    let text = format!("{words}\n{}\n{}", divided(&program, set, side), columns(&execution, By::Time));
+    question.answer_text(text, [hostile, forces, first, schedule, fails, steps, at_once, memory, registers], end)
+}
+
+/// The answer for the eye, the side, and its first step.
+fn told(program: &Program, answer: Force) -> (String, &'static str, Option<u8>) {
+    match answer {
+        Force::Hostile(Some(t)) => {
+            (format!("hostile can force the failure: first step {t:02x}, {}", program.names.thread(t)), "hostile", Some(t))
+        }
+        Force::Hostile(None) => ("hostile can force the failure: it has no step and passes first".to_string(), "hostile", None),
+        Force::Friendly => ("friendly can force that nothing fails".to_string(), "friendly", None),
+    }
+}
+
+/// The threads in the set, ascending.
+fn members(set: u8) -> impl Iterator<Item = u8> {
+    (0..8).filter(move |t| set >> t & 1 == 1)
+}
+
+/// Who has which threads, above a play.
+fn divided(program: &Program, set: u8, winner: &str) -> String {
+    let of = |hostile: bool| {
+        let threads = program.numbers().filter(|t| (set >> t & 1 == 1) == hostile);
+        let names: Vec<String> = threads.map(|t| program.names.thread(t)).collect();
+        if names.is_empty() {
+            "none".to_string()
+        } else {
+            names.join(", ")
+        }
+    };
+    format!(
+        "hostile: {}; friendly: {}; a play in which {winner} follows its strategy (by plain Rust, which is not proved):",
+        of(true),
+        of(false)
+    )
+}
