@@ -11,11 +11,11 @@ use Rattle.program.specs.Decode.{accepted, decode}
 use Rattle.list.specs.ListOf.{listOf}
 use Rattle.sharing.specs.Seat.{Place, beginning, Seat, closed, active, toCome, isOpen}
 use Rattle.sharing.specs.Record.{reading, fresh, opened, asked}
-use Rattle.sharing.specs.Call.{Call, open-for, ask-for, Answer, done, refused, Shared, start, seatOf, lastRead, openAnswer, openOnly, answerTo, callersDone, callersAfter, lastAfter, after}
+use Rattle.sharing.specs.Call.{Call, open-for, ask-for, close-for, Answer, done, refused, Shared, start, seatOf, lastRead, openAnswer, openOnly, answerTo, callersDone, callersAfter, lastAfter, after}
 use Rattle.sharing.specs.Play.{answers, behindAll, schedulesIn}
 use Rattle.sharing.specs.Claims.{Sharing}
 use Rattle.sharing.proofs.Rotation.{distance}
-use Rattle.sharing.proofs.Readings.{not-both, reading-opened, reading-asked}
+use Rattle.sharing.proofs.Readings.{reading-fresh, reading-opened, reading-asked}
 use Rattle.sharing.proofs.Seats.{Four, Opens, open-either, only-either, seat-same, four-after}
 use Rattle.sharing.proofs.InOrder.{order-from}
 use Rattle.sharing.proofs.Fair.{fair-from, distance-small}
@@ -68,6 +68,15 @@ opened-seat σ k f p h d e = ⊎-elim
     (λ (q : (n : ℕ) × (m : ℕ) × (openAnswer (σ .callers) k f ≡ refused n m)). let z = sym e ∙ q .2 in absurd (let y : _≡_ {A = ℕ} 0 1 = cc in omega arith))
     (open-either (σ .callers) k f h)
 
+-- behind a closing nobody is there
+closed-seat : (σ : Shared) (k : ℕ) → Four (σ .callers) → answerTo (close-for k) σ ≡ done → seatOf (after (close-for k) σ .callers) k ≡ closed
+unfolding answerTo after callersAfter callersDone
+closed-seat σ k h e = ⊎-elim
+    (λ (q : (openOnly (σ .callers) k ≡ done) × (k < 4) × (isOpen (seatOf (σ .callers) k) ≡ true)).
+    ap (λ (z : Answer). seatOf (callersAfter (close-for k) z (σ .callers)) k) e ∙ seat-same (σ .callers) k fresh h (q .1) ∙ reading-fresh)
+    (λ (q : (n : ℕ) × (m : ℕ) × (openOnly (σ .callers) k ≡ refused n m)). let z = sym e ∙ q .2 in absurd (let y : _≡_ {A = ℕ} 0 1 = cc in omega arith))
+    (only-either (σ .callers) k h)
+
 pub sharing : Sharing
 unfolding toCome start
 sharing = record {
@@ -81,5 +90,6 @@ sharing = record {
       let h = four-all before start four-start in
       let q = opened-seat σ k f p h d e in
       order-from k (q .0) p later (after (open-for k f) σ) 0 beginning false (four-after (open-for k f) σ h) (q .1) refl st;
+  closes = λ before k e. closed-seat (behindAll before start) k (four-all before start four-start) e;
   counted = λ calls. handed-from calls start (omega arith) ∙ ap (λ (n : ℕ). n % 2 ^ 64) (let m = schedulesIn (answers calls start) in let z : 0 + m ≡ m = omega arith in z);
 }

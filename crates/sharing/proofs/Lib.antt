@@ -7,7 +7,7 @@ pub mod Readings
 pub mod Seats
 -- what a call does to an open caller that it does not close
 pub mod Fates
--- the three claims
+-- the claims
 pub mod InOrder
 pub mod Fair
 pub mod Handed

@@ -8,7 +8,8 @@ use Rattle.program.specs.Decode.{accepted, decode}
 use Rattle.schedules.specs.Lists.{range}
 use Rattle.schedules.specs.Calls.{member}
 use Rattle.list.specs.ListOf.{listOf}
-use Rattle.sharing.specs.Call.{Call, open-for, ask-for, done, answerTo, after, start}
+use Rattle.sharing.specs.Seat.{closed}
+use Rattle.sharing.specs.Call.{Call, open-for, ask-for, close-for, done, seatOf, answerTo, after, start}
 use Rattle.sharing.specs.Play.{answers, behindAll, received, serves, schedulesIn, Stays}
 
 pub record Sharing : Type 0 where
@@ -23,5 +24,8 @@ pub record Sharing : Type 0 where
       answerTo (open-for k f) (behindAll before start) ≡ done → Stays k later →
       received k (answers later (after (open-for k f) (behindAll before start)))
       ≡ map (member (listOf p)) (range 0 (length (received k (answers later (after (open-for k f) (behindAll before start))))))
+  -- CLOSED: behind a closing that is not refused nobody is there
+  pub closes : (before : List Call) (k : ℕ) → answerTo (close-for k) (behindAll before start) ≡ done →
+      seatOf (after (close-for k) (behindAll before start) .callers) k ≡ closed
   -- THE NUMBER counts the schedules handed to all, modulo 2^64
   pub counted : (calls : List Call) → behindAll calls start .handed ≡ schedulesIn (answers calls start) % 2 ^ 64

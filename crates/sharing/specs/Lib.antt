@@ -7,5 +7,5 @@ pub mod Record
 pub mod Call
 -- a list of calls, each handed what the one before gave back
 pub mod Play
--- the three claims about every list of calls
+-- the claims about every list of calls
 pub mod Claims
