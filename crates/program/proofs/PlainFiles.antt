@@ -305,7 +305,7 @@ plain-same f g e a b =
     but-place (decode f) (decode g)
     (read-plain f a ∙ ap (λ (t : List ℕ). unplaced (readLines 1 (split t) fresh)) e ∙ sym (read-plain g b))
 
-accepted-size : (f : List ℕ) (p : Program) → decode f ≡ accepted p → length f ≤ 4096
+pub accepted-size : (f : List ℕ) (p : Program) → decode f ≡ accepted p → length f ≤ 4096
 unfolding decode
 accepted-size f p e = go (ltb 4096 (length f)) refl
   where

@@ -76,7 +76,7 @@ drop-tail : (k : ℕ) (l : List Schedule) → drop k (tail l) ≡ drop (suc k) l
 drop-tail k [] = drop-nil k
 drop-tail k (x ∷ l) = refl
 
-head-drop : (l : List Schedule) (k : ℕ) → headOf (drop k l) ≡ member l k
+pub head-drop : (l : List Schedule) (k : ℕ) → headOf (drop k l) ≡ member l k
 unfolding headOf member
 head-drop [] k = ap headOf (drop-nil k)
 head-drop (x ∷ l) zero = refl

@@ -1,0 +1,87 @@
+-- What the records that calls leave read as.
+use Prim.Native.Nat.{ℕ, _≤_}
+use mathlib.Core.Path.{_≡_, refl, sym, ap, subst, _∙_}
+use mathlib.Core.Bool.{Bool, true, false, cond}
+use mathlib.Core.Option.{Option, none, some}
+use mathlib.Core.List.{List, []}
+use native.Mathlib.Omega.{arith}
+use borrow.Author.Tests.{le-ltb}
+use lib.Dec.{eqb, ltb}
+use lib.ListN.{length, take, replicate}
+use Rattle.lines.specs.Over.{over}
+use Rattle.lines.proofs.Over.{take-over}
+use Rattle.program.specs.Program.{Program}
+use Rattle.program.specs.Decode.{Decoded, accepted, refused, decode}
+use Rattle.program.specs.WellFormed.{WellFormed}
+use Rattle.program.proofs.AcceptedWellFormed.{accepted-well-formed}
+use Rattle.program.proofs.PlainFiles.{accepted-size}
+use Rattle.schedules.specs.Order.{Schedule}
+use Rattle.sc.specs.Graph.{Full, endOf}
+use Rattle.sc.specs.Replay.{whole, replay}
+use Rattle.sc.proofs.Replay.{replay-whole}
+use Rattle.sc.proofs.Lawful.{at-most-24}
+use Rattle.sharing.specs.declared.caller.Caller.{Caller}
+use Rattle.sharing.specs.Seat.{Place, beginning, behind, end, Seat, closed, active}
+use Rattle.sharing.specs.Record.{fileRead, behindFull, placeOf, seated, seatBy, reading, fresh, opened, asked, served}
+
+-- a seat is not both closed and active
+pub not-both : {p : Program} {x : Place} {a : Bool} → closed ≡ active p x a → ⊥
+not-both e = let z : _≡_ {A = ℕ} 0 1 = cc in absurd (omega arith)
+
+-- an active record's file is accepted as its program
+seated-same : (q : Program) (o : Option Place) (n : ℕ) (p : Program) (x : Place) (a : Bool) → seated q o n ≡ active p x a → (q ≡ p) × (o ≡ some x) × (eqb n 1 ≡ a)
+unfolding seated
+seated-same q none n p x a e = absurd (not-both e)
+seated-same q (some y) n p x a e = (cc, cc, cc)
+
+pub active-file : (c : Caller) (p : Program) (x : Place) (a : Bool) → reading c ≡ active p x a → (fileRead c ≡ accepted p) × (placeOf p (c .place) (c .steps) (c .schedule) ≡ some x)
+unfolding reading seatBy
+active-file c p x a e = go (fileRead c) refl e
+  where
+    go : (d : Decoded) → fileRead c ≡ d → seatBy d c ≡ active p x a → (fileRead c ≡ accepted p) × (placeOf p (c .place) (c .steps) (c .schedule) ≡ some x)
+    go (accepted q) m h =
+        let k = seated-same q (placeOf q (c .place) (c .steps) (c .schedule)) (c .asking) p x a h in
+        (m ∙ ap accepted (k .0), subst (λ (y : Program). placeOf y (c .place) (c .steps) (c .schedule) ≡ some x) (k .0) (k .1))
+    go (refused n k) m h = absurd (not-both h)
+
+-- so the program is well formed
+pub active-formed : (c : Caller) (p : Program) (x : Place) (a : Bool) → reading c ≡ active p x a → WellFormed p
+unfolding fileRead
+active-formed c p x a e = go (ltb 4096 (c .length)) refl (active-file c p x a e .0)
+  where
+    go : (b : Bool) → ltb 4096 (c .length) ≡ b → cond (ltb 4096 (c .length)) (refused 1 0) (decode (take (c .length) (c .file))) ≡ accepted p → WellFormed p
+    go true q h = let z : refused 1 0 ≡ accepted p = rw q at h in absurd (let y : _≡_ {A = ℕ} 0 1 = cc in omega arith)
+    go false q h = accepted-well-formed (take (c .length) (c .file)) p (rw q at h)
+
+-- whatever else it holds, a record with this file reads by its place and whether it asks
+by-place : (c : Caller) (p : Program) (x : Place) → fileRead c ≡ accepted p → placeOf p (c .place) (c .steps) (c .schedule) ≡ some x → reading c ≡ active p x (eqb (c .asking) 1)
+unfolding reading seatBy seated
+by-place c p x e h = rw (e, h)
+
+-- ---- the records that calls leave
+pub reading-fresh : reading fresh ≡ closed
+unfolding reading fresh seatBy seated placeOf
+reading-fresh = go (fileRead fresh)
+  where
+    go : (d : Decoded) → seatBy d fresh ≡ closed
+    go (accepted p) = refl
+    go (refused n k) = refl
+
+pub reading-opened : (f : List ℕ) (p : Program) → decode f ≡ accepted p → reading (opened f) ≡ active p beginning false
+unfolding opened placeOf fileRead
+reading-opened f p e = by-place (opened f) p beginning (rw (le-ltb 4096 (length f) (accepted-size f p e), take-over f (replicate 4096 0)) e) refl
+
+pub reading-asked : (c : Caller) (p : Program) (x : Place) (a : Bool) → reading c ≡ active p x a → reading (asked c) ≡ active p x true
+unfolding asked fileRead
+reading-asked c p x a e = let k = active-file c p x a e in by-place (asked c) p x (k .0) (k .1)
+
+pub reading-given : (c : Caller) (p : Program) (x : Place) (a : Bool) (s : Schedule) → reading c ≡ active p x a → Full p s → reading (served c (some s)) ≡ active p (behind s) false
+unfolding served fileRead placeOf behindFull
+reading-given c p x a s e f =
+    let k = active-file c p x a e in
+    by-place (served c (some s)) p (behind s) (k .0)
+    (rw (le-ltb 24 (length s) (at-most-24 p (active-formed c p x a e) s f), take-over s (replicate 24 0), replay-whole p s (endOf p s) .1 (f, refl)))
+
+pub reading-ended : (c : Caller) (p : Program) (x : Place) (a : Bool) → reading c ≡ active p x a → reading (served c none) ≡ active p end false
+unfolding served fileRead placeOf
+reading-ended c p x a e = let k = active-file c p x a e in by-place (served c none) p end (k .0) refl

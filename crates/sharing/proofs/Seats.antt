@@ -1,0 +1,110 @@
+-- What a call can answer, and what caller k's record reads as behind it: only its own calls, and serves that take it, change that.
+use Prim.Native.Nat.{ℕ, _<_, _≤_}
+use mathlib.Core.Path.{_≡_, refl, sym, ap, subst, _∙_}
+use mathlib.Core.Logic.{_≢_, _⊎_, inl, inr, ⊎-elim}
+use mathlib.Core.Bool.{Bool, true, false, cond, not, false≢true}
+use mathlib.Core.Option.{Option, none, some}
+use mathlib.Core.List.{List, [], _∷_, tail, List·Memᴰ}
+use native.Mathlib.Omega.{arith}
+use borrow.Author.Tests.{eq-eqb, ltb-true, ltb-false}
+use lib.Dec.{eqb, ltb}
+use lib.ListN.{length, getD, set, length-set}
+use lib.Seq.{getD-set-same, getD-set-other}
+use Rattle.program.specs.Program.{Program}
+use Rattle.program.specs.Decode.{Decoded, accepted, decode}
+use Rattle.program.specs.Decode as File
+use Rattle.schedules.specs.Lists.{headOf}
+use Rattle.schedules.specs.Order.{Schedule}
+use Rattle.schedules.specs.Calls.{short}
+use Rattle.sharing.specs.declared.caller.Caller.{Caller}
+use Rattle.sharing.specs.Seat.{Place, Seat, closed, active, isOpen, asks}
+use Rattle.sharing.specs.Record.{reading, fresh, opened, asked, served}
+use Rattle.sharing.specs.Call.{Call, open-for, ask-for, serve, close-for, Answer, done, given, ended, idle, refused, Shared, seatOf, checked, openedBy, openAnswer, openOnly, nextAsking, forSeat, handedTo, servedTo, serveAnswer, answerTo, callersDone, callersAfter, lastAfter, handedAfter, after}
+
+-- four records, as every call leaves them
+abbrev pub Four : List Caller → Type 0
+Four cs = length cs ≡ 4
+
+-- ---- what a call can answer
+-- caller k is one of the four, and what it reads as is this
+checked-four : (cs : List Caller) (k : ℕ) (a : Answer) → Four cs → checked cs k a ≡ cond (ltb 3 k) (refused 42 0) a
+unfolding checked
+checked-four cs k a h = rw h
+
+pub record Opens (cs : List Caller) (k : ℕ) (f : List ℕ) : Type 0 where
+  pub small : k < 4
+  pub was : isOpen (seatOf cs k) ≡ false
+  pub program : Program
+  pub read : decode f ≡ accepted program
+
+-- it is done, or refused
+pub open-either : (cs : List Caller) (k : ℕ) (f : List ℕ) → Four cs → ((openAnswer cs k f ≡ done) × Opens cs k f) ⊎ ((n : ℕ) × (m : ℕ) × (openAnswer cs k f ≡ refused n m))
+unfolding openAnswer openedBy
+open-either cs k f h = go (ltb 3 k) (isOpen (seatOf cs k)) (decode f) refl refl refl
+  where
+    here : checked cs k (cond (isOpen (seatOf cs k)) (refused 43 0) (openedBy (decode f))) ≡ cond (ltb 3 k) (refused 42 0) (cond (isOpen (seatOf cs k)) (refused 43 0) (openedBy (decode f)))
+    here = checked-four cs k (cond (isOpen (seatOf cs k)) (refused 43 0) (openedBy (decode f))) h
+
+    go : (b o : Bool) (d : Decoded) → ltb 3 k ≡ b → isOpen (seatOf cs k) ≡ o → decode f ≡ d →
+        ((checked cs k (cond (isOpen (seatOf cs k)) (refused 43 0) (openedBy (decode f))) ≡ done) × Opens cs k f)
+        ⊎ ((n : ℕ) × (m : ℕ) × (checked cs k (cond (isOpen (seatOf cs k)) (refused 43 0) (openedBy (decode f))) ≡ refused n m))
+    go true o d p q r = inr (42, 0, here ∙ rw p)
+    go false true d p q r = inr (43, 0, here ∙ rw (p, q))
+    go false false (accepted x) p q r = inl (here ∙ rw (p, q, r, openedBy), record { small = let z = ltb-false 3 k p in omega (arith, z); was = q; program = x; read = r })
+    go false false (File.refused n m) p q r = inr (n, m, here ∙ rw (p, q, r, openedBy))
+
+-- asking and closing are done for an open one, or refused
+pub only-either : (cs : List Caller) (k : ℕ) → Four cs → ((openOnly cs k ≡ done) × (k < 4) × (isOpen (seatOf cs k) ≡ true)) ⊎ ((n : ℕ) × (m : ℕ) × (openOnly cs k ≡ refused n m))
+unfolding openOnly
+only-either cs k h = go (ltb 3 k) (isOpen (seatOf cs k)) refl refl
+  where
+    here : checked cs k (cond (isOpen (seatOf cs k)) done (refused 44 0)) ≡ cond (ltb 3 k) (refused 42 0) (cond (isOpen (seatOf cs k)) done (refused 44 0))
+    here = checked-four cs k (cond (isOpen (seatOf cs k)) done (refused 44 0)) h
+
+    go : (b o : Bool) → ltb 3 k ≡ b → isOpen (seatOf cs k) ≡ o →
+        ((checked cs k (cond (isOpen (seatOf cs k)) done (refused 44 0)) ≡ done) × (k < 4) × (isOpen (seatOf cs k) ≡ true))
+        ⊎ ((n : ℕ) × (m : ℕ) × (checked cs k (cond (isOpen (seatOf cs k)) done (refused 44 0)) ≡ refused n m))
+    go true o p q = inr (42, 0, here ∙ rw p)
+    go false true p q = inl (here ∙ rw (p, q), (let z = ltb-false 3 k p in omega (arith, z)), q)
+    go false false p q = inr (44, 0, here ∙ rw (p, q))
+
+-- a serve is refused, or takes whoever comes next in turn
+pub serve-either : (cs : List Caller) (n : ℕ) (out : List ℕ) → Four cs → (serveAnswer cs n out ≡ refused 22 0) ⊎ (serveAnswer cs n out ≡ servedTo cs (nextAsking cs n))
+unfolding serveAnswer
+serve-either cs n out h = go (short 24 out) refl
+  where
+    go : (b : Bool) → short 24 out ≡ b →
+        (cond (not (eqb (length cs) 4)) (refused 22 0) (cond (short 24 out) (refused 22 0) (servedTo cs (nextAsking cs n))) ≡ refused 22 0)
+        ⊎ (cond (not (eqb (length cs) 4)) (refused 22 0) (cond (short 24 out) (refused 22 0) (servedTo cs (nextAsking cs n))) ≡ servedTo cs (nextAsking cs n))
+    go true e = inl (rw (h, e))
+    go false e = inr (rw (h, e))
+
+-- ---- the seats behind a call
+-- a record put back reads as itself, and the others as before
+pub seat-same : (cs : List Caller) (k : ℕ) (x : Caller) → Four cs → k < 4 → seatOf (set cs k x) k ≡ reading x
+unfolding seatOf
+seat-same cs k x h i = ap reading (getD-set-same cs k x fresh (omega (arith, h, i)))
+
+pub seat-other : (cs : List Caller) (k j : ℕ) (x : Caller) → j ≢ k → seatOf (set cs k x) j ≡ seatOf cs j
+unfolding seatOf
+seat-other cs k j x ne = ap reading (getD-set-other cs k j x fresh ne)
+
+-- a refusal changes nothing
+pub after-refused : (c : Call) (σ : Shared) (n m : ℕ) → answerTo c σ ≡ refused n m → after c σ ≡ σ
+unfolding after callersAfter lastAfter handedAfter
+after-refused c σ n m e = rw e
+
+-- there are four records behind every call
+pub four-after : (c : Call) (σ : Shared) → Four (σ .callers) → Four (after c σ .callers)
+unfolding after callersAfter callersDone
+four-after c σ h = go c (answerTo c σ)
+  where
+    go : (c : Call) (a : Answer) → Four (callersAfter c a (σ .callers))
+    go (open-for k f) done = length-set (σ .callers) k (opened f) ∙ h
+    go (ask-for k) done = length-set (σ .callers) k (asked (getD (σ .callers) k fresh)) ∙ h
+    go (serve out) done = h
+    go (close-for k) done = length-set (σ .callers) k fresh ∙ h
+    go c (given k s) = length-set (σ .callers) k (served (getD (σ .callers) k fresh) (some s)) ∙ h
+    go c (ended k) = length-set (σ .callers) k (served (getD (σ .callers) k fresh) none) ∙ h
+    go c idle = h
+    go c (refused n k) = h

@@ -1,0 +1,57 @@
+-- A list of calls, each handed what the one before gave back.
+use Prim.Native.Nat.{ℕ, suc}
+use mathlib.Core.Path.{_≡_}
+use mathlib.Core.Bool.{Bool, true, false, cond}
+use mathlib.Core.Option.{Option, none, some}
+use mathlib.Core.List.{List, [], _∷_, _++_, List·Memᴰ}
+use lib.Dec.{eqb}
+use Rattle.schedules.specs.Order.{Schedule}
+use Rattle.sharing.specs.Call.{Call, close-for, Answer, done, given, ended, idle, refused, Shared, answerTo, after}
+
+-- what they answer, and what is left behind the last
+unfoldable pub answers : List Call → Shared → List Answer
+answers [] σ = []
+answers (c ∷ cs) σ = answerTo c σ ∷ answers cs (after c σ)
+
+unfoldable pub behindAll : List Call → Shared → Shared
+behindAll [] σ = σ
+behindAll (c ∷ cs) σ = behindAll cs (after c σ)
+
+-- what an answer hands to caller k: a schedule, or no more; nothing if it is another's
+unfoldable pub handsTo : ℕ → Answer → List (Option Schedule)
+handsTo k done = []
+handsTo k (given j s) = cond (eqb j k) (some s ∷ []) []
+handsTo k (ended j) = cond (eqb j k) (none ∷ []) []
+handsTo k idle = []
+handsTo k (refused n m) = []
+
+-- what caller k is handed by these answers, in order
+unfoldable pub received : ℕ → List Answer → List (Option Schedule)
+received k [] = []
+received k (a ∷ rs) = handsTo k a ++ received k rs
+
+-- whether an answer is a serve's that was not refused
+unfoldable pub isServe : Answer → Bool
+isServe done = false
+isServe (given k s) = true
+isServe (ended k) = true
+isServe idle = true
+isServe (refused n k) = false
+
+-- how many serves were not refused
+unfoldable pub serves : List Answer → ℕ
+serves [] = 0
+serves (a ∷ rs) = elim (isServe a) [ true ↦ suc (serves rs) | false ↦ serves rs ]
+
+-- how many schedules were handed out
+unfoldable pub schedulesIn : List Answer → ℕ
+schedulesIn [] = 0
+schedulesIn (given k s ∷ rs) = suc (schedulesIn rs)
+schedulesIn (done ∷ rs) = schedulesIn rs
+schedulesIn (ended k ∷ rs) = schedulesIn rs
+schedulesIn (idle ∷ rs) = schedulesIn rs
+schedulesIn (refused n k ∷ rs) = schedulesIn rs
+
+-- caller k does not close
+abbrev pub Stays : ℕ → List Call → Type 0
+Stays k cs = List·Memᴰ (close-for k) cs → ⊥
