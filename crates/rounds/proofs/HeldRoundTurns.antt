@@ -13,6 +13,7 @@ use lib.Seq.{getD-set-same, getD-set-other}
 use Rattle.program.specs.Program.{Program, codeOf}
 use Rattle.program.specs.WellFormed.{Everywhere, InRange}
 use Rattle.program.proofs.Everywhere.{everywhere-getD}
+use Rattle.accesses.specs.declared.thread.ThreadState.{ThreadState}
 use Rattle.machine.specs.declared.state.Machine.{Machine}
 use Rattle.sc.specs.Local.{placeOf, puts, next}
 use Rattle.sc.specs.State.{State, threadOf, place, start}
@@ -30,17 +31,21 @@ everywhere-drop P (suc n) [] e = e
 everywhere-drop P (suc n) (x ∷ l) e = everywhere-drop P n l (e .1)
 
 -- the accesses before number k, sixteen a thread, have been met
-pub record Progress (code lengths : List ℕ) (p : Program) (vs : List ℕ) (m : Machine) (k : ℕ) (places left : List ℕ) : Type 0 where
+pub record Progress (code lengths : List ℕ) (p : Program) (vs : List ℕ) (thread : ThreadState) (k : ℕ) (places left : List ℕ) : Type 0 where
+  pub machine : Machine
   pub state : State
-  pub holds : Holds code lengths m state
+  pub holds : Holds code lengths machine state
+  pub here : k % 16 ≢ 0 → threadAt machine (k / 16) ≡ thread
   pub local : k % 16 ≢ 0 → threadOf state (k / 16) .local ≡ alone p (valuesIn vs) (k / 16) (k % 16)
   pub at : (j : ℕ) → j < k → getD places j 0 ≡ locationOf p (valuesIn vs) (j / 16, j % 16)
   pub leaves : (j : ℕ) → j < k → getD left j 0 ≡ orZero (outOf p (valuesIn vs) (j / 16, j % 16))
 
--- thread t of this machine is about to do its access i
-pub record Standing (code lengths : List ℕ) (p : Program) (v : Values) (n : Machine) (t i : ℕ) : Type 0 where
+-- thread t, which stands so on some machine, is about to do its access i
+pub record Standing (code lengths : List ℕ) (p : Program) (v : Values) (n : ThreadState) (t i : ℕ) : Type 0 where
+  pub machine : Machine
   pub state : State
-  pub holds : Holds code lengths n state
+  pub holds : Holds code lengths machine state
+  pub here : threadAt machine t ≡ n
   pub local : threadOf state t .local ≡ alone p v t i
 
 module _ (code lengths : List ℕ) (threads : ℕ) (p : Program) (loaded : Loaded code lengths threads p) where
@@ -53,38 +58,51 @@ module _ (code lengths : List ℕ) (threads : ℕ) (p : Program) (loaded : Loade
   near-held m σ H t h = place-below (threadOf σ t .local) (subst (Everywhere InRange) (sym (H .threads t (omega (arith, six-held)) .rest ∙ ap (drop (threadAt m t .at)) (sym (code-held code lengths threads p loaded t h))))
       (everywhere-drop InRange (threadAt m t .at) (codeOf p t) (everywhere-getD (Everywhere InRange) (p .threads) t [] (loaded .wellFormed .ranges) tt)))
 
-  module _ (vs : List ℕ) (first m : Machine) (k : ℕ) (places left : List ℕ) (F : Holds code lengths first (start p)) (G : Progress code lengths p vs m k places left) where
-    pub turn-standing : (n : Machine) → n ≡ cond (eqb (k % 16) 0) first m → Standing code lengths p (valuesIn vs) n (k / 16) (k % 16)
+  -- it has done no more accesses than it passed instructions
+  pub standing-bounded : {v : Values} {n : ThreadState} {i : ℕ} (t : ℕ) → t < threads → Standing code lengths p v n t i → n .done ≤ n .at
+  standing-bounded {v} {n} {i} t h S = subst (λ (k : ThreadState). k .done ≤ k .at) (S .here) (S .holds .threads t (omega (arith, six-held)) .bounded)
+
+  module _ (vs : List ℕ) (first : Machine) (thread : ThreadState) (k : ℕ) (places left : List ℕ) (F : Holds code lengths first (start p)) (G : Progress code lengths p vs thread k places left) where
+    pub turn-standing : (n : ThreadState) → n ≡ cond (eqb (k % 16) 0) (threadAt first (k / 16)) thread → Standing code lengths p (valuesIn vs) n (k / 16) (k % 16)
     unfolding alone
     turn-standing n e = go (ℕ-discrete (k % 16) 0)
       where
         go : Dec (k % 16 ≡ 0) → Standing code lengths p (valuesIn vs) n (k / 16) (k % 16)
         go (yes q) = record {
+          machine = first;
           state = start p;
-          holds = subst (λ (x : Machine). Holds code lengths x (start p)) (sym (e ∙ rw (eq-eqb (k % 16) 0 q))) F;
+          holds = F;
+          here = sym (e ∙ rw (eq-eqb (k % 16) 0 q));
           local = ap (alone p (valuesIn vs) (k / 16)) (sym q);
         }
         go (no q) = record {
+          machine = G .machine;
           state = G .state;
-          holds = subst (λ (x : Machine). Holds code lengths x (G .state)) (sym (e ∙ rw (ne-eqb (k % 16) 0 q))) (G .holds);
+          holds = G .holds;
+          here = G .here q ∙ sym (e ∙ rw (ne-eqb (k % 16) 0 q));
           local = G .local q;
         }
 
-    module _ (n : Machine) (S : Standing code lengths p (valuesIn vs) n (k / 16) (k % 16)) (r : Lone) (M : MetAlone code lengths (S .state) (k / 16) (getD vs k 0) r)
+    module _ (n : ThreadState) (S : Standing code lengths p (valuesIn vs) n (k / 16) (k % 16)) (r : Lone) (M : MetAlone code lengths (S .state) (k / 16) (getD vs k 0) r)
         (sp : length places ≡ 96) (sl : length left ≡ 96) (h : k < 96) where
       value-here : getD vs k 0 ≡ valuesIn vs (k / 16, k % 16)
       value-here = ap (λ (j : ℕ). getD vs j 0) (omega arith)
 
-      pub turn-more : Progress code lengths p vs (r .machine) (k + 1) (set places k (r .place)) (set left k (r .left))
+      pub turn-more : Progress code lengths p vs (r .thread) (k + 1) (set places k (r .place)) (set left k (r .left))
       unfolding alone
       turn-more = record {
+        machine = M .machine;
         state = M .state;
         holds = M .holds;
+        here = λ q. same-thread (omega (arith, q));
         local = λ q. onward (omega arith) (omega (arith, q));
         at = λ j i. at-more j i (ℕ-discrete j k);
         leaves = λ j i. left-more j i (ℕ-discrete j k);
       }
         where
+          same-thread : (k + 1) / 16 ≡ k / 16 → threadAt (M .machine) ((k + 1) / 16) ≡ r .thread
+          same-thread a = ap (threadAt (M .machine)) a ∙ M .here
+
           onward : (k + 1) / 16 ≡ k / 16 → (k + 1) % 16 ≡ suc (k % 16) → threadOf (M .state) ((k + 1) / 16) .local ≡ alone p (valuesIn vs) ((k + 1) / 16) ((k + 1) % 16)
           onward a b =
               ap (λ (t : ℕ). threadOf (M .state) t .local) a ∙ M .local ∙ ap₂ next (S .local) value-here
@@ -105,10 +123,12 @@ module _ (code lengths : List ℕ) (threads : ℕ) (p : Program) (loaded : Loade
       leaves = λ t i a b. G .leaves (t * 16 + i) (omega arith) ∙ ap₂ (λ (u j : ℕ). orZero (outOf p (valuesIn vs) (u, j))) (omega arith) (omega arith);
     }
 
-pub turns-start : (code lengths : List ℕ) (p : Program) (vs : List ℕ) (m : Machine) (places left : List ℕ) → Holds code lengths m (start p) → Progress code lengths p vs m 0 places left
-turns-start code lengths p vs m places left F = record {
+pub turns-start : (code lengths : List ℕ) (p : Program) (vs : List ℕ) (m : Machine) (thread : ThreadState) (places left : List ℕ) → Holds code lengths m (start p) → Progress code lengths p vs thread 0 places left
+turns-start code lengths p vs m thread places left F = record {
+  machine = m;
   state = start p;
   holds = F;
+  here = λ q. absurd (q refl);
   local = λ q. absurd (q refl);
   at = λ j h. absurd (omega arith);
   leaves = λ j h. absurd (omega arith);

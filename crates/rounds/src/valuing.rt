@@ -1,12 +1,12 @@
 // The rounds: every thread by itself on the values known so far, then each read gets what its source left.
 use crate::by_itself::met;
+use accesses::ThreadState;
 use lines::wide;
-use machine::Machine;
 use machine::started;
 use program::STEPS;
 use rows::Code;
 ghost use mathlib.Core.Path.{_≡_};
-ghost use mathlib.Core.Bool.{cond};
+ghost use mathlib.Core.Bool.{true, cond};
 ghost use Prim.Native.Nat.{ℕ, _+_, _*_, _%_, _<_};
 ghost use mathlib.Core.List.{List};
 ghost use lib.Dec.{eqb};
@@ -26,14 +26,14 @@ pub struct Round {
     pub left: [u32; 96],
 }
 
-// The machine for access k: at the first of a thread the one at the start.
-fn standing(start: Machine, m: Machine, k: usize) -> Machine
-    ensures { λ r. ⌜ r ≡ cond (eqb (k % 16) 0) start m ⌝ }
+// The thread for access k: at its first as it opens, else as the access before left it.
+fn standing(opened: ThreadState, thread: ThreadState, k: usize) -> ThreadState
+    ensures { λ r. ⌜ r ≡ cond (eqb (k % 16) 0) opened thread ⌝ }
 {
     if k % 16 == 0 {
-        return start;
+        return opened;
     }
-    m
+    thread
 }
 
 // Every thread by itself on these values.
@@ -45,14 +45,14 @@ fn in_round(code: &Code, lengths: &[usize; 6], threads: usize, values: [u32; 96]
     let start = started(code, lengths, threads);
     let mut places = [0u8; 96];
     let mut left = [0u32; 96];
-    let mut m = start;
+    let mut thread = start.threads[0];
     let mut k = 0;
     while k < 16 * threads {
-        let n = standing(start, m, k);
+        let n = standing(start.threads[k / 16], thread, k);
         let r = met(code, lengths, n, (k / 16) as u8, values[k]);
         places[k] = r.place;
         left[k] = r.left;
-        m = r.machine;
+        thread = r.thread;
         k += 1;
     }
     Round {
@@ -62,9 +62,9 @@ fn in_round(code: &Code, lengths: &[usize; 6], threads: usize, values: [u32; 96]
 }
 
 // What is left behind the source in entry k of a graph's table.
-fn found(pairs: [u8; 576], left: [u32; 96], k: usize) -> u32
+fn found(pairs: &[u8; 576], left: &[u32; 96], k: usize) -> u32
     requires { ⌜ k < 96 ⌝ }
-    ensures { λ r. ⌜ r ≡ sourced pairs left k ⌝ }
+    ensures { λ r. ⌜ r ≡ sourced (now (pairs .entry)) (now (left .entry)) k ⌝ }
 {
     let u = wide(pairs[k * 2]);
     let j = wide(pairs[k * 2 + 1]);
@@ -84,13 +84,27 @@ fn next_values(pairs: [u8; 576], left: [u32; 96]) -> [u32; 96]
     let mut vs = [0u32; 96];
     let mut k = 0;
     while k < 96 {
-        vs[k] = found(pairs, left, k);
+        vs[k] = found(&pairs, &left, k);
         k += 1;
     }
     vs
 }
 
-// Where each access goes on the values of the last round.
+// Whether two tables of values are the same.
+fn same_values(a: &[u32; 96], b: &[u32; 96]) -> bool
+    ensures { λ r. ⌜ (r ≡ true → (k : ℕ) → k < 96 → getD (now (a .entry)) k 0 ≡ getD (now (b .entry)) k 0) ⌝ }
+{
+    let mut k = 0;
+    while k < 96 {
+        if a[k] != b[k] {
+            return false;
+        }
+        k += 1;
+    }
+    true
+}
+
+// Where each access goes on the values of the last round. Values that a round leaves as they are stay so, and no further round is made.
 pub fn places(code: &Code, lengths: &[usize; 6], threads: usize, pairs: [u8; 576]) -> [u8; 96]
     requires { ⌜ ((p : Program) × Loaded (now code) (now lengths) threads p) ⌝ }
     ensures { λ r. ⌜ ((p : Program) (text counts : List ℕ) (g : Graph) → Loaded (now (code .entry)) (now (lengths .entry)) threads p
@@ -102,7 +116,11 @@ pub fn places(code: &Code, lengths: &[usize; 6], threads: usize, pairs: [u8; 576
     while k < STEPS {
         let r = in_round(code, lengths, threads, vs);
         let left = r.left;
-        vs = next_values(pairs, left);
+        let ws = next_values(pairs, left);
+        if same_values(&ws, &vs) {
+            return r.places;
+        }
+        vs = ws;
         k += 1;
     }
     let r = in_round(code, lengths, threads, vs);

@@ -20,10 +20,10 @@ loop-holds c = (search needs, search needs, λ j h. absurd (omega arith))
 
 loop-again : tie.Need-loop-again Inv-loop μ-loop
 loop-again c =
-    let args = c .before .before .before .args in
-    let loop = c .before .before .loop in
-    let loop-test = c .before .loop-test in
-    (search needs, length-set (loop .vs) (loop .k) (c .found .result) ∙ loop .inv .1, filled (args .pairs) (args .left) (loop .vs) (loop .k) (c .found .result) (loop .inv .1) (loop-test .taken) (loop .inv .2) (c .found .ensures))
+    let args = c .before .before .before .before .before .args in
+    let loop = c .before .before .before .before .loop in
+    let loop-test = c .before .before .before .loop-test in
+    (search needs, length-set (loop .vs) (loop .k) (c .found .result) ∙ loop .inv .1, filled (args .t1) (args .t2) (loop .vs) (loop .k) (c .found .result) (loop .inv .1) (loop-test .taken) (loop .inv .2) (c .found .ensures))
 
 returns : tie.Need-returns Inv-loop μ-loop
 returns c = λ j h. c .before .loop .inv .2 j (omega (arith, c .before .loop .inv .0))
