@@ -18,13 +18,9 @@ use Rattle.consistent.specs.Same.{sameEvent}
 use Rattle.consistent.proofs.RoundValues.{sourceIn, leftBy, nextRound, values}
 use Rattle.graph_reader.specs.Held.{noLine, lineIn, Tabled}
 use Rattle.rounds.specs.HeldRounds.{valuesIn, RoundHeld, sourced}
+use Rattle.rounds.proofs.HeldRoundTurns.{zeros}
 use Rattle.consistent.proofs.Readable.{Named, Source, Readable}
 use Rattle.consistent.proofs.RoundTables.{named-source, round-same, location-same}
-
-pub zeros : (n k : ℕ) → _≡_ {A = ℕ} (getD (replicate n 0) k 0) 0
-zeros zero k = refl
-zeros (suc n) zero = refl
-zeros (suc n) (suc k) = zeros n k
 
 -- a row gives a line, or the initial write
 line-source : (rs : List (ℕ × Event)) (i : ℕ) → ((lineIn rs i ≡ noLine) × (sourceIn rs i ≡ initialWrite)) ⊎ (lineIn rs i ≡ sourceIn rs i)
@@ -82,7 +78,7 @@ module _ (n : ℕ) (few : n ≤ 6) (p : Program) (vs places left : List ℕ) (R 
         go (inr q) = ap (behind left) q ∙ left-source (sourceIn (rowOf g t) i) (locationOf p (valuesIn vs) (t, i)) (named-source n g readable (t, i))
 
     -- a round more
-    pub values-more : (k : ℕ) → ((e : Event) → Named n e → valuesIn vs e ≡ values p g k e) → (ws : List ℕ) → ((j : ℕ) → j < 96 → getD ws j 0 ≡ sourced pairs left j)
+    pub values-more : (k : ℕ) → ((e : Event) → Named n e → valuesIn vs e ≡ values p g k e) → (ws : List ℕ) → ((j : ℕ) → j < 16 * n → getD ws j 0 ≡ sourced pairs left j)
         → (e : Event) → Named n e → valuesIn ws e ≡ values p g (k + 1) e
     unfolding values
     values-more k same ws W e h =
@@ -97,8 +93,8 @@ module _ (n : ℕ) (few : n ≤ 6) (p : Program) (vs places left : List ℕ) (R 
     places-are k same q t i a b = R .at t i a b ∙ location-same p (valuesIn vs) (values p g k) n same (t, i) (a, omega arith) ∙ ap (λ (j : ℕ). locationOf p (values p g j) (t, i)) q
 
     -- values that a round leaves as they are stay so, so that accesses go where they go on the last round's
-    pub places-stay : (k : ℕ) → ((e : Event) → Named n e → valuesIn vs e ≡ values p g k e) → k < 24 → (ws : List ℕ) → ((j : ℕ) → j < 96 → getD ws j 0 ≡ sourced pairs left j)
-        → ((j : ℕ) → j < 96 → getD ws j 0 ≡ getD vs j 0) → (t i : ℕ) → t < n → i < 16 → getD places (t * 16 + i) 0 ≡ locationOf p (values p g 24) (t, i)
+    pub places-stay : (k : ℕ) → ((e : Event) → Named n e → valuesIn vs e ≡ values p g k e) → k < 24 → (ws : List ℕ) → ((j : ℕ) → j < 16 * n → getD ws j 0 ≡ sourced pairs left j)
+        → ((j : ℕ) → j < 16 * n → getD ws j 0 ≡ getD vs j 0) → (t i : ℕ) → t < n → i < 16 → getD places (t * 16 + i) 0 ≡ locationOf p (values p g 24) (t, i)
     places-stay k same b ws W unmoved t i h j =
         R .at t i h j ∙ location-same p (valuesIn vs) (values p g 24) n (λ e a. same e a ∙ sym (values-stay p g n readable k still (24 - k) 24 (omega arith) e a)) (t, i) (h, omega arith)
       where

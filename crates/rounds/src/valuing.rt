@@ -7,9 +7,9 @@ use program::STEPS;
 use rows::Code;
 ghost use mathlib.Core.Path.{_≡_};
 ghost use mathlib.Core.Bool.{true, cond};
-ghost use Prim.Native.Nat.{ℕ, _+_, _*_, _%_, _<_};
+ghost use Prim.Native.Nat.{ℕ, _+_, _*_, _/_, _%_, _<_, _≤_};
 ghost use mathlib.Core.List.{List};
-ghost use lib.Dec.{eqb};
+ghost use lib.Dec.{eqb, ltb};
 ghost use lib.ListN.{getD};
 ghost use Rattle.program.specs.Program.{Program};
 ghost use Rattle.sc.specs.Graph.{Graph};
@@ -36,11 +36,22 @@ fn standing(opened: ThreadState, thread: ThreadState, k: usize) -> ThreadState
     thread
 }
 
+// The access to be met behind access k, which left its thread of n instructions so: the next, or the first of the next thread.
+fn onward(n: usize, thread: ThreadState, k: usize) -> usize
+    requires { ⌜ k < 96 ⌝ }
+    ensures { λ r. ⌜ r ≡ cond (ltb (thread .at) n) (k + 1) (k / 16 * 16 + 16) ⌝ }
+{
+    if thread.at < n {
+        return k + 1;
+    }
+    k / 16 * 16 + 16
+}
+
 // Every thread by itself on these values.
-fn in_round(code: &Code, lengths: &[usize; 6], threads: usize, values: [u32; 96]) -> Round
+fn in_round(code: &Code, lengths: &[usize; 6], threads: usize, values: &[u32; 96]) -> Round
     requires { ⌜ ((p : Program) × Loaded (now code) (now lengths) threads p) ⌝ }
     ensures { λ r. ⌜ ((p : Program) → Loaded (now (code .entry)) (now (lengths .entry)) threads p
-        → RoundHeld threads p values (r .places) (r .left)) ⌝ }
+        → RoundHeld threads p (now (values .entry)) (r .places) (r .left)) ⌝ }
 {
     let start = started(code, lengths, threads);
     let mut places = [0u8; 96];
@@ -53,7 +64,7 @@ fn in_round(code: &Code, lengths: &[usize; 6], threads: usize, values: [u32; 96]
         places[k] = r.place;
         left[k] = r.left;
         thread = r.thread;
-        k += 1;
+        k = onward(lengths[k / 16], thread, k);
     }
     Round {
         places: places,
@@ -78,24 +89,26 @@ fn found(pairs: &[u8; 576], left: &[u32; 96], k: usize) -> u32
 }
 
 // The values of the next round.
-fn next_values(pairs: [u8; 576], left: [u32; 96]) -> [u32; 96]
-    ensures { λ r. ⌜ ((k : ℕ) → k < 96 → getD r k 0 ≡ sourced pairs left k) ⌝ }
+fn next_values(pairs: &[u8; 576], left: &[u32; 96], threads: usize) -> [u32; 96]
+    requires { ⌜ threads ≤ 6 ⌝ }
+    ensures { λ r. ⌜ ((k : ℕ) → k < 16 * threads → getD r k 0 ≡ sourced (now (pairs .entry)) (now (left .entry)) k) ⌝ }
 {
     let mut vs = [0u32; 96];
     let mut k = 0;
-    while k < 96 {
-        vs[k] = found(&pairs, &left, k);
+    while k < 16 * threads {
+        vs[k] = found(pairs, left, k);
         k += 1;
     }
     vs
 }
 
 // Whether two tables of values are the same.
-fn same_values(a: &[u32; 96], b: &[u32; 96]) -> bool
-    ensures { λ r. ⌜ (r ≡ true → (k : ℕ) → k < 96 → getD (now (a .entry)) k 0 ≡ getD (now (b .entry)) k 0) ⌝ }
+fn same_values(a: &[u32; 96], b: &[u32; 96], threads: usize) -> bool
+    requires { ⌜ threads ≤ 6 ⌝ }
+    ensures { λ r. ⌜ (r ≡ true → (k : ℕ) → k < 16 * threads → getD (now (a .entry)) k 0 ≡ getD (now (b .entry)) k 0) ⌝ }
 {
     let mut k = 0;
-    while k < 96 {
+    while k < 16 * threads {
         if a[k] != b[k] {
             return false;
         }
@@ -114,15 +127,15 @@ pub fn places(code: &Code, lengths: &[usize; 6], threads: usize, pairs: [u8; 576
     let mut vs = [0u32; 96];
     let mut k = 0usize;
     while k < STEPS {
-        let r = in_round(code, lengths, threads, vs);
+        let r = in_round(code, lengths, threads, &vs);
         let left = r.left;
-        let ws = next_values(pairs, left);
-        if same_values(&ws, &vs) {
+        let ws = next_values(&pairs, &left, threads);
+        if same_values(&ws, &vs, threads) {
             return r.places;
         }
         vs = ws;
         k += 1;
     }
-    let r = in_round(code, lengths, threads, vs);
+    let r = in_round(code, lengths, threads, &vs);
     r.places
 }

@@ -31,35 +31,47 @@ loop-holds : tie.Need-loop-holds Inv-loop μ-loop
 loop-holds c = (search needs, λ p text counts g loaded e T x h. values-start p g x)
 
 in-round-requires : tie.Need-in-round-requires Inv-loop μ-loop
-in-round-requires c κs = c .before .before .pre
+in-round-requires c κs = c .before .before .before .pre
+
+next-values-requires : tie.Need-next-values-requires Inv-loop μ-loop
+next-values-requires c κs =
+    let entry = c .before .before .before .before .before .before .before in
+    let args = entry .args in
+    six-held (args .code .now) (args .lengths .now) (args .threads) (entry .pre .0) (entry .pre .1)
+
+same-values-requires : tie.Need-same-values-requires Inv-loop μ-loop
+same-values-requires c κs =
+    let entry = c .before .before .before .before .before .before .before .before .before .before in
+    let args = entry .args in
+    six-held (args .code .now) (args .lengths .now) (args .threads) (entry .pre .0) (entry .pre .1)
 
 returns : tie.Need-returns Inv-loop μ-loop
 returns c =
-    let args = c .before .before .before .before .before .before .before .before .before .before .args in
-    let loop = c .before .before .before .before .before .before .before .before .before .loop in
-    let loop-test = c .before .before .before .before .before .before .before .before .loop-test in
-    let in-round = c .before .before .before .before .before .before .before .in-round in
+    let args = c .before .before .before .before .before .before .before .before .before .before .before .before .before .args in
+    let loop = c .before .before .before .before .before .before .before .before .before .before .before .before .loop in
+    let loop-test = c .before .before .before .before .before .before .before .before .before .before .before .loop-test in
+    let in-round = c .before .before .before .before .before .before .before .before .before .in-round in
     let next-values = c .before .before .before .before .before .next-values in
     let same-values = c .before .before .same-values in
-    λ p text counts g loaded e T. places-stay (args .threads) (six-held (args .code .now) (args .lengths .now) (args .threads) p loaded) p (loop .vs) (in-round .result .places) (in-round .result .left) (in-round .ensures p loaded) (args .pairs) counts g (read-readable (args .threads) text g e) T (loop .k) (loop .inv .1 p text counts g loaded e T) (loop-test .taken) (next-values .result) (next-values .ensures) (same-values .ensures (c .before .if1 .taken))
+    λ p text counts g loaded e T. places-stay (args .threads) (six-held (args .code .now) (args .lengths .now) (args .threads) p loaded) p (loop .vs) (in-round .result .places) (in-round .result .left) (in-round .ensures p loaded) (args .t4) counts g (read-readable (args .threads) text g e) T (loop .k) (loop .inv .1 p text counts g loaded e T) (loop-test .taken) (next-values .result) (next-values .ensures) (same-values .ensures (c .before .if1 .taken))
 
 loop-again : tie.Need-loop-again Inv-loop μ-loop
 loop-again c =
-    let args = c .before .before .before .before .before .before .before .before .before .args in
-    let loop = c .before .before .before .before .before .before .before .before .loop in
-    let in-round = c .before .before .before .before .before .before .in-round in
+    let args = c .before .before .before .before .before .before .before .before .before .before .before .before .args in
+    let loop = c .before .before .before .before .before .before .before .before .before .before .before .loop in
+    let in-round = c .before .before .before .before .before .before .before .before .in-round in
     let next-values = c .before .before .before .before .next-values in
-    (search needs, λ p text counts g loaded e T x h. values-more (args .threads) (six-held (args .code .now) (args .lengths .now) (args .threads) p loaded) p (loop .vs) (in-round .result .places) (in-round .result .left) (in-round .ensures p loaded) (args .pairs) counts g (read-readable (args .threads) text g e) T (loop .k) (loop .inv .1 p text counts g loaded e T) (next-values .result) (next-values .ensures) x h)
+    (search needs, λ p text counts g loaded e T x h. values-more (args .threads) (six-held (args .code .now) (args .lengths .now) (args .threads) p loaded) p (loop .vs) (in-round .result .places) (in-round .result .left) (in-round .ensures p loaded) (args .t4) counts g (read-readable (args .threads) text g e) T (loop .k) (loop .inv .1 p text counts g loaded e T) (next-values .result) (next-values .ensures) x h)
 
 in-round-requires-2 : tie.Need-in-round-requires-2 Inv-loop μ-loop
-in-round-requires-2 c κs = c .before .before .pre
+in-round-requires-2 c κs = c .before .before .before .pre
 
 returns-2 : tie.Need-returns-2 Inv-loop μ-loop
 returns-2 c =
-    let args = c .before .before .before .before .args in
-    let loop = c .before .before .before .loop in
+    let args = c .before .before .before .before .before .args in
+    let loop = c .before .before .before .before .loop in
     let in-round2 = c .before .in-round2 in
-    λ p text counts g loaded e T. places-are (args .threads) (six-held (args .code .now) (args .lengths .now) (args .threads) p loaded) p (loop .vs) (in-round2 .result .places) (in-round2 .result .left) (in-round2 .ensures p loaded) (args .pairs) counts g (read-readable (args .threads) text g e) T (loop .k) (loop .inv .1 p text counts g loaded e T) (omega (arith, loop .inv .0))
+    λ p text counts g loaded e T. places-are (args .threads) (six-held (args .code .now) (args .lengths .now) (args .threads) p loaded) p (loop .vs) (in-round2 .result .places) (in-round2 .result .left) (in-round2 .ensures p loaded) (args .t4) counts g (read-readable (args .threads) text g e) T (loop .k) (loop .inv .1 p text counts g loaded e T) (omega (arith, loop .inv .0))
 
 pub places-spec : {M : Type 1} → statement M
-places-spec = tie.close (tie.spec Inv-loop μ-loop loop-holds in-round-requires (λ c κs. search needs) (λ c κs. search needs) returns (λ c. search needs) (λ c. search needs) loop-again in-round-requires-2 returns-2)
+places-spec = tie.close (tie.spec Inv-loop μ-loop loop-holds in-round-requires next-values-requires same-values-requires returns (λ c. search needs) (λ c. search needs) loop-again in-round-requires-2 returns-2)

@@ -1,6 +1,6 @@
 -- `same_values` compares value by value. The invariant: those so far agree.
 use borrow.Author.Needs.{needs}
-use Prim.Native.Nat.{ℕ, _≤_, _<_, _-_}
+use Prim.Native.Nat.{ℕ, _≤_, _<_, _-_, _*_}
 use mathlib.Core.Path.{_≡_}
 use mathlib.Core.Bool.{false≢true}
 use native.Mathlib.Omega.{arith}
@@ -10,10 +10,10 @@ use Rattle.rounds.proofs.valuing.same_values.Statement.{statement}
 use Rattle.rounds.proofs.valuing.same_values.Tie as tie
 
 abbrev Inv-loop : tie.InvT-loop
-Inv-loop a b k₀ k = (k ≤ 96) × ((j : ℕ) → j < k → getD a j 0 ≡ getD b j 0)
+Inv-loop a b threads k₀ k = (k ≤ 16 * threads) × ((j : ℕ) → j < k → getD a j 0 ≡ getD b j 0)
 
 abbrev μ-loop : tie.MeasureT-loop
-μ-loop a b k₀ k = 96 - k
+μ-loop a b threads k₀ k = 16 * threads - k
 
 loop-holds : tie.Need-loop-holds Inv-loop μ-loop
 loop-holds c = (search needs, λ j h. absurd (omega arith))
@@ -31,4 +31,4 @@ returns-2 : tie.Need-returns-2 Inv-loop μ-loop
 returns-2 c = λ q j h. c .before .loop .inv .1 j (omega (arith, c .before .loop .inv .0))
 
 pub same-values-spec : {M : Type 1} → statement M
-same-values-spec = tie.close (tie.spec Inv-loop μ-loop loop-holds (λ c. search needs) (λ c. search needs) (λ c. search needs) (λ c. search needs) returns (λ c. search needs) (λ c. search needs) loop-again returns-2)
+same-values-spec = tie.close (tie.spec Inv-loop μ-loop loop-holds (λ c. search needs) (λ c. search needs) (λ c. search needs) (λ c. search needs) (λ c. search needs) returns (λ c. search needs) (λ c. search needs) loop-again returns-2)
