@@ -49,16 +49,16 @@ fn known() -> bool {
         ("three alike that add 1 and two alike that add 2", lines(&(two_groups + "02000102 020304")), 5),
         ("six threads declared alike, each load, add 1, store", increments(6, 1, 0, true), 2),
     ];
-    // every program is reported, also behind one that is wrong
-    programs.iter().fold(true, |right, (name, file, rounds)| report(name, file, *rounds).wrong().is_none() && right)
+    programs.iter().filter(|(name, file, rounds)| report(name, file, *rounds).wrong().is_some()).count() == 0
 }
 
 fn main() -> ExitCode {
     let cores = std::thread::available_parallelism().map_or(0, |n| n.get());
     println!("walk and library in turns, the best of several rounds; {cores} cores");
     let files: Vec<String> = std::env::args().skip(1).collect();
-    let right = if files.is_empty() { known() } else { files.iter().fold(true, |right, name| asked(name) && right) };
-    if right {
+    // every one is reported, also behind one that is wrong
+    let wrong = files.iter().filter(|name| !asked(name)).count();
+    if wrong == 0 && (!files.is_empty() || known()) {
         ExitCode::SUCCESS
     } else {
         ExitCode::FAILURE
