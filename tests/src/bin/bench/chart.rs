@@ -82,7 +82,9 @@ pub fn drawn(charts: &[Chart]) -> String {
     let decades = decades(charts);
     let (width, height) = (charts.len() as f64 * (LEFT + WIDTH) + 24.0, TOP + HEIGHT + 88.0);
     let mut svg = format!(
-        "<svg xmlns=\"http://www.w3.org/2000/svg\" viewBox=\"0 0 {width} {height}\" width=\"{width}\" height=\"{height}\" font-family=\"sans-serif\" fill=\"#222222\">\n<title>How the time of a list grows</title>\n<rect width=\"{width}\" height=\"{height}\" fill=\"#ffffff\"/>\n"
+        "<svg xmlns=\"http://www.w3.org/2000/svg\" viewBox=\"0 0 {width} {height}\" width=\"{width}\" height=\"{height}\" \
+         font-family=\"sans-serif\" fill=\"#222222\">\n<title>How the time of a list grows</title>\n\
+         <rect width=\"{width}\" height=\"{height}\" fill=\"#ffffff\"/>\n"
     );
     for (k, chart) in charts.iter().enumerate() {
         svg += &chart_at(chart, LEFT + k as f64 * (LEFT + WIDTH), decades);
