@@ -48,23 +48,23 @@ extern "C" {
 #endif
 
 /* Is this an accepted program file? Accepted: kind 1 and the rest 0; a file of 0 bytes is one, of no thread. Refused: kind 3,
- * the number (1 to 8) and the place (the line, from 1; 0 for 1). The file is only read. */
+ * the number (1 to 8, or 40) and the place (the line, from 1; 0 for 1). The file is only read. */
 uint64_t tarczolin_check(const uint8_t *file, size_t file_len);
 
 /* The graph of a full schedule. Answered: the graph text stands in front of the output, the answer carries its length,
- * and the bytes behind it keep their value. Refused, in this order: the program's (1 to 8); 22 at place 0, an output of
+ * and the bytes behind it keep their value. Refused, in this order: the program's (1 to 8, 40); 22 at place 0, an output of
  * under 512 bytes; 20 at the first step that names no thread or an ended one (from 0); 21 at the schedule's length where
  * it is not full. A refusal changes no byte. */
 uint64_t tarczolin_graph(const uint8_t *file, size_t file_len, const uint8_t *schedule, size_t schedule_len, uint8_t *out, size_t out_len);
 
 /* Is this graph consistent? Yes: kind 1, the least schedule that makes it stands in front of the output, the answer
- * carries its length, and the bytes behind it keep their value. No: kind 2. Refused, in this order: the program's (1 to 8);
+ * carries its length, and the bytes behind it keep their value. No: kind 2. Refused, in this order: the program's (1 to 8, 40);
  * 22 at place 0, an output of under 24 bytes; 30 to 33 at the first line of the text that is refused (from 1). The text may
  * have any length. No and a refusal change no byte. */
 uint64_t tarczolin_judge(const uint8_t *file, size_t file_len, const uint8_t *graph, size_t graph_len, uint8_t *out, size_t out_len);
 
 /* The least listed schedule. Answered: it stands in front of the output, the answer carries its length, and the bytes
- * behind it keep their value. Refused, in this order: the program's (1 to 8); 22 at place 0, an output of under 24 bytes.
+ * behind it keep their value. Refused, in this order: the program's (1 to 8, 40); 22 at place 0, an output of under 24 bytes.
  * A refusal changes no byte. */
 uint64_t tarczolin_start(const uint8_t *file, size_t file_len, uint8_t *out, size_t out_len);
 
@@ -78,14 +78,14 @@ uint64_t tarczolin_continue(const uint8_t *file, size_t file_len, const uint8_t 
 uint64_t tarczolin_violation(const uint8_t *file, size_t file_len, uint8_t *out, size_t out_len);
 
 /* How many schedules are listed, and how many of these fail. Answered: kind 1 and the rest 0. Both words keep their
- * value on refusal (1 to 8). `listed` and `failing` are different words, and neither lies in the file. */
+ * value on refusal (1 to 8, 40). `listed` and `failing` are different words, and neither lies in the file. */
 uint64_t tarczolin_count(const uint8_t *file, size_t file_len, uint64_t *listed, uint64_t *failing);
 
 /* Many listed schedules at a time, as rows of 26 bytes: the number of steps, 1 where the schedule fails and 0 where it
  * does not, and the steps, with zeros behind them up to 24. Answered: as many rows as the output has room for stand in
  * front of it: the first listed schedules, or the first of those greater than the given one (which need not be listed nor
  * full). The answer carries their number, not their bytes, and the bytes behind them keep their value; 0 where there is no
- * more or no room. Refused: the program's (1 to 8), and no byte changes. */
+ * more or no room. Refused: the program's (1 to 8, 40), and no byte changes. */
 uint64_t tarczolin_rows(const uint8_t *file, size_t file_len, uint8_t *out, size_t out_len);
 uint64_t tarczolin_rows_after(const uint8_t *file, size_t file_len, const uint8_t *schedule, size_t schedule_len, uint8_t *out, size_t out_len);
 

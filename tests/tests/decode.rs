@@ -80,7 +80,7 @@ fn library_and_oracle_agree() {
     }
     assert!(seen.files >= 200_000 && seen.accepted >= 50_000);
     assert!(!seen.refused.contains_key(&9), "9 never occurs");
-    for number in 1..=8 {
+    for number in (1..=8).chain([40]) {
         assert!(seen.refused[&number] >= 1_000, "refusal {number}: {:?}", seen.refused);
         // the place of 1 is always 0
         let places = if number == 1 { 1 } else { 20 };
@@ -97,7 +97,7 @@ fn library_and_oracle_agree() {
 /// Each damage reached the refusal it aims at, and those at a limit were also accepted.
 fn damages_do_what_they_say(seen: &Seen) {
     use Damage::*;
-    assert!((1..=8).all(|number| seen.of(Nothing, number) == 0), "a file without damage is accepted");
+    assert!((1..=8).chain([40]).all(|number| seen.of(Nothing, number) == 0), "a file without damage is accepted");
     let aims = [
         (LostLastNewline, 2),
         (Capital, 2),
@@ -115,6 +115,10 @@ fn damages_do_what_they_say(seen: &Seen) {
         (SwappedLines, 5),
         (InstructionFirst, 5),
         (BehindAlike, 5),
+        (BehindAlike, 40),
+        (StartAnywhere, 4),
+        (StartAnywhere, 40),
+        (StartTwice, 40),
         (Threads, 6),
         (Instructions, 6),
         (Accesses, 6),
@@ -134,6 +138,7 @@ fn damages_do_what_they_say(seen: &Seen) {
         Field,
         Operand,
         SwappedLines,
+        StartAnywhere,
         Threads,
         Instructions,
         Accesses,

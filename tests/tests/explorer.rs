@@ -51,8 +51,10 @@ fn nothing_on_standard_input() {
     let output = lines("5000 5100000000000000010000000000000000");
     assert_eq!(printed(b""), output);
     let read = started(Stdio::null()).wait_with_output().unwrap();
-    assert_eq!((read.stdout, read.status.success()), (output, true));
+    assert_eq!((read.stdout, read.status.success()), (output.clone(), true));
     assert_eq!(printed(&lines("020001")), lines("52080001"), "02 names threads that are not there");
+    assert_eq!(printed(&lines("030000000001")), output, "only a starting value");
+    assert_eq!(printed(&lines("01 030000000000")), lines("52280002"), "40 is printed as the byte 28");
 }
 
 #[test]

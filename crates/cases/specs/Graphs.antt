@@ -1,7 +1,7 @@
--- Document 01's two graph texts, and the empty one: for each the frames of the program's file and of the text, and the judge's answer.
+-- Document 01's two graph texts, the empty one, and one whose initial write carries 1: for each the frames of the program's file and of the text, and the judge's answer.
 use mathlib.Core.List.{List, [], _∷_}
 use Rattle.consistent.specs.Answer.{Answer, consistent, inconsistent}
-use Rattle.cases.specs.Rows.{Frame, nothing, buffering}
+use Rattle.cases.specs.Rows.{Frame, nothing, buffering, sentinel}
 
 pub record Graph : Type 0 where
   pub file : List Frame
@@ -29,3 +29,11 @@ one = record {
 -- request c: the empty text of a program without threads: yes, with no steps
 abbrev pub blank : Graph
 blank = record { file = nothing .file; text = []; answer = consistent [] }
+
+-- request e: both read the initial write, which carries 1, so that the swap writes: yes, the load before it
+abbrev pub carried : Graph
+carried = record {
+  file = sentinel .file;
+  text = (0x40 ∷ 0 ∷ 0 ∷ 0xff ∷ 0xff ∷ []) ∷ (0x40 ∷ 1 ∷ 0 ∷ 0xff ∷ 0xff ∷ []) ∷ (0x41 ∷ 0 ∷ 0 ∷ 0 ∷ []) ∷ [];
+  answer = consistent (1 ∷ 0 ∷ []);
+}

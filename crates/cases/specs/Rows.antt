@@ -44,6 +44,9 @@ assertAtMost r p = 0x25 ∷ r ∷ p
 abbrev alike : List ℕ → Frame
 alike ts = 0x02 ∷ ts
 
+abbrev start : ℕ → ℕ → Frame
+start l v = 0x03 ∷ l ∷ 0 ∷ 0 ∷ 0 ∷ v ∷ []
+
 -- the printed lines
 abbrev passes : List ℕ → Frame
 passes s = 0x50 ∷ 0 ∷ s
@@ -152,5 +155,12 @@ passing = record {
 abbrev pub negative : Row
 negative = record {
   file = thread ∷ load 0 0 ∷ assertAtMost 0 (constant 0) ∷ thread ∷ store 0 (0 ∷ 0xff ∷ 0xff ∷ 0xff ∷ 0xff ∷ []) ∷ [];
+  prints = passes (0 ∷ 1 ∷ []) ∷ passes (1 ∷ 0 ∷ []) ∷ counts 2 0 ∷ [];
+}
+
+-- request e: location 0 starts with 1, a compare and swap of 1 to 2 there, beside a load: the swap succeeds, so that the order counts
+abbrev pub sentinel : Row
+sentinel = record {
+  file = start 0 1 ∷ thread ∷ compareSwap 0 0 (constant 1) (constant 2) ∷ thread ∷ load 0 0 ∷ [];
   prints = passes (0 ∷ 1 ∷ []) ∷ passes (1 ∷ 0 ∷ []) ∷ counts 2 0 ∷ [];
 }

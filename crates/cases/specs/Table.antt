@@ -11,9 +11,9 @@ use Rattle.lines.specs.Text.{digits, text}
 use Rattle.lines.specs.TextLines.{prepend, before, split}
 use Rattle.lines.specs.Meaning.{remark, spelt, meaning}
 use Rattle.program.specs.Kinds.{kinds, lookup, kindOf}
-use Rattle.program.specs.Frames.{word, kind, known, registerFits, locationFits, skipFits, operandFits, inRange, opens, declares, isAccess}
+use Rattle.program.specs.Frames.{word, kind, known, registerFits, locationFits, skipFits, operandFits, inRange, opens, declares, starts, isAccess}
 use Rattle.program.specs.Frames.{skipOf, operand, buildOwn, build, instruction}
-use Rattle.program.specs.Decode.{fresh, threadAt, lastThread, inPlace, accessesIn, allAccessesIn, withinLimits, same, sameCode, among}
+use Rattle.program.specs.Decode.{fresh, threadAt, lastThread, inPlace, accessesIn, allAccessesIn, withinLimits, isGiven, valueAt, startFits, same, sameCode, among}
 use Rattle.program.specs.Decode.{grouped, memberFits, followersFit, membersFit, alikeFits, frameRefusal, after, farSkip, firstFarSkip}
 use Rattle.program.specs.Decode.{programIn, finish, readLines, decode}
 use Rattle.program.specs.WellFormed.{accesses}
@@ -31,12 +31,12 @@ use Rattle.list.specs.ListOf.{together, permits, permitted, renames, alikeBy, a
 use Rattle.list.specs.Answers.{failing, countOf}
 use Rattle.listing.specs.Printed.{bytesOf, flag, scheduleFrame, countFrame, printedFrames, printed}
 use Rattle.cases.specs.Rows.{Row, empty, nothing, whole, wholeApart, increments, incrementsAlike, swaps, swapsAlike, adds, addsAlike}
-use Rattle.cases.specs.Rows.{buffering, asserting, passing, negative}
-use Rattle.cases.specs.Graphs.{Graph, neither, one, blank}
+use Rattle.cases.specs.Rows.{buffering, asserting, passing, negative, sentinel}
+use Rattle.cases.specs.Graphs.{Graph, neither, one, blank, carried}
 
 -- what a proof names to compute what is printed
 unfoldable pub computed : List ℕ → List ℕ
-unfolding computing seen lower digit value digitOf hexadecimal pairs frame digits text prepend before split remark spelt meaning kinds lookup kindOf word kind known registerFits locationFits skipFits operandFits inRange opens declares isAccess skipOf operand buildOwn build instruction fresh threadAt lastThread inPlace accessesIn allAccessesIn withinLimits same sameCode among grouped memberFits followersFit membersFit alikeFits frameRefusal after farSkip firstFarSkip programIn finish readLines decode accesses size accessesLeft movedEvent movedRead movedReads movedWrites together permits permitted sameEvent sameRead sameList renames alikeBy alike listOf failing countOf bytesOf flag scheduleFrame countFrame printedFrames textOf printed
+unfolding computing seen lower digit value digitOf hexadecimal pairs frame digits text prepend before split remark spelt meaning kinds lookup kindOf word kind known registerFits locationFits skipFits operandFits inRange opens declares starts isAccess skipOf operand buildOwn build instruction fresh threadAt lastThread inPlace accessesIn allAccessesIn withinLimits isGiven valueAt startFits same sameCode among grouped memberFits followersFit membersFit alikeFits frameRefusal after farSkip firstFarSkip programIn finish readLines decode accesses size accessesLeft movedEvent movedRead movedReads movedWrites together permits permitted sameEvent sameRead sameList renames alikeBy alike listOf failing countOf bytesOf flag scheduleFrame countFrame printedFrames textOf printed
 computed file = printed file
 
 -- a row: a program with its list, or a graph text with the judge's answer
@@ -44,12 +44,13 @@ pub data Case : Type 0 where
   lists : Row → Case
   judges : Graph → Case
 
--- P 1 to P 10, in this order; where a P case has two programs, both; then the file of 0 bytes and its graph, then request a's
+-- P 1 to P 10, in this order; where a P case has two programs, both; then the file of 0 bytes and its graph, then request a's, then a
+-- starting value and a graph that it makes
 abbrev pub cases : List Case
 cases =
     lists empty ∷ lists whole ∷ lists wholeApart ∷ lists increments ∷ lists incrementsAlike ∷ lists swaps ∷ lists swapsAlike ∷ lists adds
     ∷ lists addsAlike ∷ lists buffering ∷ judges neither ∷ judges one ∷ lists asserting ∷ lists nothing ∷ judges blank
-    ∷ lists passing ∷ lists negative ∷ []
+    ∷ lists passing ∷ lists negative ∷ lists sentinel ∷ judges carried ∷ []
 
 -- what the walk answers, with an output of 24 bytes: by a law the one right answer
 unfoldable pub judged : Graph → Answer

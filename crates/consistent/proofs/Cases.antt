@@ -20,6 +20,8 @@ buffering-formed = record {
   skips = ((omega arith, (omega arith, tt)), ((omega arith, (omega arith, tt)), tt));
   groups = tt;
   apart = tt;
+  eight = refl;
+  words = (omega arith, (omega arith, (omega arith, (omega arith, (omega arith, (omega arith, (omega arith, (omega arith, tt))))))));
 }
 
 -- no

@@ -5,7 +5,7 @@ use mathlib.Core.Bool.{Bool, true, false}
 use mathlib.Core.Option.{Option, none, some}
 use mathlib.Core.List.{List, [], _∷_, _++_}
 use lib.Dec.{eqb}
-use Rattle.program.specs.Program.{Program}
+use Rattle.program.specs.Program.{Program, zeros}
 use Rattle.program.specs.Frames.{test}
 use Rattle.program.specs.WellFormed.{accesses}
 use Rattle.program.specs.declared.instruction.Instruction.{Instruction}
@@ -31,9 +31,9 @@ unfoldable pub judging : Program → Graph → Option Schedule
 unfolding seen range any all find greedy alone sameEvent sameRead sourceIn orZero leftBy nextRound values waits noneWaits nextWrite readFits writeFits fits walk sameList sameGraph judge
 judging p g = judge p g
 
--- threads of which none are declared alike
+-- threads of which none are declared alike, on a memory of zeros
 abbrev pub threadsOf : List (List Instruction) → Program
-threadsOf code = record { threads = code; groups = [] }
+threadsOf code = record { threads = code; groups = []; starting = zeros }
 
 -- reads by thread, and the writes of locations 0 and 1, each with the last first
 abbrev pub graphWith : List (List (ℕ × Event)) → List Event → List Event → Graph
@@ -85,6 +85,18 @@ behind = threadsOf ((Memory (Store 0 (Constant 1)) ∷ []) ∷ (Memory (Load 0 1
 abbrev choosing : Program
 choosing = threadsOf ((Memory (Store 0 (Constant 1)) ∷ []) ∷ (Memory (Load 0 1) ∷ Alone (SkipUnless (test Equal 0 (Constant 0)) 1) ∷ Memory (Load 1 0) ∷ Memory (Load 2 2) ∷ []) ∷ [])
 
+-- a compare and swap of 1 to 2 and a load, at location 0, on a memory that starts with 1 there
+abbrev pub sentinel : Program
+sentinel = record {
+  threads = (Memory (CompareSwap 0 0 (Constant 1) (Constant 2)) ∷ []) ∷ (Memory (Load 0 0) ∷ []) ∷ [];
+  groups = [];
+  starting = 1 ∷ 0 ∷ 0 ∷ 0 ∷ 0 ∷ 0 ∷ 0 ∷ 0 ∷ [];
+}
+
+-- both read from the initial write, and the compare and swap writes
+abbrev pub bothInitial : Graph
+bothInitial = graphWith (((0, initialWrite) ∷ []) ∷ ((0, initialWrite) ∷ []) ∷ []) ((0, 0) ∷ []) []
+
 pub cases : List Case
 cases =
     record { program = buffering; graph = neitherSeen; answer = none } ∷
@@ -111,6 +123,9 @@ cases =
     record { program = behind; graph = graphWith ([] ∷ ((1, initialWrite) ∷ (0, initialWrite) ∷ []) ∷ []) ((1, 7) ∷ (0, 0) ∷ []) []; answer = none } ∷
     -- which location is read depends on a value
     record { program = choosing; graph = graphWith ([] ∷ ((2, initialWrite) ∷ (1, initialWrite) ∷ (0, initialWrite) ∷ []) ∷ []) ((0, 0) ∷ []) []; answer = some (1 ∷ 1 ∷ 0 ∷ 1 ∷ []) } ∷
+    -- the initial write carries 1: the compare and swap succeeds, so that its write must stand in the graph
+    record { program = sentinel; graph = bothInitial; answer = some (1 ∷ 0 ∷ []) } ∷
+    record { program = sentinel; graph = graphWith (((0, initialWrite) ∷ []) ∷ ((0, initialWrite) ∷ []) ∷ []) [] []; answer = none } ∷
     -- the write stands at the wrong location; no event at all
     record { program = behind; graph = graphWith ([] ∷ ((1, initialWrite) ∷ (0, initialWrite) ∷ []) ∷ []) [] ((0, 0) ∷ []); answer = none } ∷
     record { program = threadsOf ([] ∷ []); graph = graphWith ([] ∷ []) [] []; answer = some [] } ∷

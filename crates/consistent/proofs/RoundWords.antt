@@ -29,7 +29,7 @@ module _ (p : Program) (wf : WellFormed p) where
       written (some x) q = puts-word (localAt p v s) (v s) x (alone-words v w (s .0) (s .1)) q
 
       go : (b : Bool) → sameEvent s initialWrite ≡ b → Word (leftBy p v s l)
-      go true q = rw (q, leftBy) (initial-word p l)
+      go true q = rw (q, leftBy) (initial-word p wf l)
       go false q = rw (q, leftBy) (written (outOf p v s) refl)
 
   pub round-words : (g : Graph) (n : ℕ) (e : Event) → Word (values p g n e)

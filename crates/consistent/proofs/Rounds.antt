@@ -91,7 +91,7 @@ module _ (p : Program) (wf : WellFormed p) where
         let T = sorted-run s (start p) (E .regular) (full-allowed SC (start p) s (E .full) .0) (sorted-start p) in
         record {
           rows = ap (λ (h : Graph). length (h .reads)) (sym (E .graph)) ∙ graph-sizes (run SC (start p) s) .0 ∙ run-threads s (start p) ∙ start-threads p;
-          lists = ap (λ (h : Graph). length (h .writes)) (sym (E .graph)) ∙ graph-sizes (run SC (start p) s) .1 ∙ run-cells s (start p) ∙ start-cells p;
+          lists = ap (λ (h : Graph). length (h .writes)) (sym (E .graph)) ∙ graph-sizes (run SC (start p) s) .1 ∙ run-cells s (start p) ∙ start-cells p wf;
           ordered = λ t. subst Descends (sym (row-at (run SC (start p) s) t) ∙ ap (λ (h : Graph). rowOf h t) (E .graph)) (T .ordered t);
           once = λ l. subst Distinct (sym (order-at (run SC (start p) s) l) ∙ ap (λ (h : Graph). orderOf h l) (E .graph)) (T .once l);
         }

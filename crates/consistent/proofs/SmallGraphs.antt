@@ -11,7 +11,7 @@ use Rattle.program.specs.Program.{initial}
 use Rattle.sc.specs.State.{Event, initialWrite}
 use Rattle.sc.specs.Graph.{Graph}
 use Rattle.consistent.specs.Consistent.{Later, orderOf, Values, locationOf, outOf, Makes, Before, program-order, reads-from, coherence, from-reads, Way, one, more}
-use Rattle.consistent.proofs.Examples.{judging, graphWith, buffering, neitherSeen, twoAdds, selfish, behind}
+use Rattle.consistent.proofs.Examples.{judging, graphWith, buffering, neitherSeen, twoAdds, selfish, behind, sentinel, bothInitial}
 
 differ : {a b c d : ℕ} → (a ≡ c → ⊥) → _≢_ {A = Event} (a, b) (c, d)
 differ n q = n (ap (λ (e : Event). e .0) q)
@@ -58,9 +58,15 @@ pub missing-read : (v : Values) → Makes behind (graphWith ([] ∷ ((1, (0, 0))
 unfolding judging
 missing-read v m = absurd (omega (arith, ap (λ (r : ℕ × Event). r .0) (List·Memᴰ·eq-of-singleton (m .sourced (1, 0) refl .1))))
 
--- a read of the initial write finds 0
+-- a read of the initial write finds what memory starts with: 0, or the value of a `03` line
 pub initial-zero : (v : Values) → Makes behind (graphWith ([] ∷ ((1, initialWrite) ∷ (0, initialWrite) ∷ []) ∷ []) ((0, 0) ∷ []) []) v → v (1, 1) ≡ 0
 unfolding judging
 initial-zero v m = ⊎-elim (λ (h : (initialWrite ≡ initialWrite) × (v (1, 1) ≡ getD (initial behind) (locationOf behind v (1, 1)) 0)). h .1)
     (λ (h : (locationOf behind v initialWrite ≡ locationOf behind v (1, 1)) × (outOf behind v initialWrite ≡ some (v (1, 1)))). absurd (Option·none-ne-some (v (1, 1)) (h .1)))
     (m .found (1, 1) initialWrite (List·Memᴰ·head refl))
+
+pub initial-one : (v : Values) → Makes sentinel bothInitial v → v (1, 0) ≡ 1
+unfolding judging
+initial-one v m = ⊎-elim (λ (h : (initialWrite ≡ initialWrite) × (v (1, 0) ≡ getD (initial sentinel) (locationOf sentinel v (1, 0)) 0)). h .1)
+    (λ (h : (locationOf sentinel v initialWrite ≡ locationOf sentinel v (1, 0)) × (outOf sentinel v initialWrite ≡ some (v (1, 0)))). absurd (Option·none-ne-some (v (1, 0)) (h .1)))
+    (m .found (1, 0) initialWrite (List·Memᴰ·head refl))

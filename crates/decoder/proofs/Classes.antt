@@ -12,7 +12,7 @@ use lib.ListN.{getD}
 use Rattle.program.specs.WellFormed.{Everywhere, Ascending, Apart}
 use Rattle.program.specs.Decode.{among}
 use Rattle.decoder.specs.Compiled.{select, membersOf}
-use Rattle.decoder.specs.Held.{classFrom}
+use Rattle.refusals.specs.Held.{classFrom}
 use Rattle.program.proofs.Everywhere.{everywhere-weaken, everywhere-getD}
 use Rattle.program.proofs.InstructionFrames.{among-member}
 

@@ -8,10 +8,11 @@ use lib.ListN.{length, getD, set, drop, length-append, length-set}
 use lib.Seq.{getD-set-same, getD-set-other}
 use lib.Dec.{eqb}
 use borrow.Author.Tests.{eqb-true, eqb-false}
-use Rattle.decoder.specs.declared.counts.Counts.{Counts}
+use Rattle.refusals.specs.declared.counts.Counts.{Counts}
 use Rattle.program.specs.Frames.{Frame, byte, declares}
 use Rattle.program.specs.Decode.{Reading, threadAt, among, grouped, memberFits, membersFit, alikeFits, frameRefusal, after}
-use Rattle.decoder.specs.Held.{marked, groupedCounts, frameAt, lineAt, classFrom, Holds, Lined}
+use Rattle.refusals.specs.Held.{frameAt, classFrom, Holds}
+use Rattle.decoder.specs.Held.{marked, groupedCounts, lineAt, Lined}
 use Rattle.program.proofs.Tests.{second, neither}
 use Rattle.program.proofs.Everywhere.{everywhere-at}
 use Rattle.program.proofs.InstructionFrames.{among-member}
@@ -26,6 +27,11 @@ unmarked g t [] class e = refl
 unmarked g t (u ∷ us) class e =
     let p = neither (eqb t u) (among t us) e in
     unmarked g t us (set class u g) (p .1) ∙ getD-set-other class u t g 0 (eqb-false t u (p .0))
+
+length-marked : (g : ℕ) (ts class : List ℕ) → length (marked g ts class) ≡ length class
+unfolding marked
+length-marked g [] class = refl
+length-marked g (t ∷ ts) class = length-marked g ts (set class t g) ∙ length-set class t g
 
 first : (a b : Bool) → (a || b) ≡ true → b ≡ false → a ≡ true
 first true b e h = refl
@@ -69,12 +75,13 @@ members-free r f e d t a =
     member-free r t (everywhere-at (λ u. memberFits r u ≡ true) (among-member t (drop 1 f) a) (members r (drop 1 f) fits .fit))
 
 pub held-grouped : (n : ℕ) (f : Frame) (code : List ℕ) (s : Counts) (r : Reading) → Holds code s r → frameRefusal r f ≡ 0
-    → byte f 0 ≡ 0x02 → length (s .class) ≡ 6 → Holds code (groupedCounts (drop 1 f) s) (after n f r)
+    → byte f 0 ≡ 0x02 → Holds code (groupedCounts (drop 1 f) s) (after n f r)
 unfolding after threadAt frameAt
-held-grouped n f code s r h e b six =
+held-grouped n f code s r h e b =
     rw (first-declares f b .0, first-declares f b .1)
     (record {
       size = h .size;
+      sizes = (h .sizes .0, length-marked (s .groups + 1) (drop 1 f) (s .class) ∙ h .sizes .1);
       threads = h .threads;
       lengths = h .lengths;
       bytes = h .bytes;
@@ -82,12 +89,13 @@ held-grouped n f code s r h e b six =
       accesses = h .accesses;
       groups = omega (arith, h .groups, length-append (r .groups) (drop 1 f ∷ []));
       class = λ t k. go t k (among t (drop 1 f)) refl;
+      starting = h .starting;
     })
   where
     go : (t : ℕ) → t < 6 → (a : Bool) → among t (drop 1 f) ≡ a
         → getD (marked (s .groups + 1) (drop 1 f) (s .class)) t 0 ≡ classFrom 1 t (r .groups ++ (drop 1 f ∷ []))
     go t k true q =
-        mark (s .groups + 1) t (drop 1 f) (s .class) q (omega arith)
+        mark (s .groups + 1) t (drop 1 f) (s .class) q (omega (arith, h .sizes .1))
         ∙ omega (arith, h .groups)
         ∙ sym (class-new 1 t (r .groups) (drop 1 f) q (members-free r f e (first-declares f b .1) t q))
     go t k false q =

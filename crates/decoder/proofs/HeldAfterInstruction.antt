@@ -9,19 +9,20 @@ use lib.ListN.{length, getD, set, length-set, List·getD-eq-default}
 use lib.Seq.{getD-set-same, getD-set-other}
 use lib.Dec.{eqb, ltb, leb}
 use borrow.Author.Tests.{eqb-true, eqb-false, ltb-true, ltb-false}
-use Rattle.decoder.specs.declared.counts.Counts.{Counts}
+use Rattle.refusals.specs.declared.counts.Counts.{Counts}
 use Rattle.program.specs.Frames.{Frame, byte, known, declares, isAccess}
 use Rattle.program.specs.Decode.{Placed, Reading, threadAt, lastThread, allAccessesIn, frameRefusal, after}
-use Rattle.decoder.specs.Held.{extendedCounts, noInstruction, frameAt, lineAt, Holds, Lined}
+use Rattle.refusals.specs.Held.{noInstruction, frameAt, Holds}
+use Rattle.decoder.specs.Held.{extendedCounts, lineAt, Lined}
 use Rattle.rows.specs.Bytes.{Written}
 use Rattle.program.proofs.AccessCounts.{accesses-snoc, all-accesses-set}
 use Rattle.program.proofs.Sound.{passes}
-use Rattle.decoder.proofs.HeldAfter.{first-instruction, passes-extended}
+use Rattle.decoder.proofs.HeldAfter.{Plain, first-instruction, passes-extended}
 use Rattle.decoder.proofs.HeldAfterPlace.{Here, place, apart, same-row, placed-new, placed-before, length-new, length-before}
 
 -- ---- an instruction more
 module _ (n : ℕ) (f : Frame) (code : List ℕ) (s : Counts) (r : Reading) (h : Holds code s r) (e : frameRefusal r f ≡ 0)
-    (no-01 : byte f 0 ≡ 0x01 → ⊥) (no-02 : byte f 0 ≡ 0x02 → ⊥) where
+    (plain : Plain f) where
   abbrev thread : ℕ
   thread = s .threads - 1
 
@@ -32,10 +33,10 @@ module _ (n : ℕ) (f : Frame) (code : List ℕ) (s : Counts) (r : Reading) (h :
   new = record { line = n; code = f }
 
   abbrev next : Reading
-  next = record { threads = set (r .threads) thread (getD (r .threads) thread [] ++ (new ∷ [])); groups = r .groups }
+  next = record { threads = set (r .threads) thread (getD (r .threads) thread [] ++ (new ∷ [])); groups = r .groups; given = r .given }
 
   room : (1 ≤ s .threads) × (at < 16) × (length f ≤ 13)
-  room = passes-extended f code s r h e no-01 no-02
+  room = passes-extended f code s r h e plain
 
   inside : thread < length (r .threads)
   inside = omega (arith, room .0, h .threads)
@@ -47,9 +48,9 @@ module _ (n : ℕ) (f : Frame) (code : List ℕ) (s : Counts) (r : Reading) (h :
   after-next : after n f r ≡ next
   unfolding after lastThread threadAt
   after-next =
-      let first = first-instruction f no-01 no-02 in
-      rw (first .0, first .1)
-      (ap (λ (k : ℕ). record { threads = set (r .threads) (k - 1) (getD (r .threads) (k - 1) [] ++ (new ∷ [])); groups = r .groups }) (sym (h .threads)))
+      let first = first-instruction f plain in
+      rw (first .0, first .1, first .2)
+      (ap (λ (k : ℕ). record { threads = set (r .threads) (k - 1) (getD (r .threads) (k - 1) [] ++ (new ∷ [])); groups = r .groups; given = r .given }) (sym (h .threads)))
 
   here-new : frameAt next thread at ≡ f
   unfolding frameAt threadAt
@@ -117,17 +118,17 @@ module _ (n : ℕ) (f : Frame) (code : List ℕ) (s : Counts) (r : Reading) (h :
   frames-next t i b = go (place t i thread at)
     where
       go : Here t i thread at ⊎ (Here t i thread at → ⊥) → (known (frameAt next t i) ≡ true) × (declares (frameAt next t i) ≡ false)
-      go (inl q) = rw (q .0, q .1, here-new) (passes r f e .is-known, first-instruction f no-01 no-02 .1)
+      go (inl q) = rw (q .0, q .1, here-new) (passes r f e .is-known, first-instruction f plain .1)
       go (inr k) = rw (frame-before t i k) (h .frames t i (end-before t i k b))
 
-  lengths-next : length (s .lengths) ≡ 6 → s .threads ≤ 6 → (t : ℕ) → getD (set (s .lengths) thread (at + 1)) t 0 ≡ length (threadAt next t)
+  lengths-next : s .threads ≤ 6 → (t : ℕ) → getD (set (s .lengths) thread (at + 1)) t 0 ≡ length (threadAt next t)
   unfolding threadAt
-  lengths-next six few t = go (eqb t thread) refl
+  lengths-next few t = go (eqb t thread) refl
     where
       go : (x : Bool) → eqb t thread ≡ x → getD (set (s .lengths) thread (at + 1)) t 0 ≡ length (getD (next .threads) t [])
       go true p =
           rw (eqb-true t thread p)
-          (getD-set-same (s .lengths) thread (at + 1) 0 (omega (arith, room .0))
+          (getD-set-same (s .lengths) thread (at + 1) 0 (omega (arith, room .0, h .sizes .0))
           ∙ ap (λ (k : ℕ). k + 1) end
           ∙ sym (length-new (r .threads) thread inside new))
       go false p =
@@ -157,28 +158,30 @@ module _ (n : ℕ) (f : Frame) (code : List ℕ) (s : Counts) (r : Reading) (h :
           getD-set-other rows (thread * 16 + at) (t * 16 + i) n 0 other ∙ l .lines t i c ∙ sym (line-before t i k)
 
 pub held-extended : (n : ℕ) (f : Frame) (code code' : List ℕ) (s : Counts) (r : Reading) → Holds code s r → frameRefusal r f ≡ 0
-    → (byte f 0 ≡ 0x01 → ⊥) → (byte f 0 ≡ 0x02 → ⊥) → length (s .lengths) ≡ 6 → s .threads ≤ 6
+    → Plain f → s .threads ≤ 6
     → Written code (((s .threads - 1) * 16 + getD (s .lengths) (s .threads - 1) 0) * 16) f (length f) code'
     → Holds code' (extendedCounts (byte f 0) s) (after n f r)
-held-extended n f code code' s r h e no-01 no-02 six few w =
-    rw (after-next n f code s r h e no-01 no-02)
+held-extended n f code code' s r h e plain few w =
+    rw (after-next n f code s r h e plain)
     (record {
       size = w .size ∙ h .size;
+      sizes = (length-set (s .lengths) (s .threads - 1) (getD (s .lengths) (s .threads - 1) 0 + 1) ∙ h .sizes .0, h .sizes .1);
       threads = h .threads ∙ sym (length-set (r .threads) (s .threads - 1) _);
-      lengths = lengths-next n f code s r h e no-01 no-02 six few;
-      bytes = bytes-next n f code s r h e no-01 no-02 code' w;
-      frames = frames-next n f code s r h e no-01 no-02;
-      accesses = accesses-next n f code s r h e no-01 no-02;
+      lengths = lengths-next n f code s r h e plain few;
+      bytes = bytes-next n f code s r h e plain code' w;
+      frames = frames-next n f code s r h e plain;
+      accesses = accesses-next n f code s r h e plain;
       groups = h .groups;
       class = h .class;
+      starting = h .starting;
     })
 
 pub lined-extended : (n : ℕ) (f : Frame) (rows : List ℕ) (code : List ℕ) (s : Counts) (r : Reading) → Holds code s r → Lined rows r → frameRefusal r f ≡ 0
-    → (byte f 0 ≡ 0x01 → ⊥) → (byte f 0 ≡ 0x02 → ⊥) → s .threads ≤ 6 → ((t : ℕ) → getD (s .lengths) t 0 ≤ 16)
+    → Plain f → s .threads ≤ 6 → ((t : ℕ) → getD (s .lengths) t 0 ≤ 16)
     → Lined (set rows ((s .threads - 1) * 16 + getD (s .lengths) (s .threads - 1) 0) n) (after n f r)
-lined-extended n f rows code s r h l e no-01 no-02 few sixteen =
-    rw (after-next n f code s r h e no-01 no-02)
+lined-extended n f rows code s r h l e plain few sixteen =
+    rw (after-next n f code s r h e plain)
     (record {
       size = length-set rows ((s .threads - 1) * 16 + getD (s .lengths) (s .threads - 1) 0) n ∙ l .size;
-      lines = lines-next n f code s r h e no-01 no-02 rows l few sixteen;
+      lines = lines-next n f code s r h e plain rows l few sixteen;
     })

@@ -12,10 +12,11 @@ use Rattle.lines.specs.Meaning.{framed, meaning, lineOf}
 use Rattle.lines.specs.declared.reader.Line.the-variants.{Frame, Remark, Broken}
 use Rattle.lines.proofs.Meaning.{framed-bytes, told-frame, told-remark, told-broken}
 use Rattle.lines.proofs.TextLines.{whole, split-at, split-end}
-use Rattle.decoder.specs.declared.counts.Counts.{Counts}
+use Rattle.refusals.specs.declared.counts.Counts.{Counts}
 use Rattle.program.specs.Decode.{Reading, fresh, threadAt, frameRefusal, after, refused, finish, readLines, decode}
 use Rattle.program.specs.WellFormed.{Everywhere, Ascending}
-use Rattle.decoder.specs.Held.{nothing, Bounded, Holds, Lined, Grouped, Taken}
+use Rattle.refusals.specs.Held.{nothing, Bounded, Holds}
+use Rattle.decoder.specs.Held.{Lined, Grouped, Taken}
 use Rattle.program.proofs.Everywhere.{everywhere-getD, everywhere-weaken}
 use Rattle.program.proofs.Sound.{Alike, Sound, sound-fresh, sound-after}
 use Rattle.decoder.proofs.HeldAfter.{held-fresh}

@@ -5,10 +5,11 @@ use mathlib.Core.Path.{_≡_}
 use mathlib.Core.List.{List}
 use lib.ListN.{length}
 use borrow.Author.Tests.{eq-eqb, ne-eqb}
-use Rattle.decoder.specs.declared.counts.Counts.{Counts}
+use Rattle.refusals.specs.declared.counts.Counts.{Counts}
 use Rattle.program.specs.Decode.{Reading, threadAt, firstFarSkip, programIn, accepted, refused, finish}
-use Rattle.decoder.specs.Held.{frameAt, lineAt, Bounded, Holds, Lined, HeldThreads}
-use Rattle.decoder.proofs.HeldCode.{held-short}
+use Rattle.refusals.specs.Held.{frameAt, Bounded, Holds}
+use Rattle.decoder.specs.Held.{lineAt, Lined, HeldThreads}
+use Rattle.refusals.proofs.HeldCode.{held-short}
 
 module _ (code rows : List ℕ) (s : Counts) (r : Reading) (bounded : Bounded s) (held : Holds code s r) (lined : Lined rows r) where
   -- the threads, as the arrays hold them

@@ -1,19 +1,21 @@
 -- The program that the decoder hands over is the one that the lines have made.
-use Prim.Native.Nat.{ℕ, _+_, _*_, _≤_, _<_}
+use Prim.Native.Nat.{ℕ, zero, suc, _+_, _*_, _≤_, _<_}
 use native.Mathlib.Omega.{arith}
-use mathlib.Core.Path.{_≡_, sym, ap, _∙_}
+use mathlib.Core.Path.{_≡_, refl, sym, ap, _∙_}
 use mathlib.Core.List.{List, [], map}
 use lib.Dec.{eqb, lit<}
 use borrow.Author.Tests.{lt-ltb}
 use lib.ListN.{length, getD, length-map, List·getD-map}
+use lib.Seq.{ext-getD}
 use Rattle.program.specs.declared.instruction.Instruction.{Instruction}
-use Rattle.decoder.specs.declared.counts.Counts.{Counts}
+use Rattle.refusals.specs.declared.counts.Counts.{Counts}
 use Rattle.program.specs.Frames.{instruction}
-use Rattle.program.specs.Decode.{Placed, Reading, threadAt, programIn}
+use Rattle.program.specs.Decode.{Placed, Reading, threadAt, valueAt, locations, programIn}
 use Rattle.decoder.specs.Compiled.{membersOf, programOf}
 use Rattle.rows.specs.Rows.{tabulate, rowAt, instructionAt, threadCode}
 use Rattle.program.specs.WellFormed.{Everywhere, Ascending}
-use Rattle.decoder.specs.Held.{Holds, Grouped, noInstruction, frameAt}
+use Rattle.refusals.specs.Held.{Holds, noInstruction, frameAt}
+use Rattle.decoder.specs.Held.{Grouped}
 use Rattle.program.proofs.Everywhere.{everywhere-getD, everywhere-weaken}
 use Rattle.program.proofs.FrameBytes.{instruction-same}
 use Rattle.rows.proofs.Rows.{row-byte}
@@ -66,8 +68,29 @@ module _ (code : List ℕ) (s : Counts) (r : Reading) (holds : Holds code s r) w
   groups-held g =
       tabulate-members (λ k. membersOf (s .class) (k + 1)) (s .groups) (r .groups) [] (sym (holds .groups)) (λ k b. group-held g k)
 
+  -- the eight starting values
+  pub starting-held : s .starting .values ≡ map (λ l. valueAt l (r .given)) locations
+  starting-held =
+      ext-getD 0 (s .starting .values) (map (λ l. valueAt l (r .given)) locations) (holds .starting .sizes .0)
+      (λ l b. holds .starting .values l (omega (arith, holds .starting .sizes .0)) ∙ sym (each l (omega (arith, holds .starting .sizes .0))))
+    where
+      each : (l : ℕ) → l < 8 → getD (map (λ k. valueAt k (r .given)) locations) l 0 ≡ valueAt l (r .given)
+      each zero b = refl
+      each (suc zero) b = refl
+      each (suc (suc zero)) b = refl
+      each (suc (suc (suc zero))) b = refl
+      each (suc (suc (suc (suc zero)))) b = refl
+      each (suc (suc (suc (suc (suc zero))))) b = refl
+      each (suc (suc (suc (suc (suc (suc zero)))))) b = refl
+      each (suc (suc (suc (suc (suc (suc (suc zero))))))) b = refl
+      each (suc (suc (suc (suc (suc (suc (suc (suc l)))))))) b = absurd (omega arith)
+
 pub program-held : (code : List ℕ) (s : Counts) (r : Reading) → Holds code s r → length (r .threads) ≤ 6 → ((t : ℕ) → length (threadAt r t) ≤ 16) → Grouped r
-    → programOf (record { code = code; threads = s .threads; lengths = s .lengths; groups = s .groups; class = s .class }) ≡ programIn r
+    → programOf (record { code = code; threads = s .threads; lengths = s .lengths; groups = s .groups; class = s .class; starting = s .starting .values }) ≡ programIn r
 unfolding programOf programIn
 program-held code s r holds six sixteen g =
-    λ i. record { threads = threads-held code s r holds (rw (holds .threads) six) sixteen i; groups = groups-held code s r holds g i }
+    λ i. record {
+      threads = threads-held code s r holds (rw (holds .threads) six) sixteen i;
+      groups = groups-held code s r holds g i;
+      starting = starting-held code s r holds i;
+    }

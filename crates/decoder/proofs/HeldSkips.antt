@@ -13,7 +13,8 @@ use Rattle.program.specs.Kinds.{kindOf}
 use Rattle.program.specs.Frames.{Frame, byte, kind, skipOf}
 use Rattle.rows.specs.Rows.{rowAt}
 use Rattle.program.specs.Decode.{Placed, farSkip, firstFarSkip}
-use Rattle.decoder.specs.Held.{noInstruction, HeldThread}
+use Rattle.refusals.specs.Held.{noInstruction}
+use Rattle.decoder.specs.Held.{HeldThread}
 use Rattle.program.proofs.KindTable.{kind-bounds}
 use Rattle.rows.proofs.Rows.{row-byte}
 

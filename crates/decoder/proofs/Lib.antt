@@ -1,16 +1,12 @@
 -- The laws, in the order in which they rest on each other.
 -- what the decoder's answer says of the file
 pub mod Decoded
--- threads of the same code
-pub mod HeldCode
--- members of a `02` line, by the counts
-pub mod HeldMembers
--- the number of a refusal, by the counts
-pub mod RefusalByCounts
 -- before the first line, and with a thread more
 pub mod HeldAfter
 -- with a group more
 pub mod HeldAfterGroup
+-- with a starting value more
+pub mod HeldAfterStart
 -- the places of instructions in the code
 pub mod HeldAfterPlace
 -- with an instruction more

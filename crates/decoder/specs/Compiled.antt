@@ -27,6 +27,7 @@ unfoldable pub programOf : Compiled → Program
 programOf c = record {
   threads = tabulate (λ t. threadCode (c .code) t (getD (c .lengths) t 0)) (c .threads);
   groups = tabulate (λ k. membersOf (c .class) (k + 1)) (c .groups);
+  starting = c .starting;
 }
 
 -- the answer in document 01's terms

@@ -1,25 +1,28 @@
 // A program file to a compiled program, or to its refusal.
-use crate::counts::Counts;
-use crate::counts::none_yet;
-use crate::refusal::refusal;
 use crate::skip::far_skip;
 use crate::taken::taken;
 use lines::Line;
+use refusals::Counts;
+use refusals::none_yet;
+use refusals::refusal;
 use rows::CODE_BYTES;
 use rows::Code;
 ghost use mathlib.Core.Path.{_≡_};
 ghost use Prim.Native.Nat.{_+_, _<_};
 ghost use Rattle.program.specs.Decode.{Reading, Decoded, finish, decode};
 ghost use Rattle.decoder.specs.Compiled.{answerOf};
-ghost use Rattle.decoder.specs.Held.{Holds, Lined, Bounded, Grouped};
+ghost use Rattle.refusals.specs.Held.{Holds, Bounded};
+ghost use Rattle.decoder.specs.Held.{Lined, Grouped};
 
-// An accepted program: its instructions, a row of sixteen bytes each, how many each thread has, and the group of each thread (0: none).
+// An accepted program: its instructions, a row of sixteen bytes each, how many each thread has, the group of each thread (0: none), and the
+// values that memory starts with.
 pub struct Compiled {
     pub code: Code,
     pub threads: usize,
     pub lengths: [usize; 6],
     pub groups: usize,
     pub class: [usize; 6],
+    pub starting: [u32; 8],
 }
 
 pub enum Verdict {
@@ -46,6 +49,7 @@ fn refused(number: u8, place: usize) -> Answer
             lengths: [0usize; 6],
             groups: 0,
             class: [0usize; 6],
+            starting: [0u32; 8],
         },
     }
 }
@@ -61,6 +65,8 @@ fn finished(code: Code, rows: [usize; 96], s: Counts) -> Answer
         return refused(7, k);
     }
     let class = s.class;
+    let m = s.starting;
+    let starting = m.values;
     Answer {
         verdict: Verdict::Accepted,
         program: Compiled {
@@ -69,6 +75,7 @@ fn finished(code: Code, rows: [usize; 96], s: Counts) -> Answer
             lengths: lengths,
             groups: s.groups,
             class: class,
+            starting: starting,
         },
     }
 }

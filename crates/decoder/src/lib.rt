@@ -1,11 +1,5 @@
-// Program files read: the decoder's functions, and how their arrays hold what the definitions say.
+// Program files read: what each line leaves, and the whole file.
 
-// What has been read of a file so far, as counts.
-mod counts;
-// Whether threads may be declared alike.
-mod alike;
-// The number by which a line is refused.
-mod refusal;
 // What has been read once a line has passed.
 mod taken;
 // Skips beyond a thread's end.

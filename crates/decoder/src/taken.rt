@@ -1,14 +1,18 @@
-// What has been read once a line has passed: a thread more, a group more, or an instruction more in the thread last opened.
-use crate::counts::Counts;
-use crate::refusal::is_access;
+// What has been read once a line has passed: a thread more, a group more, a starting value more, or an instruction more in the thread last
+// opened.
 use lines::field;
+use refusals::Counts;
+use refusals::Starting;
+use refusals::is_access;
 use rows::Code;
 use rows::put_row;
+use rows::word_at;
 ghost use mathlib.Core.Path.{_≡_};
 ghost use Prim.Native.Nat.{_+_, _*_, _-_, _<_, _≤_};
 ghost use lib.ListN.{length, drop};
 ghost use Rattle.lines.specs.Frame.{pairs};
-ghost use Rattle.decoder.specs.Held.{Bounded, marked, openedCounts, groupedCounts, extendedCounts, Passes, Taken};
+ghost use Rattle.refusals.specs.Held.{Bounded};
+ghost use Rattle.decoder.specs.Held.{marked, openedCounts, groupedCounts, startedCounts, extendedCounts, Passes, Taken};
 
 // With one thread more.
 fn opened(s: Counts) -> Counts
@@ -17,12 +21,14 @@ fn opened(s: Counts) -> Counts
 {
     let lengths = s.lengths;
     let class = s.class;
+    let starting = s.starting;
     Counts {
         threads: s.threads + 1,
         lengths: lengths,
         accesses: s.accesses,
         groups: s.groups,
         class: class,
+        starting: starting,
     }
 }
 
@@ -50,6 +56,7 @@ fn grouped(line: &[u8], n: usize, s: Counts) -> Counts
 {
     let lengths = s.lengths;
     let class = s.class;
+    let starting = s.starting;
     let g = s.groups + 1;
     Counts {
         threads: s.threads,
@@ -57,6 +64,32 @@ fn grouped(line: &[u8], n: usize, s: Counts) -> Counts
         accesses: s.accesses,
         groups: g,
         class: mark(line, n, class, g),
+        starting: starting,
+    }
+}
+
+// With one starting value more, v at location l.
+fn started(l: usize, v: u32, s: Counts) -> Counts
+    requires { ⌜ l < 8 ⌝ }
+    ensures { λ r. ⌜ r ≡ startedCounts l v s ⌝ }
+{
+    let lengths = s.lengths;
+    let class = s.class;
+    let m = s.starting;
+    let mut values = m.values;
+    values[l] = v;
+    let mut given = m.given;
+    given[l] = true;
+    Counts {
+        threads: s.threads,
+        lengths: lengths,
+        accesses: s.accesses,
+        groups: s.groups,
+        class: class,
+        starting: Starting {
+            values: values,
+            given: given,
+        },
     }
 }
 
@@ -66,6 +99,7 @@ fn extended(b: usize, s: Counts) -> Counts
     ensures { λ r. ⌜ r ≡ extendedCounts b s ⌝ }
 {
     let class = s.class;
+    let starting = s.starting;
     let mut lengths = s.lengths;
     let last = s.threads - 1;
     let used = lengths[last];
@@ -80,6 +114,7 @@ fn extended(b: usize, s: Counts) -> Counts
         accesses: accesses,
         groups: s.groups,
         class: class,
+        starting: starting,
     }
 }
 
@@ -101,6 +136,9 @@ pub(crate) fn taken(
     }
     if b == 0x02 {
         return grouped(line, n, s);
+    }
+    if b == 0x03 {
+        return started(field(line, 1), word_at(line, 2), s);
     }
     let lengths = s.lengths;
     let last = s.threads - 1;

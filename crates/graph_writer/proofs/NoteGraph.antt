@@ -245,7 +245,7 @@ unfolding frames noteFrames readFramesIn orderFramesIn
 graph-frames p w s a =
     let g = graph-sizes (endOf p s) in
     let t = g .0 ∙ run-threads s (start p) ∙ start-threads p in
-    let c = g .1 ∙ run-cells s (start p) ∙ start-cells p in
+    let c = g .1 ∙ run-cells s (start p) ∙ start-cells p w in
     let z : (k u : ℕ) → u ≡ 0 + k → k ≡ u = λ k u e. omega arith in
     ap₂ (λ (x y : List (List ℕ)). x ++ y)
     (rows-frames (λ u. readsIn u (notes (start p) s)) (graphOf (endOf p s) .reads) 6 0 (omega (arith, w .six))

@@ -46,6 +46,7 @@ pub fn judge(file: &[u8], text: &[u8], out: &mut [u8]) -> Outcome
             let c = a.program;
             let code = c.code;
             let lengths = c.lengths;
+            let starting = c.starting;
             let t = read_graph(text, c.threads);
             let u = t.verdict;
             match u {
@@ -54,7 +55,7 @@ pub fn judge(file: &[u8], text: &[u8], out: &mut [u8]) -> Outcome
                     let table = t.table;
                     let pairs = table.pairs;
                     let counts = table.counts;
-                    let j = judged(&code, &lengths, c.threads, pairs, counts);
+                    let j = judged(&code, &lengths, c.threads, starting, pairs, counts);
                     if !j.yes {
                         return Outcome::No;
                     }

@@ -10,7 +10,7 @@ ghost use mathlib.Core.Path.{_≡_};
 ghost use mathlib.Core.Bool.{false};
 ghost use mathlib.Core.List.{List};
 ghost use Prim.Native.Nat.{ℕ};
-ghost use Rattle.program.specs.Program.{Program};
+ghost use Rattle.program.specs.Program.{Program, initial};
 ghost use Rattle.sc.specs.Graph.{Graph};
 ghost use Rattle.machine.specs.Held.{Loaded};
 ghost use Rattle.consistent.proofs.Walk.{judge};
@@ -36,21 +36,22 @@ fn denied() -> Finding
     }
 }
 
-// Judges the graph in this table for the program in these rows.
+// Judges the graph in this table for the program in these rows, with these starting values.
 pub(crate) fn judged(
     code: &Code,
     lengths: &[usize; 6],
     threads: usize,
+    starting: [u32; 8],
     pairs: [u8; 576],
     counts: [usize; 8],
 ) -> Finding
     requires { ⌜ ((p : Program) × (text : List ℕ) × (g : Graph) × Loaded (now code) (now lengths) threads p
-        × (readGraph threads text ≡ parsed g) × Tabled pairs counts g) ⌝ }
+        × (starting ≡ initial p) × (readGraph threads text ≡ parsed g) × Tabled pairs counts g) ⌝ }
     ensures { λ r. ⌜ ((p : Program) (text : List ℕ) (g : Graph) → Loaded (now (code .entry)) (now (lengths .entry)) threads p
-        → readGraph threads text ≡ parsed g → Tabled pairs counts g → JudgedAs (r .yes) (r .schedule) (r .steps) (judge p g)) ⌝ }
+        → starting ≡ initial p → readGraph threads text ≡ parsed g → Tabled pairs counts g → JudgedAs (r .yes) (r .schedule) (r .steps) (judge p g)) ⌝ }
 {
-    let table = places(code, lengths, threads, pairs);
-    let w = walked(code, lengths, threads, pairs, table);
+    let table = places(code, lengths, threads, starting, pairs);
+    let w = walked(code, lengths, threads, starting, pairs, table);
     let m = w.machine;
     if !ended_all(lengths, m) {
         return denied();

@@ -7,7 +7,8 @@ use machine::started;
 use machine::step;
 use program::STEPS;
 use rows::Code;
-ghost use Rattle.program.specs.Program.{Program};
+ghost use mathlib.Core.Path.{_≡_};
+ghost use Rattle.program.specs.Program.{Program, initial};
 ghost use Rattle.sc.specs.Graph.{Graph};
 ghost use Rattle.allowed.specs.HeldWalk.{Given};
 ghost use Rattle.judge.specs.HeldYes.{Walked};
@@ -26,17 +27,19 @@ pub(crate) fn walked(
     code: &Code,
     lengths: &[usize; 6],
     threads: usize,
+    starting: [u32; 8],
     pairs: [u8; 576],
     places: [u8; 96],
 ) -> Walk
-    requires { ⌜ ((p : Program) × (g : Graph) × Given (now code) (now lengths) threads pairs places p g) ⌝ }
+    requires { ⌜ ((p : Program) × (g : Graph) × Given (now code) (now lengths) threads pairs places p g
+        × (starting ≡ initial p)) ⌝ }
     ensures { λ r. ⌜ ((p : Program) (g : Graph) → Given (now (code .entry)) (now (lengths .entry)) threads pairs places p g
-        → Walked (now (code .entry)) (now (lengths .entry)) p g r) ⌝ }
+        → starting ≡ initial p → Walked (now (code .entry)) (now (lengths .entry)) p g r) ⌝ }
 {
     let mut schedule = [0u8; STEPS];
     let mut made = [254u8; 576];
     let mut counts = [0usize; 8];
-    let mut m = started(code, lengths, threads);
+    let mut m = started(code, lengths, threads, starting);
     let mut k = 0;
     while k < STEPS {
         let t = chosen(code, lengths, threads, pairs, places, m, counts);

@@ -75,7 +75,8 @@ fn continued(program: Compiled, schedule: &[u8], out: &mut [u8]) -> ListAnswer
     }
     let code = program.code;
     let lengths = program.lengths;
-    let r = replayed(&code, &lengths, program.threads, schedule);
+    let starting = program.starting;
+    let r = replayed(&code, &lengths, program.threads, starting, schedule);
     let v = r.verdict;
     match v {
         Verdict::Refused(n, k) => ListAnswer::Refused(n, k),

@@ -1,4 +1,4 @@
--- The state before the first step: each thread carried to its first access, memory at its initial values.
+-- The state before the first step: each thread carried to its first access, memory at its starting values.
 use Prim.Native.Nat.{ℕ, _+_, _<_, _≤_}
 use native.Mathlib.Omega.{arith}
 use native.Mathlib.Decide.{ℕ-discrete}
@@ -27,10 +27,14 @@ use Rattle.sc.proofs.Start.{start-threads, start-cells, start-thread, start-val
 use Rattle.accesses.proofs.HeldSettling.{length-code, code-end}
 use Rattle.machine.proofs.HeldStep.{settled-pending}
 
--- the rows of an accepted program
+-- the rows and the starting values of an accepted program
 pub loaded-compiled : (c : Compiled) → WellFormed (programOf c) → Loaded (c .code) (c .lengths) (c .threads) (programOf c)
 unfolding programOf
 loaded-compiled c w = record { wellFormed = w; codes = refl }
+
+pub starting-compiled : (c : Compiled) → c .starting ≡ initial (programOf c)
+unfolding programOf initial
+starting-compiled c = refl
 
 module _ (code lengths : List ℕ) (threads : ℕ) (p : Program) (loaded : Loaded code lengths threads p) where
   pub threads-held : length (p .threads) ≡ threads
@@ -91,15 +95,16 @@ module _ (code lengths : List ℕ) (threads : ℕ) (p : Program) (loaded : Loade
       go (no q) = subst (λ (j : ThreadState). HoldsAt code lengths j (start p) u) (sym (getD-set-other all t u k idle q)) (before u (omega (arith, q)))
 
   -- all threads, and memory
-  pub start-held : (all : List ThreadState) (t : ℕ) → length all ≡ 6 → 6 ≤ t → ((u : ℕ) → u < t → HoldsAt code lengths (getD all u idle) (start p) u)
-      → Holds code lengths (record { threads = all; memory = replicate 8 0; last = replicate 8 (record { thread = 255; number = 255 }) }) (start p)
+  pub start-held : (all : List ThreadState) (t : ℕ) (memory : List ℕ) → length all ≡ 6 → 6 ≤ t
+      → ((u : ℕ) → u < t → HoldsAt code lengths (getD all u idle) (start p) u) → memory ≡ initial p
+      → Holds code lengths (record { threads = all; memory = memory; last = replicate 8 (record { thread = 255; number = 255 }) }) (start p)
   unfolding initial latest initialWrite
-  start-held all t n h each = record {
-    sizes = (n, length-replicate {A = ℕ} 8 0, length-replicate {A = LastWrite} 8 (record { thread = 255; number = 255 }));
+  start-held all t memory n h each e = record {
+    sizes = (n, ap length e ∙ loaded .wellFormed .eight, length-replicate {A = LastWrite} 8 (record { thread = 255; number = 255 }));
     six = omega (arith, start-threads p, loaded .wellFormed .six);
-    eight = start-cells p;
+    eight = start-cells p (loaded .wellFormed);
     threads = λ u b. each u (omega arith) .0;
     registers = λ u b. each u (omega (arith, start-threads p, loaded .wellFormed .six)) .1 b;
-    values = λ l b. start-value p l;
+    values = λ l b. start-value p l ∙ sym (ap (λ (vs : List ℕ). getD vs l 0) e);
     sources = λ l b. ap latest (start-writes p l) ∙ ap eventOf (sym (getD-replicate 8 l (record { thread = 255; number = 255 }) unwritten b));
   }

@@ -1,12 +1,13 @@
-// The state before the first step: each thread carried to its first access, memory at its initial values.
+// The state before the first step: each thread carried to its first access, memory at its starting values.
 use crate::state::LastWrite;
 use crate::state::Machine;
 use accesses::ThreadState;
 use accesses::settle;
 use rows::Code;
+ghost use mathlib.Core.Path.{_≡_};
 ghost use Prim.Native.Nat.{_<_, _≤_};
 ghost use lib.ListN.{getD};
-ghost use Rattle.program.specs.Program.{Program};
+ghost use Rattle.program.specs.Program.{Program, initial};
 ghost use Rattle.sc.specs.State.{start};
 ghost use Rattle.machine.specs.Held.{Loaded, HoldsAt, Holds};
 
@@ -28,11 +29,11 @@ fn opened(code: &Code, lengths: &[usize; 6], threads: usize, t: usize) -> Thread
     }
 }
 
-// The state of the program in these rows.
-pub fn started(code: &Code, lengths: &[usize; 6], threads: usize) -> Machine
+// The state of the program in these rows, with these starting values.
+pub fn started(code: &Code, lengths: &[usize; 6], threads: usize, starting: [u32; 8]) -> Machine
     requires { ⌜ ((p : Program) × Loaded (now code) (now lengths) threads p) ⌝ }
-    ensures { λ m. ⌜ ((p : Program) → Loaded (now (code .entry)) (now (lengths .entry)) threads p
-        → Holds (now (code .entry)) (now (lengths .entry)) m (start p)) ⌝ }
+    ensures { λ m. ⌜ (m .memory ≡ starting) × ((p : Program) → Loaded (now (code .entry)) (now (lengths .entry)) threads p
+        → starting ≡ initial p → Holds (now (code .entry)) (now (lengths .entry)) m (start p)) ⌝ }
 {
     let mut all = [ThreadState {
         registers: [0u32; 4],
@@ -47,7 +48,7 @@ pub fn started(code: &Code, lengths: &[usize; 6], threads: usize) -> Machine
     }
     Machine {
         threads: all,
-        memory: [0u32; 8],
+        memory: starting,
         last: [LastWrite {
             thread: 255,
             number: 255,

@@ -27,7 +27,7 @@ program-groups c = decoded-groups c
 -- ---- one line
 module _ (class : List ℕ) (n t u : ℕ) where
   abbrev grouped : Program
-  grouped = record { threads = []; groups = groupsOf class n }
+  grouped = record { threads = []; groups = groupsOf class n; starting = [] }
 
   pub together-class : together (groupsOf class n) t u ≡ true → (u < 6) × (0 < getD class t 0) × (getD class t 0 ≤ n) × (getD class u 0 ≡ getD class t 0)
   unfolding groupsOf

@@ -17,7 +17,7 @@ ghost use mathlib.Core.Path.{_≡_};
 ghost use mathlib.Core.Bool.{true};
 ghost use mathlib.Core.List.{List, [], _∷_, _++_};
 ghost use Prim.Native.Nat.{ℕ};
-ghost use Rattle.program.specs.Program.{Program};
+ghost use Rattle.program.specs.Program.{Program, initial};
 ghost use Rattle.schedules.specs.Order.{Schedule};
 ghost use Rattle.sc.specs.State.{enabled};
 ghost use Rattle.sc.specs.Graph.{endOf};
@@ -25,13 +25,13 @@ ghost use Rattle.machine.specs.Held.{Loaded};
 ghost use Rattle.prefix.specs.ClassGroups.{Lined};
 ghost use Rattle.prefix.specs.Reached.{Reached};
 
-// Before the first step of the program in these rows.
-pub fn begun(code: &Code, lengths: &[usize; 6], threads: usize) -> Place
+// Before the first step of the program in these rows, with these starting values.
+pub fn begun(code: &Code, lengths: &[usize; 6], threads: usize, starting: [u32; 8]) -> Place
     requires { ⌜ ((p : Program) × Loaded (now code) (now lengths) threads p) ⌝ }
     ensures { λ r. ⌜ ((class : List ℕ) (groups : ℕ) (p : Program) → Loaded (now (code .entry)) (now (lengths .entry)) threads p
-        → Lined class groups p → Reached (now (code .entry)) (now (lengths .entry)) class threads groups r p []) ⌝ }
+        → starting ≡ initial p → Lined class groups p → Reached (now (code .entry)) (now (lengths .entry)) class threads groups r p []) ⌝ }
 {
-    let m = started(code, lengths, threads);
+    let m = started(code, lengths, threads, starting);
     let threads = m.threads;
     let memory = m.memory;
     Place {

@@ -1,4 +1,4 @@
--- A frame of a known kind that neither opens a thread nor declares threads alike is one of the ten instructions:
+-- A frame of a known kind that neither opens a thread, nor declares threads alike, nor gives a starting value is one of the ten instructions:
 -- `by-code` proves of its first byte what is proved of each of the ten.
 use Prim.Native.Nat.{ℕ, _+_}
 use native.Mathlib.Omega.{arith}
@@ -10,7 +10,7 @@ use borrow.Author.Tests.{eqb-true, ne-eqb}
 use Rattle.program.specs.declared.instruction.Instruction.{Instruction}
 use Rattle.program.specs.declared.kind.Kind.{Kind}
 use Rattle.program.specs.Kinds.{row, kinds, lookup, kindOf}
-use Rattle.program.specs.Frames.{Frame, byte, kind, known, opens, declares, isAccess, skipOf, operand, buildOwn, build, instruction}
+use Rattle.program.specs.Frames.{Frame, byte, kind, known, opens, declares, starts, isAccess, skipOf, operand, buildOwn, build, instruction}
 use Rattle.program.specs.Decode.{among}
 use Rattle.program.specs.WellFormed.{Everywhere, accesses, mostSkipped}
 use Rattle.program.proofs.Tests.{second}
@@ -22,6 +22,7 @@ pub record IsInstruction (f : Frame) : Type 0 where
   pub is-known : known f ≡ true
   pub opens-none : opens f ≡ false
   pub declares-none : declares f ≡ false
+  pub starts-none : starts f ≡ false
 
 -- ---- the first bytes of instructions
 unfoldable pub codes : List ℕ
@@ -37,9 +38,9 @@ among-member t (u ∷ us) e = go (eqb t u) refl (λ h. among-member t us h)
     go true q later = List·Memᴰ·head (eqb-true t u q)
     go false q later = List·Memᴰ·tail (later (second (eqb t u) (among t us) e q))
 
--- a kind that has frames is `01`, `02` or an instruction's
+-- a kind that has frames is `01`, `02`, `03` or an instruction's
 unfoldable listedKind : Kind → Bool
-listedKind k = eqb (k .byte) 1 || (eqb (k .byte) 2 || (eqb (k .most) 0 || among (k .byte) codes))
+listedKind k = eqb (k .byte) 1 || (eqb (k .byte) 2 || (eqb (k .byte) 3 || (eqb (k .most) 0 || among (k .byte) codes)))
 
 every-row-listed : everyRow listedKind kinds ≡ true
 unfolding everyRow listedKind kinds among codes
@@ -47,14 +48,15 @@ every-row-listed = refl
 
 unknown-listed : (b : ℕ) → listedKind (row b 1 0 0 0 0 0 0) ≡ true
 unfolding listedKind
-unknown-listed b = go (eqb b 1) (eqb b 2)
+unknown-listed b = go (eqb b 1) (eqb b 2) (eqb b 3)
   where
-    go : (s t : Bool) → (s || (t || true)) ≡ true
-    go true t = refl
-    go false t = or-true t
+    go : (s t u : Bool) → (s || (t || (u || true))) ≡ true
+    go true t u = refl
+    go false true u = refl
+    go false false u = or-true u
 
 code-listed : (f : Frame) → IsInstruction f → List·Memᴰ (byte f 0) codes
-unfolding listedKind opens declares kind
+unfolding listedKind opens declares starts kind
 code-listed f i =
     let k : Kind = kindOf (byte f 0) in
     let e : k .byte ≡ byte f 0 = kind-byte (byte f 0) in
@@ -63,7 +65,8 @@ code-listed f i =
     let rule : listedKind k ≡ true = kind-rule listedKind (byte f 0) every-row-listed (unknown-listed (byte f 0)) in
     let a = second (eqb (k .byte) 1) _ rule (rw e (i .opens-none)) in
     let b = second (eqb (k .byte) 2) _ a (rw e (i .declares-none)) in
-    let c = second (eqb (k .most) 0) (among (k .byte) codes) b (ne-eqb (k .most) 0 (λ z. omega arith)) in
+    let s = second (eqb (k .byte) 3) _ b (rw e (i .starts-none)) in
+    let c = second (eqb (k .most) 0) (among (k .byte) codes) s (ne-eqb (k .most) 0 (λ z. omega arith)) in
     among-member (byte f 0) codes (rw e at c)
 
 pub by-code : (f : Frame) → IsInstruction f → (P : ℕ → Type 0) → Everywhere P codes → P (byte f 0)

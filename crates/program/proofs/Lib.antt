@@ -6,6 +6,8 @@ pub mod AcceptedWellFormed
 pub mod Places
 -- the file of 0 bytes, and that 9 refuses no file
 pub mod NoThread
+-- `03` lines: which 40 refuses, and files by computing
+pub mod StartLines
 -- files that differ only in remarks and capitals
 pub mod PlainFiles
 -- files with remarks and capitals, by computing

@@ -2,16 +2,18 @@
 use Prim.Native.Nat.{ℕ}
 use native.Mathlib.Omega.{arith}
 use mathlib.Core.Path.{_≡_, refl, subst}
+use mathlib.Core.Logic.{⊎-elim}
 use mathlib.Core.List.{List, []}
 use Rattle.lines.specs.TextLines.{split}
-use Rattle.program.specs.Decode.{fresh, firstFarSkip, programIn, accepted, refused, finish, readLines, decode}
+use Rattle.program.specs.Program.{zeros}
+use Rattle.program.specs.Decode.{fresh, valueAt, firstFarSkip, programIn, accepted, refused, finish, readLines, decode}
 use Rattle.program.proofs.Places.{Within, decode-within}
 
 -- THE FILE OF 0 BYTES
-pub no-bytes : decode [] ≡ accepted (record { threads = []; groups = [] })
-unfolding split fresh firstFarSkip programIn finish readLines decode
+pub no-bytes : decode [] ≡ accepted (record { threads = []; groups = []; starting = zeros })
+unfolding split fresh valueAt firstFarSkip programIn finish readLines decode
 no-bytes = refl
 
 -- NO FILE IS REFUSED BY 9
 pub never-9 : (file : List ℕ) (k : ℕ) → decode file ≡ refused 9 k → ⊥
-never-9 file k e = let w = subst (Within 4096) e (decode-within file) in omega (arith, w .0)
+never-9 file k e = let w = subst (Within 4096) e (decode-within file) in ⊎-elim (λ h. omega (arith, h)) (λ h. omega (arith, h)) (w .0)

@@ -1,7 +1,8 @@
--- Refusals of a program file are small: the number is at most 8, and the place at most 4,096, since a file of so many bytes has no more lines.
+-- Refusals of a program file are small: the number is at most 8 or it is 40, and the place at most 4,096, since a file of so many bytes has no more lines.
 use Prim.Native.Nat.{ℕ, suc, _+_, _≤_}
 use native.Mathlib.Omega.{arith}
 use mathlib.Core.Path.{_≡_, refl}
+use mathlib.Core.Logic.{_⊎_, inl, inr}
 use mathlib.Core.Bool.{Bool, true, false, cond, not}
 use mathlib.Core.List.{List, [], _∷_, _++_}
 use lib.ListN.{length, set, drop}
@@ -10,28 +11,32 @@ use borrow.Author.Tests.{ltb-false}
 use Rattle.lines.specs.TextLines.{TextLine, split}
 use Rattle.lines.specs.Meaning.{Meaning, remarked, framed, broken, meaning}
 use Rattle.lines.proofs.TextLines.{split-length}
-use Rattle.program.specs.Frames.{Frame, known, inRange, opens, declares, skipOf}
-use Rattle.program.specs.Decode.{Placed, Reading, fresh, threadAt, lastThread, inPlace, withinLimits, alikeFits, frameRefusal, after, farSkip, firstFarSkip, programIn, Decoded, accepted, refused, finish, readLines, decode}
+use Rattle.program.specs.Frames.{Frame, known, inRange, opens, declares, starts, byte, word, skipOf}
+use Rattle.program.specs.Decode.{Placed, Reading, fresh, threadAt, lastThread, inPlace, withinLimits, startFits, alikeFits, frameRefusal, after, farSkip, firstFarSkip, programIn, Decoded, accepted, refused, finish, readLines, decode}
 use Rattle.program.specs.WellFormed.{Everywhere}
 use Rattle.program.proofs.Everywhere.{everywhere-getD, everywhere-append, everywhere-set}
 
--- no number above 8, no place above m
+-- no number but 40 above 8, no place above m
 abbrev pub Within : ℕ → Decoded → Type 0
 Within m (accepted p) = Unit {0}
-Within m (refused n k) = (n ≤ 8) × (k ≤ m)
+Within m (refused n k) = ((n ≤ 8) ⊎ (n ≡ 40)) × (k ≤ m)
 
 -- the numbers by which a line is refused
-small : (a b c d e : Bool) → cond (not a) 3 (cond (not b) 4 (cond (not c) 5 (cond (not d) 6 (cond (not e) 8 0)))) ≤ 8
-small true true true true true = omega arith
-small true true true true false = omega arith
-small true true true false e = omega arith
-small true true false d e = omega arith
-small true false c d e = omega arith
-small false b c d e = omega arith
+abbrev Small : ℕ → Type 0
+Small n = (n ≤ 8) ⊎ (n ≡ 40)
 
-small-number : (r : Reading) (f : Frame) → frameRefusal r f ≤ 8
+small : (a b c d s e : Bool) → Small (cond (not a) 3 (cond (not b) 4 (cond (not c) 5 (cond (not d) 6 (cond (not s) 40 (cond (not e) 8 0))))))
+small true true true true true true = inl (omega arith)
+small true true true true true false = inl (omega arith)
+small true true true true false e = inr refl
+small true true true false s e = inl (omega arith)
+small true true false d s e = inl (omega arith)
+small true false c d s e = inl (omega arith)
+small false b c d s e = inl (omega arith)
+
+small-number : (r : Reading) (f : Frame) → Small (frameRefusal r f)
 unfolding frameRefusal
-small-number r f = small (known f) (inRange f) (inPlace r f) (withinLimits r f) (alikeFits r f)
+small-number r f = small (known f) (inRange f) (inPlace r f) (withinLimits r f) (startFits r f) (alikeFits r f)
 
 -- the lines of the instructions read so far
 abbrev UpTo : ℕ → Reading → Type 0
@@ -59,7 +64,7 @@ first-up-to m (c ∷ cs) h = go (eqb (farSkip c) 0) refl (first-up-to m cs (h .1
 pub after-every : (Q : Placed → Type 0) (n : ℕ) (f : Frame) (r : Reading) → Q (record { line = n; code = f })
     → Everywhere (Everywhere Q) (r .threads) → Everywhere (Everywhere Q) (after n f r .threads)
 unfolding after threadAt
-after-every Q n f r h u = go (opens f) (declares f)
+after-every Q n f r h u = go (opens f) (declares f) (starts f)
   where
     P : List Placed → Type 0
     P = Everywhere Q
@@ -70,13 +75,15 @@ after-every Q n f r h u = go (opens f) (declares f)
     own : P (threadAt r (lastThread r) ++ one)
     own = everywhere-append Q (threadAt r (lastThread r)) one (everywhere-getD P (r .threads) (lastThread r) [] u tt) (h, tt)
 
-    go : (a b : Bool) → Everywhere P
-        (cond {A = Reading} a (record { threads = r .threads ++ ([] ∷ []); groups = r .groups })
-        (cond b (record { threads = r .threads; groups = r .groups ++ (drop 1 f ∷ []) })
-        (record { threads = set (r .threads) (lastThread r) (threadAt r (lastThread r) ++ one); groups = r .groups })) .threads)
-    go true b = everywhere-append P (r .threads) ([] ∷ []) u (tt, tt)
-    go false true = u
-    go false false = everywhere-set P (r .threads) (lastThread r) (threadAt r (lastThread r) ++ one) u own
+    go : (a b c : Bool) → Everywhere P
+        (cond {A = Reading} a (record { threads = r .threads ++ ([] ∷ []); groups = r .groups; given = r .given })
+        (cond b (record { threads = r .threads; groups = r .groups ++ (drop 1 f ∷ []); given = r .given })
+        (cond c (record { threads = r .threads; groups = r .groups; given = record { location = byte f 1; value = word f 2 } ∷ r .given })
+        (record { threads = set (r .threads) (lastThread r) (threadAt r (lastThread r) ++ one); groups = r .groups; given = r .given }))) .threads)
+    go true b c = everywhere-append P (r .threads) ([] ∷ []) u (tt, tt)
+    go false true c = u
+    go false false true = u
+    go false false false = everywhere-set P (r .threads) (lastThread r) (threadAt r (lastThread r) ++ one) u own
 
 after-up-to : (m n : ℕ) (f : Frame) (r : Reading) → n ≤ m → UpTo m r → UpTo m (after n f r)
 after-up-to m n f r h u = after-every (λ (x : Placed). x .line ≤ m) n f r h u
@@ -87,7 +94,7 @@ finish-within m r u = go (eqb (firstFarSkip (r .threads)) 0)
   where
     go : (b : Bool) → Within m (cond b (accepted (programIn r)) (refused 7 (firstFarSkip (r .threads))))
     go true = tt
-    go false = (omega arith, first-up-to m (r .threads) u)
+    go false = (inl (omega arith), first-up-to m (r .threads) u)
 
 lines-within : (m n : ℕ) (ls : List TextLine) (r : Reading) → n + length ls ≤ suc m → UpTo m r → Within m (readLines n ls r)
 unfolding readLines
@@ -102,7 +109,7 @@ lines-within m n (l ∷ ls) r h u =
 
     go : (x : Meaning) → meaning l ≡ x → Within m (readLines (n + 1) ls r) → ((f : Frame) → Within m (readLines (n + 1) ls (after n f r)))
         → Within m (readLines n (l ∷ ls) r)
-    go broken q past ih = rw (q, readLines) (omega arith, omega arith)
+    go broken q past ih = rw (q, readLines) (inl (omega arith), omega arith)
     go remarked q past ih = rw (q, readLines) past
     go (framed f) q past ih = rw (q, readLines) (by f (eqb (frameRefusal r f) 0) (ih f))
 
@@ -112,5 +119,5 @@ unfolding decode fresh
 decode-within file = go (ltb 4096 (length file)) refl
   where
     go : (b : Bool) → ltb 4096 (length file) ≡ b → Within 4096 (cond b (refused 1 0) (readLines 1 (split file) fresh))
-    go true q = (omega arith, omega arith)
+    go true q = (inl (omega arith), omega arith)
     go false q = lines-within 4096 1 (split file) fresh (omega (arith, ltb-false 4096 (length file) q, split-length file)) tt

@@ -14,8 +14,8 @@ use Rattle.lines.specs.Plain.{isRemark, kept, lowered, plain}
 use Rattle.lines.proofs.Plain.{loweredLine, length-lowered, split-lowered, split-plain, meaning-lowered, remark-line, other-line}
 use Rattle.program.specs.declared.instruction.Instruction.{Instruction}
 use Rattle.program.specs.Program.{Program}
-use Rattle.program.specs.Frames.{Frame, known, inRange, opens, declares, isAccess, skipOf, instruction}
-use Rattle.program.specs.Decode.{Placed, Reading, fresh, threadAt, lastThread, inPlace, accessesIn, allAccessesIn, withinLimits, same, sameCode, grouped, memberFits, followersFit, membersFit, alikeFits, frameRefusal, after, farSkip, firstFarSkip, programIn, Decoded, accepted, refused, finish, readLines, decode}
+use Rattle.program.specs.Frames.{Frame, known, inRange, opens, declares, starts, byte, word, isAccess, skipOf, instruction}
+use Rattle.program.specs.Decode.{Placed, Start, Reading, fresh, threadAt, lastThread, inPlace, accessesIn, allAccessesIn, withinLimits, isGiven, valueAt, startFits, same, sameCode, grouped, memberFits, followersFit, membersFit, alikeFits, frameRefusal, after, farSkip, firstFarSkip, locations, programIn, Decoded, accepted, refused, finish, readLines, decode}
 use Rattle.program.specs.SameButPlace.{SameButPlace}
 use Rattle.program.specs.WellFormed.{Everywhere}
 use Rattle.program.proofs.Places.{after-every}
@@ -44,7 +44,7 @@ abbrev bare : Placed → Placed
 bare x = record { line = 0; code = x .code }
 
 unfoldable unlined : Reading → Reading
-unlined r = record { threads = map (map bare) (r .threads); groups = r .groups }
+unlined r = record { threads = map (map bare) (r .threads); groups = r .groups; given = r .given }
 
 thread-bare : (r : Reading) (t : ℕ) → threadAt (unlined r) t ≡ map bare (threadAt r t)
 unfolding threadAt unlined
@@ -87,6 +87,10 @@ limits-bare : (r : Reading) (f : Frame) → withinLimits (unlined r) f ≡ withi
 unfolding withinLimits
 limits-bare r f = rw (threads-bare r, last-bare r, thread-bare r (lastThread r), length-map (threadAt r (lastThread r)) bare, counted-bare r)
 
+front-bare : (r : Reading) (f : Frame) → startFits (unlined r) f ≡ startFits r f
+unfolding startFits unlined
+front-bare r f = rw (length-map (r .threads) (map bare))
+
 member-bare : (r : Reading) (t : ℕ) → memberFits (unlined r) t ≡ memberFits r t
 unfolding memberFits unlined
 member-bare r t = rw (length-map (r .threads) (map bare))
@@ -105,7 +109,7 @@ members-bare r (t ∷ ts) = rw (member-bare r t, followers-bare r t ts)
 -- no refusal of a line goes by them
 refusal-bare : (r : Reading) (f : Frame) → frameRefusal (unlined r) f ≡ frameRefusal r f
 unfolding frameRefusal alikeFits
-refusal-bare r f = rw (place-bare r f, limits-bare r f, members-bare r (drop 1 f))
+refusal-bare r f = rw (place-bare r f, limits-bare r f, front-bare r f, members-bare r (drop 1 f))
 
 set-bare : (cs : List (List Placed)) (i : ℕ) (c : List Placed) → map (map bare) (set cs i c) ≡ set (map (map bare) cs) i (map bare c)
 set-bare [] i c = refl
@@ -114,7 +118,7 @@ set-bare (b ∷ cs) (suc i) c = ap (λ (ds : List (List Placed)). map bare b ∷
 
 after-bare : (n : ℕ) (f : Frame) (r : Reading) → unlined (after n f r) ≡ after 0 f (unlined r)
 unfolding after unlined
-after-bare n f r = go (opens f) (declares f)
+after-bare n f r = go (opens f) (declares f) (starts f)
   where
     own : List Placed
     own = threadAt r (lastThread r)
@@ -130,20 +134,27 @@ after-bare n f r = go (opens f) (declares f)
         ∙ ap (λ (c : List Placed). set (map (map bare) (r .threads)) (lastThread r) (c ++ (bare one ∷ []))) (sym (thread-bare r (lastThread r)))
         ∙ ap (λ (t : ℕ). set (map (map bare) (r .threads)) t (threadAt (unlined r) t ++ (bare one ∷ []))) (sym (last-bare r))
 
-    go : (a b : Bool) → unlined
-        (cond a (record { threads = r .threads ++ ([] ∷ []); groups = r .groups })
-        (cond b (record { threads = r .threads; groups = r .groups ++ (drop 1 f ∷ []) })
-        (record { threads = set (r .threads) (lastThread r) (own ++ (one ∷ [])); groups = r .groups })))
+    more : List Start
+    more = record { location = byte f 1; value = word f 2 } ∷ r .given
+
+    go : (a b c : Bool) → unlined
+        (cond a (record { threads = r .threads ++ ([] ∷ []); groups = r .groups; given = r .given })
+        (cond b (record { threads = r .threads; groups = r .groups ++ (drop 1 f ∷ []); given = r .given })
+        (cond c (record { threads = r .threads; groups = r .groups; given = more })
+        (record { threads = set (r .threads) (lastThread r) (own ++ (one ∷ [])); groups = r .groups; given = r .given }))))
         ≡
-        cond a (record { threads = map (map bare) (r .threads) ++ ([] ∷ []); groups = r .groups })
-        (cond b (record { threads = map (map bare) (r .threads); groups = r .groups ++ (drop 1 f ∷ []) })
+        cond a (record { threads = map (map bare) (r .threads) ++ ([] ∷ []); groups = r .groups; given = r .given })
+        (cond b (record { threads = map (map bare) (r .threads); groups = r .groups ++ (drop 1 f ∷ []); given = r .given })
+        (cond c (record { threads = map (map bare) (r .threads); groups = r .groups; given = more })
         (record {
           threads = set (map (map bare) (r .threads)) (lastThread (unlined r)) (threadAt (unlined r) (lastThread (unlined r)) ++ (bare one ∷ []));
           groups = r .groups;
-        }))
-    go true b = ap (λ (cs : List (List Placed)). record { threads = cs; groups = r .groups }) (map-append (map bare) (r .threads) ([] ∷ []))
-    go false true = refl
-    go false false = ap (λ (cs : List (List Placed)). record { threads = cs; groups = r .groups }) placed
+          given = r .given;
+        })))
+    go true b c = ap (λ (cs : List (List Placed)). record { threads = cs; groups = r .groups; given = r .given }) (map-append (map bare) (r .threads) ([] ∷ []))
+    go false true c = refl
+    go false false true = refl
+    go false false false = ap (λ (cs : List (List Placed)). record { threads = cs; groups = r .groups; given = r .given }) placed
 
 -- ---- what they do change: the place of 7, which is a line from 1
 unfoldable far : List Placed → Bool
@@ -196,7 +207,9 @@ codes-of-bare (c ∷ cs) = ap₂ (λ (d : List Instruction) (ds : List (List Ins
 
 program-bare : (r : Reading) → programIn (unlined r) ≡ programIn r
 unfolding programIn unlined
-program-bare r = ap (λ (cs : List (List Instruction)). record { threads = cs; groups = r .groups }) (codes-of-bare (r .threads))
+program-bare r =
+    ap (λ (cs : List (List Instruction)). record { threads = cs; groups = r .groups; starting = map (λ l. valueAt l (r .given)) locations })
+    (codes-of-bare (r .threads))
 
 -- ---- two readings that differ only in the numbers of lines
 record Same (r s : Reading) : Type 0 where

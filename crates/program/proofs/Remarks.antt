@@ -9,13 +9,14 @@ use Rattle.lines.specs.Frame.{hexadecimal, pairs, frame}
 use Rattle.lines.specs.Text.{digits, text}
 use Rattle.lines.specs.TextLines.{prepend, before, split}
 use Rattle.lines.specs.Meaning.{remark, spelt, meaning}
+use Rattle.program.specs.Program.{zeros}
 use Rattle.program.specs.Kinds.{kinds, lookup, kindOf}
-use Rattle.program.specs.Frames.{Frame, word, kind, known, registerFits, locationFits, skipFits, operandFits, inRange, opens, declares, isAccess, skipOf, operand, buildOwn, build, instruction}
-use Rattle.program.specs.Decode.{fresh, threadAt, lastThread, inPlace, accessesIn, allAccessesIn, withinLimits, same, sameCode, among, grouped, memberFits, followersFit, membersFit, alikeFits, frameRefusal, after, farSkip, firstFarSkip, programIn, Decoded, accepted, refused, finish, readLines, decode}
+use Rattle.program.specs.Frames.{Frame, word, kind, known, registerFits, locationFits, skipFits, operandFits, inRange, opens, declares, starts, isAccess, skipOf, operand, buildOwn, build, instruction}
+use Rattle.program.specs.Decode.{fresh, threadAt, lastThread, inPlace, accessesIn, allAccessesIn, withinLimits, isGiven, valueAt, startFits, same, sameCode, among, grouped, memberFits, followersFit, membersFit, alikeFits, frameRefusal, after, farSkip, firstFarSkip, programIn, Decoded, accepted, refused, finish, readLines, decode}
 
 -- what a proof names on its `unfolding` line to compute what a file is read as
 unfoldable reading : List ℕ → Decoded
-unfolding lower digit value digitOf hexadecimal pairs frame digits text prepend before split remark spelt meaning kinds lookup kindOf word kind known registerFits locationFits skipFits operandFits inRange opens declares isAccess skipOf operand buildOwn build instruction fresh threadAt lastThread inPlace accessesIn allAccessesIn withinLimits same sameCode among grouped memberFits followersFit membersFit alikeFits frameRefusal after farSkip firstFarSkip programIn finish readLines decode
+unfolding lower digit value digitOf hexadecimal pairs frame digits text prepend before split remark spelt meaning kinds lookup kindOf word kind known registerFits locationFits skipFits operandFits inRange opens declares starts isAccess skipOf operand buildOwn build instruction fresh threadAt lastThread inPlace accessesIn allAccessesIn withinLimits isGiven valueAt startFits same sameCode among grouped memberFits followersFit membersFit alikeFits frameRefusal after farSkip firstFarSkip programIn finish readLines decode
 reading file = decode file
 
 -- a remark with 00, 0d, ff and `#` in it
@@ -64,7 +65,7 @@ unfolding reading
 skipped = refl
 
 -- NOTHING BUT REMARKS is the program of no thread
-only-remarks : decode (said ++ said) ≡ accepted (record { threads = []; groups = [] })
+only-remarks : decode (said ++ said) ≡ accepted (record { threads = []; groups = []; starting = zeros })
 unfolding reading
 only-remarks = refl
 

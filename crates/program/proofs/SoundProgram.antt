@@ -1,8 +1,8 @@
 -- The program that was read is well formed, if no skip goes beyond its thread's end.
-use Prim.Native.Nat.{ℕ, _≤_}
+use Prim.Native.Nat.{ℕ, _≤_, _<_, _^_}
 use native.Mathlib.Omega.{arith}
 use mathlib.Core.Path.{_≡_, refl, sym, ap, _∙_}
-use mathlib.Core.Bool.{Bool, true, false}
+use mathlib.Core.Bool.{Bool, true, false, cond}
 use mathlib.Core.List.{List, [], _∷_, map, map-map}
 use lib.ListN.{length, getD, length-map, List·getD-map}
 use lib.Dec.{eqb, ltb}
@@ -10,7 +10,7 @@ use borrow.Author.Tests.{eqb-true, eqb-false, ltb-false}
 use Rattle.program.specs.declared.instruction.Instruction.{Instruction}
 use Rattle.program.specs.Program.{codeOf}
 use Rattle.program.specs.Frames.{skipOf, instruction}
-use Rattle.program.specs.Decode.{Placed, Reading, farSkip, firstFarSkip, programIn}
+use Rattle.program.specs.Decode.{Placed, Start, Reading, valueAt, farSkip, firstFarSkip, locations, programIn}
 use Rattle.program.specs.WellFormed.{Everywhere, InRange, SkipsInside, Group, WellFormed}
 use Rattle.program.proofs.Everywhere.{everywhere-weaken, everywhere-map}
 use Rattle.program.proofs.InstructionFrames.{IsInstruction, most-skipped}
@@ -87,6 +87,16 @@ alike-group r g a =
       equal = λ t u mt mu. equal-code (r .threads) t u (a .equal t u mt mu);
     }
 
+-- starting values are words, where no line is for a location too
+value-word : (l : ℕ) (ss : List Start) → Everywhere (λ (s : Start). s .value < 2 ^ 32) ss → valueAt l ss < 2 ^ 32
+unfolding valueAt
+value-word l [] h = omega arith
+value-word l (s ∷ ss) h = go (eqb l (s .location)) (value-word l ss (h .1))
+  where
+    go : (b : Bool) → valueAt l ss < 2 ^ 32 → cond b (s .value) (valueAt l ss) < 2 ^ 32
+    go true k = h .0
+    go false k = k
+
 pub sound-well-formed : (r : Reading) → Sound r → firstFarSkip (r .threads) ≡ 0 → WellFormed (programIn r)
 unfolding programIn instructionsOf
 sound-well-formed r s e =
@@ -99,4 +109,7 @@ sound-well-formed r s e =
       skips = all-skips-inside (r .threads) (s .good) e;
       groups = everywhere-weaken (Alike (r .threads)) (Group (programIn r)) (alike-group r) (r .groups) (s .groups);
       apart = s .apart;
+      eight = refl;
+      words = everywhere-map (λ (l : ℕ). l ≤ 7) (λ v. v < 2 ^ 32) (λ l. valueAt l (r .given)) (λ l b. value-word l (r .given) (s .words))
+          locations (omega arith, (omega arith, (omega arith, (omega arith, (omega arith, (omega arith, (omega arith, (omega arith, tt))))))));
     }

@@ -1,5 +1,5 @@
--- Program files: document 01's "Program file" with its refusals 1 to 8.
--- 1 comes first; then the lines in order, each by 2, 3, 4, 5, 6, 8; then 7 at the earliest line. A file that gets none of these is an
+-- Program files: document 01's "Program file" with its refusals 1 to 8 and 40.
+-- 1 comes first; then the lines in order, each by 2, 3, 4, 5, 6, 40, 8; then 7 at the earliest line. A file that gets none of these is an
 -- accepted program, also one without a thread.
 use Prim.Native.Nat.{ℕ, _+_, _-_}
 use mathlib.Core.Bool.{Bool, true, false, cond, not, _&&_, _||_}
@@ -9,20 +9,27 @@ use lib.Dec.{eqb, ltb}
 use Rattle.lines.specs.TextLines.{TextLine, split}
 use Rattle.lines.specs.Meaning.{remarked, framed, broken, meaning}
 use Rattle.program.specs.Program.{Program}
-use Rattle.program.specs.Frames.{Frame, known, inRange, opens, declares, isAccess, skipOf, instruction}
+use Rattle.program.specs.Frames.{Frame, byte, word, known, inRange, opens, declares, starts, isAccess, skipOf, instruction}
 
 -- an instruction's frame and the number of its line
 pub record Placed : Type 0 where
   pub line : ℕ
   pub code : Frame
 
--- what the lines read so far have opened and declared: the threads with their instructions, and the members of each `02` line
+-- what a `03` line says: the location starts with the value
+pub record Start : Type 0 where
+  pub location : ℕ
+  pub value : ℕ
+
+-- what the lines read so far have opened, declared and started: the threads with their instructions, the members of each `02` line, and
+-- what each `03` line says, the last one first
 pub record Reading : Type 0 where
   pub threads : List (List Placed)
   pub groups : List (List ℕ)
+  pub given : List Start
 
 unfoldable pub fresh : Reading
-fresh = record { threads = []; groups = [] }
+fresh = record { threads = []; groups = []; given = [] }
 
 -- the instructions of thread t so far, and of the thread last opened
 unfoldable pub threadAt : Reading → ℕ → List Placed
@@ -33,7 +40,7 @@ lastThread r = length (r .threads) - 1
 
 -- refusal 5: an instruction wants a thread before it, and neither a thread nor an instruction stands behind a `02`
 unfoldable pub inPlace : Reading → Frame → Bool
-inPlace r f = declares f || (eqb (length (r .groups)) 0 && (opens f || ltb 0 (length (r .threads))))
+inPlace r f = declares f || (starts f || (eqb (length (r .groups)) 0 && (opens f || ltb 0 (length (r .threads)))))
 
 -- how many accesses these instructions, and all threads, have
 unfoldable pub accessesIn : List Placed → ℕ
@@ -48,9 +55,24 @@ allAccessesIn (c ∷ cs) = accessesIn c + allAccessesIn cs
 unfoldable pub withinLimits : Reading → Frame → Bool
 withinLimits r f =
     declares f
+    || (starts f
     || cond (opens f)
     (ltb (length (r .threads)) 6)
-    (ltb (length (threadAt r (lastThread r))) 16 && (not (isAccess f) || ltb (allAccessesIn (r .threads)) 24))
+    (ltb (length (threadAt r (lastThread r))) 16 && (not (isAccess f) || ltb (allAccessesIn (r .threads)) 24)))
+
+-- whether one of these `03` lines is for location l, and the value that l then starts with: that of its line, else 0
+unfoldable pub isGiven : ℕ → List Start → Bool
+isGiven l [] = false
+isGiven l (s ∷ ss) = eqb l (s .location) || isGiven l ss
+
+unfoldable pub valueAt : ℕ → List Start → ℕ
+valueAt l [] = 0
+valueAt l (s ∷ ss) = cond (eqb l (s .location)) (s .value) (valueAt l ss)
+
+-- refusal 40: a `03` stands before every thread and every `02`, and none before it is for its location
+unfoldable pub startFits : Reading → Frame → Bool
+startFits r f =
+    not (starts f) || (eqb (length (r .threads)) 0 && (eqb (length (r .groups)) 0 && not (isGiven (byte f 1) (r .given))))
 
 -- whether two lists of numbers, and two threads' code byte for byte, are the same
 unfoldable pub same : List ℕ → List ℕ → Bool
@@ -96,18 +118,23 @@ frameRefusal r f =
     (cond (not (inRange f)) 4
     (cond (not (inPlace r f)) 5
     (cond (not (withinLimits r f)) 6
+    (cond (not (startFits r f)) 40
     (cond (not (alikeFits r f)) 8
-    0))))
+    0)))))
 
--- what has been read once a frame has passed: a thread more, a group more, or an instruction more in the thread last opened
+-- what has been read once a frame has passed: a thread more, a group more, a starting value more, or an instruction more in the thread
+-- last opened
 unfoldable pub after : ℕ → Frame → Reading → Reading
 after n f r =
-    cond (opens f) (record { threads = r .threads ++ ([] ∷ []); groups = r .groups })
-    (cond (declares f) (record { threads = r .threads; groups = r .groups ++ (drop 1 f ∷ []) })
+    cond (opens f) (record { threads = r .threads ++ ([] ∷ []); groups = r .groups; given = r .given })
+    (cond (declares f) (record { threads = r .threads; groups = r .groups ++ (drop 1 f ∷ []); given = r .given })
+    (cond (starts f)
+    (record { threads = r .threads; groups = r .groups; given = record { location = byte f 1; value = word f 2 } ∷ r .given })
     (record {
       threads = set (r .threads) (lastThread r) (threadAt r (lastThread r) ++ (record { line = n; code = f } ∷ []));
       groups = r .groups;
-    }))
+      given = r .given;
+    })))
 
 -- refusal 7: the line of the first skip that goes beyond its thread's end, or 0; to just behind the last instruction is allowed
 unfoldable pub farSkip : List Placed → ℕ
@@ -118,9 +145,17 @@ unfoldable pub firstFarSkip : List (List Placed) → ℕ
 firstFarSkip [] = 0
 firstFarSkip (c ∷ cs) = cond (eqb (farSkip c) 0) (firstFarSkip cs) (farSkip c)
 
+-- the eight locations
+abbrev pub locations : List ℕ
+locations = 0 ∷ 1 ∷ 2 ∷ 3 ∷ 4 ∷ 5 ∷ 6 ∷ 7 ∷ []
+
 -- the program that the lines have made
 unfoldable pub programIn : Reading → Program
-programIn r = record { threads = map (map (λ x. instruction (x .code))) (r .threads); groups = r .groups }
+programIn r = record {
+  threads = map (map (λ x. instruction (x .code))) (r .threads);
+  groups = r .groups;
+  starting = map (λ l. valueAt l (r .given)) locations;
+}
 
 -- an accepted program, or a refusal's number and place
 pub data Decoded : Type 0 where

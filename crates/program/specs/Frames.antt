@@ -55,12 +55,15 @@ inRange f =
     && (locationFits f (kind f .location)
     && (operandFits f (kind f .first) && (operandFits f (kind f .second) && skipFits f (kind f .skip))))
 
--- the two kinds that are no instruction, and the four that are accesses
+-- the three kinds that are no instruction, and the four that are accesses
 unfoldable pub opens : Frame → Bool
 opens f = eqb (byte f 0) 0x01
 
 unfoldable pub declares : Frame → Bool
 declares f = eqb (byte f 0) 0x02
+
+unfoldable pub starts : Frame → Bool
+starts f = eqb (byte f 0) 0x03
 
 unfoldable pub isAccess : Frame → Bool
 isAccess f = leb 0x10 (byte f 0) && leb (byte f 0) 0x13

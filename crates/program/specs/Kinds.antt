@@ -21,12 +21,14 @@ ownKinds =
     ∷ row 0x25 7 7 1 0 2 0 0
     ∷ []
 
--- opens a thread; declares threads alike; store, load, fetch and add, compare and swap; what a thread does by itself
+-- opens a thread; declares threads alike; lets a location start with a value; store, load, fetch and add, compare and swap; what a thread
+-- does by itself
 unfoldable pub kinds : List Kind
 unfolding ownKinds
 kinds =
     row 0x01 1 1 0 0 0 0 0
     ∷ row 0x02 3 7 0 0 0 0 0
+    ∷ row 0x03 6 6 0 1 0 0 0
     ∷ row 0x10 7 7 0 1 2 0 0
     ∷ row 0x11 3 3 1 2 0 0 0
     ∷ row 0x12 8 8 1 2 3 0 0

@@ -1,4 +1,4 @@
--- What holds of every accepted program: the limits, ranges and groups that refusals 4 to 8 leave.
+-- What holds of every accepted program: the limits, ranges and groups that refusals 4 to 8 leave, and its eight starting values.
 use Prim.Native.Nat.{ℕ, suc, _+_, _≤_, _<_, _^_}
 use mathlib.Core.Path.{_≡_}
 use mathlib.Core.List.{List, [], _∷_, List·Memᴰ}
@@ -94,3 +94,5 @@ pub record WellFormed (p : Program) : Type 0 where
   pub skips : Everywhere SkipsInside (p .threads)
   pub groups : Everywhere (Group p) (p .groups)
   pub apart : Apart (p .groups)
+  pub eight : length (p .starting) ≡ 8
+  pub words : Everywhere (λ v. v < 2 ^ 32) (p .starting)

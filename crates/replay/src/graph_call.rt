@@ -29,7 +29,8 @@ fn graph_of(p: Compiled, schedule: &[u8], out: &mut [u8]) -> GraphAnswer
     }
     let code = p.code;
     let lengths = p.lengths;
-    let r = replayed(&code, &lengths, p.threads, schedule);
+    let starting = p.starting;
+    let r = replayed(&code, &lengths, p.threads, starting, schedule);
     let v = r.verdict;
     match v {
         Verdict::Refused(n, k) => GraphAnswer::Refused(n, k),

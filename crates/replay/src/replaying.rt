@@ -14,7 +14,7 @@ ghost use mathlib.Core.Path.{_≡_};
 ghost use mathlib.Core.Bool.{cond};
 ghost use lib.Dec.{eqb};
 ghost use lib.ListN.{set};
-ghost use Rattle.program.specs.Program.{Program};
+ghost use Rattle.program.specs.Program.{Program, initial};
 ghost use Rattle.machine.specs.Held.{Loaded};
 ghost use Rattle.replay.specs.Carried.{HoldsRun};
 
@@ -75,14 +75,20 @@ fn with_step(made: [u8; STEPS], k: usize, t: u8) -> [u8; STEPS]
     steps
 }
 
-// Carries out a schedule of the program in these rows. A step takes memory, its thread's registers and the schedule so far and gives them
+// Carries out a schedule of the program in these rows, from these starting values. A step takes memory, its thread's registers and the schedule so far and gives them
 // back whole.
-pub fn replayed(code: &Code, lengths: &[usize; 6], threads: usize, schedule: &[u8]) -> Run
-    requires { ⌜ ((p : Program) × Loaded (now code) (now lengths) threads p) ⌝ }
-    ensures { λ r. ⌜ ((p : Program) → Loaded (now (code .entry)) (now (lengths .entry)) threads p
+pub fn replayed(
+    code: &Code,
+    lengths: &[usize; 6],
+    threads: usize,
+    starting: [u32; 8],
+    schedule: &[u8],
+) -> Run
+    requires { ⌜ ((p : Program) × Loaded (now code) (now lengths) threads p × (starting ≡ initial p)) ⌝ }
+    ensures { λ r. ⌜ ((p : Program) → Loaded (now (code .entry)) (now (lengths .entry)) threads p → starting ≡ initial p
         → HoldsRun (now (code .entry)) (now (lengths .entry)) p (now (schedule .entry)) r) ⌝ }
 {
-    let mut m = started(code, lengths, threads);
+    let mut m = started(code, lengths, threads, starting);
     let mut log = [0u8; 192];
     let mut made = [0u8; STEPS];
     let mut k = 0;

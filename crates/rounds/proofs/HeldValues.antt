@@ -42,43 +42,52 @@ values-stay p g n R k still (suc d) j q e h =
     ap (λ (i : ℕ). values p g i e) (let z : j ≡ suc (d + k) = omega (arith, q) in z)
     ∙ round-same p (values p g (d + k)) (values p g k) n (values-stay p g n R k still d (d + k) refl) g R e h ∙ still e h
 
--- what is left behind a line of the table
-abbrev behind : List ℕ → Event → ℕ
-behind left e = cond (ltb (e .0) 6) (cond (ltb (e .1) 16) (getD left (e .0 * 16 + e .1) 0) 0) 0
+-- what is left behind a line of the table: `first`, where it names no event
+abbrev behind : List ℕ → ℕ → Event → ℕ
+behind left first e = cond (ltb (e .0) 6) (cond (ltb (e .1) 16) (getD left (e .0 * 16 + e .1) 0) first) first
 
 module _ (n : ℕ) (few : n ≤ 6) (p : Program) (vs places left : List ℕ) (R : RoundHeld n p vs places left) where
-  left-none : (l : ℕ) → 0 ≡ leftBy p (valuesIn vs) initialWrite l
-  unfolding leftBy sameEvent initialWrite initial
-  left-none l = sym (zeros 8 l)
+  -- what memory starts with at l
+  abbrev atFirst : ℕ → ℕ
+  atFirst l = getD (initial p) l 0
 
-  left-named : (s : Event) (l : ℕ) → Named n s → behind left s ≡ leftBy p (valuesIn vs) s l
+  left-none : (l : ℕ) → atFirst l ≡ leftBy p (valuesIn vs) initialWrite l
+  unfolding leftBy sameEvent initialWrite
+  left-none l = refl
+
+  left-named : (s : Event) (l : ℕ) → Named n s → behind left (atFirst l) s ≡ leftBy p (valuesIn vs) s l
   unfolding leftBy sameEvent initialWrite
   left-named s l h =
       let a = h .0 in
       let b = h .1 in
       rw (lt-ltb (s .0) 6 (omega arith), lt-ltb (s .1) 16 (omega arith), ne-eqb (s .0) 255 (λ q. omega arith), leftBy) (R .leaves (s .0) (s .1) (h .0) (omega arith))
 
-  left-source : (s : Event) (l : ℕ) → Source n s → behind left s ≡ leftBy p (valuesIn vs) s l
+  left-source : (s : Event) (l : ℕ) → Source n s → behind left (atFirst l) s ≡ leftBy p (valuesIn vs) s l
   unfolding initialWrite
-  left-source s l (inl q) = ap (behind left) q ∙ left-none l ∙ sym (ap (λ (x : Event). leftBy p (valuesIn vs) x l) q)
+  left-source s l (inl q) = ap (behind left (atFirst l)) q ∙ left-none l ∙ sym (ap (λ (x : Event). leftBy p (valuesIn vs) x l) q)
   left-source s l (inr h) = left-named s l h
 
-  module _ (pairs counts : List ℕ) (g : Graph) (readable : Readable n g) (T : Tabled pairs counts g) where
-    pub sourced-is : (t i : ℕ) → t < n → i < 16 → sourced pairs left (t * 16 + i) ≡ nextRound p g (valuesIn vs) (t, i)
+  module _ (pairs counts starting : List ℕ) (g : Graph) (readable : Readable n g) (T : Tabled pairs counts g) (S : starting ≡ initial p) where
+    pub sourced-is : (t i : ℕ) → t < n → i < 16 → sourced pairs left places starting (t * 16 + i) ≡ nextRound p g (valuesIn vs) (t, i)
     unfolding sourced nextRound noLine
-    sourced-is t i a b = ap₂ (λ (x y : ℕ). behind left (x, y)) (E .0) (E .1) ∙ go (line-source (rowOf g t) i)
+    sourced-is t i a b =
+        ap₂ (λ (x y : ℕ). behind left (getD starting (getD places (t * 16 + i) 0) 0) (x, y)) (E .0) (E .1)
+        ∙ ap (λ (x : ℕ). behind left x (lineIn (rowOf g t) i)) (ap₂ (λ (m : List ℕ) (l : ℕ). getD m l 0) S (R .at t i a b))
+        ∙ go (line-source (rowOf g t) i)
       where
+        l : ℕ
+        l = locationOf p (valuesIn vs) (t, i)
+
         E : (getD pairs ((t * 16 + i) * 2) 0 ≡ lineIn (rowOf g t) i .0) × (getD pairs ((t * 16 + i) * 2 + 1) 0 ≡ lineIn (rowOf g t) i .1)
         E = T .sources t i (omega arith) b
 
         go : ((lineIn (rowOf g t) i ≡ noLine) × (sourceIn (rowOf g t) i ≡ initialWrite)) ⊎ (lineIn (rowOf g t) i ≡ sourceIn (rowOf g t) i)
-            → behind left (lineIn (rowOf g t) i) ≡ leftBy p (valuesIn vs) (sourceIn (rowOf g t) i) (locationOf p (valuesIn vs) (t, i))
-        go (inl q) = ap (behind left) (q .0) ∙ left-none (locationOf p (valuesIn vs) (t, i))
-            ∙ sym (ap (λ (x : Event). leftBy p (valuesIn vs) x (locationOf p (valuesIn vs) (t, i))) (q .1))
-        go (inr q) = ap (behind left) q ∙ left-source (sourceIn (rowOf g t) i) (locationOf p (valuesIn vs) (t, i)) (named-source n g readable (t, i))
+            → behind left (atFirst l) (lineIn (rowOf g t) i) ≡ leftBy p (valuesIn vs) (sourceIn (rowOf g t) i) l
+        go (inl q) = ap (behind left (atFirst l)) (q .0) ∙ left-none l ∙ sym (ap (λ (x : Event). leftBy p (valuesIn vs) x l) (q .1))
+        go (inr q) = ap (behind left (atFirst l)) q ∙ left-source (sourceIn (rowOf g t) i) l (named-source n g readable (t, i))
 
     -- a round more
-    pub values-more : (k : ℕ) → ((e : Event) → Named n e → valuesIn vs e ≡ values p g k e) → (ws : List ℕ) → ((j : ℕ) → j < 16 * n → getD ws j 0 ≡ sourced pairs left j)
+    pub values-more : (k : ℕ) → ((e : Event) → Named n e → valuesIn vs e ≡ values p g k e) → (ws : List ℕ) → ((j : ℕ) → j < 16 * n → getD ws j 0 ≡ sourced pairs left places starting j)
         → (e : Event) → Named n e → valuesIn ws e ≡ values p g (k + 1) e
     unfolding values
     values-more k same ws W e h =
@@ -93,7 +102,7 @@ module _ (n : ℕ) (few : n ≤ 6) (p : Program) (vs places left : List ℕ) (R 
     places-are k same q t i a b = R .at t i a b ∙ location-same p (valuesIn vs) (values p g k) n same (t, i) (a, omega arith) ∙ ap (λ (j : ℕ). locationOf p (values p g j) (t, i)) q
 
     -- values that a round leaves as they are stay so, so that accesses go where they go on the last round's
-    pub places-stay : (k : ℕ) → ((e : Event) → Named n e → valuesIn vs e ≡ values p g k e) → k < 24 → (ws : List ℕ) → ((j : ℕ) → j < 16 * n → getD ws j 0 ≡ sourced pairs left j)
+    pub places-stay : (k : ℕ) → ((e : Event) → Named n e → valuesIn vs e ≡ values p g k e) → k < 24 → (ws : List ℕ) → ((j : ℕ) → j < 16 * n → getD ws j 0 ≡ sourced pairs left places starting j)
         → ((j : ℕ) → j < 16 * n → getD ws j 0 ≡ getD vs j 0) → (t i : ℕ) → t < n → i < 16 → getD places (t * 16 + i) 0 ≡ locationOf p (values p g 24) (t, i)
     places-stay k same b ws W unmoved t i h j =
         R .at t i h j ∙ location-same p (valuesIn vs) (values p g 24) n (λ e a. same e a ∙ sym (values-stay p g n readable k still (24 - k) 24 (omega arith) e a)) (t, i) (h, omega arith)
@@ -110,10 +119,10 @@ unfolding values
 values-start p g e = zeros 96 (e .0 * 16 + e .1)
 
 -- one source more is followed
-pub filled : (pairs left vs : List ℕ) (k x : ℕ) → length vs ≡ 96 → k < 96 → ((j : ℕ) → j < k → getD vs j 0 ≡ sourced pairs left j) → x ≡ sourced pairs left k
-    → (j : ℕ) → j < k + 1 → getD (set vs k x) j 0 ≡ sourced pairs left j
-filled pairs left vs k x size h before e j i = go (ℕ-discrete j k)
+pub filled : (pairs left places starting vs : List ℕ) (k x : ℕ) → length vs ≡ 96 → k < 96 → ((j : ℕ) → j < k → getD vs j 0 ≡ sourced pairs left places starting j) → x ≡ sourced pairs left places starting k
+    → (j : ℕ) → j < k + 1 → getD (set vs k x) j 0 ≡ sourced pairs left places starting j
+filled pairs left places starting vs k x size h before e j i = go (ℕ-discrete j k)
   where
-    go : Dec (j ≡ k) → getD (set vs k x) j 0 ≡ sourced pairs left j
+    go : Dec (j ≡ k) → getD (set vs k x) j 0 ≡ sourced pairs left places starting j
     go (yes q) = rw q (getD-set-same vs k x 0 (omega arith) ∙ e)
     go (no q) = getD-set-other vs k j x 0 q ∙ before j (omega (arith, q))

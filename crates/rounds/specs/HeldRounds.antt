@@ -34,7 +34,9 @@ pub record RoundHeld (n : ℕ) (p : Program) (vs places left : List ℕ) : Type 
   pub at : (t i : ℕ) → t < n → i < 16 → getD places (t * 16 + i) 0 ≡ locationOf p (valuesIn vs) (t, i)
   pub leaves : (t i : ℕ) → t < n → i < 16 → getD left (t * 16 + i) 0 ≡ orZero (outOf p (valuesIn vs) (t, i))
 
--- what is left behind the source in entry k of a graph's table: nothing known is 0
-unfoldable pub sourced : List ℕ → List ℕ → ℕ → ℕ
-sourced table left k =
-    cond (ltb (getD table (k * 2) 0) 6) (cond (ltb (getD table (k * 2 + 1) 0) 16) (getD left (getD table (k * 2) 0 * 16 + getD table (k * 2 + 1) 0) 0) 0) 0
+-- what is left behind the source in entry k of a graph's table: what memory starts with, where the entry names no event
+unfoldable pub sourced : List ℕ → List ℕ → List ℕ → List ℕ → ℕ → ℕ
+sourced table left places starting k =
+    let first = getD starting (getD places k 0) 0 in
+    cond (ltb (getD table (k * 2) 0) 6)
+    (cond (ltb (getD table (k * 2 + 1) 0) 16) (getD left (getD table (k * 2) 0 * 16 + getD table (k * 2 + 1) 0) 0) first) first

@@ -1,4 +1,4 @@
-// The rounds: every thread by itself on the values known so far, then each read gets what its source left.
+// The rounds: every thread by itself on the values known so far, then each read gets what its source left, or what memory starts with.
 use crate::by_itself::met;
 use accesses::ThreadState;
 use lines::wide;
@@ -11,7 +11,7 @@ ghost use Prim.Native.Nat.{ℕ, _+_, _*_, _/_, _%_, _<_, _≤_};
 ghost use mathlib.Core.List.{List};
 ghost use lib.Dec.{eqb, ltb};
 ghost use lib.ListN.{getD};
-ghost use Rattle.program.specs.Program.{Program};
+ghost use Rattle.program.specs.Program.{Program, initial};
 ghost use Rattle.sc.specs.Graph.{Graph};
 ghost use Rattle.machine.specs.Held.{Loaded};
 ghost use Rattle.consistent.specs.Consistent.{locationOf};
@@ -48,12 +48,18 @@ fn onward(n: usize, thread: ThreadState, k: usize) -> usize
 }
 
 // Every thread by itself on these values.
-fn in_round(code: &Code, lengths: &[usize; 6], threads: usize, values: &[u32; 96]) -> Round
-    requires { ⌜ ((p : Program) × Loaded (now code) (now lengths) threads p) ⌝ }
-    ensures { λ r. ⌜ ((p : Program) → Loaded (now (code .entry)) (now (lengths .entry)) threads p
+fn in_round(
+    code: &Code,
+    lengths: &[usize; 6],
+    threads: usize,
+    starting: [u32; 8],
+    values: &[u32; 96],
+) -> Round
+    requires { ⌜ ((p : Program) × Loaded (now code) (now lengths) threads p × (starting ≡ initial p)) ⌝ }
+    ensures { λ r. ⌜ ((p : Program) → Loaded (now (code .entry)) (now (lengths .entry)) threads p → starting ≡ initial p
         → RoundHeld threads p (now (values .entry)) (r .places) (r .left)) ⌝ }
 {
-    let start = started(code, lengths, threads);
+    let start = started(code, lengths, threads, starting);
     let mut places = [0u8; 96];
     let mut left = [0u32; 96];
     let mut thread = start.threads[0];
@@ -72,31 +78,56 @@ fn in_round(code: &Code, lengths: &[usize; 6], threads: usize, values: &[u32; 96
     }
 }
 
-// What is left behind the source in entry k of a graph's table.
-fn found(pairs: &[u8; 576], left: &[u32; 96], k: usize) -> u32
+// What memory starts with at the location to which access k goes.
+fn at_first(starting: [u32; 8], places: &[u8; 96], k: usize) -> u32
     requires { ⌜ k < 96 ⌝ }
-    ensures { λ r. ⌜ r ≡ sourced (now (pairs .entry)) (now (left .entry)) k ⌝ }
+    ensures { λ r. ⌜ r ≡ getD starting (getD (now (places .entry)) k 0) 0 ⌝ }
+{
+    let l = wide(places[k]);
+    if 8 <= l {
+        return 0;
+    }
+    starting[l]
+}
+
+// What is left behind the source in entry k of a graph's table.
+fn found(
+    pairs: &[u8; 576],
+    left: &[u32; 96],
+    places: &[u8; 96],
+    starting: [u32; 8],
+    k: usize,
+) -> u32
+    requires { ⌜ k < 96 ⌝ }
+    ensures { λ r. ⌜ r ≡ sourced (now (pairs .entry)) (now (left .entry)) (now (places .entry)) starting k ⌝ }
 {
     let u = wide(pairs[k * 2]);
     let j = wide(pairs[k * 2 + 1]);
     if 6 <= u {
-        return 0;
+        return at_first(starting, places, k);
     }
     if 16 <= j {
-        return 0;
+        return at_first(starting, places, k);
     }
     left[u * 16 + j]
 }
 
 // The values of the next round.
-fn next_values(pairs: &[u8; 576], left: &[u32; 96], threads: usize) -> [u32; 96]
+fn next_values(
+    pairs: &[u8; 576],
+    left: &[u32; 96],
+    places: &[u8; 96],
+    starting: [u32; 8],
+    threads: usize,
+) -> [u32; 96]
     requires { ⌜ threads ≤ 6 ⌝ }
-    ensures { λ r. ⌜ ((k : ℕ) → k < 16 * threads → getD r k 0 ≡ sourced (now (pairs .entry)) (now (left .entry)) k) ⌝ }
+    ensures { λ r. ⌜ ((k : ℕ) → k < 16 * threads
+        → getD r k 0 ≡ sourced (now (pairs .entry)) (now (left .entry)) (now (places .entry)) starting k) ⌝ }
 {
     let mut vs = [0u32; 96];
     let mut k = 0;
     while k < 16 * threads {
-        vs[k] = found(pairs, left, k);
+        vs[k] = found(pairs, left, places, starting, k);
         k += 1;
     }
     vs
@@ -118,24 +149,31 @@ fn same_values(a: &[u32; 96], b: &[u32; 96], threads: usize) -> bool
 }
 
 // Where each access goes on the values of the last round. Values that a round leaves as they are stay so, and no further round is made.
-pub fn places(code: &Code, lengths: &[usize; 6], threads: usize, pairs: [u8; 576]) -> [u8; 96]
-    requires { ⌜ ((p : Program) × Loaded (now code) (now lengths) threads p) ⌝ }
+pub fn places(
+    code: &Code,
+    lengths: &[usize; 6],
+    threads: usize,
+    starting: [u32; 8],
+    pairs: [u8; 576],
+) -> [u8; 96]
+    requires { ⌜ ((p : Program) × Loaded (now code) (now lengths) threads p × (starting ≡ initial p)) ⌝ }
     ensures { λ r. ⌜ ((p : Program) (text counts : List ℕ) (g : Graph) → Loaded (now (code .entry)) (now (lengths .entry)) threads p
-        → readGraph threads text ≡ parsed g → Tabled pairs counts g → (t i : ℕ) → t < threads → i < 16
+        → starting ≡ initial p → readGraph threads text ≡ parsed g → Tabled pairs counts g → (t i : ℕ) → t < threads → i < 16
         → getD r (t * 16 + i) 0 ≡ locationOf p (values p g 24) (t, i)) ⌝ }
 {
     let mut vs = [0u32; 96];
     let mut k = 0usize;
     while k < STEPS {
-        let r = in_round(code, lengths, threads, &vs);
+        let r = in_round(code, lengths, threads, starting, &vs);
         let left = r.left;
-        let ws = next_values(&pairs, &left, threads);
+        let goes = r.places;
+        let ws = next_values(&pairs, &left, &goes, starting, threads);
         if same_values(&ws, &vs, threads) {
-            return r.places;
+            return goes;
         }
         vs = ws;
         k += 1;
     }
-    let r = in_round(code, lengths, threads, &vs);
+    let r = in_round(code, lengths, threads, starting, &vs);
     r.places
 }

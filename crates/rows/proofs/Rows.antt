@@ -41,11 +41,12 @@ pub other-kind : (f : Frame) → (byte f 0 ≡ 0x10 → ⊥) → (byte f 0 ≡ 0
     → (byte f 0 ≡ 0x20 → ⊥) → (byte f 0 ≡ 0x21 → ⊥) → (byte f 0 ≡ 0x22 → ⊥) → (byte f 0 ≡ 0x23 → ⊥)
     → (byte f 0 ≡ 0x24 → ⊥) → (byte f 0 ≡ 0x25 → ⊥) → instruction f ≡ Alone (Assert (test AtMost (byte f 0) (operand f 0)))
 unfolding instruction buildOwn build kind kindOf lookup kinds
-other-kind f h10 h11 h12 h13 h20 h21 h22 h23 h24 h25 = go (eqb (byte f 0) 1) (eqb (byte f 0) 2) refl refl where
-  go : (x y : Bool) → eqb (byte f 0) 1 ≡ x → eqb (byte f 0) 2 ≡ y → instruction f ≡ Alone (Assert (test AtMost (byte f 0) (operand f 0)))
-  go true y e d = rw (e, ne-eqb _ _ h10, ne-eqb _ _ h11, ne-eqb _ _ h12, ne-eqb _ _ h13, ne-eqb _ _ h20, ne-eqb _ _ h21, ne-eqb _ _ h22, ne-eqb _ _ h23, ne-eqb _ _ h24)
-  go false true e d = rw (e, d, ne-eqb _ _ h10, ne-eqb _ _ h11, ne-eqb _ _ h12, ne-eqb _ _ h13, ne-eqb _ _ h20, ne-eqb _ _ h21, ne-eqb _ _ h22, ne-eqb _ _ h23, ne-eqb _ _ h24)
-  go false false e d = rw (e, d, ne-eqb _ _ h10, ne-eqb _ _ h11, ne-eqb _ _ h12, ne-eqb _ _ h13, ne-eqb _ _ h20, ne-eqb _ _ h21, ne-eqb _ _ h22, ne-eqb _ _ h23, ne-eqb _ _ h24, ne-eqb _ _ h25)
+other-kind f h10 h11 h12 h13 h20 h21 h22 h23 h24 h25 = go (eqb (byte f 0) 1) (eqb (byte f 0) 2) (eqb (byte f 0) 3) refl refl refl where
+  go : (x y z : Bool) → eqb (byte f 0) 1 ≡ x → eqb (byte f 0) 2 ≡ y → eqb (byte f 0) 3 ≡ z → instruction f ≡ Alone (Assert (test AtMost (byte f 0) (operand f 0)))
+  go true y z e d t = rw (e, ne-eqb _ _ h10, ne-eqb _ _ h11, ne-eqb _ _ h12, ne-eqb _ _ h13, ne-eqb _ _ h20, ne-eqb _ _ h21, ne-eqb _ _ h22, ne-eqb _ _ h23, ne-eqb _ _ h24)
+  go false true z e d t = rw (e, d, ne-eqb _ _ h10, ne-eqb _ _ h11, ne-eqb _ _ h12, ne-eqb _ _ h13, ne-eqb _ _ h20, ne-eqb _ _ h21, ne-eqb _ _ h22, ne-eqb _ _ h23, ne-eqb _ _ h24)
+  go false false true e d t = rw (e, d, t, ne-eqb _ _ h10, ne-eqb _ _ h11, ne-eqb _ _ h12, ne-eqb _ _ h13, ne-eqb _ _ h20, ne-eqb _ _ h21, ne-eqb _ _ h22, ne-eqb _ _ h23, ne-eqb _ _ h24)
+  go false false false e d t = rw (e, d, t, ne-eqb _ _ h10, ne-eqb _ _ h11, ne-eqb _ _ h12, ne-eqb _ _ h13, ne-eqb _ _ h20, ne-eqb _ _ h21, ne-eqb _ _ h22, ne-eqb _ _ h23, ne-eqb _ _ h24, ne-eqb _ _ h25)
 
 -- the instruction in one of the 96 rows, by its first byte
 module _ (code : List ℕ) (k : ℕ) (h : k < 96) where

@@ -45,7 +45,7 @@ fn skip_fits(line: &[u8], at: usize) -> bool
 }
 
 // The four bytes of the line's frame from a position on.
-fn word_at(line: &[u8], at: usize) -> u32
+pub fn word_at(line: &[u8], at: usize) -> u32
     requires { ⌜ at < 16 ⌝ }
     ensures { λ r. ⌜ r ≡ word (pairs (now (line .entry))) at ⌝ }
 {

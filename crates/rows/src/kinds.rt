@@ -3,7 +3,7 @@ use program::Kind;
 ghost use mathlib.Core.Path.{_≡_};
 ghost use Rattle.program.specs.Kinds.{row, ownKinds, lookup, kindOf};
 
-// An instruction of one length, without a skip.
+// A kind of one length, without a skip.
 fn plain(
     byte: usize,
     size: usize,
@@ -92,6 +92,9 @@ pub fn kind_of(b: usize) -> Kind
     }
     if b == 0x02 {
         return bare(0x02, 3, 7);
+    }
+    if b == 0x03 {
+        return plain(0x03, 6, 0, 1, 0, 0);
     }
     if b == 0x10 {
         return plain(0x10, 7, 0, 1, 2, 0);

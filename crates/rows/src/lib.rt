@@ -8,6 +8,7 @@ mod fields;
 mod row;
 
 pub use fields::in_range;
+pub use fields::word_at;
 pub use kinds::kind_of;
 pub use row::CODE_BYTES;
 pub use row::Code;

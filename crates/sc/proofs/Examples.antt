@@ -3,7 +3,7 @@ use Prim.Native.Nat.{ℕ}
 use mathlib.Core.Path.{_≡_, refl}
 use mathlib.Core.Bool.{Bool, true, false}
 use mathlib.Core.List.{List, [], _∷_, map}
-use Rattle.program.specs.Program.{Program, initial}
+use Rattle.program.specs.Program.{Program, initial, zeros}
 use Rattle.program.specs.Frames.{test}
 use Rattle.program.specs.declared.instruction.Operand.the-variants.{Constant, Register}
 use Rattle.program.specs.declared.instruction.Access.the-variants.{Store, Load, FetchAdd, CompareSwap}
@@ -39,7 +39,7 @@ seen p s = let σ = endOf p s in record { full = ended SC σ; fails = fails σ; 
 
 -- a store of 1 beside two loads
 stores : Program
-stores = record { threads = (Memory (Store 0 (Constant 1)) ∷ []) ∷ (Memory (Load 0 0) ∷ []) ∷ (Memory (Load 0 0) ∷ []) ∷ []; groups = (1 ∷ 2 ∷ []) ∷ [] }
+stores = record { threads = (Memory (Store 0 (Constant 1)) ∷ []) ∷ (Memory (Load 0 0) ∷ []) ∷ (Memory (Load 0 0) ∷ []) ∷ []; groups = (1 ∷ 2 ∷ []) ∷ []; starting = zeros }
 
 between : seen stores (1 ∷ 0 ∷ 2 ∷ []) ≡ record {
   full = true;
@@ -71,6 +71,7 @@ wraps = record {
       []
       ) ∷ [];
   groups = [];
+  starting = zeros;
 }
 
 wrapped : seen wraps (0 ∷ 0 ∷ 0 ∷ []) ≡ record {
@@ -112,7 +113,7 @@ turned = refl
 
 -- a store and a load in each of two threads, as text: `400001ffff`, `4001010000`, `41000000`, `41010100`, each line with its 0a
 pair : Program
-pair = record { threads = (Memory (Store 0 (Constant 1)) ∷ Memory (Load 0 1) ∷ []) ∷ (Memory (Store 1 (Constant 1)) ∷ Memory (Load 0 0) ∷ []) ∷ []; groups = [] }
+pair = record { threads = (Memory (Store 0 (Constant 1)) ∷ Memory (Load 0 1) ∷ []) ∷ (Memory (Store 1 (Constant 1)) ∷ Memory (Load 0 0) ∷ []) ∷ []; groups = []; starting = zeros }
 
 spelt : List ℕ
 spelt =
@@ -124,6 +125,32 @@ spelt =
 pair-text : graphText (graph pair (0 ∷ 0 ∷ 1 ∷ 1 ∷ [])) ≡ spelt
 unfolding seen pair spelt textOf graphText text digits digitOf
 pair-text = refl
+
+-- memory starts with ffffffff at location 3: a compare and swap that expects it succeeds and reads from the initial write, adding 2 wraps
+filled : Program
+filled = record {
+  threads = (Memory (CompareSwap 0 3 (Constant 0xffffffff) (Constant 7)) ∷ []) ∷ (Memory (FetchAdd 0 3 (Constant 2)) ∷ []) ∷ [];
+  groups = [];
+  starting = 0 ∷ 5 ∷ 0 ∷ 0xffffffff ∷ 0 ∷ 0 ∷ 0 ∷ 0 ∷ [];
+}
+
+swapped : seen filled (0 ∷ 1 ∷ []) ≡ record {
+  full = true;
+  fails = false;
+  memory = 0 ∷ 5 ∷ 0 ∷ 9 ∷ 0 ∷ 0 ∷ 0 ∷ 0 ∷ [];
+  frames = (0x40 ∷ 0 ∷ 0 ∷ 255 ∷ 255 ∷ []) ∷ (0x40 ∷ 1 ∷ 0 ∷ 0 ∷ 0 ∷ []) ∷ (0x41 ∷ 3 ∷ 0 ∷ 0 ∷ 1 ∷ 0 ∷ []) ∷ [];
+}
+unfolding seen filled
+swapped = refl
+
+added : seen filled (1 ∷ 0 ∷ []) ≡ record {
+  full = true;
+  fails = false;
+  memory = 0 ∷ 5 ∷ 0 ∷ 1 ∷ 0 ∷ 0 ∷ 0 ∷ 0 ∷ [];
+  frames = (0x40 ∷ 0 ∷ 0 ∷ 1 ∷ 0 ∷ []) ∷ (0x40 ∷ 1 ∷ 0 ∷ 255 ∷ 255 ∷ []) ∷ (0x41 ∷ 3 ∷ 1 ∷ 0 ∷ []) ∷ [];
+}
+unfolding seen filled
+added = refl
 
 -- a byte that names no thread, one behind the end, and a schedule that is not full
 refusals : map (replay pair) ((1 ∷ 2 ∷ []) ∷ (0 ∷ 0 ∷ 1 ∷ 1 ∷ 0 ∷ []) ∷ (0 ∷ 0 ∷ 1 ∷ []) ∷ (0 ∷ 9 ∷ []) ∷ []) ≡ refused 20 1 ∷ refused 20 4 ∷ refused 21 3 ∷ refused 20 1 ∷ []

@@ -1,5 +1,5 @@
 -- A program without threads: the empty schedule is its one full schedule, it does not fail, and the text of its graph is empty.
-use Prim.Native.Nat.{ℕ}
+use Prim.Native.Nat.{ℕ, suc}
 use native.Mathlib.Omega.{arith}
 use mathlib.Core.Path.{_≡_, refl, sym, ap, _∙_}
 use mathlib.Core.Bool.{true≢false}
@@ -21,6 +21,12 @@ use Rattle.sc.proofs.Ended.{all-ended}
 abbrev begun : Program → List (List Instruction) → State
 begun p cs = record { threads = map opened cs; cells = map freshCell (initial p) }
 
+-- a memory that nobody wrote has no frames, whatever it holds
+unwritten-frames : (vs : List ℕ) (l : ℕ) → writeFrames l (map writesOf (map freshCell vs)) ≡ []
+unfolding freshCell writesOf writeFrame writeFrames
+unwritten-frames [] l = refl
+unwritten-frames (v ∷ vs) l = unwritten-frames vs (suc l)
+
 module _ (p : Program) (none : p .threads ≡ []) where
   pub none-full : Full p []
   unfolding noThread
@@ -35,5 +41,5 @@ module _ (p : Program) (none : p .threads ≡ []) where
   none-passes e = true≢false (sym e ∙ ap (λ (cs : List (List Instruction)). fails (begun p cs)) none)
 
   pub none-text : graphText (graph p []) ≡ []
-  unfolding run start initial freshCell readsOf writesOf graphOf readFrames writeFrame writeFrames frames textOf graphText
-  none-text = ap (λ (cs : List (List Instruction)). graphText (graphOf (begun p cs))) none
+  unfolding run start readsOf graphOf readFrames frames textOf graphText
+  none-text = ap (λ (cs : List (List Instruction)). graphText (graphOf (begun p cs))) none ∙ ap textOf (unwritten-frames (initial p) 0)

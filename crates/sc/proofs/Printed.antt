@@ -50,7 +50,7 @@ module _ (p : Program) (w : WellFormed p) (s : Schedule) (f : Full p s) where
   pub printable : Printable (length (p .threads)) (graph p s)
   printable = record {
     rows = graph-sizes (endOf p s) .0 ∙ run-threads s (start p) ∙ start-threads p;
-    eight = graph-sizes (endOf p s) .1 ∙ run-cells s (start p) ∙ start-cells p;
+    eight = graph-sizes (endOf p s) .1 ∙ run-cells s (start p) ∙ start-cells p w;
     few = omega (arith, w .six);
     reads = λ t r m. let k = subst (List·Memᴰ r) (row-at (endOf p s) t) m in (omega (arith, regular .numbered t r k, done-24 t), source-byte (r .1) (regular .sourced t r k));
     writes = λ l e m. write-byte l e (subst (List·Memᴰ e) (order-at (endOf p s) l) m);

@@ -114,7 +114,7 @@ unfolding opened noThread
 regular-start p w = record {
   settled = start-cases p (Everywhere InRange) (λ h. Settled (h .local)) (inl refl) (λ c q. begin-law c .0) (w .ranges);
   ranges = start-cases p (Everywhere InRange) (λ h. Everywhere InRange (h .local .rest)) tt (λ c q. suffix-everywhere InRange (begin c .rest) c (begin-law c .1) q) (w .ranges);
-  eight = start-cells p;
+  eight = start-cells p w;
   six = omega (arith, start-threads p, w .six);
   old = λ l e m. absurd (List·Memᴰ·not-nil (subst (List·Memᴰ e) (start-writes p l) m));
   numbered = λ t r m. absurd (List·Memᴰ·not-nil (subst (List·Memᴰ r) (start-history p t .1) m));

@@ -3,9 +3,9 @@ use Prim.Native.Nat.{ℕ, zero, suc, _<_}
 use mathlib.Core.Path.{_≡_, refl, _∙_}
 use mathlib.Core.List.{List, [], _∷_, map}
 use native.Mathlib.Nat.{not-suc-le-zero, le-of-suc-le-suc}
-use lib.ListN.{length, getD, length-map, length-replicate}
+use lib.ListN.{length, getD, length-map}
 use Rattle.program.specs.Program.{Program, codeOf, initial}
-use Rattle.program.specs.WellFormed.{Everywhere}
+use Rattle.program.specs.WellFormed.{Everywhere, WellFormed}
 use Rattle.program.specs.declared.instruction.Instruction.{Instruction}
 use Rattle.sc.specs.State.{Thread, noThread, freshCell, threadOf, cellOf, opened, start}
 
@@ -13,13 +13,9 @@ pub start-threads : (p : Program) → length (start p .threads) ≡ length (p .t
 unfolding start
 start-threads p = length-map (p .threads) opened
 
-initial-eight : (p : Program) → length (initial p) ≡ 8
-unfolding initial
-initial-eight p = length-replicate {A = ℕ} 8 0
-
-pub start-cells : (p : Program) → length (start p .cells) ≡ 8
-unfolding start
-start-cells p = length-map (initial p) freshCell ∙ initial-eight p
+pub start-cells : (p : Program) → WellFormed p → length (start p .cells) ≡ 8
+unfolding start initial
+start-cells p w = length-map (initial p) freshCell ∙ w .eight
 
 -- a thread that exists starts with its code
 opened-at : (cs : List (List Instruction)) (t : ℕ) → t < length cs → getD (map opened cs) t noThread ≡ opened (getD cs t [])

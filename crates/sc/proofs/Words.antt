@@ -7,7 +7,7 @@ use mathlib.Core.Option.{none, some, Option·none-ne-some}
 use mathlib.Core.List.{List, [], _∷_}
 use native.Mathlib.Omega.{arith}
 use lib.Dec.{eqb}
-use lib.ListN.{getD, set, replicate}
+use lib.ListN.{getD, set}
 use Rattle.program.specs.Program.{Program, initial}
 use Rattle.program.specs.WellFormed.{WellFormed, Everywhere, OperandInRange, AccessInRange, OwnInRange, InRange}
 use Rattle.program.specs.declared.instruction.Operand.{Operand}
@@ -122,10 +122,6 @@ pub start-words : (p : Program) → WellFormed p → (t : ℕ) → Words (thread
 unfolding opened noThread
 start-words p wf = start-cases p (Everywhere InRange) (λ h. Words (h .local)) (tt, tt) begin-words (wf .ranges)
 
-pub initial-word : (p : Program) (l : ℕ) → Word (getD (initial p) l 0)
+pub initial-word : (p : Program) → WellFormed p → (l : ℕ) → Word (getD (initial p) l 0)
 unfolding initial
-initial-word p l = everywhere-getD Word (replicate 8 0) l 0 (zeros 8) (omega arith)
-  where
-    zeros : (n : ℕ) → Everywhere Word (replicate n 0)
-    zeros zero = tt
-    zeros (suc n) = (omega arith, zeros n)
+initial-word p w l = everywhere-getD Word (p .starting) l 0 (w .words) (omega arith)

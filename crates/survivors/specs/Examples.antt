@@ -4,7 +4,7 @@ use mathlib.Core.Path.{_≡_, refl}
 use mathlib.Core.Bool.{false}
 use mathlib.Core.Option.{none}
 use mathlib.Core.List.{List, [], _∷_}
-use Rattle.program.specs.Program.{Program, initial}
+use Rattle.program.specs.Program.{Program, initial, zeros}
 use Rattle.program.specs.declared.instruction.Operand.the-variants.{Constant}
 use Rattle.program.specs.declared.instruction.Access.the-variants.{Store, Load}
 use Rattle.program.specs.declared.instruction.Instruction.the-variants.{Memory}
@@ -53,6 +53,7 @@ circle = record {
       (Memory (Store 1 (Constant 1)) ∷ []) ∷
       [];
   groups = [];
+  starting = zeros;
 }
 
 in-a-circle : seen circle (2 ∷ []) ≡ record { late = 3; asleep = 3 }
@@ -72,6 +73,7 @@ woken = record {
       (Memory (Store 0 (Constant 2)) ∷ []) ∷
       [];
   groups = [];
+  starting = zeros;
 }
 
 not-asleep : seen woken (2 ∷ 0 ∷ []) ≡ record { late = 2; asleep = 0 }
@@ -90,6 +92,7 @@ pair = record {
       (Memory (Load 0 0) ∷ Memory (Store 0 (Constant 1)) ∷ []) ∷
       [];
   groups = (0 ∷ 1 ∷ []) ∷ [];
+  starting = zeros;
 }
 
 pair-found : finds pair ≡ (0 ∷ 0 ∷ 1 ∷ 1 ∷ []) ∷ (0 ∷ 1 ∷ 0 ∷ 1 ∷ []) ∷ []

@@ -1,5 +1,6 @@
 -- What each call says fits its word, whatever it is lent. The judge's call stands by itself, in JudgeFits.
 use Prim.Native.Nat.{ℕ, _*_, _/_, _^_, _<_, _≤_}
+use mathlib.Core.Logic.{⊎-elim}
 use mathlib.Core.Path.{_≡_, refl, ap}
 use mathlib.Core.Bool.{Bool, true, false, cond}
 use mathlib.Core.Option.{Option}
@@ -41,7 +42,9 @@ use Rattle.tarczolin.specs.ByRows.{rowsReply}
 
 -- a refusal of the program fits every call's word
 pub refusal-fits : (file : List ℕ) (n k : ℕ) → decode file ≡ refused n k → (n < 256) × (k < 2 ^ 48)
-refusal-fits file n k e = let h = rw e at (decode-within file) in (omega arith, omega arith)
+refusal-fits file n k e =
+    let h = rw e at (decode-within file) in
+    (⊎-elim (λ (a : n ≤ 8). let z : n < 256 = omega arith in z) (λ (a : n ≡ 40). omega arith) (h .0), omega (arith, h .1))
 
 -- THE CHECK
 pub check-fits : (file : List ℕ) → Fits (checkReply (decode file))

@@ -32,9 +32,10 @@ pub(crate) fn listed_rows(
     let code = program.code;
     let lengths = program.lengths;
     let declared = program.class;
+    let starting = program.starting;
     let class = known_lines(declared, program.groups);
     let left = left_sets(&code, &lengths);
-    let x = begun(&code, &lengths, program.threads);
+    let x = begun(&code, &lengths, program.threads, starting);
     let a = Aim {
         failures: failures,
         tight: tight,

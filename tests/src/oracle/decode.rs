@@ -38,11 +38,12 @@ impl Instruction {
     }
 }
 
-/// An accepted program: the code of each thread, and the threads that each `02` line declares alike.
+/// An accepted program: the code of each thread, the threads that each `02` line declares alike, and what each location starts with.
 #[derive(Clone, Debug, Default, PartialEq, Eq)]
 pub struct Program {
     pub threads: Vec<Vec<Instruction>>,
     pub alike: Vec<Vec<u8>>,
+    pub memory: [u32; 8],
 }
 
 /// One frame, as far as its own line tells.
@@ -50,6 +51,8 @@ enum Frame {
     Thread,
     Instruction(Instruction),
     Alike,
+    /// A location and the value that it starts with.
+    Start(u8, u32),
 }
 
 /// The first bytes of a line, enough for the longest frame of any kind and one more to tell a longer line.
@@ -87,6 +90,7 @@ fn of_its_kind(first: u8, length: usize) -> bool {
     match first {
         0x01 => length == 1,
         0x02 => (3..=7).contains(&length),
+        0x03 => length == 6,
         0x10 | 0x20 | 0x21 | 0x23 | 0x25 => length == 7,
         0x11 => length == 3,
         0x12 | 0x22 | 0x24 => length == 8,
@@ -122,6 +126,7 @@ fn in_range(b: &[u8; 14]) -> Option<Frame> {
     Some(Frame::Instruction(match b[0] {
         0x01 => return Some(Frame::Thread),
         0x02 => return Some(Frame::Alike),
+        0x03 => return Some(Frame::Start(location(b[1])?, u32::from_be_bytes([b[2], b[3], b[4], b[5]]))),
         0x10 => Store { l: location(b[1])?, p: operand(&b[2..7])? },
         0x11 => Load { r: register(b[1])?, l: location(b[2])? },
         0x12 => FetchAdd { r: register(b[1])?, l: location(b[2])?, p: operand(&b[3..8])? },
@@ -139,12 +144,14 @@ fn in_range(b: &[u8; 14]) -> Option<Frame> {
 struct Reader {
     program: Program,
     accesses: usize,
+    /// The locations that `03` lines have named.
+    given: Vec<u8>,
     /// The line of each instruction, thread by thread.
     places: Vec<Vec<usize>>,
 }
 
 impl Reader {
-    /// One line, by 2, 3, 4, 5, 6, 8. A remark says nothing.
+    /// One line, by 2, 3, 4, 5, 6, 40, 8. A remark says nothing.
     fn line(&mut self, line: &[u8], place: usize) -> Result<(), Refusal> {
         if line.starts_with(b"#") {
             return Ok(());
@@ -157,6 +164,7 @@ impl Reader {
             None => refused(4, place),
             Some(Frame::Thread) => self.thread(place),
             Some(Frame::Instruction(i)) => self.instruction(i, place),
+            Some(Frame::Start(l, value)) => self.start(l, value, place),
             Some(Frame::Alike) => self.alike(&read.bytes[1..read.length], place),
         }
     }
@@ -184,6 +192,16 @@ impl Reader {
         }
         code.push(instruction);
         self.places[self.program.threads.len() - 1].push(place);
+        Ok(())
+    }
+
+    /// Refusal 40: after a thread or a `02` line, or a second one for its location.
+    fn start(&mut self, l: u8, value: u32, place: usize) -> Result<(), Refusal> {
+        if !self.program.threads.is_empty() || !self.program.alike.is_empty() || self.given.contains(&l) {
+            return refused(40, place);
+        }
+        self.given.push(l);
+        self.program.memory[l as usize] = value;
         Ok(())
     }
 
@@ -215,12 +233,12 @@ impl Reader {
     }
 }
 
-/// The program that a file holds, or its refusal: 1; then lines in order, each by 2, 3, 4, 5, 6, 8; then 7. A file without a thread is a program.
+/// The program that a file holds, or its refusal: 1; then lines in order, each by 2, 3, 4, 5, 6, 40, 8; then 7. A file without a thread is a program.
 pub fn decode(file: &[u8]) -> Result<Program, Refusal> {
     if file.len() > FILE_LIMIT {
         return refused(1, 0);
     }
-    let mut reader = Reader { program: Program::default(), accesses: 0, places: Vec::new() };
+    let mut reader = Reader { program: Program::default(), accesses: 0, given: Vec::new(), places: Vec::new() };
     let mut rest = file;
     let mut place = 0;
     while !rest.is_empty() {

@@ -99,16 +99,19 @@ pub fn parse(program: &Program, text: &[u8]) -> Result<Graph, Refusal> {
 /// What every thread does when it runs alone on these values of reads, as far as they are known.
 struct Alone {
     effects: BTreeMap<Event, Effect>,
+    /// Where each access goes that a thread came to, also one whose value is not known yet.
+    places: BTreeMap<Event, u8>,
     /// Did every thread come to its end?
     ended: bool,
 }
 
 fn run_alone(program: &Program, values: &BTreeMap<Event, u32>) -> Alone {
-    let mut alone = Alone { effects: BTreeMap::new(), ended: true };
+    let mut alone = Alone { effects: BTreeMap::new(), places: BTreeMap::new(), ended: true };
     for (t, code) in program.threads.iter().enumerate() {
         let mut thread = opened(code);
         while !thread.ended(code) {
             let event = Event { t: t as u8, i: thread.accesses };
+            alone.places.insert(event, thread.location(code));
             let found = if thread.reads(code) { values.get(&event).copied() } else { Some(0) };
             let Some(found) = found else {
                 alone.ended = false;
@@ -128,7 +131,11 @@ pub fn made(program: &Program, graph: &Graph) -> Option<BTreeMap<Event, Effect>>
         let alone = run_alone(program, &values);
         let known = values.len();
         for (read, source) in &graph.reads {
-            let value = if *source == INITIAL { Some(0) } else { alone.effects.get(source).and_then(|e| e.written) };
+            let value = match *source {
+                // the initial write carries what its location starts with
+                INITIAL => alone.places.get(read).map(|l| program.memory[*l as usize]),
+                _ => alone.effects.get(source).and_then(|e| e.written),
+            };
             if let Some(value) = value {
                 values.insert(*read, value);
             }

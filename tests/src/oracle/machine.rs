@@ -131,7 +131,7 @@ pub struct Machine<'a> {
 impl<'a> Machine<'a> {
     pub fn new(program: &'a Program) -> Machine<'a> {
         let threads = program.threads.iter().map(|code| opened(code)).collect();
-        Machine { program, threads, memory: [0; 8], done: Vec::new() }
+        Machine { program, threads, memory: program.memory, done: Vec::new() }
     }
 
     /// May this byte be the next step: does it name a thread that has not ended?

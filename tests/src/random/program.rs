@@ -19,10 +19,11 @@ pub const ANY: Size = Size { threads: 6, instructions: 16, accesses: 24, locatio
 /// Small enough to walk every schedule: values and places meet often.
 pub const SMALL: Size = Size { threads: 3, instructions: 5, accesses: 8, locations: 2, registers: 2, constants: 3 };
 
-/// The frames of a random accepted program; of one in fifty there are none.
+/// The frames of a random accepted program; one in fifty has no thread, one in three lets locations start with values.
 pub fn frames(random: &mut Random, size: Size) -> Vec<Vec<u8>> {
+    let mut all = if random.one_in(3) { starts(random, size) } else { Vec::new() };
     if random.one_in(50) {
-        return Vec::new();
+        return all;
     }
     let threads = random.between(1, size.threads);
     // threads of one class have equal code; most classes of two or more are declared alike
@@ -37,7 +38,6 @@ pub fn frames(random: &mut Random, size: Size) -> Vec<Vec<u8>> {
         left -= members * code.iter().filter(|f| is_access(f)).count();
         codes.push(code);
     }
-    let mut all = Vec::new();
     for &c in &class {
         all.push(vec![0x01]);
         all.extend(codes[c].iter().cloned());
@@ -51,6 +51,19 @@ pub fn frames(random: &mut Random, size: Size) -> Vec<Vec<u8>> {
         }
     }
     all
+}
+
+/// `03` lines, each for another location.
+fn starts(random: &mut Random, size: Size) -> Vec<Vec<u8>> {
+    let mut locations: Vec<u8> = (0..size.locations as u8).collect();
+    random.shuffle(&mut locations);
+    locations.truncate(random.between(1, size.locations));
+    locations.into_iter().map(|l| start(random, size, l)).collect()
+}
+
+/// A `03` line of this location.
+pub fn start(random: &mut Random, size: Size, l: u8) -> Vec<u8> {
+    [vec![0x03, l], constant(random, size).to_be_bytes().to_vec()].concat()
 }
 
 /// The frames of a random accepted program whose `02` lines sometimes leave a thread of that code out, or part in two.
@@ -152,7 +165,11 @@ fn operand(random: &mut Random, size: Size) -> Vec<u8> {
     if random.one_in(4) {
         return vec![1, 0, 0, 0, random.below(size.registers) as u8];
     }
-    let value = if size.constants > 0 && !random.one_in(6) {
+    [vec![0], constant(random, size).to_be_bytes().to_vec()].concat()
+}
+
+fn constant(random: &mut Random, size: Size) -> u32 {
+    if size.constants > 0 && !random.one_in(6) {
         random.below(size.constants) as u32
     } else if size.constants > 0 || random.one_in(3) {
         near_a_turn(random)
@@ -160,6 +177,5 @@ fn operand(random: &mut Random, size: Size) -> Vec<u8> {
         random.below(3) as u32
     } else {
         random.word() as u32
-    };
-    [vec![0], value.to_be_bytes().to_vec()].concat()
+    }
 }

@@ -35,7 +35,7 @@ pub struct Place {
 impl Place {
     pub fn new(program: &Program) -> Place {
         let mut place =
-            Place { threads: [Thread::default(); 6], memory: [0; 8], stamps: [0; 8], words: [0; 6], running: 0, late: 0 };
+            Place { threads: [Thread::default(); 6], memory: program.memory, stamps: [0; 8], words: [0; 6], running: 0, late: 0 };
         for (t, code) in program.threads.iter().enumerate() {
             place.threads[t] = opened(code);
             place.running |= (!place.threads[t].ended(code) as u8) << t;

@@ -26,7 +26,7 @@ impl State {
         for (thread, code) in threads.iter_mut().zip(&program.threads) {
             *thread = opened(code);
         }
-        State { threads, memory: [0; 8], last: [INITIAL; 8] }
+        State { threads, memory: program.memory, last: [INITIAL; 8] }
     }
 
     pub fn pending(&self, program: &Program, t: usize) -> Option<Pending> {

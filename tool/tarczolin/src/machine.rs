@@ -114,7 +114,7 @@ impl<'a> Machine<'a> {
         for (thread, code) in threads.iter_mut().zip(&program.threads) {
             thread.settle(code);
         }
-        Machine { program, threads, memory: [0; 8] }
+        Machine { program, threads, memory: program.memory() }
     }
 
     /// The threads that have not ended, ascending.

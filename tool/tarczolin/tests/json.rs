@@ -42,7 +42,7 @@ fn every_command_fits_the_schema() {
         (&["violation", QUEUE], b"", 1, 1),
         (&["violation", QUEUE, "--show"], b"", 1, 1),
         (&["outcomes", QUEUE], b"", 1, 7),
-        (&["outcomes", QUEUE, "--where", "second.mine = 0"], b"", 1, 7),
+        (&["outcomes", QUEUE, "--where", "second.mine = 1"], b"", 1, 7),
         (&["show", QUEUE], b"", 1, 7),
         (&["show", QUEUE, "00000102020201"], b"", 1, 1),
         (&["show", "-"], b"01\n23000000000001\n", 1, 2),

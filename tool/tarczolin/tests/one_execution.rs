@@ -26,16 +26,16 @@ fn by_schedule() {
 fn by_thread() {
     let shown = "\
 execution: schedule 00 00 01 02 02 02 01, fails
-#0   first     fetch_add tail 1 -> mine = 0, tail = 1  initial
-#1   first     store slot0 = 7
-#0   second    fetch_add tail 1 -> mine = 1, tail = 2  first fetch_add #0
-#1   second    store slot1 = 7
-#0   consumer  load tail -> filled = 2                 second fetch_add #0
-#1   consumer  load slot0 -> item = 7                  first store #1
-#2   consumer  load slot1 -> item = 0                  initial
+#0   first     fetch_add tail 1 -> mine = 1, tail = 2  initial
+#1   first     store slot1 = 7
+#0   second    fetch_add tail 1 -> mine = 2, tail = 3  first fetch_add #0
+#1   second    store slot2 = 7
+#0   consumer  load tail -> filled = 3                 second fetch_add #0
+#1   consumer  load slot1 -> item = 7                  first store #1
+#2   consumer  load slot2 -> item = 0                  initial
 !!   consumer  assert item == 7 FAILS: item = 0
-memory     tail = 2, slot0 = 7, slot1 = 7
-registers  first.mine = 0, second.mine = 1, consumer.filled = 2, consumer.item = 0
+memory     tail = 3, slot1 = 7, slot2 = 7
+registers  first.mine = 1, second.mine = 2, consumer.filled = 3, consumer.item = 0
 ";
     assert_eq!(run(&["show", QUEUE, "00000102020201", "--by", "thread"]).out, shown);
     assert!(run(&["show", QUEUE, "--by", "name"]).err.contains("--by takes the word time or thread, not name"));
@@ -59,7 +59,7 @@ fn graphs_for_graphviz_and_drawn() {
     let dot = run(&["graph", QUEUE, "00000102020201", "--dot"]).out;
     assert!(dot.starts_with("digraph execution {\n") && dot.ends_with("}\n"), "{dot}");
     for line in
-        ["label=\"consumer\";", "t2_2 [label=\"#2 load slot1 -> item = 0\", color=red];", "initial -> t2_2", "t2_2 -> t1_1"]
+        ["label=\"consumer\";", "t2_2 [label=\"#2 load slot2 -> item = 0\", color=red];", "initial -> t2_2", "t2_2 -> t1_1"]
     {
         assert!(dot.contains(line), "{line} in {dot}");
     }

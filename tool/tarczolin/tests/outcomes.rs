@@ -39,16 +39,16 @@ fails      T0: assert r0 == 0 FAILS: r0 = 1 (instruction 1)
 fn conditions() {
     let status = |condition: &str| run(&["outcomes", QUEUE, "--where", condition]).status;
     assert_eq!(status("tail=2 & consumer.item=0"), 1);
-    assert_eq!(status("tail = 2 & T2.r1 = 0"), 1);
-    assert_eq!(status("tail = 1"), 0);
-    assert_eq!(status("!(tail = 2)"), 0);
-    assert_eq!(status("tail != 2 | slot0 == 0x7 & slot1 = 7"), 1);
+    assert_eq!(status("tail = 3 & T2.r1 = 0"), 1);
+    assert_eq!(status("tail = 2"), 0);
+    assert_eq!(status("!(tail = 3)"), 0);
+    assert_eq!(status("tail != 3 | slot1 == 0x7 & slot2 = 7"), 1);
     assert_eq!(status("consumer.fails"), 1);
     assert_eq!(status("first.fails | second.fails"), 0);
     assert_eq!(status("fails & consumer.item = 7"), 0);
     assert_eq!(status("first.mine = second.mine"), 0);
     for wrong in
-        ["tial = 2", "tail", "tail =", "(tail = 2", "tail = 2 )", "T9.r0 = 1", "T0.q = 1", "tail ? 1", "tail = 99999999999"]
+        ["tial = 2", "tail", "tail =", "(tail = 3", "tail = 3 )", "T9.r0 = 1", "T0.q = 1", "tail ? 1", "tail = 99999999999"]
     {
         let ran = run(&["outcomes", QUEUE, "--where", wrong]);
         assert!(ran.status == 2 && ran.err.contains("--where"), "{wrong}: {}", ran.err);
@@ -65,7 +65,7 @@ fn small_ends_and_several_files() {
     let named = b"thread\n  store true 1\n  store fails 1\n";
     assert_eq!(run_with(&["outcomes", "-", "--where", "true = 1 & fails != 0 & !fails"], named).status, 1);
     let files = ["examples/whole.hex", QUEUE];
-    let ran = run(&[&["outcomes"], &files[..], &["--where", "tail = 2"]].concat());
+    let ran = run(&[&["outcomes"], &files[..], &["--where", "tail = 3"]].concat());
     assert_eq!(ran.status, 2);
     assert_eq!(ran.err, "tarczolin: examples/whole.hex: --where: there is no location tail\n");
     assert!(ran.out.starts_with(&format!("==> {QUEUE} <==\noutcome 1: ")), "{}", ran.out);
@@ -74,12 +74,12 @@ fn small_ends_and_several_files() {
 /// Only one of two alike executions is listed, and the other can happen as well.
 #[test]
 fn alike_threads_exchanged() {
-    let ran = run(&["outcomes", QUEUE, "--where", "second.mine = 0 & first.mine = 1"]);
-    assert_eq!(ran.status, 1, "the list has only first.mine = 0");
-    assert!(ran.out.contains("with alike threads exchanged\n") && ran.out.contains("second.mine = 0"), "{}", ran.out);
+    let ran = run(&["outcomes", QUEUE, "--where", "second.mine = 1 & first.mine = 2"]);
+    assert_eq!(ran.status, 1, "the list has only first.mine = 1");
+    assert!(ran.out.contains("with alike threads exchanged\n") && ran.out.contains("second.mine = 1"), "{}", ran.out);
     let first = ran.out.lines().next().unwrap().split("first ").nth(1).unwrap().split(',').next().unwrap().to_string();
     let shown = run(&["show", QUEUE, &first]).out;
-    assert!(shown.contains("first.mine = 1, second.mine = 0"), "the schedule ends as it is said: {shown}");
+    assert!(shown.contains("first.mine = 2, second.mine = 1"), "the schedule ends as it is said: {shown}");
 }
 
 /// On random programs: the end of any full schedule matches a condition that asks for it, whatever is alike.

@@ -115,7 +115,7 @@ fn warnings() {
     let short = run_with(&["check", "-"], b"thread\n  store x 1\n  n = load y\nthread\n  store y 1\n  n = load x\n");
     assert_eq!(short.err, "", "x and y are meant to differ");
     let quiet = run(&["check", "examples/queue-broken.asm"]);
-    assert_eq!(quiet.err, "", "slot0 and slot1 are meant to differ");
+    assert_eq!(quiet.err, "", "slot1 and slot2 are meant to differ");
 }
 
 /// A statement that would pass the limit of a thread, and a jump backwards: errors that say so.
@@ -161,11 +161,11 @@ fn every_command_takes_a_text() {
 fn names_in_columns_page_messages_and_disasm() {
     let form = "examples/queue-broken.asm";
     let columns = run(&["show", form, "--only", "failing"]).out;
-    assert!(columns.contains("#0   consumer  load tail -> filled = 2                 second fetch_add #0\n"), "{columns}");
+    assert!(columns.contains("#0   consumer  load tail -> filled = 3                 second fetch_add #0\n"), "{columns}");
     assert!(columns.contains("!!   consumer  assert item == 7 FAILS: item = 0\n"));
     let page = run(&["show", form, "--html", "-"]).out;
     for words in
-        [">consumer</text>", "load slot1 -&gt; item = 0", "<div>first store #1</div></td>", "✗ assert item", "#0 load tail: 2"]
+        [">consumer</text>", "load slot2 -&gt; item = 0", "<div>first store #1</div></td>", "✗ assert item", "#0 load tail: 3"]
     {
         assert!(page.contains(words), "{words}");
     }

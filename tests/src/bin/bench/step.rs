@@ -19,7 +19,7 @@ type Note = (Event, u8, bool, Event, bool);
 
 impl Machine {
     fn new(program: &Program) -> Machine {
-        let mut machine = Machine { threads: [Thread::default(); 6], memory: [0; 8], last: [INITIAL; 8] };
+        let mut machine = Machine { threads: [Thread::default(); 6], memory: program.memory, last: [INITIAL; 8] };
         for (thread, code) in machine.threads.iter_mut().zip(&program.threads) {
             *thread = opened(code);
         }

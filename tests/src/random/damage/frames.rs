@@ -1,7 +1,7 @@
 //! Damages of the frames.
 use super::limits;
 use super::Damage::{self, *};
-use crate::random::program::{instruction, ANY};
+use crate::random::program::{instruction, start, ANY};
 use crate::random::Random;
 
 /// Damages the frames of a file: their bytes, their order and their number.
@@ -13,7 +13,7 @@ pub fn damage(random: &mut Random, damage: Damage, frames: &mut Vec<Vec<u8>>) {
         frames.clear();
     }
     if damage == Threadless {
-        frames.retain(|frame| frame[0] == 0x02);
+        frames.retain(|frame| matches!(frame[0], 0x02 | 0x03));
     }
     if frames.is_empty() {
         return;
@@ -48,6 +48,11 @@ pub fn damage(random: &mut Random, damage: Damage, frames: &mut Vec<Vec<u8>>) {
             let kind = any_kind(random);
             frames.insert(0, instruction_or_frame(random, kind));
         }
+        StartAnywhere => {
+            let l = random.below(10) as u8;
+            frames.insert(random.between(0, frames.len()), start(random, ANY, l));
+        }
+        StartTwice => start_twice(random, frames),
         BehindAlike => limits::behind_alike(random, frames),
         Threads => {
             let now = frames.iter().filter(|f| f[0] == 0x01).count();
@@ -64,15 +69,30 @@ pub fn damage(random: &mut Random, damage: Damage, frames: &mut Vec<Vec<u8>>) {
 }
 
 pub fn any_kind(random: &mut Random) -> u8 {
-    random.pick(&[0x01, 0x02, 0x10, 0x11, 0x12, 0x13, 0x20, 0x21, 0x22, 0x23, 0x24, 0x25])
+    random.pick(&[0x01, 0x02, 0x03, 0x10, 0x11, 0x12, 0x13, 0x20, 0x21, 0x22, 0x23, 0x24, 0x25])
 }
 
 pub fn instruction_or_frame(random: &mut Random, kind: u8) -> Vec<u8> {
     match kind {
         0x01 => vec![0x01],
         0x02 => vec![0x02, 0, 1],
+        0x03 => start(random, ANY, 0),
         _ => instruction(random, ANY, kind),
     }
+}
+
+/// A second `03` line for one location, with the same value or another, among those in front of the threads.
+fn start_twice(random: &mut Random, frames: &mut Vec<Vec<u8>>) {
+    if frames[0][0] != 0x03 {
+        let l = random.below(8) as u8;
+        frames.insert(0, start(random, ANY, l));
+    }
+    let count = frames.iter().take_while(|frame| frame[0] == 0x03).count();
+    let mut again = frames[random.below(count)].clone();
+    if random.one_in(2) {
+        again = start(random, ANY, again[1]);
+    }
+    frames.insert(random.between(0, count), again);
 }
 
 /// Mostly a thread or a good instruction, now and then something else.
@@ -82,6 +102,10 @@ fn any_frame(random: &mut Random) -> Vec<u8> {
         9 => {
             let first = random.below(4) as u8;
             vec![0x02, first, first + random.between(0, 3) as u8]
+        }
+        11 => {
+            let l = random.below(9) as u8;
+            start(random, ANY, l)
         }
         10 => (0..random.between(1, 14)).map(|_| random.byte()).collect(),
         _ => {

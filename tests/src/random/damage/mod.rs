@@ -37,6 +37,9 @@ pub enum Damage {
     LostLine,
     InstructionFirst,
     BehindAlike,
+    // of the lines that give starting values: at any place and for location 0 to 9, a second one for its location
+    StartAnywhere,
+    StartTwice,
     // of the limits
     Threads,
     Instructions,
@@ -52,13 +55,13 @@ pub enum Damage {
     AnyDigits,
     AnyFrames,
     Empty,
-    /// Only the lines that declare threads alike are left.
+    /// Only the lines that declare threads alike or give starting values are left.
     Threadless,
 }
 
 use Damage::*;
 
-pub const ALL: [Damage; 35] = [
+pub const ALL: [Damage; 37] = [
     Nothing,
     AnyByte,
     LostByte,
@@ -81,6 +84,8 @@ pub const ALL: [Damage; 35] = [
     LostLine,
     InstructionFirst,
     BehindAlike,
+    StartAnywhere,
+    StartTwice,
     Threads,
     Instructions,
     Accesses,

@@ -125,7 +125,7 @@ impl<'a> Reader<'a> {
                 self.expect("=")?;
                 Kind::Constant { name, value: self.word("a number")? }
             }
-            "init" => return self.error(first.column, not_yet("init needs memory that starts with other values than 0")),
+            "init" => Kind::Init { l: self.location()?, value: self.word("a number")? },
             "store" => Kind::Store { l: self.location()?, p: self.operand()? },
             "assert" => {
                 let (r, test, p) = self.condition()?;
@@ -210,18 +210,13 @@ impl<'a> Reader<'a> {
     }
 }
 
-/// What the library cannot do yet.
-fn not_yet(what: &str) -> String {
-    format!("{what}, which the library does not have yet")
-}
-
 /// A statement that begins with an unknown word.
 fn unknown(word: &str) -> String {
     match (word, near(word, KEYWORDS)) {
         ("load" | "fetch_add" | "cas", _) => format!("{word} needs a register for the old value: r0 = {word} .."),
         (_, Some(known)) => format!("a statement does not begin with {word}; is it {known}?"),
         _ => format!(
-            "a statement does not begin with {word}; it begins with thread, alike, const, store, if, goto, assert, fail or a register"
+            "a statement does not begin with {word}; it begins with thread, alike, const, init, store, if, goto, assert, fail or a register"
         ),
     }
 }

@@ -99,7 +99,9 @@ impl<'a> Scope<'a> {
             Kind::If { r, test, p, to } => Code::If { condition: line.condition(r, *test, p), to: line.jump(to) },
             Kind::Goto(label) => Code::Goto(line.label(label)),
             Kind::Assert { r, test, p } => Code::Assert(line.condition(r, *test, p)),
-            Kind::Fail | Kind::Thread(_) | Kind::Alike(_) | Kind::Constant { .. } | Kind::Label(_) => Code::Fail,
+            Kind::Fail | Kind::Thread(_) | Kind::Alike(_) | Kind::Constant { .. } | Kind::Init { .. } | Kind::Label(_) => {
+                Code::Fail
+            }
         }
     }
 

@@ -31,6 +31,7 @@ pub enum Kind {
     Thread(Option<Word>),
     Alike(Vec<Word>),
     Constant { name: Word, value: Word },
+    Init { l: Word, value: Word },
     Label(Word),
     Store { l: Word, p: Word },
     Load { r: Word, l: Word },
@@ -54,9 +55,10 @@ pub struct Statement {
 }
 
 impl Kind {
-    /// The location that it reads or writes.
+    /// The location that it reads, writes or gives a starting value.
     pub fn location(&self) -> Option<&Word> {
         match self {
+            Kind::Init { l, .. } => Some(l),
             Kind::Store { l, .. } | Kind::Load { l, .. } | Kind::FetchAdd { l, .. } | Kind::CompareSwap { l, .. } => Some(l),
             _ => None,
         }
@@ -70,10 +72,10 @@ impl Kind {
         }
     }
 
-    /// Does it read, does it write a location?
+    /// Does it read, does it give a location a value?
     pub fn accesses(&self) -> (bool, bool) {
         match self {
-            Kind::Store { .. } => (false, true),
+            Kind::Init { .. } | Kind::Store { .. } => (false, true),
             Kind::Load { .. } => (true, false),
             Kind::FetchAdd { .. } | Kind::CompareSwap { .. } => (true, true),
             _ => (false, false),

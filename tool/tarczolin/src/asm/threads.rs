@@ -17,6 +17,7 @@ struct Thread<'a> {
 }
 
 pub struct Threads<'a> {
+    starts: Vec<(&'a Statement, u8, u32)>,
     threads: Vec<Thread<'a>>,
     alike: Vec<(&'a Statement, Vec<u8>)>,
 }
@@ -28,6 +29,8 @@ fn split<'a>(statements: &'a [Statement], wrong: &mut Wrongs) -> Vec<(&'a Statem
     for statement in statements {
         match &statement.kind {
             Kind::Constant { .. } => continue,
+            Kind::Init { .. } if threads.is_empty() && !declared => continue,
+            Kind::Init { .. } => wrong.add_at(statement, "init stands in front of the first thread".to_string()),
             Kind::Alike(_) => declared = true,
             _ if declared => {
                 let message = "threads and instructions must stand in front of the first declaration of alike threads";
@@ -65,21 +68,23 @@ impl<'a> Threads<'a> {
                 alike.push((statement, numbers));
             }
         }
-        Threads { threads, alike }
+        Threads { starts: starts(symbols, statements, wrong), threads, alike }
     }
 
     /// The frames of the program, in order.
     pub fn frames(&self) -> Vec<Frame> {
+        let starts = self.starts.iter().map(|(_, l, value)| Frame::Start(*l, *value));
         let code = |thread: &Thread| thread.made.iter().map(|made| Frame::Instruction(made.instruction)).collect::<Vec<_>>();
         let threads = self.threads.iter().flat_map(|thread| [vec![Frame::Thread], code(thread)].concat());
-        threads.chain(self.alike.iter().map(|(_, members)| Frame::Alike(members.clone()))).collect()
+        starts.chain(threads).chain(self.alike.iter().map(|(_, members)| Frame::Alike(members.clone()))).collect()
     }
 
     /// The statement of each frame.
     fn statements(&self) -> impl Iterator<Item = &'a Statement> + '_ {
         let code = |thread: &Thread<'a>| thread.made.iter().map(|made| made.statement).collect::<Vec<_>>();
         let threads = self.threads.iter().flat_map(move |thread| [vec![thread.opens], code(thread)].concat());
-        threads.chain(self.alike.iter().map(|(statement, _)| *statement))
+        let starts = self.starts.iter().map(|(statement, ..)| *statement);
+        starts.chain(threads).chain(self.alike.iter().map(|(statement, _)| *statement))
     }
 
     /// The place in the text of a line of the program file, from 1.
@@ -147,6 +152,25 @@ fn limits(made: &[Made], accesses: &mut usize, wrong: &mut Wrongs) {
             wrong.add_at(made.statement, message);
         }
     }
+}
+
+/// What the init lines say, each for another location.
+fn starts<'a>(symbols: &Symbols, statements: &'a [Statement], wrong: &mut Wrongs) -> Vec<(&'a Statement, u8, u32)> {
+    let mut starts: Vec<(&Statement, u8, u32)> = Vec::new();
+    for statement in statements {
+        let Kind::Init { l, value } = &statement.kind else { continue };
+        let named = || symbols.locations.get(&l.text).copied();
+        let Some(number) = words::location(&l.text).map_or_else(named, Result::ok) else { continue };
+        if let Some((above, ..)) = starts.iter().find(|(_, other, _)| *other == number) {
+            wrong.add(statement, l, format!("{} has a starting value already, in line {}", l.text, above.line));
+        }
+        match symbols.value(&value.text) {
+            Some(Ok(v)) => starts.push((statement, number, v)),
+            Some(Err(message)) => wrong.add(statement, value, message),
+            None => wrong.add(statement, value, format!("a number is expected here, not {}", value.text)),
+        }
+    }
+    starts
 }
 
 /// The number of a thread that an alike line names.

@@ -1,6 +1,6 @@
 //! The text form of a program file.
 use super::remarks::Remarks;
-use crate::program::{Frame, Names};
+use crate::program::{number, Frame, Names};
 
 /// The text of these frames, by these names, with these remark lines.
 pub fn text(frames: &[Frame], names: &Names, remarks: &Remarks) -> String {
@@ -17,6 +17,7 @@ pub fn text(frames: &[Frame], names: &Names, remarks: &Remarks) -> String {
                 name.map_or(format!("thread  # {thread}\n"), |name| format!("thread {name}\n"))
             }
             Frame::Instruction(instruction) => format!("  {}\n", names.instruction(thread, instruction)),
+            Frame::Start(l, value) => format!("init {} {}\n", names.location(*l), number(*value)),
             Frame::Alike(members) => {
                 let named = |t: &u8| names.threads.get(*t as usize).and_then(|thread| thread.name.clone());
                 let members: Vec<String> = members.iter().map(|t| named(t).unwrap_or_else(|| t.to_string())).collect();

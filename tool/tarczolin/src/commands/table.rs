@@ -51,7 +51,7 @@ pub const COMMANDS: [Command; 14] = [
         words: "FILE..",
         about: "each different final memory, registers and failure, how many listed executions end so, and the first that does",
         options: &[WHERE, JOBS_OPTION, JSON],
-        example: "tarczolin outcomes examples/queue-broken.asm --where 'consumer.item = 0 & tail = 2'",
+        example: "tarczolin outcomes examples/queue-broken.asm --where 'consumer.item = 0 & tail = 3'",
         run: outcomes::run,
     },
     Command {

@@ -5,7 +5,7 @@ use super::layout::{middle, Layout};
 use super::rows::{words, Row};
 use crate::execution::Execution;
 use crate::graph::{Event, Order};
-use crate::program::Names;
+use crate::program::{Names, Program};
 use std::fmt::Write;
 
 /// The heads of arrows, once for the whole page, one for each colour.
@@ -49,7 +49,7 @@ pub fn svg(execution: &Execution, rows: &[Row]) -> String {
          aria-label=\"graph of execution {}\">\n",
         execution.name()
     );
-    text += &head(&program.names, program.threads.len(), &layout);
+    text += &head(program, &layout);
     text += &program_order(execution, &layout);
     text += &arrows.iter().map(|arrow| drawn_arrow(&program.names, arrow, &layout)).collect::<String>();
     text += &boxes(&program.names, rows, &layout);
@@ -57,16 +57,17 @@ pub fn svg(execution: &Execution, rows: &[Row]) -> String {
 }
 
 /// The threads' names, and below them the initial writes.
-fn head(names: &Names, threads: usize, layout: &Layout) -> String {
+fn head(program: &Program, layout: &Layout) -> String {
     let mut text = String::new();
-    for t in 0..threads as u8 {
-        let name = escaped(&layout.fitted(t, &names.thread(t)));
+    for t in program.numbers() {
+        let name = escaped(&layout.fitted(t, &program.names.thread(t)));
         writeln!(text, "<text class=\"name t{t}\" x=\"{:.1}\" y=\"22\">{name}</text>", layout.x(t)).expect("text grows");
     }
     let (left, right) = (4.0, layout.width - 4.0);
     let line = format!("<line class=\"initial\" x1=\"{left}\" x2=\"{right:.1}\" y1=\"{INITIAL}\" y2=\"{INITIAL}\"/>\n");
     let above = INITIAL - 6.0;
-    text + &line + &format!("<text class=\"initial\" x=\"{left}\" y=\"{above}\">initial: every location is 0</text>\n")
+    let initial = escaped(&program.initial());
+    text + &line + &format!("<text class=\"initial\" x=\"{left}\" y=\"{above}\">initial: {initial}</text>\n")
 }
 
 /// From each step of a thread to its next one, straight down.

@@ -11,7 +11,8 @@ pub fn export(name: &str, program: &Program) -> Result<String, String> {
         return Err("a litmus test has at least one thread, and this program has none".to_string());
     }
     let height = columns.iter().map(Vec::len).max().unwrap_or(0);
-    let mut text = format!("X86 {name}\n{{ }}\n");
+    let starts = program.starts.iter().map(|(l, value)| format!("{}={value}; ", program.names.location(*l)));
+    let mut text = format!("X86 {name}\n{{ {}}}\n", starts.collect::<String>());
     for row in 0..height {
         let cell = |column: &Vec<String>| format!(" {:<16}", column.get(row).map_or("", String::as_str));
         text += &format!("{};\n", columns.iter().map(cell).collect::<Vec<_>>().join("|"));

@@ -13,9 +13,8 @@ pub fn import(text: &str) -> Result<String, String> {
     // in front of the braces stand remarks of the tool that made the test
     let (_, rest) = rest.split_once('{').ok_or("the initial values stand in braces")?;
     let (initial, rest) = rest.split_once('}').ok_or("the initial values stand in braces")?;
-    initially_zero(initial)?;
     let (code, behind) = parts(rest);
-    let mut form = format!("# {name}\n# exists: {}\n", condition(&behind)?);
+    let mut form = format!("# {name}\n# exists: {}\n", condition(&behind)?) + &starts(initial)?;
     let rows: Vec<Vec<&str>> = code.trim().trim_end_matches(';').split(';').map(cells).collect();
     for (t, head) in rows[0].iter().enumerate() {
         if *head != format!("P{t}") {
@@ -48,13 +47,22 @@ fn cells(row: &str) -> Vec<&str> {
     row.split('|').map(str::trim).collect()
 }
 
-/// Locations and registers begin with 0.
-fn initially_zero(text: &str) -> Result<(), String> {
-    let values = text.split(';').filter_map(|one| one.rsplit_once('='));
-    match values.map(|(_, value)| value.trim()).find(|value| *value != "0") {
-        Some(value) => Err(format!("an initial value of {value} is not possible yet: memory begins with 0")),
-        None => Ok(()),
+/// The initial values of locations, a statement each; 0 needs none, and registers begin with 0.
+fn starts(text: &str) -> Result<String, String> {
+    let mut form = String::new();
+    for (place, value) in text.split(';').filter_map(|one| one.rsplit_once('=')) {
+        let (place, value) = (place.trim(), value.trim());
+        let name = place.rsplit(char::is_whitespace).next().unwrap_or(place).trim_matches(['[', ']', '*']);
+        match crate::asm::constant(value) {
+            Some(Ok(0)) => {}
+            Some(Ok(_)) if place.contains(':') => {
+                return Err(format!("{place} begins with {value}, which is not possible: registers begin with 0"))
+            }
+            Some(Ok(_)) => form += &format!("init {name} {value}\n"),
+            _ => return Err(format!("{place} begins with {value}, which is no number of 32 bits")),
+        }
     }
+    Ok(form)
 }
 
 /// An operand: a number, a register, or a location in brackets.

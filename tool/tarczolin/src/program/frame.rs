@@ -9,6 +9,8 @@ pub enum Frame {
     Instruction(Instruction),
     /// Threads declared alike.
     Alike(Vec<u8>),
+    /// A location and the value that it starts with.
+    Start(u8, u32),
 }
 
 /// The five bytes of an operand.
@@ -40,6 +42,7 @@ impl Frame {
         let instruction = match self {
             Frame::Thread => return vec![0x01],
             Frame::Alike(members) => return [vec![0x02], members.clone()].concat(),
+            Frame::Start(l, value) => return [vec![0x03, *l], value.to_be_bytes().to_vec()].concat(),
             Frame::Instruction(instruction) => *instruction,
         };
         match instruction {
@@ -61,6 +64,7 @@ impl Frame {
         let frame = match *kind {
             0x01 => Frame::Thread,
             0x02 => Frame::Alike(std::mem::take(&mut fields.0).to_vec()),
+            0x03 => Frame::Start(fields.location()?, fields.word()?),
             kind => Frame::Instruction(fields.instruction(kind)?),
         };
         fields.0.is_empty().then_some(frame)
@@ -103,11 +107,16 @@ impl Fields<'_> {
         self.byte().filter(|n| (1..=LONGEST_SKIP).contains(n))
     }
 
-    fn operand(&mut self) -> Option<Operand> {
-        let kind = self.byte()?;
+    /// Four bytes, most significant first.
+    fn word(&mut self) -> Option<u32> {
         let (value, rest) = self.0.split_at_checked(4)?;
         self.0 = rest;
-        let value = u32::from_be_bytes(value.try_into().ok()?);
+        Some(u32::from_be_bytes(value.try_into().ok()?))
+    }
+
+    fn operand(&mut self) -> Option<Operand> {
+        let kind = self.byte()?;
+        let value = self.word()?;
         match kind {
             0 => Some(Operand::Constant(value)),
             1 if value < REGISTERS as u32 => Some(Operand::Register(value as u8)),

@@ -11,11 +11,13 @@ pub use instruction::{number, Comparison, Instruction, Operand};
 pub use limits::*;
 pub use names::{Names, ThreadNames};
 
-/// The code of each thread, the threads that each `02` line declares alike, and the names of the text form.
+/// The code of each thread, the threads that each `02` line declares alike, what each `03` line lets a location start with, and the names
+/// of the text form.
 #[derive(Clone, Debug, Default, PartialEq, Eq)]
 pub struct Program {
     pub threads: Vec<Vec<Instruction>>,
     pub alike: Vec<Vec<u8>>,
+    pub starts: Vec<(u8, u32)>,
     pub names: Names,
 }
 
@@ -28,6 +30,7 @@ impl Program {
                 Frame::Thread => program.threads.push(Vec::new()),
                 Frame::Instruction(i) => program.threads.last_mut().expect("behind a thread").push(i),
                 Frame::Alike(members) => program.alike.push(members),
+                Frame::Start(l, value) => program.starts.push((l, value)),
             }
         }
         program
@@ -43,9 +46,31 @@ impl Program {
         0..self.threads.len() as u8
     }
 
-    /// The locations that its code names, ascending.
+    /// The values that memory starts with: those of the `03` lines, else 0.
+    pub fn memory(&self) -> [u32; 8] {
+        let mut memory = [0; 8];
+        self.starts.iter().for_each(|(l, value)| memory[*l as usize] = *value);
+        memory
+    }
+
+    /// What memory starts with, for the eye.
+    pub fn initial(&self) -> String {
+        if self.starts.is_empty() {
+            return "every location is 0".to_string();
+        }
+        let said = |(l, value): &(u8, u32)| format!("{} is {}", self.names.location(*l), number(*value));
+        let all = self.starts.iter().map(said).collect::<Vec<_>>().join(", ");
+        let others = self.locations().len() > self.starts.len();
+        if others {
+            return format!("{all}, all else is 0");
+        }
+        all
+    }
+
+    /// The locations that its code or a `03` line names, ascending.
     pub fn locations(&self) -> BTreeSet<u8> {
-        self.threads.iter().flatten().filter_map(Instruction::location).collect()
+        let started = self.starts.iter().map(|(l, _)| *l);
+        self.threads.iter().flatten().filter_map(Instruction::location).chain(started).collect()
     }
 
     /// The registers that a thread's code names, ascending.

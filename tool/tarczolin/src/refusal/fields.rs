@@ -8,12 +8,15 @@ enum Field {
     Location,
     Operand,
     Skip,
+    /// Four bytes of any value.
+    Value,
 }
 
 use Field::*;
 
-/// The kinds of instructions: the first byte, a name, and the fields behind it.
-const KINDS: [(u8, &str, &[Field]); 10] = [
+/// The kinds of lines with fields: the first byte, a name, and the fields behind it.
+const KINDS: [(u8, &str, &[Field]); 11] = [
+    (0x03, "starting value", &[Location, Value]),
     (0x10, "store", &[Location, Operand]),
     (0x11, "load", &[Register, Location]),
     (0x12, "fetch and add", &[Register, Location, Operand]),
@@ -30,6 +33,7 @@ impl Field {
     fn length(self) -> usize {
         match self {
             Operand => 5,
+            Value => 4,
             _ => 1,
         }
     }
@@ -64,7 +68,7 @@ pub fn kind(frame: &[u8]) -> String {
                 let right = 1 + fields.iter().map(|f| f.length()).sum::<usize>();
                 format!("{first:02x} is a {name} and takes {right} bytes; this line has {length}")
             }
-            None => format!("the first byte {first:02x} is not known; lines begin with 01, 02, 10 to 13 or 20 to 25"),
+            None => format!("the first byte {first:02x} is not known; lines begin with 01 to 03, 10 to 13 or 20 to 25"),
         },
     }
 }

@@ -32,9 +32,14 @@ pub fn of_program(name: &str, file: &[u8], refusal: Refusal) -> Error {
     at_line(name, file, refusal, sentence(file, refusal))
 }
 
+/// Is it the program's own refusal?
+fn of_the_program(refusal: Refusal) -> bool {
+    refusal.number < 20 || refusal.number == 40
+}
+
 /// The message about a refused schedule, or about its refused program.
 pub fn of_schedule(name: &str, file: &[u8], names: &Names, schedule: &[u8], refusal: Refusal) -> Error {
-    if refusal.number < 20 {
+    if of_the_program(refusal) {
         return of_program(name, file, refusal);
     }
     let steps: Vec<String> = schedule.iter().map(|t| format!("{t:02x}")).collect();
@@ -49,7 +54,7 @@ pub fn of_schedule(name: &str, file: &[u8], names: &Names, schedule: &[u8], refu
 
 /// The message about a refused graph text, or about its refused program.
 pub fn of_graph([name, graph]: [&str; 2], file: &[u8], text: &[u8], refusal: Refusal) -> Error {
-    if refusal.number < 20 {
+    if of_the_program(refusal) {
         return of_program(name, file, refusal);
     }
     at_line(graph, text, refusal, graph::sentence(file, text, refusal))

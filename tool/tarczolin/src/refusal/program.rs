@@ -18,7 +18,7 @@ fn threads(frames: &[Frame]) -> Vec<Vec<Instruction>> {
         match frame {
             Frame::Thread => threads.push(Vec::new()),
             Frame::Instruction(i) => threads.iter_mut().last().into_iter().for_each(|code| code.push(*i)),
-            Frame::Alike(_) => {}
+            Frame::Alike(_) | Frame::Start(..) => {}
         }
     }
     threads
@@ -50,6 +50,7 @@ pub fn sentence(file: &[u8], refusal: Refusal) -> String {
         6 => limit(&frame, &before),
         7 => skip(file, refusal.place, &frame),
         8 => alike(&frame[1.min(frame.len())..], &before),
+        40 => start(&frame, &before),
         _ => "the file is refused".to_string(),
     }
 }
@@ -72,6 +73,14 @@ fn skip(file: &[u8], place: u64, frame: &[u8]) -> String {
     let left = behind.take_while(|line| matches!(line.first(), Some(b'1' | b'2'))).count();
     let skipped = frame.last().copied().unwrap_or(0);
     format!("this skips {skipped} instructions, and only {left} follow in its thread")
+}
+
+/// 40: what stands in front of the line that should not.
+fn start(frame: &[u8], before: &[Frame]) -> String {
+    match (before.iter().all(|f| matches!(f, Frame::Start(..))), frame.get(1)) {
+        (true, Some(l)) => format!("location {l:02x} has a starting value already; each has at most one 03 line"),
+        _ => "starting values (03) must stand in front of the first thread".to_string(),
+    }
 }
 
 /// 8: the first thing that is wrong with the members.

@@ -35,7 +35,10 @@ fn next(program: &Program, graph: &Graph, machine: &Machine, done: &Events) -> R
         let Some(source) = graph.reads.get(&event) else {
             return misfit(format!("{} reads, and no 40 line says from where", called(names, event)));
         };
-        let Some(write) = source else { return Ok(Some((t, 0))) };
+        let Some(write) = source else {
+            let own = instruction.location().expect("an access");
+            return Ok(Some((t, program.memory()[own as usize])));
+        };
         match done.get(write) {
             Some(Done { left: None, .. }) => {
                 return misfit(format!("{} reads from {}, which does not write", called(names, event), called(names, *write)));

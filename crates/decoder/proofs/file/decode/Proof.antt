@@ -216,12 +216,12 @@ add-at-2 c =
     let line-end = c .before .before .before .before .before .before .before .before .before .before .before .before .before .before .line-end in
     let loop-test = c .before .before .before .before .before .before .before .before .before .before .before .before .before .before .before .loop-test in
     let if2 = c .before .before .before .before .before .before .before .before .before .before .before .before .before .if2 in
-    omega (arith, (before-end (args .file .now) (loop .at) (line-end .result) (loop-test .taken) (line-end .ensures) (if2 .left)), line-end .ensures)
+    omega (arith, (before-end (args .file .now) (loop .at) (line-end .result) (loop-test .taken) (line-end .ensures) (if2 .left)), line-end .ensures, c .before .before .before .before .before .before .before .before .before .before .before .before .before .before .before .before .before .before .if1 .left)
 
 add-number-2 : tie.Need-add-number-2 Inv-loop μ-loop
 add-number-2 c =
     let loop = c .before .before .before .before .before .before .before .before .before .before .before .before .before .before .before .before .loop in
-    omega (arith, loop .inv .0 .counted, loop .inv .0 .within)
+    omega (arith, loop .inv .0 .counted, loop .inv .0 .within, c .before .before .before .before .before .before .before .before .before .before .before .before .before .before .before .before .before .before .if1 .left)
 
 loop-less-2 : tie.Need-loop-less-2 Inv-loop μ-loop
 loop-less-2 c =

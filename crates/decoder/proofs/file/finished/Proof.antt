@@ -4,7 +4,7 @@ use mathlib.Core.Path.{_∙_, sym, ap}
 use native.Mathlib.Omega.{arith}
 use Rattle.program.specs.Decode.{accepted}
 use Rattle.decoder.specs.Compiled.{answerOf, verdictOf}
-use Rattle.decoder.proofs.HeldCode.{held-short}
+use Rattle.refusals.proofs.HeldCode.{held-short}
 use Rattle.decoder.proofs.HeldFinish.{held-threads, finish-far, finish-program}
 use Rattle.decoder.proofs.HeldProgram.{program-held}
 use Rattle.decoder.proofs.file.finished.Statement.{statement}
@@ -23,11 +23,11 @@ returns c =
 returns-2 : tie.Need-returns-2
 unfolding answerOf verdictOf
 returns-2 c =
-    let entry = c .before .before .before .before .before .before in
-    let first = c .before .before .far-skip in
+    let entry = c .before .before .before .before .before .before .before .before in
+    let first = c .before .before .before .before .far-skip in
     λ r held lined grouped. ap accepted (program-held (entry .args .t1) (entry .args .s) r held (omega (arith, held .threads, entry .pre .six))
     (held-short (entry .args .t1) (entry .args .s) r (entry .pre) held) grouped) ∙ sym (finish-program r (first .result) (first .ensures _ (held-threads
-    (entry .args .t1) (entry .args .t2) (entry .args .s) r (entry .pre) held lined)) (c .before .if1 .left))
+    (entry .args .t1) (entry .args .t2) (entry .args .s) r (entry .pre) held lined)) (c .before .before .before .if1 .left))
 
 pub finished-spec : {M : Type 1} → statement M
 finished-spec = tie.close (tie.spec far-skip-requires (λ c κs. search needs) returns returns-2)

@@ -8,10 +8,10 @@ use Rattle.decoder.proofs.taken.extended.Statement.{statement}
 use Rattle.decoder.proofs.taken.extended.Tie as tie
 
 add-lengths : tie.Need-add-lengths
-add-lengths c = omega (arith, c .before .before .before .pre .0 .sixteen (c .before .before .before .args .s .threads - 1))
+add-lengths c = omega (arith, c .before .before .before .before .pre .0 .sixteen (c .before .before .before .before .args .s .threads - 1))
 
 add-accesses : tie.Need-add-accesses
-add-accesses c = omega (arith, c .before .before .before .before .before .pre .0 .access-24)
+add-accesses c = omega (arith, c .before .before .before .before .before .before .pre .0 .access-24)
 
 returns : tie.Need-returns
 returns c = rw (sym (c .before .is-access .ensures) ∙ c .if1 .taken)

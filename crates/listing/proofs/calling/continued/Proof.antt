@@ -5,7 +5,7 @@ use mathlib.Core.Path.{sym, ap, _∙_}
 use Rattle.decoder.specs.Compiled.{programOf}
 use Rattle.schedules.specs.Calls.{Result}
 use Rattle.listing.specs.AnswerOf.{listAnswerOf}
-use Rattle.machine.proofs.HeldStart.{loaded-compiled}
+use Rattle.machine.proofs.HeldStart.{loaded-compiled, starting-compiled}
 use Rattle.listing.proofs.FileCalls.{continue-short, continue-refused, continue-whole, continue-output}
 use Rattle.listing.proofs.calling.continued.Statement.{statement}
 use Rattle.listing.proofs.calling.continued.Tie as tie
@@ -19,36 +19,36 @@ returns c =
 
 replayed-requires : tie.Need-replayed-requires
 replayed-requires c κs =
-    let entry = c .before .before .before .before .before .before .before in
+    let entry = c .before .before .before .before .before .before .before .before in
     let pre = entry .pre in
     let args = entry .args in
-    (programOf (args .program), loaded-compiled (args .program) (pre))
+    (programOf (args .program), loaded-compiled (args .program) (pre), starting-compiled (args .program))
 
 returns-2 : tie.Need-returns-2
 unfolding listAnswerOf
 returns-2 c =
-    let entry = c .before .before .before .before .before .before .before .before .before .before .before in
+    let entry = c .before .before .before .before .before .before .before .before .before .before .before .before in
     let pre = entry .pre in
     let args = entry .args in
-    let if1 = c .before .before .before .before .before .before .before .before .if1 in
+    let if1 = c .before .before .before .before .before .before .before .before .before .if1 in
     let replayed = c .before .before .before .replayed in
     let v = c .before .v in
     let p = args .program in
-    let e = continue-refused (programOf p) (args .schedule .now) (args .out .now) (p .code) (p .lengths) (replayed .result) (replayed .ensures (programOf p) (loaded-compiled p (pre))) (if1 .left) _ _ (v .given .1) in
+    let e = continue-refused (programOf p) (args .schedule .now) (args .out .now) (p .code) (p .lengths) (replayed .result) (replayed .ensures (programOf p) (loaded-compiled p (pre)) (starting-compiled p)) (if1 .left) _ _ (v .given .1) in
     (ap (λ (r : Result). listAnswerOf (r .0)) (sym e), ap (λ (r : Result). r .1) (sym e))
 
 returns-3 : tie.Need-returns-3
 returns-3 c =
-    let entry = c .before .before .before .before .before .before .before .before .before .before .before .before .before .before .before in
+    let entry = c .before .before .before .before .before .before .before .before .before .before .before .before .before .before .before .before in
     let pre = entry .pre in
     let args = entry .args in
-    let if1 = c .before .before .before .before .before .before .before .before .before .before .before .before .if1 in
+    let if1 = c .before .before .before .before .before .before .before .before .before .before .before .before .before .if1 in
     let replayed = c .before .before .before .before .before .before .before .replayed in
     let enum-told = c .before .before .before .before .before .enum-told in
     let next-listed = c .before .before .next-listed in
     let p = args .program in
     let after = c .before .before .before .before .behind .ensures (programOf p) false (pre) in
-    let h = replayed .ensures (programOf p) (loaded-compiled p (pre)) in (
+    let h = replayed .ensures (programOf p) (loaded-compiled p (pre)) (starting-compiled p) in (
       next-listed .ensures .0 ∙ ap listAnswerOf (continue-whole (programOf p) (args .schedule .now) (args .out .now) (p .code) (p .lengths) (replayed .result) h (if1 .left) _ after (enum-told .given .1)),
       next-listed .ensures .1 ∙ continue-output (programOf p) (args .schedule .now) (args .out .now) (p .code) (p .lengths) (replayed .result) h (if1 .left) _ after (enum-told .given .1),
     )

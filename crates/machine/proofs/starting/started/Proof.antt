@@ -12,11 +12,11 @@ use Rattle.machine.proofs.starting.started.Statement.{statement}
 use Rattle.machine.proofs.starting.started.Tie as tie
 
 abbrev Inv-loop : tie.InvT-loop
-Inv-loop code lengths threads all₀ t₀ all t =
+Inv-loop code lengths threads starting all₀ t₀ all t =
     (t ≤ 6) × (length all ≡ 6) × ((p : Program) → Loaded code lengths threads p → (u : ℕ) → u < t → HoldsAt code lengths (getD all u idle) (start p) u)
 
 abbrev μ-loop : tie.MeasureT-loop
-μ-loop code lengths threads all₀ t₀ all t = 6 - t
+μ-loop code lengths threads starting all₀ t₀ all t = 6 - t
 
 loop-holds : tie.Need-loop-holds Inv-loop μ-loop
 loop-holds c = (search needs, refl, λ p loaded u b. absurd (omega arith))
@@ -40,7 +40,7 @@ returns : tie.Need-returns Inv-loop μ-loop
 returns c =
     let args = c .before .before .args in
     let loop = c .before .loop in
-    λ p loaded. start-held (args .code .now) (args .lengths .now) (args .threads) p loaded (loop .all) (loop .t) (loop .inv .1) (c .loop-test .left) (loop .inv .2 p loaded)
+    (refl, λ p loaded e. start-held (args .code .now) (args .lengths .now) (args .threads) p loaded (loop .all) (loop .t) _ (loop .inv .1) (c .loop-test .left) (loop .inv .2 p loaded) e)
 
 pub started-spec : {M : Type 1} → statement M
 started-spec = tie.close (tie.spec Inv-loop μ-loop loop-holds opened-requires (λ c. search needs) (λ c. search needs) (λ c. search needs) (λ c. search needs) loop-again returns)

@@ -10,9 +10,9 @@ returns : tie.Need-returns
 returns c =
     let a = c .before .before .before .before .args in
     let started = c .before .before .before .started in
-    λ class groups p loaded lines.
-    reached-start (a .code .now) (a .lengths .now) class (a .threads) groups (started .result) _ (c .live-set .result) p loaded lines (started .ensures p loaded)
-    (c .live-set .ensures (a .code .now) (started .result) (start p) refl (started .ensures p loaded))
+    λ class groups p loaded e lines.
+    reached-start (a .code .now) (a .lengths .now) class (a .threads) groups (started .result) _ (c .live-set .result) p loaded lines (started .ensures .1 p loaded e)
+    (c .live-set .ensures (a .code .now) (started .result) (start p) refl (started .ensures .1 p loaded e))
 
 pub begun-spec : {M : Type 1} → statement M
 begun-spec = tie.close (tie.spec (λ c κs. search needs) (λ c κs. search needs) returns)

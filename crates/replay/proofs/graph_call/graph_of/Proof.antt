@@ -6,7 +6,7 @@ use Rattle.decoder.specs.Compiled.{programOf}
 use Rattle.sc.specs.GraphCall.{graphOutput}
 use Rattle.replay.specs.GraphWord.{graphAnswerOf}
 use Rattle.sc.specs.GraphCall.{GraphResult}
-use Rattle.machine.proofs.HeldStart.{loaded-compiled}
+use Rattle.machine.proofs.HeldStart.{loaded-compiled, starting-compiled}
 use Rattle.replay.proofs.GraphCalled.{graph-short, graph-refused, graph-24, graph-answered}
 use Rattle.replay.proofs.graph_call.graph_of.Statement.{statement}
 use Rattle.replay.proofs.graph_call.graph_of.Tie as tie
@@ -23,18 +23,18 @@ returns c =
 
 replayed-requires : tie.Need-replayed-requires
 replayed-requires c κs =
-    let c7 = c .before .before .before .before .before .before .before in
-    ((programOf (c7 .args .p)), (loaded-compiled (c7 .args .p) (c7 .pre)))
+    let c8 = c .before .before .before .before .before .before .before .before in
+    (programOf (c8 .args .p), loaded-compiled (c8 .args .p) (c8 .pre), starting-compiled (c8 .args .p))
 
 write-graph-requires : tie.Need-write-graph-requires
 write-graph-requires c κs =
     let c3 = c .before .before .before in
     let c5 = c3 .before .before in
-    let c10 = c5 .before .before .before .before .before in
+    let c10 = c5 .before .before .before .before .before .before in
     let c13 = c10 .before .before .before in (
       c10 .if1 .left,
       graph-24 (c13 .args .p .code) (c13 .args .p .lengths) (programOf (c13 .args .p)) (c13 .args .schedule .now) (c5 .replayed
-          .result) (c5 .replayed .ensures (programOf (c13 .args .p)) (loaded-compiled (c13 .args .p) (c13 .pre))) (length (c13 .args .out .now)) (c10 .if1
+          .result) (c5 .replayed .ensures (programOf (c13 .args .p)) (loaded-compiled (c13 .args .p) (c13 .pre)) (starting-compiled (c13 .args .p))) (length (c13 .args .out .now)) (c10 .if1
           .left) (c3 .enum-told .given .1),
     )
 
@@ -42,20 +42,20 @@ returns-2 : tie.Need-returns-2
 unfolding graphAnswerOf graphOutput
 returns-2 c =
     let c3 = c .before .before .before in
-    let c8 = c3 .before .before .before .before .before in
+    let c8 = c3 .before .before .before .before .before .before in
     let c11 = c8 .before .before .before in
     let e = graph-refused (c11 .args .p .code) (c11 .args .p .lengths) (programOf (c11 .args .p)) (c11 .args .schedule .now) (c3 .replayed .result)
-    (c3 .replayed .ensures (programOf (c11 .args .p)) (loaded-compiled (c11 .args .p) (c11 .pre))) (length (c11 .args .out .now)) (c8 .if1 .left) _ _
+    (c3 .replayed .ensures (programOf (c11 .args .p)) (loaded-compiled (c11 .args .p) (c11 .pre)) (starting-compiled (c11 .args .p))) (length (c11 .args .out .now)) (c8 .if1 .left) _ _
     (c .before .v .given .1) in (ap graphAnswerOf (sym e), ap (λ (a : GraphResult). graphOutput a (c11 .args .out .now)) (sym e))
 
 returns-3 : tie.Need-returns-3
 returns-3 c =
     let c6 = c .before .before .before .before .before .before in
     let c8 = c6 .before .before in
-    let c13 = c8 .before .before .before .before .before in
+    let c13 = c8 .before .before .before .before .before .before in
     let c16 = c13 .before .before .before in
     graph-answered (c16 .args .p .code) (c16 .args .p .lengths) (programOf (c16 .args .p)) (c16 .args .schedule .now) (c8 .replayed .result) (c8
-    .replayed .ensures (programOf (c16 .args .p)) (loaded-compiled (c16 .args .p) (c16 .pre))) (length (c16 .args .out .now)) (c13 .if1 .left) (c6
+    .replayed .ensures (programOf (c16 .args .p)) (loaded-compiled (c16 .args .p) (c16 .pre)) (starting-compiled (c16 .args .p))) (length (c16 .args .out .now)) (c13 .if1 .left) (c6
     .enum-told .given .1) (c16 .pre) (c16 .args .out .now) _ _ (c .before .before .write-graph .ensures)
 
 pub graph-of-spec : {M : Type 1} → statement M

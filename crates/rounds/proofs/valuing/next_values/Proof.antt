@@ -10,10 +10,10 @@ use Rattle.rounds.proofs.valuing.next_values.Statement.{statement}
 use Rattle.rounds.proofs.valuing.next_values.Tie as tie
 
 abbrev Inv-loop : tie.InvT-loop
-Inv-loop pairs left threads vs₀ k₀ vs k = (k ≤ 16 * threads) × (length vs ≡ 96) × ((j : ℕ) → j < k → getD vs j 0 ≡ sourced pairs left j)
+Inv-loop pairs left places starting threads vs₀ k₀ vs k = (k ≤ 16 * threads) × (length vs ≡ 96) × ((j : ℕ) → j < k → getD vs j 0 ≡ sourced pairs left places starting j)
 
 abbrev μ-loop : tie.MeasureT-loop
-μ-loop pairs left threads vs₀ k₀ vs k = 16 * threads - k
+μ-loop pairs left places starting threads vs₀ k₀ vs k = 16 * threads - k
 
 loop-holds : tie.Need-loop-holds Inv-loop μ-loop
 loop-holds c = (search needs, search needs, λ j h. absurd (omega arith))
@@ -24,7 +24,7 @@ loop-again c =
     let pre = c .before .before .before .pre in
     let loop = c .before .before .loop in
     let loop-test = c .before .loop-test in
-    (search needs, length-set (loop .vs) (loop .k) (c .found .result) ∙ loop .inv .1, filled (args .pairs .now) (args .left .now) (loop .vs) (loop .k) (c .found .result) (loop .inv .1) (omega (arith, loop-test .taken, pre)) (loop .inv .2) (c .found .ensures))
+    (search needs, length-set (loop .vs) (loop .k) (c .found .result) ∙ loop .inv .1, filled (args .pairs .now) (args .left .now) (args .places .now) (args .starting) (loop .vs) (loop .k) (c .found .result) (loop .inv .1) (omega (arith, loop-test .taken, pre)) (loop .inv .2) (c .found .ensures))
 
 returns : tie.Need-returns Inv-loop μ-loop
 returns c = λ j h. c .before .loop .inv .2 j (omega (arith, c .before .loop .inv .0))

@@ -4,7 +4,7 @@ use Prim.Native.Nat.{ℕ, _≤_, _-_}
 use mathlib.Core.Path.{_≡_}
 use native.Mathlib.Omega.{arith}
 use mathlib.Core.List.{List}
-use Rattle.program.specs.Program.{Program}
+use Rattle.program.specs.Program.{Program, initial}
 use Rattle.sc.specs.State.{Event}
 use Rattle.sc.specs.Graph.{Graph}
 use Rattle.machine.specs.Held.{Loaded}
@@ -20,15 +20,15 @@ use Rattle.rounds.proofs.valuing.places.Statement.{statement}
 use Rattle.rounds.proofs.valuing.places.Tie as tie
 
 abbrev Inv-loop : tie.InvT-loop
-Inv-loop code lengths threads pairs vs₀ k₀ vs k =
-    (k ≤ 24) × ((p : Program) (text counts : List ℕ) (g : Graph) → Loaded code lengths threads p → readGraph threads text ≡ parsed g → Tabled pairs counts g →
+Inv-loop code lengths threads starting pairs vs₀ k₀ vs k =
+    (k ≤ 24) × ((p : Program) (text counts : List ℕ) (g : Graph) → Loaded code lengths threads p → starting ≡ initial p → readGraph threads text ≡ parsed g → Tabled pairs counts g →
     (e : Event) → Named threads e → valuesIn vs e ≡ values p g k e)
 
 abbrev μ-loop : tie.MeasureT-loop
-μ-loop code lengths threads pairs vs₀ k₀ vs k = 24 - k
+μ-loop code lengths threads starting pairs vs₀ k₀ vs k = 24 - k
 
 loop-holds : tie.Need-loop-holds Inv-loop μ-loop
-loop-holds c = (search needs, λ p text counts g loaded e T x h. values-start p g x)
+loop-holds c = (search needs, λ p text counts g loaded m e T x h. values-start p g x)
 
 in-round-requires : tie.Need-in-round-requires Inv-loop μ-loop
 in-round-requires c κs = c .before .before .before .pre
@@ -53,7 +53,7 @@ returns c =
     let in-round = c .before .before .before .before .before .before .before .before .before .in-round in
     let next-values = c .before .before .before .before .before .next-values in
     let same-values = c .before .before .same-values in
-    λ p text counts g loaded e T. places-stay (args .threads) (six-held (args .code .now) (args .lengths .now) (args .threads) p loaded) p (loop .vs) (in-round .result .places) (in-round .result .left) (in-round .ensures p loaded) (args .t4) counts g (read-readable (args .threads) text g e) T (loop .k) (loop .inv .1 p text counts g loaded e T) (loop-test .taken) (next-values .result) (next-values .ensures) (same-values .ensures (c .before .if1 .taken))
+    λ p text counts g loaded m e T. places-stay (args .threads) (six-held (args .code .now) (args .lengths .now) (args .threads) p loaded) p (loop .vs) (in-round .result .places) (in-round .result .left) (in-round .ensures p loaded m) (args .t5) counts (args .starting) g (read-readable (args .threads) text g e) T m (loop .k) (loop .inv .1 p text counts g loaded m e T) (loop-test .taken) (next-values .result) (next-values .ensures) (same-values .ensures (c .before .if1 .taken))
 
 loop-again : tie.Need-loop-again Inv-loop μ-loop
 loop-again c =
@@ -61,7 +61,7 @@ loop-again c =
     let loop = c .before .before .before .before .before .before .before .before .before .before .before .loop in
     let in-round = c .before .before .before .before .before .before .before .before .in-round in
     let next-values = c .before .before .before .before .next-values in
-    (search needs, λ p text counts g loaded e T x h. values-more (args .threads) (six-held (args .code .now) (args .lengths .now) (args .threads) p loaded) p (loop .vs) (in-round .result .places) (in-round .result .left) (in-round .ensures p loaded) (args .t4) counts g (read-readable (args .threads) text g e) T (loop .k) (loop .inv .1 p text counts g loaded e T) (next-values .result) (next-values .ensures) x h)
+    (search needs, λ p text counts g loaded m e T x h. values-more (args .threads) (six-held (args .code .now) (args .lengths .now) (args .threads) p loaded) p (loop .vs) (in-round .result .places) (in-round .result .left) (in-round .ensures p loaded m) (args .t5) counts (args .starting) g (read-readable (args .threads) text g e) T m (loop .k) (loop .inv .1 p text counts g loaded m e T) (next-values .result) (next-values .ensures) x h)
 
 in-round-requires-2 : tie.Need-in-round-requires-2 Inv-loop μ-loop
 in-round-requires-2 c κs = c .before .before .before .pre
@@ -71,7 +71,7 @@ returns-2 c =
     let args = c .before .before .before .before .before .args in
     let loop = c .before .before .before .before .loop in
     let in-round2 = c .before .in-round2 in
-    λ p text counts g loaded e T. places-are (args .threads) (six-held (args .code .now) (args .lengths .now) (args .threads) p loaded) p (loop .vs) (in-round2 .result .places) (in-round2 .result .left) (in-round2 .ensures p loaded) (args .t4) counts g (read-readable (args .threads) text g e) T (loop .k) (loop .inv .1 p text counts g loaded e T) (omega (arith, loop .inv .0))
+    λ p text counts g loaded m e T. places-are (args .threads) (six-held (args .code .now) (args .lengths .now) (args .threads) p loaded) p (loop .vs) (in-round2 .result .places) (in-round2 .result .left) (in-round2 .ensures p loaded m) (args .t5) counts (args .starting) g (read-readable (args .threads) text g e) T m (loop .k) (loop .inv .1 p text counts g loaded m e T) (omega (arith, loop .inv .0))
 
 pub places-spec : {M : Type 1} → statement M
 places-spec = tie.close (tie.spec Inv-loop μ-loop loop-holds in-round-requires next-values-requires same-values-requires returns (λ c. search needs) (λ c. search needs) loop-again in-round-requires-2 returns-2)
