@@ -1,4 +1,5 @@
--- Document 01's two graph texts, the empty one, and one whose initial write carries 1: for each the frames of the program's file and of the text, and the judge's answer.
+-- Document 01's two graph texts, the empty one, and one whose initial write carries 1:
+-- for each the frames of the program's file and of the text, and the judge's answer.
 use mathlib.Core.List.{List, [], _∷_}
 use Rattle.consistent.specs.Answer.{Answer, consistent, inconsistent}
 use Rattle.cases.specs.Rows.{Frame, nothing, buffering, sentinel}

@@ -48,7 +48,8 @@ pub(crate) fn judged(
     requires { ⌜ ((p : Program) × (text : List ℕ) × (g : Graph) × Loaded (now code) (now lengths) threads p
         × (starting ≡ initial p) × (readGraph threads text ≡ parsed g) × Tabled pairs counts g) ⌝ }
     ensures { λ r. ⌜ ((p : Program) (text : List ℕ) (g : Graph) → Loaded (now (code .entry)) (now (lengths .entry)) threads p
-        → starting ≡ initial p → readGraph threads text ≡ parsed g → Tabled pairs counts g → JudgedAs (r .yes) (r .schedule) (r .steps) (judge p g)) ⌝ }
+        → starting ≡ initial p → readGraph threads text ≡ parsed g → Tabled pairs counts g
+        → JudgedAs (r .yes) (r .schedule) (r .steps) (judge p g)) ⌝ }
 {
     let table = places(code, lengths, threads, starting, pairs);
     let w = walked(code, lengths, threads, starting, pairs, table);

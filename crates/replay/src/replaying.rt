@@ -75,8 +75,8 @@ fn with_step(made: [u8; STEPS], k: usize, t: u8) -> [u8; STEPS]
     steps
 }
 
-// Carries out a schedule of the program in these rows, from these starting values. A step takes memory, its thread's registers and the schedule so far and gives them
-// back whole.
+// Carries out a schedule of the program in these rows, from these starting values. A step takes memory, its thread's registers and the
+// schedule so far and gives them back whole.
 pub fn replayed(
     code: &Code,
     lengths: &[usize; 6],

@@ -100,6 +100,7 @@ turns = record {
       []
       ) ∷ [];
   groups = [];
+  starting = zeros;
 }
 
 turned : seen turns (0 ∷ 0 ∷ []) ≡ record {
