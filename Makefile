@@ -6,7 +6,8 @@
 # make tool              builds the command: target/cargo/release/tarczolin; LIBRARY_FROM=L takes the library L, proved elsewhere
 # make library           builds and proves the static library: target/staticlib/libtarczolin.a
 # make install PREFIX=P  the command, the library, the header, pkg-config, the manual page, completions, below P (DESTDIR before it)
-# make bench             times of the library beside plain Rust
+# make bench             times of the library beside plain Rust; draws docs/listing-time.svg
+# make walk              the list beside a walk over all schedules in plain Rust: equal byte for byte? both times; PROGRAMS='F ..': of these
 # make fuzz SECONDS=N    random bytes to every call, for so long
 # make valgrind          the Rust tests, few cases each, under valgrind
 FILE ?= examples/whole.hex
@@ -20,7 +21,7 @@ SOURCES = crates.txt $(shell find crates -name '*.rt' -o -name '*.antt')
 VALGRIND = valgrind --quiet --error-exitcode=9 --leak-check=full --show-leak-kinds=definite --errors-for-leak-kinds=definite \
   --trace-children=yes --log-file=$(CURDIR)/target/valgrind/%p.log
 
-.PHONY: help test check list explorer tool library install bench fuzz valgrind
+.PHONY: help test check list explorer tool library install bench walk fuzz valgrind
 
 help:
 	@sed -n 's/^# make/make/p' Makefile
@@ -61,6 +62,9 @@ install: tool
 
 bench: $(LIBRARY)
 	@$(CARGO) run $(QUIET) --bin bench
+
+walk: $(LIBRARY)
+	@$(CARGO) run $(QUIET) --bin walk -- $(PROGRAMS)
 
 fuzz: $(LIBRARY)
 	@FUZZ_SECONDS=$(SECONDS) FUZZ_SEED=$$(date +%s) $(CARGO) test $(QUIET) --package tarczolin-tests --test fuzz -- --nocapture

@@ -1,5 +1,6 @@
 //! Tests of the static library: an oracle written from document 01 alone, and random inputs.
 pub use tarczolin_sys as calls;
+pub mod beside;
 pub mod files;
 pub mod lent;
 pub mod oracle;

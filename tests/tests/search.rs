@@ -25,9 +25,9 @@ fn same_lists() {
             false
         });
         assert!(list == right, "{}", file.escape_ascii());
-        let (full, listed) = walk(&program);
-        assert_eq!(listed, right.len() as u64, "{}", file.escape_ascii());
-        shorter += (search.reached < full) as usize;
+        let walked = walk(&program);
+        assert!(walked.rows == right.iter().flat_map(listing::row).collect::<Vec<u8>>(), "{}", file.escape_ascii());
+        shorter += (search.reached < walked.full) as usize;
         let from = schedule::full(&mut random, &program);
         assert_eq!(search.next(Some(&from)), listing::after(&right, &from), "{}", file.escape_ascii());
     }

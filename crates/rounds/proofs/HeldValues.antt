@@ -1,5 +1,5 @@
 -- The table of values: after each round it holds the values of that round, for every access that a text can name.
-use Prim.Native.Nat.{ℕ, zero, suc, _+_, _*_, _<_, _≤_}
+use Prim.Native.Nat.{ℕ, zero, suc, _+_, _*_, _-_, _<_, _≤_}
 use mathlib.Core.Path.{_≡_, refl, sym, ap, ap₂, _∙_}
 use mathlib.Core.Logic.{_⊎_, inl, inr}
 use mathlib.Core.Bool.{Bool, true, false, cond}
@@ -18,13 +18,9 @@ use Rattle.consistent.specs.Same.{sameEvent}
 use Rattle.consistent.proofs.RoundValues.{sourceIn, leftBy, nextRound, values}
 use Rattle.graph_reader.specs.Held.{noLine, lineIn, Tabled}
 use Rattle.rounds.specs.HeldRounds.{valuesIn, RoundHeld, sourced}
+pub use Rattle.rounds.proofs.HeldRoundTurns.{zeros}
 use Rattle.consistent.proofs.Readable.{Named, Source, Readable}
 use Rattle.consistent.proofs.RoundTables.{named-source, round-same, location-same}
-
-pub zeros : (n k : ℕ) → _≡_ {A = ℕ} (getD (replicate n 0) k 0) 0
-zeros zero k = refl
-zeros (suc n) zero = refl
-zeros (suc n) (suc k) = zeros n k
 
 -- a row gives a line, or the initial write
 line-source : (rs : List (ℕ × Event)) (i : ℕ) → ((lineIn rs i ≡ noLine) × (sourceIn rs i ≡ initialWrite)) ⊎ (lineIn rs i ≡ sourceIn rs i)
@@ -36,6 +32,15 @@ line-source (r ∷ rs) i = go (eqb (r .0) i) refl (line-source rs i)
         → ((lineIn (r ∷ rs) i ≡ noLine) × (sourceIn (r ∷ rs) i ≡ initialWrite)) ⊎ (lineIn (r ∷ rs) i ≡ sourceIn (r ∷ rs) i)
     go true q ih = inr (rw (q, sourceIn))
     go false q ih = rw (q, sourceIn) ih
+
+-- values that a round leaves as they are stay so
+values-stay : (p : Program) (g : Graph) (n : ℕ) → Readable n g → (k : ℕ) → ((e : Event) → Named n e → values p g (suc k) e ≡ values p g k e) → (d j : ℕ) → j ≡ d + k
+    → (e : Event) → Named n e → values p g j e ≡ values p g k e
+unfolding values
+values-stay p g n R k still zero j q e h = ap (λ (i : ℕ). values p g i e) (let z : j ≡ k = omega (arith, q) in z)
+values-stay p g n R k still (suc d) j q e h =
+    ap (λ (i : ℕ). values p g i e) (let z : j ≡ suc (d + k) = omega (arith, q) in z)
+    ∙ round-same p (values p g (d + k)) (values p g k) n (values-stay p g n R k still d (d + k) refl) g R e h ∙ still e h
 
 -- what is left behind a line of the table: `first`, where it names no event
 abbrev behind : List ℕ → ℕ → Event → ℕ
@@ -82,7 +87,7 @@ module _ (n : ℕ) (few : n ≤ 6) (p : Program) (vs places left : List ℕ) (R 
         go (inr q) = ap (behind left (atFirst l)) q ∙ left-source (sourceIn (rowOf g t) i) l (named-source n g readable (t, i))
 
     -- a round more
-    pub values-more : (k : ℕ) → ((e : Event) → Named n e → valuesIn vs e ≡ values p g k e) → (ws : List ℕ) → ((j : ℕ) → j < 96 → getD ws j 0 ≡ sourced pairs left places starting j)
+    pub values-more : (k : ℕ) → ((e : Event) → Named n e → valuesIn vs e ≡ values p g k e) → (ws : List ℕ) → ((j : ℕ) → j < 16 * n → getD ws j 0 ≡ sourced pairs left places starting j)
         → (e : Event) → Named n e → valuesIn ws e ≡ values p g (k + 1) e
     unfolding values
     values-more k same ws W e h =
@@ -95,6 +100,18 @@ module _ (n : ℕ) (few : n ≤ 6) (p : Program) (vs places left : List ℕ) (R 
     pub places-are : (k : ℕ) → ((e : Event) → Named n e → valuesIn vs e ≡ values p g k e) → k ≡ 24 → (t i : ℕ) → t < n → i < 16
         → getD places (t * 16 + i) 0 ≡ locationOf p (values p g 24) (t, i)
     places-are k same q t i a b = R .at t i a b ∙ location-same p (valuesIn vs) (values p g k) n same (t, i) (a, omega arith) ∙ ap (λ (j : ℕ). locationOf p (values p g j) (t, i)) q
+
+    -- values that a round leaves as they are stay so, so that accesses go where they go on the last round's
+    pub places-stay : (k : ℕ) → ((e : Event) → Named n e → valuesIn vs e ≡ values p g k e) → k < 24 → (ws : List ℕ) → ((j : ℕ) → j < 16 * n → getD ws j 0 ≡ sourced pairs left places starting j)
+        → ((j : ℕ) → j < 16 * n → getD ws j 0 ≡ getD vs j 0) → (t i : ℕ) → t < n → i < 16 → getD places (t * 16 + i) 0 ≡ locationOf p (values p g 24) (t, i)
+    places-stay k same b ws W unmoved t i h j =
+        R .at t i h j ∙ location-same p (valuesIn vs) (values p g 24) n (λ e a. same e a ∙ sym (values-stay p g n readable k still (24 - k) 24 (omega arith) e a)) (t, i) (h, omega arith)
+      where
+        still : (e : Event) → Named n e → values p g (suc k) e ≡ values p g k e
+        still e a =
+            let x = a .0 in
+            let y = a .1 in
+            ap (λ (z : ℕ). values p g z e) (let z : suc k ≡ k + 1 = omega arith in z) ∙ sym (values-more k same ws W e a) ∙ unmoved (e .0 * 16 + e .1) (omega arith) ∙ same e a
 
 -- before the first round
 pub values-start : (p : Program) (g : Graph) (e : Event) → valuesIn (replicate 96 0) e ≡ values p g 0 e

@@ -5,27 +5,22 @@ use mathlib.Core.Path.{_≡_}
 use mathlib.Core.Bool.{cond}
 use mathlib.Core.List.{List}
 use lib.Dec.{ltb}
-use lib.ListN.{getD, replicate}
+use lib.ListN.{getD}
 use Rattle.program.specs.Program.{Program}
 use Rattle.machine.specs.declared.state.Machine.{Machine}
 use Rattle.sc.specs.Local.{placeOf, puts, next}
-use Rattle.sc.specs.State.{State, freshCell, threadOf}
-use Rattle.machine.specs.Held.{Holds}
+use Rattle.sc.specs.State.{State, threadOf}
+use Rattle.machine.specs.Held.{threadAt, Holds}
 use Rattle.rounds.specs.declared.by_itself.Lone.{Lone}
 use Rattle.consistent.specs.Consistent.{Values, locationOf, outOf}
 use Rattle.consistent.proofs.RoundValues.{orZero}
 
--- a state whose every location holds x and was not written
-unfoldable pub faced : State → ℕ → State
-faced σ x = record { threads = σ .threads; cells = replicate 8 (freshCell x) }
-
-abbrev pub facedMachine : Machine → ℕ → Machine
-facedMachine m x = record { threads = m .threads; memory = replicate 8 x; last = replicate 8 (record { thread = 255; number = 255 }) }
-
--- the next access of thread t, on finding x: the thread behind it, where it goes and what it leaves there
+-- the next access of thread t, on finding x: the thread behind it, which stands so on some machine, where it goes and what it leaves there
 pub record MetAlone (code lengths : List ℕ) (σ : State) (t x : ℕ) (r : Lone) : Type 0 where
+  pub machine : Machine
   pub state : State
-  pub holds : Holds code lengths (r .machine) state
+  pub holds : Holds code lengths machine state
+  pub here : threadAt machine t ≡ r .thread
   pub local : threadOf state t .local ≡ next (threadOf σ t .local) x
   pub place : r .place ≡ placeOf (threadOf σ t .local)
   pub left : r .left ≡ orZero (puts (threadOf σ t .local) x)

@@ -1,15 +1,15 @@
 // The rounds: every thread by itself on the values known so far, then each read gets what its source left, or what memory starts with.
 use crate::by_itself::met;
+use accesses::ThreadState;
 use lines::wide;
-use machine::Machine;
 use machine::started;
 use program::STEPS;
 use rows::Code;
 ghost use mathlib.Core.Path.{_≡_};
-ghost use mathlib.Core.Bool.{cond};
-ghost use Prim.Native.Nat.{ℕ, _+_, _*_, _%_, _<_};
+ghost use mathlib.Core.Bool.{true, cond};
+ghost use Prim.Native.Nat.{ℕ, _+_, _*_, _/_, _%_, _<_, _≤_};
 ghost use mathlib.Core.List.{List};
-ghost use lib.Dec.{eqb};
+ghost use lib.Dec.{eqb, ltb};
 ghost use lib.ListN.{getD};
 ghost use Rattle.program.specs.Program.{Program, initial};
 ghost use Rattle.sc.specs.Graph.{Graph};
@@ -26,14 +26,25 @@ pub struct Round {
     pub left: [u32; 96],
 }
 
-// The machine for access k: at the first of a thread the one at the start.
-fn standing(start: Machine, m: Machine, k: usize) -> Machine
-    ensures { λ r. ⌜ r ≡ cond (eqb (k % 16) 0) start m ⌝ }
+// The thread for access k: at its first as it opens, else as the access before left it.
+fn standing(opened: ThreadState, thread: ThreadState, k: usize) -> ThreadState
+    ensures { λ r. ⌜ r ≡ cond (eqb (k % 16) 0) opened thread ⌝ }
 {
     if k % 16 == 0 {
-        return start;
+        return opened;
     }
-    m
+    thread
+}
+
+// The access to be met behind access k, which left its thread of n instructions so: the next, or the first of the next thread.
+fn onward(n: usize, thread: ThreadState, k: usize) -> usize
+    requires { ⌜ k < 96 ⌝ }
+    ensures { λ r. ⌜ r ≡ cond (ltb (thread .at) n) (k + 1) (k / 16 * 16 + 16) ⌝ }
+{
+    if thread.at < n {
+        return k + 1;
+    }
+    k / 16 * 16 + 16
 }
 
 // Every thread by itself on these values.
@@ -42,24 +53,24 @@ fn in_round(
     lengths: &[usize; 6],
     threads: usize,
     starting: [u32; 8],
-    values: [u32; 96],
+    values: &[u32; 96],
 ) -> Round
     requires { ⌜ ((p : Program) × Loaded (now code) (now lengths) threads p × (starting ≡ initial p)) ⌝ }
     ensures { λ r. ⌜ ((p : Program) → Loaded (now (code .entry)) (now (lengths .entry)) threads p → starting ≡ initial p
-        → RoundHeld threads p values (r .places) (r .left)) ⌝ }
+        → RoundHeld threads p (now (values .entry)) (r .places) (r .left)) ⌝ }
 {
     let start = started(code, lengths, threads, starting);
     let mut places = [0u8; 96];
     let mut left = [0u32; 96];
-    let mut m = start;
+    let mut thread = start.threads[0];
     let mut k = 0;
     while k < 16 * threads {
-        let n = standing(start, m, k);
+        let n = standing(start.threads[k / 16], thread, k);
         let r = met(code, lengths, n, (k / 16) as u8, values[k]);
         places[k] = r.place;
         left[k] = r.left;
-        m = r.machine;
-        k += 1;
+        thread = r.thread;
+        k = onward(lengths[k / 16], thread, k);
     }
     Round {
         places: places,
@@ -68,9 +79,9 @@ fn in_round(
 }
 
 // What memory starts with at the location to which access k goes.
-fn at_first(starting: [u32; 8], places: [u8; 96], k: usize) -> u32
+fn at_first(starting: [u32; 8], places: &[u8; 96], k: usize) -> u32
     requires { ⌜ k < 96 ⌝ }
-    ensures { λ r. ⌜ r ≡ getD starting (getD places k 0) 0 ⌝ }
+    ensures { λ r. ⌜ r ≡ getD starting (getD (now (places .entry)) k 0) 0 ⌝ }
 {
     let l = wide(places[k]);
     if 8 <= l {
@@ -80,9 +91,15 @@ fn at_first(starting: [u32; 8], places: [u8; 96], k: usize) -> u32
 }
 
 // What is left behind the source in entry k of a graph's table.
-fn found(pairs: [u8; 576], left: [u32; 96], places: [u8; 96], starting: [u32; 8], k: usize) -> u32
+fn found(
+    pairs: &[u8; 576],
+    left: &[u32; 96],
+    places: &[u8; 96],
+    starting: [u32; 8],
+    k: usize,
+) -> u32
     requires { ⌜ k < 96 ⌝ }
-    ensures { λ r. ⌜ r ≡ sourced pairs left places starting k ⌝ }
+    ensures { λ r. ⌜ r ≡ sourced (now (pairs .entry)) (now (left .entry)) (now (places .entry)) starting k ⌝ }
 {
     let u = wide(pairs[k * 2]);
     let j = wide(pairs[k * 2 + 1]);
@@ -96,19 +113,42 @@ fn found(pairs: [u8; 576], left: [u32; 96], places: [u8; 96], starting: [u32; 8]
 }
 
 // The values of the next round.
-fn next_values(pairs: [u8; 576], left: [u32; 96], places: [u8; 96], starting: [u32; 8]) -> [u32; 96]
-    ensures { λ r. ⌜ ((k : ℕ) → k < 96 → getD r k 0 ≡ sourced pairs left places starting k) ⌝ }
+fn next_values(
+    pairs: &[u8; 576],
+    left: &[u32; 96],
+    places: &[u8; 96],
+    starting: [u32; 8],
+    threads: usize,
+) -> [u32; 96]
+    requires { ⌜ threads ≤ 6 ⌝ }
+    ensures { λ r. ⌜ ((k : ℕ) → k < 16 * threads
+        → getD r k 0 ≡ sourced (now (pairs .entry)) (now (left .entry)) (now (places .entry)) starting k) ⌝ }
 {
     let mut vs = [0u32; 96];
     let mut k = 0;
-    while k < 96 {
+    while k < 16 * threads {
         vs[k] = found(pairs, left, places, starting, k);
         k += 1;
     }
     vs
 }
 
-// Where each access goes on the values of the last round.
+// Whether two tables of values are the same.
+fn same_values(a: &[u32; 96], b: &[u32; 96], threads: usize) -> bool
+    requires { ⌜ threads ≤ 6 ⌝ }
+    ensures { λ r. ⌜ (r ≡ true → (k : ℕ) → k < 16 * threads → getD (now (a .entry)) k 0 ≡ getD (now (b .entry)) k 0) ⌝ }
+{
+    let mut k = 0;
+    while k < 16 * threads {
+        if a[k] != b[k] {
+            return false;
+        }
+        k += 1;
+    }
+    true
+}
+
+// Where each access goes on the values of the last round. Values that a round leaves as they are stay so, and no further round is made.
 pub fn places(
     code: &Code,
     lengths: &[usize; 6],
@@ -124,12 +164,16 @@ pub fn places(
     let mut vs = [0u32; 96];
     let mut k = 0usize;
     while k < STEPS {
-        let r = in_round(code, lengths, threads, starting, vs);
+        let r = in_round(code, lengths, threads, starting, &vs);
         let left = r.left;
         let goes = r.places;
-        vs = next_values(pairs, left, goes, starting);
+        let ws = next_values(&pairs, &left, &goes, starting, threads);
+        if same_values(&ws, &vs, threads) {
+            return goes;
+        }
+        vs = ws;
         k += 1;
     }
-    let r = in_round(code, lengths, threads, starting, vs);
+    let r = in_round(code, lengths, threads, starting, &vs);
     r.places
 }

@@ -1,4 +1,4 @@
-//! The machine's state as the walk over all schedules copies it.
+//! The machine's state as the walk over all schedules has it.
 use crate::oracle::decode::{Instruction, Operand, Program};
 use crate::oracle::machine::{opened, Event, Thread, INITIAL};
 
@@ -13,7 +13,6 @@ pub struct Pending {
     pub writes: bool,
 }
 
-#[derive(Clone, Copy)]
 pub struct State {
     pub threads: [Thread; 6],
     pub memory: [u32; 8],
@@ -58,16 +57,14 @@ impl State {
         }
     }
 
-    /// The state after the step of a thread that has not ended.
-    pub fn step(&self, program: &Program, t: usize, access: Pending) -> State {
-        let mut next = *self;
+    /// The step of a thread that has not ended.
+    pub fn step(&mut self, program: &Program, t: usize, access: Pending) {
         let l = access.location as usize;
         let event = Event { t: t as u8, i: self.threads[t].accesses };
-        let effect = next.threads[t].access(&program.threads[t], self.memory[l]);
+        let effect = self.threads[t].access(&program.threads[t], self.memory[l]);
         if let Some(value) = effect.written {
-            next.memory[l] = value;
-            next.last[l] = event;
+            self.memory[l] = value;
+            self.last[l] = event;
         }
-        next
     }
 }

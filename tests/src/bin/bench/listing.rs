@@ -84,11 +84,11 @@ fn alike() {
     let searched = || Search::new(&decode(&file).unwrap()).count();
     println!("five alike threads, each load, add 1, store: {listed} listed");
     println!("  by the rules {} prefixes are visited (asked: at most 1,000), {} of them full", search.prefixes, search.reached);
-    let ((called, of_calls), (walked, (full, of_walk))) = turns(3, || by_calls(&file, u64::MAX), || walk(&program));
+    let ((called, of_calls), (walked, all)) = turns(3, || by_calls(&file, u64::MAX), || walk(&program));
     let ((counted, of_count), (searched, of_search)) = turns(30, || count(&file), searched);
     let ((rowed, of_rows), _) = turns(30, || by_rows(&file, 1024), || ());
-    assert!(of_count == of_search && [of_calls, of_rows, of_walk, of_search.0] == [listed; 4], "all agree");
-    println!("  plain Rust, a walk over all {full} schedules with a hash set of graphs: {:.1} ms", walked / 1e6);
+    assert!(of_count == of_search && [of_calls, of_rows, all.listed(), of_search.0] == [listed; 4], "all agree");
+    println!("  plain Rust, a walk over all {} schedules with a hash set of graphs: {:.1} ms", all.full, walked / 1e6);
     println!(
         "  the whole list by one call of rows: library {:.3} ms, the walk divided by {:.0} (asked: 20 or more)",
         rowed / 1e6,

@@ -1,21 +1,33 @@
-//! Times of the library beside plain Rust, both measured in one run. Nothing is asserted.
+//! Times of the library beside plain Rust, both measured in one run: all parts, or those that are named. No time is asserted.
+mod chart;
 mod check;
 mod covers;
 mod force;
 mod graph;
+mod growth;
 mod judge;
 mod listing;
 mod search;
 mod step;
 mod timing;
 
+const PARTS: [(&str, fn()); 7] = [
+    ("check", check::report),
+    ("graph", graph::report),
+    ("step", step::report),
+    ("judge", judge::report),
+    ("search", search::report),
+    ("listing", listing::report),
+    ("growth", growth::report),
+];
+
 fn main() {
-    check::report();
-    graph::report();
-    step::report();
-    judge::report();
-    search::report();
-    listing::report();
+    let named: Vec<String> = std::env::args().skip(1).collect();
+    for (name, report) in PARTS {
+        if named.is_empty() || named.iter().any(|other| other == name) {
+            report();
+        }
+    }
     covers::report();
     force::report();
 }
