@@ -22,7 +22,7 @@ use Rattle.sc.proofs.Lawful.{lawful}
 use Rattle.sc.proofs.Rows.{row-at}
 pub use Rattle.model.proofs.Exchanges.{injective}
 
-map-set : {A B : Type 0} (f : A → B) (l : List A) (i : ℕ) (a : A) → set (map f l) i (f a) ≡ map f (set l i a)
+pub map-set : {A B : Type 0} (f : A → B) (l : List A) (i : ℕ) (a : A) → set (map f l) i (f a) ≡ map f (set l i a)
 map-set f [] i a = refl
 map-set f (x ∷ xs) zero a = refl
 map-set {B} f (x ∷ xs) (suc i) a = ap {B = List B} (λ k. f x ∷ k) (map-set f xs i a)

@@ -146,7 +146,10 @@ pub fn instruction(random: &mut Random, size: Size, kind: u8) -> Vec<u8> {
         }
         _ => frame.push(r),
     }
-    if kind != 0x11 {
+    if kind == 0x12 && random.one_in(3) {
+        // adding zero is reading
+        frame.extend([0; 5]);
+    } else if kind != 0x11 {
         frame.extend(operand(random, size));
     }
     if is_skip(kind) {
