@@ -140,8 +140,8 @@ fn decided_readings() {
 fn steps() {
     let table: [(&str, &str, &[u8], &str); 10] = [
         (
-            "the operand of a fetch and add is read before r changes: 5 plus 0",
-            "01 10000000000005 1200000100000000 110100 2201000000000501 10070000000001",
+            "the operand of a fetch and add is read before r changes: 5 plus 1",
+            "01 10000000000005 20000000000001 1200000100000000 110100 2201000000000601 10070000000001",
             &[0, 0, 0, 0],
             "4000010000 4000020001 410000000001 41070003",
         ),

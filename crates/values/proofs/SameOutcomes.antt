@@ -22,7 +22,7 @@ use Rattle.values.specs.Values.{Values, ByValues, beginning, Outcome, fa
 use Rattle.values.specs.Writing.{stepBy, By, putFirst, localOf, valuesOf}
 use Rattle.values.specs.SameOutcomes.{endFirst, FullFirst, HasOutcome, HadOutcome, SameOutcomes}
 use Rattle.values.proofs.Leaving.{first-leaves, amended-leaves}
-use Rattle.values.proofs.Steps.{Fine, local-same, run-same, full-values, full-events}
+use Rattle.values.proofs.Steps.{Fine, made, local-same, run-same, full-values, full-events}
 
 -- the machine's own step is the one that writes as it says
 pub step-by : (σ : State) (t : ℕ) → step σ t ≡ stepBy puts σ t
@@ -42,7 +42,7 @@ fresh-values (x ∷ m) = ap (λ (k : List ℕ). x ∷ k) (fresh-values m)
 
 start-values : (p : Program) → valuesOf (start p) ≡ beginning p
 unfolding valuesOf start beginning
-start-values p = ap₂ (λ (hs : List Local) (m : List ℕ). record { threads = hs; memory = m }) (threads-begin (p .threads)) (fresh-values (initial p))
+start-values p = ap₂ made (threads-begin (p .threads)) (fresh-values (initial p))
 
 start-memory : (p : Program) → valuesOf (start p) .memory ≡ initial p
 unfolding valuesOf start
@@ -55,21 +55,19 @@ start-fine p wf = record {
 }
 
 -- ---- an outcome by values is the machine's own
-failed-same : (hs : List Thread) → any failedIn (map localOf hs) ≡ any failedOf hs
-unfolding any
-failed-same [] = refl
-failed-same (h ∷ hs) = any-cons failedIn (localOf h) (map localOf hs) ∙ front ∙ sym (any-cons failedOf h hs)
-  where
-    front : (failedIn (localOf h) || any failedIn (map localOf hs)) ≡ (failedOf h || any failedOf hs)
-    front = ap₂ (λ (a b : Bool). a || b) (own-failed h) (failed-same hs)
-
 own-failed : (h : Thread) → failedIn (localOf h) ≡ failedOf h
 unfolding failedIn localOf failedOf
 own-failed h = refl
 
+failed-same : (hs : List Thread) → any failedIn (map localOf hs) ≡ any failedOf hs
+unfolding any
+failed-same [] = refl
+failed-same (h ∷ hs) =
+    any-cons failedIn (localOf h) (map localOf hs) ∙ ap₂ (λ (a b : Bool). a || b) (own-failed h) (failed-same hs) ∙ sym (any-cons failedOf h hs)
+
 pub outcome-same : (σ : State) → outcomeOf (valuesOf σ) ≡ (memoryOf σ, fails σ)
 unfolding valuesOf memoryOf fails
-outcome-same σ = ap (λ (b : Bool). (map valueOf (σ .cells), b)) (failed-same (σ .threads))
+outcome-same σ = ap {B = Outcome} (λ b. (map valueOf (σ .cells), b)) (failed-same (σ .threads))
 
 module _ (p : Program) (wf : WellFormed p) where
   ends : (s : Schedule) → valuesOf (endOf p s) ≡ run ByValues (beginning p) s

@@ -52,9 +52,13 @@ unfolding valueOf written leftBy
 written-value e none c = refl
 written-value e (some v) c = refl
 
+-- these threads and this memory
+abbrev pub made : List Local → List ℕ → Values
+made hs m = record { threads = hs; memory = m }
+
 -- the values behind a thread h that found x
 abbrev behind : Values → ℕ → Local → ℕ → Values
-behind v t h x = record { threads = set (v .threads) t (next h x); memory = set (v .memory) (placeOf h) (leaves h x) }
+behind v t h x = made (set (v .threads) t (next h x)) (set (v .memory) (placeOf h) (leaves h x))
 
 behind-own : (σ : State) (t : ℕ) → stepOf (valuesOf σ) t ≡ behind (valuesOf σ) t (threadOf σ t .local) (cellOf σ (place σ t) .value)
 unfolding stepOf place
@@ -75,7 +79,7 @@ module _ (w : Writing) (good : Leaves w) where
       let memory : map valueOf (set (σ .cells) (place σ t) (written event (w (h .local) (c .value)) c)) ≡ set (map valueOf (σ .cells)) (place σ t) (leaves (h .local) (c .value)) =
       sym (map-set valueOf (σ .cells) (place σ t) (written event (w (h .local) (c .value)) c))
       ∙ ap (λ (x : ℕ). set (map valueOf (σ .cells)) (place σ t) x) (written-value event (w (h .local) (c .value)) c ∙ good (h .local) (c .value) word) in
-      ap₂ (λ (hs : List Local) (m : List ℕ). record { threads = hs; memory = m }) threads memory ∙ sym (behind-own σ t)
+      ap₂ made threads memory ∙ sym (behind-own σ t)
 
   pub fine-same : (σ : State) (t : ℕ) → Fine (valuesOf σ) → Fine (valuesOf (stepBy w σ t))
   fine-same σ t f = subst Fine (sym (step-same σ t f)) (fine-step (valuesOf σ) t f)

@@ -18,10 +18,10 @@ FullFirst p s = FullFrom (By putFirst) (start p) s
 
 -- some full schedule of p has this outcome, by the amended fetch and add and by the first
 abbrev pub HasOutcome : Program → Outcome → Type 0
-HasOutcome p o = (s : Schedule) × Full p s × ((memoryOf (endOf p s), fails (endOf p s)) ≡ o)
+HasOutcome p o = (s : Schedule) × Full p s × _≡_ {A = Outcome} (memoryOf (endOf p s), fails (endOf p s)) o
 
 abbrev pub HadOutcome : Program → Outcome → Type 0
-HadOutcome p o = (s : Schedule) × FullFirst p s × ((memoryOf (endFirst p s), fails (endFirst p s)) ≡ o)
+HadOutcome p o = (s : Schedule) × FullFirst p s × _≡_ {A = Outcome} (memoryOf (endFirst p s), fails (endFirst p s)) o
 
 pub record SameOutcomes (p : Program) : Type 0 where
   pub ends : (s : Schedule) → valuesOf (endOf p s) ≡ run ByValues (beginning p) s

@@ -92,7 +92,12 @@ pub fn straight(random: &mut Random, locations: usize) -> Vec<Vec<u8>> {
         all.push(vec![0x01]);
         for _ in 0..ANY.accesses / threads {
             let kind = random.pick(&[0x10, 0x11, 0x12, 0x13]);
-            all.push(instruction(random, size, kind));
+            let mut frame = instruction(random, size, kind);
+            if kind == 0x12 && !random.one_in(12) {
+                // most of them write, so that texts are long
+                frame[3..].copy_from_slice(&[0, 0, 0, 0, 1]);
+            }
+            all.push(frame);
         }
     }
     all
@@ -146,7 +151,7 @@ pub fn instruction(random: &mut Random, size: Size, kind: u8) -> Vec<u8> {
         }
         _ => frame.push(r),
     }
-    if kind == 0x12 && random.one_in(3) {
+    if kind == 0x12 && random.one_in(8) {
         // adding zero is reading
         frame.extend([0; 5]);
     } else if kind != 0x11 {
