@@ -1,5 +1,6 @@
--- The table of the ten P cases, of the file of 0 bytes, of two signed comparisons and of adding zero, lists and graphs together: each file, as bytes, is printed as its row says, byte
--- for byte, and each graph text, as bytes, is answered as its row says. One computed test for all.
+-- The table of the ten P cases, of the file of 0 bytes, of two signed comparisons, of a starting value and of adding zero, lists and graphs
+-- together: each file, as bytes, is printed as its row says, byte for byte, and each graph text, as bytes, is answered as its row says. One
+-- computed test for all.
 use Prim.Native.Nat.{ℕ}
 use mathlib.Core.Path.{_≡_, refl}
 use mathlib.Core.Bool.{Bool, true, false}

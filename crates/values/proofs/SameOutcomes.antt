@@ -51,7 +51,7 @@ start-memory p = fresh-values (initial p)
 start-fine : (p : Program) → WellFormed p → Fine (valuesOf (start p))
 start-fine p wf = record {
   threads = λ t. subst Words (sym (local-same (start p) t)) (start-words p wf t);
-  memory = λ l. subst (λ (m : List ℕ). Word (getD m l 0)) (sym (start-memory p)) (initial-word p l);
+  memory = λ l. subst (λ (m : List ℕ). Word (getD m l 0)) (sym (start-memory p)) (initial-word p wf l);
 }
 
 -- ---- an outcome by values is the machine's own
