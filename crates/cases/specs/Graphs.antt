@@ -43,6 +43,7 @@ carried = record {
 abbrev pub zeroWritten : Graph
 zeroWritten = record {
   file = addsZero .file;
-  text = (0x40 ∷ 0 ∷ 0 ∷ 0xff ∷ 0xff ∷ []) ∷ (0x40 ∷ 1 ∷ 0 ∷ 0xff ∷ 0xff ∷ []) ∷ (0x40 ∷ 2 ∷ 0 ∷ 0xff ∷ 0xff ∷ []) ∷ (0x41 ∷ 0 ∷ 0 ∷ 0 ∷ []) ∷ [];
+  text = (0x40 ∷ 0 ∷ 0 ∷ 0xff ∷ 0xff ∷ []) ∷ (0x40 ∷ 1 ∷ 0 ∷ 0xff ∷ 0xff ∷ []) ∷ (0x40 ∷ 2 ∷ 0 ∷ 0xff ∷ 0xff ∷ [])
+      ∷ (0x41 ∷ 0 ∷ 0 ∷ 0 ∷ []) ∷ [];
   answer = inconsistent;
 }

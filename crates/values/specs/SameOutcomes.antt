@@ -1,5 +1,5 @@
--- What is shown of both fetch and adds: for every schedule the machine with events and the one of values end alike, in registers, memory and
--- failures; their full schedules are the same lists; so a program has the same outcomes by either.
+-- What is shown of both fetch and adds: for every schedule the machine with events and the one of values end alike, in registers, memory
+-- and failures; their full schedules are the same lists; so a program has the same outcomes by either.
 use mathlib.Core.Path.{_≡_}
 use Rattle.program.specs.Program.{Program}
 use Rattle.schedules.specs.Order.{Schedule}
@@ -27,6 +27,7 @@ pub record SameOutcomes (p : Program) : Type 0 where
   pub ends : (s : Schedule) → valuesOf (endOf p s) ≡ run ByValues (beginning p) s
   pub ends-first : (s : Schedule) → valuesOf (endFirst p s) ≡ run ByValues (beginning p) s
   pub full : (s : Schedule) → (Full p s → FullFrom ByValues (beginning p) s) × (FullFrom ByValues (beginning p) s → Full p s)
-  pub full-first : (s : Schedule) → (FullFirst p s → FullFrom ByValues (beginning p) s) × (FullFrom ByValues (beginning p) s → FullFirst p s)
+  pub full-first : (s : Schedule)
+      → (FullFirst p s → FullFrom ByValues (beginning p) s) × (FullFrom ByValues (beginning p) s → FullFirst p s)
   pub kept : (o : Outcome) → HadOutcome p o → HasOutcome p o
   pub none-new : (o : Outcome) → HasOutcome p o → HadOutcome p o
