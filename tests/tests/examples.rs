@@ -33,6 +33,7 @@ fn examples_of_document_01() {
         "six-stores",
         "add-wraps",
         "accesses-24",
+        "adding-zero-3",
         "message-passing",
         "queue-broken",
         "queue-repaired",

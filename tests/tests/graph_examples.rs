@@ -123,7 +123,7 @@ fn decided_readings() {
     let same = lines("01 13000000000000000000000000 01 13000000000000000000000000");
     expect("15: a swap of 0 to 0 writes", &same, &[1, 0], 512, shown("4000000100 400100ffff 410001000000"));
     let nothing = lines("01 1200000000000000 01 110000");
-    expect("15: a fetch and add of 0 writes", &nothing, &[0, 1], 512, shown("400000ffff 4001000000 41000000"));
+    expect("40: a fetch and add of 0 only reads", &nothing, &[0, 1], 512, shown("400000ffff 400100ffff"));
     expect("16: a step behind a full schedule", &pair, &[0, 0, 1, 1, 0], 512, refusal(20, 4));
     expect("16: behind no steps", &lines("01"), &[0], 512, refusal(20, 0));
     expect("17: a bad byte, and not full", &pair, &[1, 2], 512, refusal(20, 1));
@@ -140,8 +140,8 @@ fn decided_readings() {
 fn steps() {
     let table: [(&str, &str, &[u8], &str); 10] = [
         (
-            "the operand of a fetch and add is read before r changes: 5 plus 0",
-            "01 10000000000005 1200000100000000 110100 2201000000000501 10070000000001",
+            "the operand of a fetch and add is read before r changes: 5 plus 1",
+            "01 10000000000005 20000000000001 1200000100000000 110100 2201000000000601 10070000000001",
             &[0, 0, 0, 0],
             "4000010000 4000020001 410000000001 41070003",
         ),

@@ -13,7 +13,7 @@ use tarczolin_tests::random::{damage, schedule, Random};
 use tarczolin_tests::search::Search;
 use tarczolin_tests::share;
 
-const PROGRAMS: usize = 21_000;
+const PROGRAMS: usize = 23_000;
 /// Lists up to this length are walked whole, of longer ones this many consecutive members.
 const WALKED: usize = 60;
 

@@ -52,7 +52,7 @@ type Case<'a> = (&'a str, &'a [&'a [u8]], &'a [&'a [u8]]);
 
 #[test]
 fn known_lists() {
-    let all: [Case; 17] = [
+    let all: [Case; 18] = [
         ("empty-thread", &[&[]], &[]),
         ("no-thread", &[&[]], &[]),
         ("whole", &[&[0, 1, 2], &[1, 0, 2], &[1, 2, 0]], &[]),
@@ -80,6 +80,7 @@ fn known_lists() {
             &[&[0, 0, 1, 2, 2, 2, 1], &[0, 1, 1, 2, 2, 0], &[0, 2, 1, 1, 2, 0]],
         ),
         ("queue-repaired", &[&[0, 0, 0, 1, 1, 1, 2, 2, 2, 2], &[0, 0, 0, 1, 1, 2, 2, 2, 1], &[0, 0, 1, 1, 1, 2, 0]], &[]),
+        ("adding-zero-3", &[&[0, 1, 2]], &[]),
         ("message-passing", &[&[0, 0, 1, 1], &[0, 1, 0, 1], &[1, 1, 0, 0]], &[]),
     ];
     for (name, schedules, failing) in all {
@@ -99,7 +100,7 @@ fn decided_readings() {
     list("13: an assertion that fails before the first step", &lines("01 23000000000001"), &[&[]], &[&[]]);
     let same = lines("01 13000000000000000000000000 01 13000000000000000000000000");
     list("15: a swap of 0 to 0 writes", &same, &[&[0, 1], &[1, 0]], &[]);
-    list("15: a fetch and add of 0 writes", &lines("01 1200000000000000 01 110000"), &[&[0, 1], &[1, 0]], &[]);
+    list("40: a fetch and add of 0 only reads", &lines("01 1200000000000000 01 110000"), &[&[0, 1]], &[]);
     continue_from(&pair, &[0, 0, 1, 1, 0], 24, &refusal(20, 4)); // 16
     continue_from(&pair, &[1, 2], 24, &refusal(20, 1)); // 17
     continue_from(&pair, &[1, 0], 24, &refusal(21, 2));

@@ -34,7 +34,7 @@ fn behinds(random: &mut Random, file: &[u8], list: &[Listed]) -> Vec<Vec<u8>> {
 fn every_output_length() {
     let mut random = Random::new(81);
     let (mut rows, mut none) = (0, 0);
-    for k in 0..share::of(300) {
+    for k in 0..share::of(450) {
         let file = text(&frames(&mut random, if k % 2 == 0 { SMALL } else { SIX }));
         let list = listing::list(&decode(&file).unwrap());
         let behinds = behinds(&mut random, &file, &list);

@@ -2,7 +2,7 @@
 use Prim.Native.Nat.{ℕ, zero, suc, _+_, _*_, _<_, _≤_}
 use native.Mathlib.Omega.{arith}
 use mathlib.Core.Path.{_≡_, refl, sym, ap, _∙_}
-use mathlib.Core.Bool.{Bool, true, false, cond, true≢false}
+use mathlib.Core.Bool.{Bool, true, false, cond, true≢false, not}
 use mathlib.Core.Option.{none, some}
 use mathlib.Core.List.{List, [], _∷_}
 use native.Mathlib.Decide.{ℕ-discrete}
@@ -20,7 +20,7 @@ use Rattle.program.specs.declared.instruction.Instruction.the-variants.{Alone}
 use Rattle.program.specs.Frames.{operand, test}
 use Rattle.rows.specs.Rows.{rowAt, instructionAt}
 use Rattle.rows.proofs.Rows.{row-store, row-load, row-fetch-add, row-compare-swap, row-assign, row-add-assign, row-skip, row-assert, row-skip-at-most, row-assert-at-most, row-other, row-no-access}
-use Rattle.sc.specs.Local.{eval, holds, outcome, beginsWithAccess, accessPlace, accessPuts}
+use Rattle.sc.specs.Local.{eval, sum32, holds, outcome, beginsWithAccess, accessPlace, accessPuts}
 use Rattle.sc.specs.Actions.{given}
 use Rattle.accesses.specs.declared.local.Carried.{Carried}
 use Rattle.accesses.specs.CarriedOut.{carried, accessing, accessOf}
@@ -169,6 +169,11 @@ module _ (code : List ℕ) (k : ℕ) (h : k < 96) (rs : List ℕ) (s : Carried) 
       (es (test AtMost (getD code (k * 16) 0) p) eb) o eo
 
 -- ---- whether an access writes
+add-writes : (b : Bool) (v : ℕ) → not b ≡ eqb (cond (given (cond b none (some v))) 1 0) 1
+unfolding given
+add-writes true v = refl
+add-writes false v = refl
+
 swap-writes : (b : Bool) (v : ℕ) → b ≡ eqb (cond (given (cond b (some v) none)) 1 0) 1
 unfolding given
 swap-writes true v = refl
@@ -179,9 +184,12 @@ module _ (code : List ℕ) (k : ℕ) (h : k < 96) (rs m : List ℕ) where
   unfolding accessPuts given
   writes-store e = rw (row-store code k h e)
 
-  pub writes-fetch-add : getD code (k * 16) 0 ≡ 0x12 → true ≡ eqb (accessOf (instructionAt code k) rs m .writes) 1
-  unfolding accessPuts given
-  writes-fetch-add e = rw (row-fetch-add code k h e)
+  -- a fetch and add, unless it adds zero
+  pub writes-fetch-add : getD code (k * 16) 0 ≡ 0x12 → not (eqb (eval rs (operand (rowAt code k) 3)) 0) ≡ eqb (accessOf (instructionAt code k) rs m .writes) 1
+  unfolding accessPlace accessPuts
+  writes-fetch-add e =
+      rw (row-fetch-add code k h e)
+      (add-writes (eqb (eval rs (operand (rowAt code k) 3)) 0) (sum32 (getD m (getD code (k * 16 + 2) 0) 0) (eval rs (operand (rowAt code k) 3))))
 
   -- a compare and swap, where it finds what it expects
   pub writes-swap : getD code (k * 16) 0 ≡ 0x13

@@ -39,6 +39,10 @@ abbrev pub valueIn : Option ℕ → ℕ
 valueIn none = 0
 valueIn (some v) = v
 
+-- an access to l that reads, with these registers behind it, and what it wrote
+abbrev pub reading : ℕ → List ℕ → Option ℕ → Access
+reading l rs put = accessing l 1 rs (cond (given put) 1 0) (valueIn put)
+
 -- what an access does on finding memory so; nothing for an instruction that is none
 abbrev pub accessOf : Instruction → List ℕ → List ℕ → Access
 accessOf (Memory a) rs m =

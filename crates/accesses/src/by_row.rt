@@ -1,6 +1,7 @@
 // What the instruction in a row does, read off the row's bytes: in the search's path no instruction is made.
 use crate::accessing::Access;
 use crate::accessing::done;
+use crate::accessing::fetch_added;
 use crate::accessing::found;
 use crate::comparing::is_at_most;
 use crate::comparing::is_equal;
@@ -146,8 +147,7 @@ pub fn accessed_at(code: &Code, row: usize, registers: [u32; 4], memory: [u32; 8
         return done(l, 1, rs, 0, 0);
     }
     if b == 0x12 {
-        let v = wrapping_add_u32(x, value(operand_at(code, row, 3), registers));
-        return done(l, 1, rs, 1, v);
+        return fetch_added(l, x, value(operand_at(code, row, 3), registers), rs);
     }
     if b == 0x13 {
         if x == value(operand_at(code, row, 3), registers) {
@@ -169,7 +169,7 @@ pub fn writes_at(code: &Code, row: usize, registers: [u32; 4], memory: [u32; 8])
         return true;
     }
     if b == 0x12 {
-        return true;
+        return value(operand_at(code, row, 3), registers) != 0;
     }
     if b == 0x13 {
         let x = found(memory, code[at + 2]);

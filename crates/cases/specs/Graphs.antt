@@ -1,8 +1,8 @@
--- Document 01's two graph texts, the empty one, and one whose initial write carries 1:
+-- Document 01's two graph texts, the empty one, one whose initial write carries 1, and one that has an adding of zero among the writes:
 -- for each the frames of the program's file and of the text, and the judge's answer.
 use mathlib.Core.List.{List, [], _∷_}
 use Rattle.consistent.specs.Answer.{Answer, consistent, inconsistent}
-use Rattle.cases.specs.Rows.{Frame, nothing, buffering, sentinel}
+use Rattle.cases.specs.Rows.{Frame, nothing, buffering, sentinel, addsZero}
 
 pub record Graph : Type 0 where
   pub file : List Frame
@@ -37,4 +37,13 @@ carried = record {
   file = sentinel .file;
   text = (0x40 ∷ 0 ∷ 0 ∷ 0xff ∷ 0xff ∷ []) ∷ (0x40 ∷ 1 ∷ 0 ∷ 0xff ∷ 0xff ∷ []) ∷ (0x41 ∷ 0 ∷ 0 ∷ 0 ∷ []) ∷ [];
   answer = consistent (1 ∷ 0 ∷ []);
+}
+
+-- request i: an adding of zero in a `41` line: no
+abbrev pub zeroWritten : Graph
+zeroWritten = record {
+  file = addsZero .file;
+  text = (0x40 ∷ 0 ∷ 0 ∷ 0xff ∷ 0xff ∷ []) ∷ (0x40 ∷ 1 ∷ 0 ∷ 0xff ∷ 0xff ∷ []) ∷ (0x40 ∷ 2 ∷ 0 ∷ 0xff ∷ 0xff ∷ [])
+      ∷ (0x41 ∷ 0 ∷ 0 ∷ 0 ∷ []) ∷ [];
+  answer = inconsistent;
 }

@@ -145,6 +145,13 @@ asserting = record {
   prints = passes (0 ∷ 1 ∷ []) ∷ fails (1 ∷ 0 ∷ []) ∷ counts 2 1 ∷ [];
 }
 
+-- request i: three fetch and adds of 0 on one location, which only read
+abbrev pub addsZero : Row
+addsZero = record {
+  file = thread ∷ fetchAdd 0 0 (constant 0) ∷ thread ∷ fetchAdd 0 0 (constant 0) ∷ thread ∷ fetchAdd 0 0 (constant 0) ∷ [];
+  prints = passes (0 ∷ 1 ∷ 2 ∷ []) ∷ counts 1 0 ∷ [];
+}
+
 -- request a: message passing, which asserts that the flag is at most the data; and a load that finds 0 or minus 1, at most 0 both times
 abbrev pub passing : Row
 passing = record {

@@ -1,5 +1,6 @@
--- The table of the ten P cases, of the file of 0 bytes and of two signed comparisons, lists and graphs together: each file, as bytes, is printed as its row says, byte
--- for byte, and each graph text, as bytes, is answered as its row says. One computed test for all.
+-- The table of the ten P cases, of the file of 0 bytes, of two signed comparisons, of a starting value and of adding zero, lists and graphs
+-- together: each file, as bytes, is printed as its row says, byte for byte, and each graph text, as bytes, is answered as its row says. One
+-- computed test for all.
 use Prim.Native.Nat.{ℕ}
 use mathlib.Core.Path.{_≡_, refl}
 use mathlib.Core.Bool.{Bool, true, false}
@@ -33,8 +34,8 @@ use Rattle.list.specs.ListOf.{together, permits, permitted, renames, alikeBy, a
 use Rattle.list.specs.Answers.{failing, countOf}
 use Rattle.listing.specs.Printed.{bytesOf, flag, scheduleFrame, countFrame, printedFrames, printed}
 use Rattle.cases.specs.Rows.{Row, empty, nothing, whole, wholeApart, increments, incrementsAlike, swaps, swapsAlike, adds, addsAlike}
-use Rattle.cases.specs.Rows.{buffering, asserting, passing, negative, sentinel}
-use Rattle.cases.specs.Graphs.{Graph, neither, one, blank, carried}
+use Rattle.cases.specs.Rows.{buffering, asserting, passing, negative, sentinel, addsZero}
+use Rattle.cases.specs.Graphs.{Graph, neither, one, blank, carried, zeroWritten}
 
 -- what a proof names to compute what is printed
 unfoldable pub computed : List ℕ → List ℕ
@@ -47,12 +48,12 @@ pub data Case : Type 0 where
   judges : Graph → Case
 
 -- P 1 to P 10, in this order; where a P case has two programs, both; then the file of 0 bytes and its graph, then request a's, then a
--- starting value and a graph that it makes
+-- starting value and a graph that it makes, then adding zero
 abbrev pub cases : List Case
 cases =
     lists empty ∷ lists whole ∷ lists wholeApart ∷ lists increments ∷ lists incrementsAlike ∷ lists swaps ∷ lists swapsAlike ∷ lists adds
     ∷ lists addsAlike ∷ lists buffering ∷ judges neither ∷ judges one ∷ lists asserting ∷ lists nothing ∷ judges blank
-    ∷ lists passing ∷ lists negative ∷ lists sentinel ∷ judges carried ∷ []
+    ∷ lists passing ∷ lists negative ∷ lists sentinel ∷ judges carried ∷ lists addsZero ∷ judges zeroWritten ∷ []
 
 -- what the walk answers, with an output of 24 bytes: by a law the one right answer
 unfoldable pub judged : Graph → Answer

@@ -1,20 +1,22 @@
 -- What the access in a row does, as far as others have to wait for it, by the row's first byte.
 use Prim.Native.Nat.{ℕ, _+_, _*_, _<_}
-use mathlib.Core.Path.{_≡_, refl, sym, _∙_}
+use mathlib.Core.Path.{_≡_, refl, sym, _∙_, ap}
 use mathlib.Core.Logic.{_≢_}
 use mathlib.Core.Bool.{Bool, true, false}
 use mathlib.Core.List.{List, [], _∷_}
 use native.Mathlib.Decide.{ℕ-discrete}
 use lib.Dec.{eqb}
 use lib.ListN.{getD}
+use Rattle.program.specs.declared.instruction.Operand.{Operand}
 use Rattle.program.specs.declared.instruction.Instruction.{Instruction}
 use Rattle.program.specs.declared.instruction.Instruction.the-variants.{Memory, Alone}
-use Rattle.rows.specs.Rows.{instructionAt}
+use Rattle.program.specs.Frames.{operand}
+use Rattle.rows.specs.Rows.{rowAt, instructionAt}
 use Rattle.rows.proofs.Rows.{row-store, row-load, row-fetch-add, row-compare-swap, row-no-access}
 use Rattle.accesses.specs.CarriedOut.{accessOf}
 use Rattle.sc.specs.Local.{accessPlace, firstPlace}
 use Rattle.sc.specs.Actions.{Action, conflict}
-use Rattle.sc.specs.Ahead.{accessMayPut, firstMayPut}
+use Rattle.sc.specs.Ahead.{couldAdd, accessMayPut, firstMayPut}
 use Rattle.sc.proofs.Trails.{conflict-elsewhere, conflict-written, conflict-read}
 use Rattle.prefix.specs.Steps.{accessingAt}
 
@@ -39,9 +41,9 @@ module _ (code : List ℕ) (k : ℕ) (h : k < 96) where
   unfolding firstMayPut accessMayPut
   writer-store e = rw (row-store code k h e)
 
-  pub writer-fetch-add : getD code (k * 16) 0 ≡ 0x12 → true ≡ firstMayPut (instructionAt code k ∷ [])
+  pub writer-fetch-add : getD code (k * 16) 0 ≡ 0x12 → (p : Operand) → p ≡ operand (rowAt code k) 3 → (b : Bool) → b ≡ couldAdd p → b ≡ firstMayPut (instructionAt code k ∷ [])
   unfolding firstMayPut accessMayPut
-  writer-fetch-add e = rw (row-fetch-add code k h e)
+  writer-fetch-add e p ep b eb = eb ∙ ap couldAdd ep ∙ rw (row-fetch-add code k h e)
 
   pub writer-compare-swap : getD code (k * 16) 0 ≡ 0x13 → true ≡ firstMayPut (instructionAt code k ∷ [])
   unfolding firstMayPut accessMayPut

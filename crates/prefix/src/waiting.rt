@@ -1,13 +1,15 @@
 // What the access in a row does, as far as others have to wait for it: read off the row's bytes.
 use accesses::writes_at;
+use program::Operand;
 use rows::Code;
+use rows::operand_at;
 ghost use mathlib.Core.Path.{_≡_};
 ghost use mathlib.Core.List.{[], _∷_};
 ghost use Prim.Native.Nat.{_<_};
 ghost use Rattle.rows.specs.Rows.{instructionAt};
 ghost use Rattle.sc.specs.Local.{firstPlace};
 ghost use Rattle.sc.specs.Actions.{conflict};
-ghost use Rattle.sc.specs.Ahead.{firstMayPut};
+ghost use Rattle.sc.specs.Ahead.{couldAdd, firstMayPut};
 ghost use Rattle.prefix.specs.Steps.{accessingAt};
 
 // The location of the access in a row; 0 where there is none.
@@ -32,6 +34,16 @@ pub fn location_at(code: &Code, row: usize) -> u8
     0
 }
 
+// Whether an operand could be other than zero; a register could, whatever it holds now.
+fn could_add(p: Operand) -> bool
+    ensures { λ r. ⌜ r ≡ couldAdd p ⌝ }
+{
+    match p {
+        Operand::Constant(v) => v != 0,
+        Operand::Register(_) => true,
+    }
+}
+
 // Whether it could write.
 pub fn is_writer(code: &Code, row: usize) -> bool
     requires { ⌜ row < 96 ⌝ }
@@ -42,7 +54,7 @@ pub fn is_writer(code: &Code, row: usize) -> bool
         return true;
     }
     if b == 0x12 {
-        return true;
+        return could_add(operand_at(code, row, 3));
     }
     if b == 0x13 {
         return true;

@@ -3,11 +3,13 @@
 use Prim.Native.Nat.{ℕ}
 use mathlib.Core.Path.{_≡_, refl, sym, subst, _∙_}
 use mathlib.Core.Logic.{_≢_, _⊎_, inl, inr}
-use mathlib.Core.Bool.{Bool, true, false, true≢false, false≢true, _&&_, _||_}
-use mathlib.Core.Option.{none}
+use mathlib.Core.Bool.{Bool, true, false, cond, not, true≢false, false≢true, _&&_, _||_}
+use mathlib.Core.Option.{none, some}
 use mathlib.Core.List.{List, [], _∷_, List·Memᴰ, List·Memᴰ·head, Memᴰ·append-right}
 use lib.Dec.{eqb}
-use borrow.Author.Tests.{eqb-false}
+use borrow.Author.Tests.{eqb-false, not-false}
+use Rattle.program.specs.declared.instruction.Operand.{Operand}
+use Rattle.program.specs.declared.instruction.Operand.the-variants.{Constant, Register}
 use Rattle.program.specs.declared.instruction.Access.{Access}
 use Rattle.program.specs.declared.instruction.Access.the-variants.{Store, Load, FetchAdd, CompareSwap}
 use Rattle.program.specs.declared.instruction.Instruction.{Instruction}
@@ -15,8 +17,8 @@ use Rattle.program.specs.declared.instruction.Instruction.the-variants.{Memory,
 use Rattle.program.proofs.Tests.{neither}
 use Rattle.schedules.specs.Lists.{any}
 use Rattle.schedules.proofs.Lists.{any-yes, any-of, any-no}
-use Rattle.sc.specs.Local.{Local, accessPlace, accessTakes, accessPuts, beginsWithAccess, firstPlace, firstPuts, pending, placeOf, puts}
-use Rattle.sc.specs.Ahead.{accessMayPut, firstMayPut, mayPut, couldConflict, couldMeet}
+use Rattle.sc.specs.Local.{Local, eval, sum32, accessPlace, accessTakes, accessPuts, beginsWithAccess, firstPlace, firstPuts, pending, placeOf, puts}
+use Rattle.sc.specs.Ahead.{couldAdd, accessMayPut, firstMayPut, mayPut, couldConflict, couldMeet}
 use Rattle.sc.proofs.Suffix.{Suffix}
 
 -- an access reads or could write
@@ -27,12 +29,18 @@ takes-or-puts (Load r l) = refl
 takes-or-puts (FetchAdd r l p) = refl
 takes-or-puts (CompareSwap r l e v) = refl
 
+-- an operand that could only be zero is zero
+only-zero : (p : Operand) (rs : List ℕ) → couldAdd p ≡ false → eqb (eval rs p) 0 ≡ true
+unfolding couldAdd eval
+only-zero (Constant v) rs e = not-false (eqb v 0) e
+only-zero (Register k) rs e = absurd (true≢false e)
+
 -- one that could not write writes nothing
 access-puts-not : (a : Access) → accessMayPut a ≡ false → (rs : List ℕ) (x : ℕ) → accessPuts rs a x ≡ none
 unfolding accessMayPut accessPuts
 access-puts-not (Store l p) e rs x = absurd (true≢false e)
 access-puts-not (Load r l) e rs x = refl
-access-puts-not (FetchAdd r l p) e rs x = absurd (true≢false e)
+access-puts-not (FetchAdd r l p) e rs x = rw (only-zero p rs e)
 access-puts-not (CompareSwap r l c v) e rs x = absurd (true≢false e)
 
 first-puts-not : (is : List Instruction) → firstMayPut is ≡ false → (rs : List ℕ) (x : ℕ) → firstPuts rs is x ≡ none

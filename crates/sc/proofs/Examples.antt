@@ -112,6 +112,23 @@ turned : seen turns (0 ∷ 0 ∷ []) ≡ record {
 unfolding seen turns
 turned = refl
 
+-- adding a constant zero and adding a register that holds zero only read; a compare and swap of 0 to 0 writes
+addingZero : Program
+addingZero = record {
+  threads = (Memory (FetchAdd 0 0 (Constant 0)) ∷ []) ∷ (Memory (FetchAdd 0 0 (Register 1)) ∷ []) ∷ (Memory (CompareSwap 0 0 (Constant 0) (Constant 0)) ∷ []) ∷ [];
+  groups = [];
+  starting = zeros;
+}
+
+zero-reads : seen addingZero (0 ∷ 1 ∷ 2 ∷ []) ≡ record {
+  full = true;
+  fails = false;
+  memory = 0 ∷ 0 ∷ 0 ∷ 0 ∷ 0 ∷ 0 ∷ 0 ∷ 0 ∷ [];
+  frames = (0x40 ∷ 0 ∷ 0 ∷ 255 ∷ 255 ∷ []) ∷ (0x40 ∷ 1 ∷ 0 ∷ 255 ∷ 255 ∷ []) ∷ (0x40 ∷ 2 ∷ 0 ∷ 255 ∷ 255 ∷ []) ∷ (0x41 ∷ 0 ∷ 2 ∷ 0 ∷ []) ∷ [];
+}
+unfolding seen addingZero
+zero-reads = refl
+
 -- a store and a load in each of two threads, as text: `400001ffff`, `4001010000`, `41000000`, `41010100`, each line with its 0a
 pair : Program
 pair = record { threads = (Memory (Store 0 (Constant 1)) ∷ Memory (Load 0 1) ∷ []) ∷ (Memory (Store 1 (Constant 1)) ∷ Memory (Load 0 0) ∷ []) ∷ []; groups = []; starting = zeros }

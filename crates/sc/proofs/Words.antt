@@ -95,7 +95,11 @@ access-puts-word : (a : Access) (rs : List ℕ) (x y : ℕ) → AccessInRange a 
 unfolding accessPuts
 access-puts-word (Store l p) rs x y i w e = let q : eval rs p ≡ y = cc in subst Word q (eval-word rs p w (i .1))
 access-puts-word (Load r l) rs x y i w e = absurd (Option·none-ne-some y e)
-access-puts-word (FetchAdd r l p) rs x y i w e = let q : sum32 x (eval rs p) ≡ y = cc in subst Word q (sum-word x (eval rs p))
+access-puts-word (FetchAdd r l p) rs x y i w e = go (eqb (eval rs p) 0) e
+  where
+    go : (b : Bool) → cond b none (some (sum32 x (eval rs p))) ≡ some y → Word y
+    go true k = absurd (Option·none-ne-some y k)
+    go false k = let q : sum32 x (eval rs p) ≡ y = cc in subst Word q (sum-word x (eval rs p))
 access-puts-word (CompareSwap r l c v) rs x y i w e = go (eqb x (eval rs c)) e
   where
     go : (b : Bool) → cond b (some (eval rs v)) none ≡ some y → Word y

@@ -1,9 +1,11 @@
 -- What a thread could still do, seen from the code that is left to it: whether its next access could write, and whether any access that is
 -- left could conflict with one at a given location. A skip may leave some of them out; they are counted all the same.
 use Prim.Native.Nat.{ℕ}
-use mathlib.Core.Bool.{Bool, true, false, _&&_, _||_}
+use mathlib.Core.Bool.{Bool, true, false, not, _&&_, _||_}
 use mathlib.Core.List.{List, [], _∷_}
 use lib.Dec.{eqb}
+use Rattle.program.specs.declared.instruction.Operand.{Operand}
+use Rattle.program.specs.declared.instruction.Operand.the-variants.{Constant, Register}
 use Rattle.program.specs.declared.instruction.Access.{Access}
 use Rattle.program.specs.declared.instruction.Access.the-variants.{Store, Load, FetchAdd, CompareSwap}
 use Rattle.program.specs.declared.instruction.Instruction.{Instruction}
@@ -11,11 +13,16 @@ use Rattle.program.specs.declared.instruction.Instruction.the-variants.{Memory,
 use Rattle.schedules.specs.Lists.{any}
 use Rattle.sc.specs.Local.{Local, accessPlace}
 
--- whether an access could write; a compare and swap could
+-- whether an operand could be other than zero; a register could, whatever it holds now
+unfoldable pub couldAdd : Operand → Bool
+couldAdd (Constant v) = not (eqb v 0)
+couldAdd (Register k) = true
+
+-- whether an access could write; a compare and swap could, and a fetch and add unless it adds a constant zero
 unfoldable pub accessMayPut : Access → Bool
 accessMayPut (Store l p) = true
 accessMayPut (Load r l) = false
-accessMayPut (FetchAdd r l p) = true
+accessMayPut (FetchAdd r l p) = couldAdd p
 accessMayPut (CompareSwap r l e v) = true
 
 -- whether this code's first access could write

@@ -50,11 +50,11 @@ accessTakes (Load r l) = true
 accessTakes (FetchAdd r l p) = true
 accessTakes (CompareSwap r l e v) = true
 
--- what it writes on finding x: nothing for a load and for a compare and swap that fails
+-- what it writes on finding x: nothing for a load, for a fetch and add of zero and for a compare and swap that fails
 unfoldable pub accessPuts : List ℕ → Access → ℕ → Option ℕ
 accessPuts rs (Store l p) x = some (eval rs p)
 accessPuts rs (Load r l) x = none
-accessPuts rs (FetchAdd r l p) x = some (sum32 x (eval rs p))
+accessPuts rs (FetchAdd r l p) x = cond (eqb (eval rs p) 0) none (some (sum32 x (eval rs p)))
 accessPuts rs (CompareSwap r l e v) x = cond (eqb x (eval rs e)) (some (eval rs v)) none
 
 -- the registers behind it: a read's holds x

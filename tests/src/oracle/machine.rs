@@ -30,7 +30,7 @@ pub struct Effect {
 }
 
 impl Thread {
-    fn value(&self, operand: Operand) -> u32 {
+    pub fn value(&self, operand: Operand) -> u32 {
         match operand {
             Operand::Constant(value) => value,
             Operand::Register(r) => self.registers[r as usize],
@@ -91,7 +91,8 @@ impl Thread {
         let (read, written) = match instruction {
             Instruction::Store { p, .. } => (None, Some(self.value(p))),
             Instruction::Load { r, .. } => (Some(r), None),
-            Instruction::FetchAdd { r, p, .. } => (Some(r), Some(found.wrapping_add(self.value(p)))),
+            // adding zero is reading
+            Instruction::FetchAdd { r, p, .. } => (Some(r), (self.value(p) != 0).then_some(found.wrapping_add(self.value(p)))),
             Instruction::CompareSwap { r, e, v, .. } => (Some(r), (found == self.value(e)).then_some(self.value(v))),
             _ => unreachable!("no access"),
         };

@@ -87,12 +87,18 @@ pub fn frames_parted(random: &mut Random, size: Size) -> Vec<Vec<u8>> {
 pub fn straight(random: &mut Random, locations: usize) -> Vec<Vec<u8>> {
     let size = Size { locations, registers: 2, constants: 3, ..ANY };
     let threads = random.pick(&[2, 3, 4, 6]);
+    // some have the longest graph texts: every access reads, and almost every one writes
+    let kinds: &[u8] = if random.one_in(8) { &[0x12] } else { &[0x10, 0x11, 0x12, 0x13] };
     let mut all = Vec::new();
     for _ in 0..threads {
         all.push(vec![0x01]);
         for _ in 0..ANY.accesses / threads {
-            let kind = random.pick(&[0x10, 0x11, 0x12, 0x13]);
-            all.push(instruction(random, size, kind));
+            let kind = random.pick(kinds);
+            let mut frame = instruction(random, size, kind);
+            if kind == 0x12 && !random.one_in(12) {
+                frame[3..].copy_from_slice(&[0, 0, 0, 0, 1]);
+            }
+            all.push(frame);
         }
     }
     all
@@ -146,7 +152,10 @@ pub fn instruction(random: &mut Random, size: Size, kind: u8) -> Vec<u8> {
         }
         _ => frame.push(r),
     }
-    if kind != 0x11 {
+    if kind == 0x12 && random.one_in(8) {
+        // adding zero is reading
+        frame.extend([0; 5]);
+    } else if kind != 0x11 {
         frame.extend(operand(random, size));
     }
     if is_skip(kind) {

@@ -50,14 +50,11 @@ impl Place {
     /// The access of a thread that has not ended.
     pub fn access(&self, program: &Program, t: usize) -> Access {
         match program.threads[t][self.threads[t].next] {
-            Instruction::Store { l, .. } | Instruction::FetchAdd { l, .. } => Access { location: l, writes: true },
+            Instruction::Store { l, .. } => Access { location: l, writes: true },
+            Instruction::FetchAdd { l, p, .. } => Access { location: l, writes: self.threads[t].value(p) != 0 },
             Instruction::Load { l, .. } => Access { location: l, writes: false },
             Instruction::CompareSwap { l, e, .. } => {
-                let expected = match e {
-                    Operand::Constant(value) => value,
-                    Operand::Register(r) => self.threads[t].registers[r as usize],
-                };
-                Access { location: l, writes: self.memory[l as usize] == expected }
+                Access { location: l, writes: self.memory[l as usize] == self.threads[t].value(e) }
             }
             _ => unreachable!("no access"),
         }
@@ -115,6 +112,8 @@ impl Left {
                 let (read, written) = match *instruction {
                     Instruction::Load { l, .. } => (1 << l, 0),
                     Instruction::Store { l, .. } => (0, 1 << l),
+                    // a constant zero is never written, and a register may hold something else by then
+                    Instruction::FetchAdd { l, p: Operand::Constant(0), .. } => (1 << l, 0),
                     Instruction::FetchAdd { l, .. } | Instruction::CompareSwap { l, .. } => (1 << l, 1 << l),
                     _ => (0, 0),
                 };

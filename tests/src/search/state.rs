@@ -1,5 +1,5 @@
 //! The machine's state as the walk over all schedules has it.
-use crate::oracle::decode::{Instruction, Operand, Program};
+use crate::oracle::decode::{Instruction, Program};
 use crate::oracle::machine::{opened, Event, Thread, INITIAL};
 
 /// The source of an access that does not read.
@@ -38,13 +38,9 @@ impl State {
             Instruction::Store { l, .. } => Pending { location: l, reads: false, writes: true },
             Instruction::Load { l, .. } => Pending { location: l, reads: true, writes: false },
             Instruction::CompareSwap { l, e, .. } => {
-                let expected = match e {
-                    Operand::Constant(value) => value,
-                    Operand::Register(r) => thread.registers[r as usize],
-                };
-                Pending { location: l, reads: true, writes: self.memory[l as usize] == expected }
+                Pending { location: l, reads: true, writes: self.memory[l as usize] == thread.value(e) }
             }
-            Instruction::FetchAdd { l, .. } => Pending { location: l, reads: true, writes: true },
+            Instruction::FetchAdd { l, p, .. } => Pending { location: l, reads: true, writes: thread.value(p) != 0 },
             _ => unreachable!("no access"),
         })
     }

@@ -112,6 +112,7 @@ impl<'a> Execution<'a> {
             (Instruction::FetchAdd { r, .. }, Some(left)) => {
                 format!("fetch_add {l} {first} -> {} = {found}, {l} = {}", register(r), number(left))
             }
+            (Instruction::FetchAdd { r, .. }, None) => format!("fetch_add {l} {first} -> {} = {found}, reads", register(r)),
             (Instruction::CompareSwap { r, .. }, Some(left)) => {
                 format!("cas {l} {first} {second} -> {} = {found}, {l} = {}", register(r), number(left))
             }
@@ -122,11 +123,16 @@ impl<'a> Execution<'a> {
         }
     }
 
-    /// The write that a read saw, for the eye: `T0 store #2` or `initial`.
-    pub fn source(&self, source: &Source) -> String {
-        match source {
-            Source::Initial => "initial".to_string(),
-            Source::Write(event, name) => format!("{} {name} #{}", self.program.names.thread(event.t), event.i),
+    /// The write that a read saw, for the eye: `T0 store #2` or `initial`; a fetch and add of zero, which only reads, is told apart.
+    pub fn source(&self, step: &Step) -> String {
+        let seen = match &step.source {
+            None => return String::new(),
+            Some(Source::Initial) => "initial".to_string(),
+            Some(Source::Write(event, name)) => format!("{} {name} #{}", self.program.names.thread(event.t), event.i),
+        };
+        match (step.done.instruction, step.done.left) {
+            (Instruction::FetchAdd { .. }, None) => format!("reads {seen}"),
+            _ => seen,
         }
     }
 

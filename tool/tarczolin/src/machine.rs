@@ -84,7 +84,7 @@ impl Thread {
         let old = memory[l as usize];
         let left = match instruction {
             Store { .. } => Some(operands[0]),
-            FetchAdd { .. } => Some(old.wrapping_add(operands[0])),
+            FetchAdd { .. } => (operands[0] != 0).then_some(old.wrapping_add(operands[0])),
             CompareSwap { .. } => (old == operands[0]).then_some(operands[1]),
             _ => None,
         };

@@ -55,10 +55,11 @@ fn lines(execution: &Execution, of: impl Fn(u8) -> bool) -> Vec<(String, String)
         let left = format!("{}{}, before the first step", front("!!", *t), execution.failure(*t, failed));
         lines.push((left, String::new()));
     }
-    for Step { done, source } in execution.steps.iter().filter(|step| of(step.done.event.t)) {
+    for step in execution.steps.iter().filter(|step| of(step.done.event.t)) {
+        let Step { done, .. } = step;
         let t = done.event.t;
         let left = front(&format!("#{}", done.event.i), t) + &execution.access(done);
-        lines.push((left, source.map_or(String::new(), |seen| execution.source(&seen))));
+        lines.push((left, execution.source(step)));
         if let Some(failed) = &done.failure {
             lines.push((front("!!", t) + &execution.failure(t, failed), String::new()));
         }

@@ -47,4 +47,5 @@ pub fn report() {
     let increments = "01 110000 21000000000001 10000100000000 ".repeat(6);
     row("six alike threads of load, add 1, store", &format!("{increments} 02000102030405"), 100);
     row("six threads of two fetch and adds, at two locations", &"01 1200000000000001 1200010000000001 ".repeat(6), 10);
+    row("six threads that add zero to one location", &"01 1200000000000000 ".repeat(6), 100);
 }

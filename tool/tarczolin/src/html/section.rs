@@ -52,7 +52,7 @@ fn table(execution: &Execution, rows: &[Row]) -> String {
             }
             Row::Step(step) => {
                 let number = format!("<td class=\"number\">#{}</td>", step.done.event.i);
-                let seen = step.source.map_or(String::new(), |seen| execution.source(&seen));
+                let seen = execution.source(step);
                 ("", format!("{number}{thread}{}{}", cell("", &execution.access(&step.done)), cell("", &seen)))
             }
         };

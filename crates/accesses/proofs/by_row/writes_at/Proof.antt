@@ -12,15 +12,16 @@ returns c =
 
 returns-2 : tie.Need-returns-2
 returns-2 c =
-    let entry = c .before .before .before in
+    let entry = c .before .before .before .before .before in
     let a = entry .args in
-    writes-fetch-add (a .code .now) (a .row) (entry .pre) (a .registers) (a .memory) (c .if2 .taken)
+    rw (c .value .ensures, c .before .operand-at .ensures)
+    (writes-fetch-add (a .code .now) (a .row) (entry .pre) (a .registers) (a .memory) (c .before .before .if2 .taken))
 
 returns-3 : tie.Need-returns-3
 returns-3 c =
     let entry = c .before .before .before .before .before .before .before .before in
     let a = entry .args in
-    rw (c .value .ensures, c .before .operand-at .ensures, c .before .before .found .ensures)
+    rw (c .value2 .ensures, c .before .operand-at2 .ensures, c .before .before .found .ensures)
     (writes-swap (a .code .now) (a .row) (entry .pre) (a .registers) (a .memory) (c .before .before .before .before .if3 .taken))
 
 returns-4 : tie.Need-returns-4
@@ -31,4 +32,4 @@ returns-4 c =
 
 pub writes-at-spec : {M : Type 1} → statement M
 writes-at-spec =
-    tie.close (tie.spec (λ c. search needs) (λ c. search needs) returns returns-2 (λ c. search needs) (λ c. search needs) (λ c κs. search needs) (λ c κs. search needs) (λ c κs. search needs) returns-3 returns-4)
+    tie.close (tie.spec (λ c. search needs) (λ c. search needs) returns (λ c κs. search needs) (λ c κs. search needs) returns-2 (λ c. search needs) (λ c. search needs) (λ c κs. search needs) (λ c κs. search needs) (λ c κs. search needs) returns-3 returns-4)
