@@ -6,7 +6,7 @@ use tarczolin_tests::random::damage::{self, Damage};
 use tarczolin_tests::random::Random;
 use tarczolin_tests::share;
 
-const FILES: usize = 300_000;
+const FILES: usize = 400_000;
 
 /// What the files reached.
 #[derive(Default)]

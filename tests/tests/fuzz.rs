@@ -68,7 +68,7 @@ fn may_stand(answer: Answer, output: usize, needed: usize, longest: usize, may_b
         Answer::Answered(length) => output >= needed && length as usize <= longest,
         Answer::None => output >= needed && may_be_none,
         Answer::Refused(22, place) => output < needed && place == 0,
-        Answer::Refused(number, _) => matches!(number, 1..=8) || (output >= needed && matches!(number, 20 | 21 | 30..=33)),
+        Answer::Refused(number, _) => matches!(number, 1..=8 | 40) || (output >= needed && matches!(number, 20 | 21 | 30..=33)),
     }
 }
 
@@ -109,7 +109,7 @@ fn quick(file: &[u8]) -> bool {
 
 fn ask_all(random: &mut Random, file: &[u8], beside: &[u8]) {
     let answer = calls::check(file);
-    assert!(answer == Answer::Answered(0) || matches!(answer, Answer::Refused(1..=8, _)), "{answer:?}");
+    assert!(answer == Answer::Answered(0) || matches!(answer, Answer::Refused(1..=8 | 40, _)), "{answer:?}");
     assert_eq!(answer == Answer::Answered(0), decode(file).is_ok());
     let out = output(random, GRAPH);
     held(random, [file, beside], out, [GRAPH, 400], false, |[f, s], out| calls::graph(f, s, out));
@@ -160,7 +160,7 @@ fn rows(random: &mut Random, file: &[u8], beside: &[u8]) {
         };
         let found = match answer {
             Answer::Answered(rows) if rows as usize <= output / ROW => Ok(out[..rows as usize * ROW].to_vec()),
-            Answer::Refused(number @ 1..=8, place) => Err(Refusal { number, place }),
+            Answer::Refused(number @ (1..=8 | 40), place) => Err(Refusal { number, place }),
             other => panic!("{other:?} is no answer of rows with an output of {output} bytes: {file:?}, {behind:?}"),
         };
         lent::held_rows(random, file, behind, output, &found);
@@ -174,7 +174,7 @@ fn counts(random: &mut Random, file: &[u8]) {
     let [_, listed, failing, _] = &mut words;
     match calls::count(file, listed, failing) {
         Answer::Answered(0) => assert!(words[1] >= 1 && words[2] <= words[1]),
-        Answer::Refused(1..=8, _) => assert_eq!(words, before),
+        Answer::Refused(1..=8 | 40, _) => assert_eq!(words, before),
         other => panic!("{other:?} is no answer of count"),
     }
     assert_eq!((words[0], words[3]), (before[0], before[3]));

@@ -135,7 +135,7 @@ fn every_graph_of_a_program() {
         }
         false
     });
-    assert!(graphs.len() >= 10, "{}", graphs.len());
+    assert_eq!(graphs.len(), 8);
     for (graph, least) in graphs {
         let mut out = vec![0; SCHEDULE];
         let said = calls::judge(&file, &graph.text(), &mut out);

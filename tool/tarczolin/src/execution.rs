@@ -49,6 +49,7 @@ impl<'a> Execution<'a> {
     pub fn replayed(file: &[u8], program: &'a Program, schedule: &[u8]) -> Result<Execution<'a>, Refusal> {
         let graph = Graph::of_text(&ask::graph(file, schedule)?);
         let executions = ask::class(file, schedule)?;
+        let starting = program.memory();
         let mut machine = Machine::new(program);
         let at_once = program.numbers().filter_map(|t| Some((t, machine.failure(t)?))).collect();
         let mut left: BTreeMap<Event, Done> = BTreeMap::new();
@@ -57,7 +58,7 @@ impl<'a> Execution<'a> {
             let done = machine.step(t);
             let source = done.found.map(|found| {
                 let source = *graph.reads.get(&done.event).expect("each read stands in the library's graph");
-                let seen = source.map_or(Some(0), |write| left[&write].left);
+                let seen = source.map_or(Some(starting[done.location as usize]), |write| left[&write].left);
                 assert_eq!(seen, Some(found), "the replay and the library's graph fit");
                 source.map_or(Source::Initial, |w| Source::Write(w, left[&w].instruction.access().unwrap_or("")))
             });

@@ -38,7 +38,7 @@ fails      T0: assert r0 == 0 FAILS: r0 = 1 (instruction 1)
 #[test]
 fn conditions() {
     let status = |condition: &str| run(&["outcomes", QUEUE, "--where", condition]).status;
-    assert_eq!(status("tail=2 & consumer.item=0"), 1);
+    assert_eq!(status("tail=3 & consumer.item=0"), 1);
     assert_eq!(status("tail = 3 & T2.r1 = 0"), 1);
     assert_eq!(status("tail = 2"), 0);
     assert_eq!(status("!(tail = 3)"), 0);

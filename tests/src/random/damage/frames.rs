@@ -89,7 +89,7 @@ fn start_twice(random: &mut Random, frames: &mut Vec<Vec<u8>>) {
     }
     let count = frames.iter().take_while(|frame| frame[0] == 0x03).count();
     let mut again = frames[random.below(count)].clone();
-    if random.one_in(2) {
+    if again.len() > 1 && random.one_in(2) {
         again = start(random, ANY, again[1]);
     }
     frames.insert(random.between(0, count), again);
