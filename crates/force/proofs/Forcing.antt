@@ -25,7 +25,7 @@ use Rattle.listing.specs.declared.calling.ListAnswer.{ListAnswer}
 use Rattle.listing.specs.declared.calling.ListAnswer.the-variants.{Found, NoMore, Refused}
 use Rattle.listing.proofs.Demand3.{demand-3}
 use Rattle.game.specs.Game.{Side, hostile, friendly, other, same}
-use Rattle.game.specs.Value.{value}
+use Rattle.game.proofs.Value.{value}
 use Rattle.game.specs.Forced.{gameOf, CanForce}
 use Rattle.game.proofs.Sides.{same-is, same-not}
 use Rattle.game.proofs.Answers.{one-can-force, hostile-play, none-fails-friendly, forced-unique}

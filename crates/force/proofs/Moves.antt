@@ -20,7 +20,7 @@ use Rattle.machine.specs.Held.{threadAt}
 use Rattle.machine.specs.Asked.{failsBy}
 use Rattle.machine.proofs.HeldAsking.{fails-by}
 use Rattle.game.specs.Game.{Side, hostile, friendly, other, same, mine, able}
-use Rattle.game.specs.Value.{keepsBy, best, value}
+use Rattle.game.proofs.Value.{keepsBy, best, value}
 use Rattle.game.specs.Forced.{gameOf}
 use Rattle.game.proofs.Sides.{same-is, same-self, mine-enabled}
 use Rattle.game.proofs.Determined.{value-able, value-passes, value-none, best-some, best-no, keeps-mine, keeps-of, keeps-wins}

@@ -25,7 +25,7 @@ use Rattle.sc.proofs.Failing.{fails-of}
 use Rattle.machine.specs.declared.state.Machine.{Machine}
 use Rattle.machine.specs.Held.{threadAt, Loaded}
 use Rattle.machine.proofs.HeldStart.{threads-held}
-use Rattle.game.specs.Silent.{Harmless, Silent}
+use Rattle.game.proofs.Silent.{Harmless, Silent}
 use Rattle.force.specs.Standing.{Tails, Standing}
 
 -- ---- one row

@@ -14,8 +14,8 @@ use Rattle.sc.specs.Graph.{endOf}
 use Rattle.machine.specs.declared.state.Machine.{Machine}
 use Rattle.machine.specs.Held.{Holds, Loaded}
 use Rattle.game.specs.Game.{Side, hostile, friendly}
-use Rattle.game.specs.Value.{keepsBy, value}
-use Rattle.game.specs.Silent.{Harmless}
+use Rattle.game.proofs.Value.{keepsBy, value}
+use Rattle.game.proofs.Silent.{Harmless}
 use Rattle.game.specs.Forced.{gameOf}
 
 -- a side as a flag

@@ -12,7 +12,7 @@ ghost use Rattle.program.specs.Program.{Program};
 ghost use Rattle.schedules.specs.Order.{Schedule};
 ghost use Rattle.sc.specs.Graph.{endOf};
 ghost use Rattle.game.specs.Game.{hostile, friendly, same};
-ghost use Rattle.game.specs.Value.{value};
+ghost use Rattle.game.proofs.Value.{value};
 ghost use Rattle.game.specs.Forced.{gameOf};
 ghost use Rattle.force.specs.Standing.{Standing};
 

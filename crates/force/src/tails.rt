@@ -9,7 +9,7 @@ ghost use Rattle.program.specs.Program.{Program};
 ghost use Rattle.program.specs.WellFormed.{Everywhere};
 ghost use Rattle.rows.specs.Rows.{instructionAt, threadCode};
 ghost use Rattle.machine.specs.Held.{threadAt, Loaded};
-ghost use Rattle.game.specs.Silent.{Harmless};
+ghost use Rattle.game.proofs.Silent.{Harmless};
 ghost use Rattle.force.specs.Standing.{Tails};
 
 // Whether the instruction in this row is an access, or one that a thread does by itself and that is no assertion.

@@ -22,7 +22,7 @@ use Rattle.sc.specs.Graph.{Full, endOf}
 use Rattle.sc.proofs.Lawful.{lawful, falls, start-24}
 use Rattle.survivors.specs.Sets.{has}
 use Rattle.game.specs.Game.{Side, hostile, friendly, other, mine, able, Forces, ExactlyOne, Keeps}
-use Rattle.game.specs.Value.{keepsBy, value}
+use Rattle.game.proofs.Value.{keepsBy, value}
 use Rattle.game.specs.Forced.{gameOf, CanForce, HasStep, LeastFirst, Names, LowestMissing, Answer, hostile-can, friendly-can, refusing, Asked, Said, hostile-steps, hostile-passes, friendly-forces, Forced, program-refused, set-refused, played}
 use Rattle.game.proofs.Sides.{differ, mine-enabled, full-play}
 use Rattle.game.proofs.Against.{not-both, forced-play}

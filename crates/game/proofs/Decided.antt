@@ -7,7 +7,7 @@ use Rattle.schedules.specs.Lists.{any}
 use Rattle.schedules.specs.System.{Lawful}
 use Rattle.schedules.proofs.Lists.{any-yes, any-of}
 use Rattle.game.specs.Game.{Side, hostile, friendly, other, same, Game, mine, able, winner}
-use Rattle.game.specs.Value.{keepsBy, best, value}
+use Rattle.game.proofs.Value.{keepsBy, best, value}
 use Rattle.game.proofs.Sides.{same-is, same-not, differ, other-other, mine-enabled, able-some}
 use Rattle.game.proofs.Determined.{value-able, value-passes, value-none, best-some, best-no, keeps-mine, keeps-wins, keeps-of}
 

@@ -11,7 +11,7 @@ use Rattle.schedules.specs.Order.{Schedule}
 use Rattle.schedules.specs.System.{Lawful, run, ended}
 use Rattle.schedules.proofs.Lists.{true-both, both-left, both-right, any-yes, any-of, any-no}
 use Rattle.game.specs.Game.{Side, hostile, friendly, other, same, Game, Strategy, mine, able, mover, winner, Play, FullPlay, stepper, IsStrategy, Follows, Forces, ExactlyOne}
-use Rattle.game.specs.Value.{keepsBy, best, value}
+use Rattle.game.proofs.Value.{keepsBy, best, value}
 use Rattle.game.proofs.Sides.{same-is, same-not, same-self, differ, other-other, mine-enabled, mover-able, mover-passes, mover-steps, some-thread, ended-mine, ended-able}
 use Rattle.game.proofs.Against.{turnBehind, firstOwn, first-own, not-both}
 use Rattle.game.proofs.Composed.{Behind, composed-forces}

@@ -21,8 +21,8 @@ use Rattle.sc.proofs.Failing.{fails-at}
 use Rattle.sc.proofs.Halted.{stays-failed}
 use Rattle.sc.proofs.Lawful.{lawful}
 use Rattle.game.specs.Game.{Side, hostile, friendly}
-use Rattle.game.specs.Value.{value}
-use Rattle.game.specs.Silent.{Harmless, Silent}
+use Rattle.game.proofs.Value.{value}
+use Rattle.game.proofs.Silent.{Harmless, Silent}
 use Rattle.game.specs.Forced.{gameOf}
 use Rattle.game.proofs.Decided.{winner-fails, winner-passes, decided}
 

@@ -1,4 +1,8 @@
 -- The laws, in the order in which they rest on each other.
+-- who can force, worked out step by step: what the code computes
+pub mod Value
+-- states from which no assertion can be reached
+pub mod Silent
 -- sides, and who steps
 pub mod Sides
 -- two strategies played against each other: not both sides can force

@@ -6,7 +6,7 @@ use borrow.Author.Tests.{not-false}
 use Rattle.program.specs.WellFormed.{Everywhere}
 use lib.ListN.{drop}
 use Rattle.rows.specs.Rows.{threadCode}
-use Rattle.game.specs.Silent.{Harmless}
+use Rattle.game.proofs.Silent.{Harmless}
 use Rattle.force.proofs.TailLaws.{clear-end, clear-on, clear-more}
 use Rattle.force.proofs.tails.tail.Statement.{statement}
 use Rattle.force.proofs.tails.tail.Tie as tie

@@ -7,7 +7,7 @@ use mathlib.Core.Path.{_≡_, refl, sym, _∙_}
 use Rattle.program.specs.WellFormed.{Everywhere}
 use Rattle.rows.specs.Rows.{threadCode}
 use Rattle.machine.proofs.HeldStart.{threads-held, short-held}
-use Rattle.game.specs.Silent.{Harmless}
+use Rattle.game.proofs.Silent.{Harmless}
 use Rattle.force.proofs.TailLaws.{tails-more, at-most-six}
 use Rattle.force.proofs.tails.tails_of.Statement.{statement}
 use Rattle.force.proofs.tails.tails_of.Tie as tie
