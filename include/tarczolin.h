@@ -109,7 +109,7 @@ uint64_t tarczolin_covers(const uint8_t *first, size_t first_len, const uint8_t 
  * ended; a side with none left passes. Exactly one side can force its end, whatever the other does. The hostile side can force
  * that the full schedule fails: kind 1, with 0 where it has no step before the first one, else its least first step that keeps
  * the win, plus 1; tarczolin_violation then reports a schedule. The friendly side can force that it does not fail: kind 2.
- * Refused, in this order: the program's (1 to 8); 48, the set names a thread that is not there, at the lowest such number, 6 and
+ * Refused, in this order: the program's (1 to 8, 40); 48, the set names a thread that is not there, at the lowest such number, 6 and
  * 7 too. The file is only read. The time grows with the number of plays. */
 uint64_t tarczolin_force(const uint8_t *file, size_t file_len, uint8_t set);
 
