@@ -36,15 +36,15 @@ returns c =
     let args = c .before .before .before .before .args in
     let loop = c .before .before .before .loop in
     let loop-test = c .before .before .loop-test in
-    let may-go = c .before .may-go in
-    (search needs, λ p g s W. chosen-one (args .code .now) (args .lengths .now) (args .threads) (args .pairs) (args .places) p g (args .m) (args .counts) s W (loop .t) (loop-test .taken) (loop .inv .1 p g s W) (sym (may-go .ensures p g s W) ∙ c .if1 .taken))
+    let is-allowed = c .before .is-allowed in
+    (search needs, λ p g s W. chosen-one (args .code .now) (args .lengths .now) (args .threads) (args .pairs) (args .places) p g (args .m) (args .counts) s W (loop .t) (loop-test .taken) (loop .inv .1 p g s W) (sym (is-allowed .ensures p g s W) ∙ c .if1 .taken))
 
 loop-again : tie.Need-loop-again Inv-loop μ-loop
 loop-again c =
     let args = c .before .before .before .before .args in
     let loop = c .before .before .before .loop in
-    let may-go = c .before .may-go in
-    (search needs, λ p g s W. passed-over (args .code .now) (args .lengths .now) (args .threads) (args .pairs) (args .places) p g (args .m) (args .counts) s W (loop .t) (loop .inv .1 p g s W) (sym (may-go .ensures p g s W) ∙ c .if1 .left))
+    let is-allowed = c .before .is-allowed in
+    (search needs, λ p g s W. passed-over (args .code .now) (args .lengths .now) (args .threads) (args .pairs) (args .places) p g (args .m) (args .counts) s W (loop .t) (loop .inv .1 p g s W) (sym (is-allowed .ensures p g s W) ∙ c .if1 .left))
 
 returns-2 : tie.Need-returns-2 Inv-loop μ-loop
 returns-2 c =

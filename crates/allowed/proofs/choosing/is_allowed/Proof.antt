@@ -1,4 +1,4 @@
--- `may_go` lets the machine step and asks of the note.
+-- `is_allowed` lets the machine step and asks of the note.
 use borrow.Author.Needs.{needs}
 use mathlib.Core.Path.{_∙_, sym}
 use borrow.Author.Tests.{not-true, not-false}
@@ -8,8 +8,8 @@ use Rattle.consistent.specs.Consistent.{locationOf}
 use Rattle.consistent.proofs.RoundValues.{values}
 use Rattle.machine.proofs.HeldAsking.{enabled-by}
 use Rattle.allowed.proofs.WalkChoice.{walk-drawn, walk-ordering, walk-below, walk-ready, walk-near, walk-ranged, walk-unmarked, walk-six, ended-over}
-use Rattle.allowed.proofs.choosing.may_go.Statement.{statement}
-use Rattle.allowed.proofs.choosing.may_go.Tie as tie
+use Rattle.allowed.proofs.choosing.is_allowed.Statement.{statement}
+use Rattle.allowed.proofs.choosing.is_allowed.Tie as tie
 
 returns : tie.Need-returns
 returns c =

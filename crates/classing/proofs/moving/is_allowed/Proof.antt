@@ -1,9 +1,9 @@
--- `may_go` compares the classes of two threads.
+-- `is_allowed` compares the classes of two threads.
 use borrow.Author.Needs.{needs}
 use Rattle.prefix.specs.ClassGroups.{groupsOf}
 use Rattle.classing.proofs.MayGo.{may-own, may-alone, may-unknown, may-line}
-use Rattle.classing.proofs.moving.may_go.Statement.{statement}
-use Rattle.classing.proofs.moving.may_go.Tie as tie
+use Rattle.classing.proofs.moving.is_allowed.Statement.{statement}
+use Rattle.classing.proofs.moving.is_allowed.Tie as tie
 
 returns : tie.Need-returns
 returns c = let args = c .before .args in may-own (groupsOf (args .t1) (args .groups)) (args .t) (args .u) (c .if1 .taken)
