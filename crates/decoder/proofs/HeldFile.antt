@@ -5,6 +5,8 @@ use mathlib.Core.Path.{_≡_, _∙_, sym, ap}
 use mathlib.Core.List.{List, [], _∷_}
 use lib.ListN.{length, getD, take, drop, replicate, drop-of-length-le}
 use borrow.Author.Tests.{eq-eqb, ne-eqb, le-ltb, lt-ltb}
+use lib.Dec.{ltb}
+use Rattle.lines.specs.Lists.{Ascends}
 use Rattle.lines.specs.Frame.{pairs}
 use Rattle.lines.specs.Split.{lineLength}
 use Rattle.lines.specs.TextLines.{TextLine, split}
@@ -14,7 +16,7 @@ use Rattle.lines.proofs.Meaning.{framed-bytes, spelt-as-frame, spelt-as-remark,
 use Rattle.lines.proofs.TextLines.{whole, split-at, split-end}
 use Rattle.refusals.specs.declared.counts.Counts.{Counts}
 use Rattle.program.specs.Decode.{Reading, fresh, threadAt, frameRefusal, after, refused, finish, readLines, decode}
-use Rattle.program.specs.WellFormed.{Everywhere, Ascending}
+use Rattle.program.specs.WellFormed.{Everywhere}
 use Rattle.refusals.specs.Held.{nothing, Bounded, Holds}
 use Rattle.decoder.specs.Held.{Lined, Grouped, Taken}
 use Rattle.program.proofs.Everywhere.{everywhere-getD, everywhere-weaken}
@@ -70,7 +72,7 @@ module _ (file code rows : List ℕ) (s : Counts) (at number : ℕ) (small : len
   -- the groups that were read
   pub progress-grouped : Grouped (p .read)
   progress-grouped = record {
-    ascend = everywhere-weaken (Alike (p .read .threads)) Ascending (λ g a. a .ascend) (p .read .groups) (p .sound .groups);
+    ascend = everywhere-weaken (Alike (p .read .threads)) (Ascends ltb) (λ g a. a .ascend) (p .read .groups) (p .sound .groups);
     small = everywhere-weaken (Alike (p .read .threads)) (Everywhere (λ t. t < 6))
         (λ g a. everywhere-weaken (λ t. t < length (p .read .threads)) (λ t. t < 6) (λ t h. omega (arith, p .sound .six)) g (a .exist)) (p .read .groups) (p .sound .groups);
     apart = p .sound .apart;

@@ -4,6 +4,7 @@ use mathlib.Core.Path.{_≡_, refl}
 use mathlib.Core.Bool.{Bool, true, false, _&&_}
 use mathlib.Core.List.{List, [], _∷_, _++_}
 use lib.Dec.{eqb}
+use Rattle.lines.specs.Lists.{sameList}
 use Rattle.lines.specs.Digit.{lower, digit, value, digitOf}
 use Rattle.lines.specs.Frame.{hexadecimal, pairs, frame}
 use Rattle.lines.specs.Text.{digits, text}
@@ -12,11 +13,11 @@ use Rattle.lines.specs.Meaning.{remark, spelt, meaning}
 use Rattle.program.specs.Program.{zeros}
 use Rattle.program.specs.Kinds.{kinds, lookup, kindOf}
 use Rattle.program.specs.Frames.{Frame, word, kind, known, registerFits, locationFits, skipFits, operandFits, inRange, opens, declares, starts, isAccess, skipOf, operand, buildOwn, build, instruction}
-use Rattle.program.specs.Decode.{fresh, threadAt, lastThread, inPlace, accessesIn, allAccessesIn, withinLimits, isGiven, valueAt, startFits, same, sameCode, among, grouped, memberFits, followersFit, membersFit, alikeFits, frameRefusal, after, farSkip, firstFarSkip, programIn, Decoded, accepted, refused, finish, readLines, decode}
+use Rattle.program.specs.Decode.{fresh, threadAt, lastThread, inPlace, accessesIn, allAccessesIn, withinLimits, isGiven, valueAt, startFits, sameBytes, sameCode, among, grouped, memberFits, followersFit, membersFit, alikeFits, frameRefusal, after, farSkip, firstFarSkip, programIn, Decoded, accepted, refused, finish, readLines, decode}
 
 -- what a proof names on its `unfolding` line to compute what a file is read as
 unfoldable reading : List ℕ → Decoded
-unfolding lower digit value digitOf hexadecimal pairs frame digits text prepend before split remark spelt meaning kinds lookup kindOf word kind known registerFits locationFits skipFits operandFits inRange opens declares starts isAccess skipOf operand buildOwn build instruction fresh threadAt lastThread inPlace accessesIn allAccessesIn withinLimits isGiven valueAt startFits same sameCode among grouped memberFits followersFit membersFit alikeFits frameRefusal after farSkip firstFarSkip programIn finish readLines decode
+unfolding lower digit value digitOf hexadecimal pairs frame digits text prepend before split remark spelt meaning kinds lookup kindOf word kind known registerFits locationFits skipFits operandFits inRange opens declares starts isAccess skipOf operand buildOwn build instruction fresh threadAt lastThread inPlace accessesIn allAccessesIn withinLimits isGiven valueAt startFits sameBytes sameList sameCode among grouped memberFits followersFit membersFit alikeFits frameRefusal after farSkip firstFarSkip programIn finish readLines decode
 reading file = decode file
 
 -- a remark with 00, 0d, ff and `#` in it
