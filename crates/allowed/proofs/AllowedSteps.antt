@@ -68,9 +68,9 @@ module _ (pairs places : List ℕ) (n : ℕ) (m : Machine) (made : List ℕ) (g 
           (sym (D .places t d small s)))
 
   -- the write
-  turn-part : t < 6 → place σ t < 8 → length (c .writes) < 24 → sameEvent (nextWrite (orderOf g (place σ t)) (length (c .writes))) e ≡ writeAllowed pairs made (noteBytes (note σ t))
+  order-part : t < 6 → place σ t < 8 → length (c .writes) < 24 → sameEvent (nextWrite (orderOf g (place σ t)) (length (c .writes))) e ≡ writeAllowed pairs made (noteBytes (note σ t))
   unfolding nextWrite noteBytes note sameEvent
-  turn-part six near room =
+  order-part six near room =
       let x = Q .orders (place σ t) (length (c .writes)) near room in
       let k = Q .made (place σ t) near in
       default-free (reverse (orderOf g (place σ t))) (length (c .writes)) initialWrite noLine e (no-default e six)
@@ -85,7 +85,7 @@ module _ (pairs places : List ℕ) (n : ℕ) (m : Machine) (made : List ℕ) (g 
       go : (o : Option ℕ) → puts (threadOf σ t .local) (c .value) ≡ o → writeFits g pl σ e (place σ t) c (puts (threadOf σ t .local) (c .value))
           ≡ cond (eqb (cond (writes σ t) 1 0) 0) true (writeAllowed pairs made (noteBytes (note σ t)) && noneWaits g pl σ (place σ t) (latest (c .writes)) e)
       go none q = rw (q, writeFits, given)
-      go (some v) q = rw (q, writeFits, given) (ap (λ (x : Bool). x && noneWaits g pl σ (place σ t) (latest (c .writes)) e) (turn-part six near room))
+      go (some v) q = rw (q, writeFits, given) (ap (λ (x : Bool). x && noneWaits g pl σ (place σ t) (latest (c .writes)) e) (order-part six near room))
 
 -- both, by the note's bytes
 pub fits-by : (pairs places : List ℕ) (n : ℕ) (m : Machine) (made : List ℕ) (g : Graph) (pl : Values) (σ : State) (t : ℕ) (b : List ℕ) → Drawn pairs places n m g pl σ → Ordering pairs made g σ

@@ -30,7 +30,7 @@ use Rattle.consistent.proofs.Walk.{fits}
 use Rattle.allowed.specs.HeldWalk.{Drawn, Ordering, Ranged, NoteOf, Walking, threadOr, nextOf}
 use Rattle.consistent.proofs.Readable.{Readable}
 use Rattle.consistent.proofs.Parsed.{read-readable}
-use Rattle.rounds.proofs.HeldRoundTurns.{six-held, near-held}
+use Rattle.rounds.proofs.HeldRoundLoop.{six-held, near-held}
 
 -- ---- the first of the numbers from a on
 first-at : (f : ℕ → Bool) (n a t : ℕ) → ((u : ℕ) → a ≤ u → u < t → f u ≡ false) → a ≤ t → t < a + n → f t ≡ true → find f (range a n) ≡ some t

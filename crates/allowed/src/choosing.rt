@@ -18,7 +18,7 @@ ghost use Rattle.consistent.proofs.Walk.{fits};
 ghost use Rattle.allowed.specs.HeldWalk.{Walking, threadOr, nextOf};
 
 // Whether thread t may step and the graph allows its next access.
-fn may_go(
+fn is_allowed(
     code: &Code,
     lengths: &[usize; 6],
     threads: usize,
@@ -59,7 +59,7 @@ pub fn chosen(
 {
     let mut t = 0u8;
     while t < 6 {
-        if may_go(code, lengths, threads, pairs, places, m, counts, t) {
+        if is_allowed(code, lengths, threads, pairs, places, m, counts, t) {
             return t;
         }
         t += 1;

@@ -16,7 +16,7 @@ use Rattle.program.specs.Frames.{word, kind, known, registerFits, locationFits,
 use Rattle.program.specs.Frames.{opens, declares, starts, isAccess}
 use Rattle.program.specs.Frames.{skipOf, operand, buildOwn, build, instruction}
 use Rattle.program.specs.Decode.{fresh, threadAt, lastThread, inPlace, accessesIn, allAccessesIn, withinLimits}
-use Rattle.program.specs.Decode.{isGiven, valueAt, startFits, same, sameCode, among}
+use Rattle.program.specs.Decode.{isGiven, valueAt, startFits, sameBytes, sameCode, among}
 use Rattle.program.specs.Decode.{grouped, memberFits, followersFit, membersFit, alikeFits, frameRefusal, after, farSkip, firstFarSkip}
 use Rattle.program.specs.Decode.{programIn, finish, readLines, decode}
 use Rattle.program.specs.WellFormed.{accesses}
@@ -39,7 +39,7 @@ use Rattle.cases.specs.Graphs.{Graph, neither, one, blank, carried, zero
 
 -- what a proof names to compute what is printed
 unfoldable pub computed : List ℕ → List ℕ
-unfolding computing seen lower digit value digitOf hexadecimal pairs frame digits text prepend before split remark spelt meaning kinds lookup kindOf word kind known registerFits locationFits skipFits operandFits inRange opens declares starts isAccess skipOf operand buildOwn build instruction fresh threadAt lastThread inPlace accessesIn allAccessesIn withinLimits isGiven valueAt startFits same sameCode among grouped memberFits followersFit membersFit alikeFits frameRefusal after farSkip firstFarSkip programIn finish readLines decode accesses size accessesLeft movedEvent movedRead movedReads movedWrites together permits permitted sameEvent sameRead sameList renames alikeBy alike listOf failing countOf bytesOf flag scheduleFrame countFrame printedFrames textOf printed
+unfolding computing seen lower digit value digitOf hexadecimal pairs frame digits text prepend before split remark spelt meaning kinds lookup kindOf word kind known registerFits locationFits skipFits operandFits inRange opens declares starts isAccess skipOf operand buildOwn build instruction fresh threadAt lastThread inPlace accessesIn allAccessesIn withinLimits isGiven valueAt startFits sameBytes sameList sameCode among grouped memberFits followersFit membersFit alikeFits frameRefusal after farSkip firstFarSkip programIn finish readLines decode accesses size accessesLeft movedEvent movedRead movedReads movedWrites together permits permitted sameEvent sameRead renames alikeBy alike listOf failing countOf bytesOf flag scheduleFrame countFrame printedFrames textOf printed
 computed file = printed file
 
 -- a row: a program with its list, or a graph text with the judge's answer

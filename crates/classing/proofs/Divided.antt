@@ -34,9 +34,9 @@ use Rattle.sc.proofs.Regular.{regular-start, regular-run}
 use Rattle.sc.proofs.ProgramGraphs.{graph-rows}
 use Rattle.sc.proofs.Fixed.{Wrote, Sourced, Unmoved, fixed-unmoved, unmoved-fixed}
 use Rattle.sc_model.specs.Sequential.{sc}
-use Rattle.sc_model.specs.Turned.{renames}
+use Rattle.sc_model.specs.Renamed.{renames}
 use Rattle.sc_model.proofs.Laws.{sc-laws}
-use Rattle.sc_model.proofs.Turned.{renames-true, true-renames}
+use Rattle.sc_model.proofs.Renamed.{renames-true, true-renames}
 use Rattle.consistent.specs.Same.{sameRead, sameList}
 use Rattle.consistent.proofs.Tests.{both-and, same-read-is, same-read, same-list-is, same-list}
 use Rattle.consistent.proofs.Readable.{reverse-in}

@@ -46,7 +46,7 @@ fn unmoved(may: bool, log: &[u8; 192], steps: usize, t: u8, u: u8) -> bool
 }
 
 // Whether thread t may go to u: itself, or one of its `02` line.
-fn may_go(class: [usize; 6], groups: usize, t: usize, u: usize) -> bool
+fn is_allowed(class: [usize; 6], groups: usize, t: usize, u: usize) -> bool
     requires { ⌜ (t < 6) × (u < 6) ⌝ }
     ensures { λ r. ⌜ r ≡ mayGo (groupsOf class groups) t u ⌝ }
 {
@@ -71,7 +71,7 @@ pub(crate) fn permitted_moves(class: [usize; 6], groups: usize) -> [bool; 36]
     let mut k = 0u8;
     while k < 36 {
         let i = wide(k);
-        may[i] = may_go(class, groups, i / 6, i % 6);
+        may[i] = is_allowed(class, groups, i / 6, i % 6);
         k += 1;
     }
     may

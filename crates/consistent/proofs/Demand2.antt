@@ -114,20 +114,20 @@ module _ (file : List ℕ) (p : Program) (ok : decode file ≡ accepted p) where
         unfolding answerTo
         by-graph a j = ap (answerTo p) (sym e) ∙ by-text a j
 
-        said-yes : (s : Schedule) → J (consistent s) → LeastFor p g s × Consistent p g
-        said-yes s j = judge-yes p wf g s (consistent-is (judge p g) s (by-graph (consistent s) j))
+        answers-yes : (s : Schedule) → J (consistent s) → LeastFor p g s × Consistent p g
+        answers-yes s j = judge-yes p wf g s (consistent-is (judge p g) s (by-graph (consistent s) j))
 
         say-yes : (s : Schedule) → LeastFor p g s → J (consistent s)
         say-yes s l = judged-yes p g s given (consistent-iff p wf g .1 (s, l .0)) l
 
         yes-exactly : ((s : Schedule) × J (consistent s)) ↔ Consistent p g
-        yes-exactly = ((λ k. said-yes (k .0) (k .1) .1), λ c. let r = judge-consistent p wf g c in (r .0, say-yes (r .0) (judge-yes p wf g (r .0) (r .1) .0)))
+        yes-exactly = ((λ k. answers-yes (k .0) (k .1) .1), λ c. let r = judge-consistent p wf g c in (r .0, say-yes (r .0) (judge-yes p wf g (r .0) (r .1) .0)))
 
         no-exactly : J inconsistent ↔ (Consistent p g → ⊥)
         no-exactly = ((λ j. judge-no p wf g .0 (inconsistent-is (judge p g) (by-graph inconsistent j))), judged-no p g given)
 
         least : (s : Schedule) → J (consistent s) ↔ (Full p s × (graph p s ≡ g) × ((r : Schedule) → Full p r → graph p r ≡ g → less r s ≡ false))
-        least s = ((λ j. let l = said-yes s j .0 in (l .0 .0, l .0 .1, λ r f q. l .1 r (f, q))), λ k. say-yes s ((k .0, k .1), λ r m. k .2 r (m .0) (m .1)))
+        least s = ((λ j. let l = answers-yes s j .0 in (l .0 .0, l .0 .1, λ r f q. l .1 r (f, q))), λ k. say-yes s ((k .0, k .1), λ r m. k .2 r (m .0) (m .1)))
 
     short : J (refusing 22 0) ↔ (room < 24)
     short = ((λ j. go (decLt room 24) j), output-refused p ok)
@@ -142,7 +142,7 @@ module _ (file : List ℕ) (p : Program) (ok : decode file ≡ accepted p) where
   own-yes s f room h =
       let e = run-text-read p wf s f in
       let r = yes-exactly (textFor p s) room h (graph p s) e .1 (consistent-iff p wf (graph p s) .1 (s, (f, refl))) in
-      (r .0, r .1, said-yes (textFor p s) room h (graph p s) e (r .0) (r .1) .0 .1 s (f, refl))
+      (r .0, r .1, answers-yes (textFor p s) room h (graph p s) e (r .0) (r .1) .0 .1 s (f, refl))
 
   -- a yes comes of a graph that was read
   yes-full : (text : List ℕ) (room : ℕ) (s : Schedule) → Judgement file text room (consistent s) → Full p s
@@ -153,7 +153,7 @@ module _ (file : List ℕ) (p : Program) (ok : decode file ≡ accepted p) where
 
       go : Dec (room < 24) → (x : Parsed) → readGraph (length (p .threads)) text ≡ x → Full p s
       go (yes h) x e = absurd-22 h
-      go (no h) (parsed g) e = said-yes text room (omega (arith, h)) g e s j .0 .0 .0
+      go (no h) (parsed g) e = answers-yes text room (omega (arith, h)) g e s j .0 .0 .0
       go (no h) (refusedAt n k) e =
           let q = judgement-unique file text room (consistent s) (refusing n k) j (line-refused text room (omega (arith, h)) n k .1 e) in
           absurd (let z : _≡_ {A = ℕ} 0 1 = cc in omega arith)

@@ -56,7 +56,7 @@ pub mod PlainTexts
 pub mod LineNumbers
 pub mod Demand2
 -- the definitions as code meets them: line by line, and with tables of 16 numbers a thread
-pub mod LineTurns
+pub mod LineByLine
 pub mod RoundTables
 pub mod FitTables
 -- document 01's two graphs

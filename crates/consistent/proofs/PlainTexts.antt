@@ -118,15 +118,15 @@ module _ (file other t u : List ℕ) (room : ℕ) (p : Program) (a : decode file
   }
 
   -- the other's judgement, made of the first's
-  turned : (x : Answer) → Judgement file t room x → (y : Answer) × Judgement other u room y × JudgedSame x y
-  turned x (program-refused n k c) = absurd (let q : refused n k ≡ accepted p = sym c ∙ a in let z : _≡_ {A = ℕ} 0 1 = cc in omega arith)
-  turned x (output-refused q c h) = (refusing 22 0, output-refused q (b ∙ ap accepted (sym (one q c))) h, refl)
-  turned x (text-refused q n k h) =
+  judged-alike : (x : Answer) → Judgement file t room x → (y : Answer) × Judgement other u room y × JudgedSame x y
+  judged-alike x (program-refused n k c) = absurd (let q : refused n k ≡ accepted p = sym c ∙ a in let z : _≡_ {A = ℕ} 0 1 = cc in omega arith)
+  judged-alike x (output-refused q c h) = (refusing 22 0, output-refused q (b ∙ ap accepted (sym (one q c))) h, refl)
+  judged-alike x (text-refused q n k h) =
       let o = as-refused (length (q .threads)) t u n k e (h .reads) in
       (refusing n (o .0), text-refused q n (o .0) (text-of q (refusedAt n k) (refusedAt n (o .0)) h (λ r. o .1)), refl)
-  turned x (judged-yes q g s h c l) =
+  judged-alike x (judged-yes q g s h c l) =
       (consistent s, judged-yes q g s (text-of q (parsed g) (parsed g) h (as-graph (length (q .threads)) t u g e)) c l, refl)
-  turned x (judged-no q g h c) =
+  judged-alike x (judged-no q g h c) =
       (inconsistent, judged-no q g (text-of q (parsed g) (parsed g) h (as-graph (length (q .threads)) t u g e)) c, tt)
 
 -- TWO TEXTS of one program that differ only in remarks and capitals are judged alike, and so if the files of the program differ only so
@@ -134,5 +134,5 @@ pub judged-same : (file other t u : List ℕ) (p q : Program) (room : ℕ) (x y 
     → plain file ≡ plain other → plain t ≡ plain u → Judgement file t room x → Judgement other u room y → JudgedSame x y
 judged-same file other t u p q room x y a b e f j k =
     let m : q ≡ p = sym (same-program file other p q e a b) in
-    let w = turned file other t u room p a (b ∙ ap accepted m) f x j in
+    let w = judged-alike file other t u room p a (b ∙ ap accepted m) f x j in
     subst (JudgedSame x) (judgement-unique other u room (w .0) y (w .1) k) (w .2)

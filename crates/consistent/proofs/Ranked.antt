@@ -22,11 +22,11 @@ use Rattle.consistent.proofs.OnRun.{On, on-step, all-done, on-ready}
 
 -- a number that grows along a relation rules out cycles
 growing : {A : Type 0} (R : A → A → Type 0) (rank : A → ℕ) → ((x y : A) → R x y → rank x < rank y) → Acyclic R
-growing {A} R rank g x w = absurd (omega (arith, along x x w))
+growing {A} R rank g x w = absurd (omega (arith, by-way x x w))
   where
-    along : (x y : A) → Way R x y → rank x < rank y
-    along x y (one e) = g x y e
-    along x y (more {y = z} w e) = omega (arith, along x z w, g z y e)
+    by-way : (x y : A) → Way R x y → rank x < rank y
+    by-way x y (one e) = g x y e
+    by-way x y (more {y = z} w e) = omega (arith, by-way x z w, g z y e)
 
 -- how many steps come before the event's own; what is never done comes behind the end, by its number
 unfoldable position : State → Schedule → Event → ℕ

@@ -113,18 +113,18 @@ is-new rows (x ∷ es) d u = both-and (is-unwritten rows x (u x (List·Memᴰ·h
     (both-and (not-of (any (sameEvent x) es) (λ h. d .0 (same-any x es h))) (is-new rows es (d .1) (λ e m. u e (List·Memᴰ·tail m))))
 
 -- a list turned round has the same members, and nothing twice if it had nothing twice
-turned : {A : Type 0} (l r : List A) (x : A) → List·Memᴰ x (reverseAux l r) → List·Memᴰ x l ⊎ List·Memᴰ x r
-turned [] r x m = inr m
-turned (y ∷ l) r x m = ⊎-elim (λ (k : List·Memᴰ x l). inl (List·Memᴰ·tail k))
-    (λ (k : List·Memᴰ x (y ∷ r)). ⊎-elim (λ (q : x ≡ y). inl (List·Memᴰ·head q)) (λ (j : List·Memᴰ x r). inr j) (List·Memᴰ·cases-cons k)) (turned l (y ∷ r) x m)
+reversed : {A : Type 0} (l r : List A) (x : A) → List·Memᴰ x (reverseAux l r) → List·Memᴰ x l ⊎ List·Memᴰ x r
+reversed [] r x m = inr m
+reversed (y ∷ l) r x m = ⊎-elim (λ (k : List·Memᴰ x l). inl (List·Memᴰ·tail k))
+    (λ (k : List·Memᴰ x (y ∷ r)). ⊎-elim (λ (q : x ≡ y). inl (List·Memᴰ·head q)) (λ (j : List·Memᴰ x r). inr j) (List·Memᴰ·cases-cons k)) (reversed l (y ∷ r) x m)
 
 pub reverse-in : {A : Type 0} (l : List A) (x : A) → List·Memᴰ x (reverse l) → List·Memᴰ x l
-reverse-in l x m = ⊎-elim (λ (k : List·Memᴰ x l). k) (λ (k : List·Memᴰ x []). absurd (List·Memᴰ·not-nil k)) (turned l [] x m)
+reverse-in l x m = ⊎-elim (λ (k : List·Memᴰ x l). k) (λ (k : List·Memᴰ x []). absurd (List·Memᴰ·not-nil k)) (reversed l [] x m)
 
-distinct-turned : (l r : List Event) → Distinct l → Distinct r → ((x : Event) → List·Memᴰ x l → List·Memᴰ x r → ⊥) → Distinct (reverseAux l r)
-distinct-turned [] r d e n = e
-distinct-turned (y ∷ l) r d e n = distinct-turned l (y ∷ r) (d .1) ((λ m. n y (List·Memᴰ·head refl) m), e)
+distinct-reverse-onto : (l r : List Event) → Distinct l → Distinct r → ((x : Event) → List·Memᴰ x l → List·Memᴰ x r → ⊥) → Distinct (reverseAux l r)
+distinct-reverse-onto [] r d e n = e
+distinct-reverse-onto (y ∷ l) r d e n = distinct-reverse-onto l (y ∷ r) (d .1) ((λ m. n y (List·Memᴰ·head refl) m), e)
     (λ x m k. ⊎-elim (λ (q : x ≡ y). d .0 (subst (λ (z : Event). List·Memᴰ z l) q m)) (λ (j : List·Memᴰ x r). n x (List·Memᴰ·tail m) j) (List·Memᴰ·cases-cons k))
 
 pub distinct-reverse : (l : List Event) → Distinct l → Distinct (reverse l)
-distinct-reverse l d = distinct-turned l [] d tt (λ x m k. List·Memᴰ·not-nil k)
+distinct-reverse l d = distinct-reverse-onto l [] d tt (λ x m k. List·Memᴰ·not-nil k)

@@ -68,10 +68,10 @@ module _ (p : Program) (wf : WellFormed p) (g : Graph) (C : Canonical p g) (N : 
         append-assoc front (e ∷ w) (initialWrite ∷ []) in
         subst (λ (l : List Event). Later l e (latest w)) (sym i) (later-right front (e ∷ (w ++ (initialWrite ∷ []))) e (latest w) (inl (refl, latest-behind w)))
 
-    turn : (x : Option ℕ) → puts (threadOf σ t .local) (cellOf σ (place σ t) .value) ≡ x → given x ≡ true → IsNext g pl e (place σ t) (cellOf σ (place σ t)) (Done σ)
+    next-there : (x : Option ℕ) → puts (threadOf σ t .local) (cellOf σ (place σ t) .value) ≡ x → given x ≡ true → IsNext g pl e (place σ t) (cellOf σ (place σ t)) (Done σ)
     unfolding given
-    turn none q k = absurd (false≢true k)
-    turn (some x) q k =
+    next-there none q k = absurd (false≢true k)
+    next-there (some x) q k =
         let r = in-graph x q in (
           next-write-is (orderOf g (place σ t)) (r .0) w e (r .1),
           λ y s a i j n. on-ready p wf g C N M σ t z o y
@@ -84,7 +84,7 @@ module _ (p : Program) (wf : WellFormed p) (g : Graph) (C : Canonical p g) (N : 
     on-fits = is-fits g pl σ t (record {
       live = o .ends .full .0;
       reads = λ k. (step-source p wf g σ t z (o .ends) k, at);
-      writes = turn (puts (threadOf σ t .local) (cellOf σ (place σ t) .value)) refl;
+      writes = next-there (puts (threadOf σ t .local) (cellOf σ (place σ t) .value)) refl;
     })
 
   -- the goal of the walk: all threads have ended with this graph

@@ -60,7 +60,7 @@ module _ (p : Program) (rows : List ℕ) (n : ℕ) (a b : Batch) (k : ℕ) (g : 
       ap (λ (l : List Schedule). find f (l ++ rest)) t ∙ firsts-append p (es ++ take k ss) fs (s ∷ []) x f y rest
 
   module _ (f : Found) (entry : (ss : List Schedule) → Rows p ss rows n → Entry p (getD ss k []) f) (known : Bool)
-      (told : (p : Program) (ss : List Schedule) → Held p ss b → known ≡ any (comesTo p (f .outcome)) ss) where
+      (tells : (p : Program) (ss : List Schedule) → Held p ss b → known ≡ any (comesTo p (f .outcome)) ss) where
     -- its outcome is there already
     pub gathering-known : known ≡ true → (b' : Batch) → b' ≡ b → Gathering p rows n a b' (k + 1)
     gathering-known e b' same = subst (λ (x : Batch). Gathering p rows n a x (k + 1)) (sym same) (record {
@@ -70,7 +70,7 @@ module _ (p : Program) (rows : List ℕ) (n : ℕ) (a b : Batch) (k : ℕ) (g : 
       held = λ ss r es q.
           let x = g .held ss r es q in
           let i : any (comesTo p (outcomeOf p (getD ss k []))) (x .0) ≡ true =
-          ap (λ (o : Outcome). any (comesTo p o) (x .0)) (sym (entry ss r .outcome)) ∙ sym (told p (x .0) (x .1)) ∙ e in
+          ap (λ (o : Outcome). any (comesTo p o) (x .0)) (sym (entry ss r .outcome)) ∙ sym (tells p (x .0) (x .1)) ∙ e in
           (x .0, x .1, firsts-trans p (es ++ take (k + 1) ss) (x .0 ++ (getD ss k [] ∷ [])) (x .0) (next-firsts ss r es (x .0) (x .2)) (firsts-known p (x .0) (getD ss k []) i));
     })
 

@@ -60,10 +60,10 @@ marking-start wanted others marks n = record {
 
 module _ (wanted others : Batch) (before behind : List Bool) (k : ℕ) (m : Marking wanted others before behind k) (h : k < wanted .size)
     (few : wanted .size ≤ 128) (o : Outcome) (own : o ≡ getD (wanted .table) k nothing .outcome) (found : Bool)
-    (told : (p : Program) (rs : List Schedule) → Held p rs others → found ≡ any (comesTo p o) rs) where
+    (tells : (p : Program) (rs : List Schedule) → Held p rs others → found ≡ any (comesTo p o) rs) where
   is-met : (p q : Program) (ss rs : List Schedule) → Held q ss wanted → Held p rs others → found ≡ met p q ss rs k
   is-met p q ss rs a b =
-      told p rs b ∙ ap (λ (x : Outcome). any (comesTo p x) rs) (own ∙ a .entries k (omega (arith, h, a .size)) .outcome)
+      tells p rs b ∙ ap (λ (x : Outcome). any (comesTo p x) rs) (own ∙ a .entries k (omega (arith, h, a .size)) .outcome)
 
   one-more : (behind' : List Bool) → ((i : ℕ) → i ≢ k → getD behind' i false ≡ getD behind i false) → length behind' ≡ 128
       → ((p q : Program) (ss rs : List Schedule) → Held q ss wanted → Held p rs others → getD behind' k false ≡ (getD before k false || met p q ss rs k))
@@ -124,7 +124,7 @@ pub attaining-next : (p : Program) (wanted : Batch) (marks : List Bool) (c : Cur
     → length marks' ≡ 128
     → ((p q : Program) (ss rs : List Schedule) → Held q ss wanted → Held p rs (r .batch) → Marks p q ss rs (wanted .size) marks marks')
     → Attaining p wanted marks' (r .cursor)
-attaining-next p wanted marks c k r x marks' n told = record {
+attaining-next p wanted marks c k r x marks' n tells = record {
   size = n;
   all = λ q ss a i h.
       let o : Outcome = outcomeOf q (getD ss i []) in
@@ -133,7 +133,7 @@ attaining-next p wanted marks c k r x marks' n told = record {
       any-same (comesTo p o) (remaining p false c) (x .schedules ++ rest) (x .firsts (comesTo p o) (comes-same p o)) ∙ any-append (comesTo p o) (x .schedules) rest in
       k .all q ss a i h ∙ ap (λ (b : Bool). getD marks i false || b) split
       ∙ sym (or-assoc (getD marks i false) (met p q ss (x .schedules) i) (met p q ss rest i))
-      ∙ ap (λ (b : Bool). b || met p q ss rest i) (sym (told p q ss (x .schedules) a (x .held) i h));
+      ∙ ap (λ (b : Bool). b || met p q ss rest i) (sym (tells p q ss (x .schedules) a (x .held) i h));
 }
 
 pub attaining-end : (p : Program) (wanted : Batch) (marks : List Bool) (c : Cursor) → Attaining p wanted marks c → isEnd (c .position) ≡ true → (j : ℕ)

@@ -6,14 +6,15 @@ use mathlib.Core.Path.{_≡_, refl, sym, ap, subst, _∙_}
 use mathlib.Core.Logic.{_⊎_, inl, inr, ⊎-elim}
 use mathlib.Core.Bool.{Bool, true, false, cond, _||_, false≢true}
 use mathlib.Core.List.{List, [], _∷_, List·Memᴰ, List·Memᴰ·head, List·Memᴰ·tail, List·Memᴰ·cases-cons, List·Memᴰ·not-nil}
-use borrow.Author.Tests.{eqb-true, eqb-false, eq-eqb, ne-eqb}
-use lib.Dec.{eqb}
+use borrow.Author.Tests.{ltb-true, eqb-true, eqb-false, eq-eqb, ne-eqb}
+use lib.Dec.{eqb, ltb}
+use Rattle.lines.specs.Lists.{Ascends}
 use lib.ListN.{getD}
-use Rattle.program.specs.WellFormed.{Everywhere, Ascending, Apart}
+use Rattle.program.specs.WellFormed.{Everywhere, Apart}
 use Rattle.program.specs.Decode.{among}
 use Rattle.decoder.specs.Compiled.{select, membersOf}
 use Rattle.refusals.specs.Held.{classFrom}
-use Rattle.program.proofs.Everywhere.{everywhere-weaken, everywhere-getD}
+use Rattle.program.proofs.Everywhere.{everywhere-all, everywhere-weaken, everywhere-getD}
 use Rattle.program.proofs.InstructionFrames.{among-member}
 
 -- ---- what `select` finds
@@ -32,17 +33,21 @@ unfolding among
 among-above t [] h = refl
 among-above t (u ∷ us) h = rw (ne-eqb t u (λ e. omega (arith, h .0))) (among-above t us (h .1))
 
+-- the first of an ascending list is below the others
+below-all : (t : ℕ) (ts : List ℕ) → Ascends ltb (t ∷ ts) → Everywhere (λ u. t < u) ts
+below-all t ts a = everywhere-all (λ u. t < u) ts (λ u m. ltb-true t u (a .0 u m))
+
 -- a test that says which numbers from k on stand in an ascending list finds that list
 abbrev pub Finds : (ℕ → Bool) → ℕ → ℕ → List ℕ → Type 0
 Finds f k n g =
-    Ascending g → Everywhere (λ t. k ≤ t) g → Everywhere (λ t. t < k + n) g → ((t : ℕ) → k ≤ t → t < k + n → f t ≡ among t g) → select f k n ≡ g
+    Ascends ltb g → Everywhere (λ t. k ≤ t) g → Everywhere (λ t. t < k + n) g → ((t : ℕ) → k ≤ t → t < k + n → f t ≡ among t g) → select f k n ≡ g
 
 finds-more : (f : ℕ → Bool) (k n t : ℕ) (ts : List ℕ) → ((g : List ℕ) → Finds f (suc k) n g) → (b : Bool) → eqb k t ≡ b → Finds f k (suc n) (t ∷ ts)
 unfolding among
 finds-more f k n t ts next true e a low high h =
     let q : k ≡ t = eqb-true k t e in
     let found : f k ≡ true = h k (omega arith) (omega arith) ∙ ap (λ (b : Bool). b || among k ts) e in
-    let low' = everywhere-weaken (λ u. t < u) (λ u. suc k ≤ u) (λ u b. omega arith) ts (a .0) in
+    let low' = everywhere-weaken (λ u. t < u) (λ u. suc k ≤ u) (λ u b. omega arith) ts (below-all t ts a) in
     let high' = everywhere-weaken (λ u. u < k + suc n) (λ u. u < suc k + n) (λ u b. omega arith) ts (high .1) in
     let tests : (u : ℕ) → suc k ≤ u → u < suc k + n → f u ≡ among u ts =
     λ u b c. h u (omega arith) (omega arith) ∙ ap (λ (x : Bool). x || among u ts) (ne-eqb u t (λ p. omega arith)) in
@@ -50,7 +55,7 @@ finds-more f k n t ts next true e a low high h =
     select-with f k n found ∙ (λ i. q i ∷ later i)
 finds-more f k n t ts next false e a low high h =
     let less : k < t = omega (arith, eqb-false k t e, low .0) in
-    let above : Everywhere (λ u. k < u) (t ∷ ts) = (less, everywhere-weaken (λ u. t < u) (λ u. k < u) (λ u b. omega arith) ts (a .0)) in
+    let above : Everywhere (λ u. k < u) (t ∷ ts) = (less, everywhere-weaken (λ u. t < u) (λ u. k < u) (λ u b. omega arith) ts (below-all t ts a)) in
     let high' = everywhere-weaken (λ u. u < k + suc n) (λ u. u < suc k + n) (λ u b. omega arith) (t ∷ ts) high in
     select-without f k n (h k (omega arith) (omega arith) ∙ among-above k (t ∷ ts) above)
     ∙ next (t ∷ ts) a above high' (λ u b c. h u (omega arith) (omega arith))

@@ -5,16 +5,18 @@ use mathlib.Core.Path.{_≡_, _∙_, sym, ap}
 use mathlib.Core.List.{List, [], _∷_}
 use lib.ListN.{length, getD, take, drop, replicate, drop-of-length-le}
 use borrow.Author.Tests.{eq-eqb, ne-eqb, le-ltb, lt-ltb}
+use lib.Dec.{ltb}
+use Rattle.lines.specs.Lists.{Ascends}
 use Rattle.lines.specs.Frame.{pairs}
 use Rattle.lines.specs.Split.{lineLength}
 use Rattle.lines.specs.TextLines.{TextLine, split}
 use Rattle.lines.specs.Meaning.{framed, meaning, lineOf}
 use Rattle.lines.specs.declared.reader.Line.the-variants.{Frame, Remark, Broken}
-use Rattle.lines.proofs.Meaning.{framed-bytes, told-frame, told-remark, told-broken}
+use Rattle.lines.proofs.Meaning.{framed-bytes, spelt-as-frame, spelt-as-remark, spelt-as-broken}
 use Rattle.lines.proofs.TextLines.{whole, split-at, split-end}
 use Rattle.refusals.specs.declared.counts.Counts.{Counts}
 use Rattle.program.specs.Decode.{Reading, fresh, threadAt, frameRefusal, after, refused, finish, readLines, decode}
-use Rattle.program.specs.WellFormed.{Everywhere, Ascending}
+use Rattle.program.specs.WellFormed.{Everywhere}
 use Rattle.refusals.specs.Held.{nothing, Bounded, Holds}
 use Rattle.decoder.specs.Held.{Lined, Grouped, Taken}
 use Rattle.program.proofs.Everywhere.{everywhere-getD, everywhere-weaken}
@@ -70,7 +72,7 @@ module _ (file code rows : List ℕ) (s : Counts) (at number : ℕ) (small : len
   -- the groups that were read
   pub progress-grouped : Grouped (p .read)
   progress-grouped = record {
-    ascend = everywhere-weaken (Alike (p .read .threads)) Ascending (λ g a. a .ascend) (p .read .groups) (p .sound .groups);
+    ascend = everywhere-weaken (Alike (p .read .threads)) (Ascends ltb) (λ g a. a .ascend) (p .read .groups) (p .sound .groups);
     small = everywhere-weaken (Alike (p .read .threads)) (Everywhere (λ t. t < 6))
         (λ g a. everywhere-weaken (λ t. t < length (p .read .threads)) (λ t. t < 6) (λ t h. omega (arith, p .sound .six)) g (a .exist)) (p .read .groups) (p .sound .groups);
     apart = p .sound .apart;
@@ -93,7 +95,7 @@ module _ (file code rows : List ℕ) (s : Counts) (at number : ℕ) (small : len
     -- it is neither a frame nor a remark
     pub read-broken : lineOf line ≡ Broken → decode file ≡ refused 2 number
     unfolding readLines meaning
-    read-broken z = here ∙ rw (told-broken line z, readLines)
+    read-broken z = here ∙ rw (spelt-as-broken line z, readLines)
 
     -- it is a remark: it is passed over, and counted
     pub read-remark : lineOf line ≡ Remark → Progress file code rows s (end + 1) (number + 1)
@@ -106,18 +108,18 @@ module _ (file code rows : List ℕ) (s : Counts) (at number : ℕ) (small : len
       holds = p .holds;
       lined = p .lined;
       sound = p .sound;
-      rest = here ∙ rw (told-remark line z, readLines);
+      rest = here ∙ rw (spelt-as-remark line z, readLines);
     }
 
     module _ (n : ℕ) (z : lineOf line ≡ Frame n) where
       -- its frame's length
       pub read-size : n ≡ length (pairs line)
-      read-size = sym (told-frame line n z .1)
+      read-size = sym (spelt-as-frame line n z .1)
 
       -- it is refused
       pub read-refused : (k : ℕ) → k ≡ frameRefusal (p .read) (pairs line) → (k ≡ 0 → ⊥) → decode file ≡ refused k number
       unfolding readLines meaning
-      read-refused k q r = here ∙ rw (told-frame line n z .0, readLines, ← q, ne-eqb k 0 r)
+      read-refused k q r = here ∙ rw (spelt-as-frame line n z .0, readLines, ← q, ne-eqb k 0 r)
 
       -- it passes
       pub read-more : (k : ℕ) (code' rows' : List ℕ) (s' : Counts) → k ≡ frameRefusal (p .read) (pairs line) → k ≡ 0 → 1 ≤ number
@@ -125,7 +127,7 @@ module _ (file code rows : List ℕ) (s : Counts) (at number : ℕ) (small : len
       unfolding readLines meaning
       read-more k code' rows' s' q r one t =
           let pass : frameRefusal (p .read) (pairs line) ≡ 0 = sym q ∙ r in
-          let bytes = framed-bytes (whole line) (pairs line) (told-frame line n z .0) in
+          let bytes = framed-bytes (whole line) (pairs line) (spelt-as-frame line n z .0) in
           record {
             within = omega arith;
             counted = let c = p .counted in omega arith;
@@ -134,7 +136,7 @@ module _ (file code rows : List ℕ) (s : Counts) (at number : ℕ) (small : len
             holds = t .holds (p .read) (p .holds) pass;
             lined = t .lined (p .read) (p .holds) (p .lined) pass;
             sound = sound-after number (p .read) (pairs line) one bytes (p .sound) pass;
-            rest = here ∙ rw (told-frame line n z .0, readLines, eq-eqb (frameRefusal (p .read) (pairs line)) 0 pass);
+            rest = here ∙ rw (spelt-as-frame line n z .0, readLines, eq-eqb (frameRefusal (p .read) (pairs line)) 0 pass);
           }
 
   -- no line is left

@@ -3,7 +3,8 @@ use Prim.Native.Nat.{ℕ, zero, suc, _+_, _*_, _≤_, _<_}
 use native.Mathlib.Omega.{arith}
 use mathlib.Core.Path.{_≡_, refl, sym, ap, _∙_}
 use mathlib.Core.List.{List, [], map}
-use lib.Dec.{eqb, lit<}
+use lib.Dec.{eqb, ltb, lit<}
+use Rattle.lines.specs.Lists.{Ascends}
 use borrow.Author.Tests.{lt-ltb}
 use lib.ListN.{length, getD, length-map, List·getD-map}
 use lib.Seq.{ext-getD}
@@ -13,7 +14,7 @@ use Rattle.program.specs.Frames.{instruction}
 use Rattle.program.specs.Decode.{Placed, Reading, threadAt, valueAt, locations, programIn}
 use Rattle.decoder.specs.Compiled.{membersOf, programOf}
 use Rattle.rows.specs.Rows.{tabulate, rowAt, instructionAt, threadCode}
-use Rattle.program.specs.WellFormed.{Everywhere, Ascending}
+use Rattle.program.specs.WellFormed.{Everywhere}
 use Rattle.refusals.specs.Held.{Holds, noInstruction, frameAt}
 use Rattle.decoder.specs.Held.{Grouped}
 use Rattle.program.proofs.Everywhere.{everywhere-getD, everywhere-weaken}
@@ -50,7 +51,7 @@ module _ (code : List ℕ) (s : Counts) (r : Reading) (holds : Holds code s r) w
   group-held g k =
       let small : Everywhere (λ t. t < 6) (getD (r .groups) k []) = everywhere-getD (Everywhere (λ t. t < 6)) (r .groups) k [] (g .small) tt in
       select-members (λ t. eqb (getD (s .class) t 0) (k + 1)) 0 6 (getD (r .groups) k [])
-      (everywhere-getD Ascending (r .groups) k [] (g .ascend) tt)
+      (everywhere-getD (Ascends ltb) (r .groups) k [] (g .ascend) tt)
       (everywhere-weaken (λ t. t < 6) (λ t. 0 ≤ t) (λ t b. omega arith) (getD (r .groups) k []) small)
       small
       (λ t b h. ap (λ (c : ℕ). eqb c (k + 1)) (holds .class t h) ∙ class-among 1 t (r .groups) k (lit< tt) (g .apart))

@@ -4,11 +4,12 @@ use Prim.Native.Nat.{ℕ, _+_, _-_, _*_, _≤_, _<_}
 use mathlib.Core.Path.{_≡_}
 use mathlib.Core.Bool.{true, cond, _&&_}
 use mathlib.Core.List.{List, [], _∷_}
-use lib.Dec.{leb}
+use lib.Dec.{leb, ltb}
 use lib.ListN.{length, getD, set}
+use Rattle.lines.specs.Lists.{Ascends}
 use Rattle.lines.specs.Frame.{pairs}
 use Rattle.refusals.specs.declared.counts.Counts.{Counts}
-use Rattle.program.specs.WellFormed.{Everywhere, Ascending, Apart}
+use Rattle.program.specs.WellFormed.{Everywhere, Apart}
 use Rattle.program.specs.Frames.{byte}
 use Rattle.program.specs.Decode.{Placed, Reading, threadAt, frameRefusal, after}
 use Rattle.refusals.specs.Held.{noInstruction, Bounded, Holds}
@@ -82,7 +83,7 @@ pub record HeldThreads (code rows : List ℕ) (n : ℕ) (ns : List ℕ) (cs : Li
 
 -- the groups read so far: members below six, ascending, in one group only
 pub record Grouped (r : Reading) : Type 0 where
-  pub ascend : Everywhere Ascending (r .groups)
+  pub ascend : Everywhere (Ascends ltb) (r .groups)
   pub small : Everywhere (Everywhere (λ t. t < 6)) (r .groups)
   pub apart : Apart (r .groups)
 

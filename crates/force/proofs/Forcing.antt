@@ -70,12 +70,12 @@ module _ (file : List ℕ) (p : Program) (e : decode file ≡ accepted p) where
       room : ltb (length out) 24 ≡ false
       room = le-ltb (length out) 24 h
 
-      said : (o : Option Schedule) → find (failing p) (listOf p) ≡ o → violationFile file out .0 ≡ violationBy false o
-      said o q = ap (λ (r : Violation × List ℕ). r .0) (call out) ∙ ap (λ (b : Bool). violationBy b (find (failing p) (listOf p))) room ∙ ap (violationBy false) q
+      answer-there : (o : Option Schedule) → find (failing p) (listOf p) ≡ o → violationFile file out .0 ≡ violationBy false o
+      answer-there o q = ap (λ (r : Violation × List ℕ). r .0) (call out) ∙ ap (λ (b : Bool). violationBy b (find (failing p) (listOf p))) room ∙ ap (violationBy false) q
 
       go : (o : Option Schedule) → find (failing p) (listOf p) ≡ o → (s : Schedule) × (violationFile file out ≡ (fails-first s, over s out))
-      go none q = let r = hostile-play set p f in absurd (true≢false (sym (r .2) ∙ none-at-all out h (said none q) (r .0) (r .1)))
-      go (some s) q = (s, whole out ∙ ap (λ (v : Violation). (v, violationContent v out)) (said (some s) q))
+      go none q = let r = hostile-play set p f in absurd (true≢false (sym (r .2) ∙ none-at-all out h (answer-there none q) (r .0) (r .1)))
+      go (some s) q = (s, whole out ∙ ap (λ (v : Violation). (v, violationContent v out)) (answer-there (some s) q))
 
   -- THE PROMISE
   pub forcing : (set : ℕ) → Forcing file set p

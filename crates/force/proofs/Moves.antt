@@ -100,23 +100,23 @@ module _ (code lengths tails : List ℕ) (threads : ℕ) (m : Machine) (p : Prog
 -- ---- a turn of the loop
 module _ (set left : ℕ) (x : Side) (p : Program) (v : Schedule) (t : ℕ) where
   -- the thread is not x's, or has ended
-  pub turn-skipped : (b : Bool) → b ≡ mine (gameOf set) x (endOf p v) t → b ≡ false → keeps set left x (endOf p v) t ≡ false
+  pub step-skipped : (b : Bool) → b ≡ mine (gameOf set) x (endOf p v) t → b ≡ false → keeps set left x (endOf p v) t ≡ false
   unfolding keepsBy
-  turn-skipped b e n = rw (sym e ∙ n) (false-both (same (value (gameOf set) (left - 1) (other x) (step (endOf p v) t)) x))
+  step-skipped b e n = rw (sym e ∙ n) (false-both (same (value (gameOf set) (left - 1) (other x) (step (endOf p v) t)) x))
 
   module _ (b : Bool) (e : b ≡ mine (gameOf set) x (endOf p v) t) (y : b ≡ true) where
-    pub turn-enabled : enabled (endOf p v) t ≡ true
-    turn-enabled = mine-enabled (gameOf set) x (endOf p v) t (sym e ∙ y)
+    pub step-enabled : enabled (endOf p v) t ≡ true
+    step-enabled = mine-enabled (gameOf set) x (endOf p v) t (sym e ∙ y)
 
-    turned : (r : Bool) → r ≡ same (value (gameOf set) (left - 1) (other x) (endOf p (v ++ (t ∷ [])))) (other x) → keeps set left x (endOf p v) t ≡ not r
+    kept-by-the-other : (r : Bool) → r ≡ same (value (gameOf set) (left - 1) (other x) (endOf p (v ++ (t ∷ [])))) (other x) → keeps set left x (endOf p v) t ≡ not r
     unfolding keepsBy
-    turned r q =
+    kept-by-the-other r q =
         rw (sym e ∙ y, true-both (same (value (gameOf set) (left - 1) (other x) (step (endOf p v) t)) x))
         (sym (ap not (q ∙ ap (λ (τ : State). same (value (gameOf set) (left - 1) (other x) τ) (other x)) (run-snoc SC (start p) v t))
         ∙ same-other (value (gameOf set) (left - 1) (other x) (step (endOf p v) t)) x))
 
-    pub turn-won : (r : Bool) → r ≡ same (value (gameOf set) (left - 1) (other x) (endOf p (v ++ (t ∷ [])))) (other x) → not r ≡ true → keeps set left x (endOf p v) t ≡ true
-    turn-won r q n = turned r q ∙ n
+    pub step-won : (r : Bool) → r ≡ same (value (gameOf set) (left - 1) (other x) (endOf p (v ++ (t ∷ [])))) (other x) → not r ≡ true → keeps set left x (endOf p v) t ≡ true
+    step-won r q n = kept-by-the-other r q ∙ n
 
-    pub turn-lost : (r : Bool) → r ≡ same (value (gameOf set) (left - 1) (other x) (endOf p (v ++ (t ∷ [])))) (other x) → not r ≡ false → keeps set left x (endOf p v) t ≡ false
-    turn-lost r q n = turned r q ∙ n
+    pub step-lost : (r : Bool) → r ≡ same (value (gameOf set) (left - 1) (other x) (endOf p (v ++ (t ∷ [])))) (other x) → not r ≡ false → keeps set left x (endOf p v) t ≡ false
+    step-lost r q n = kept-by-the-other r q ∙ n

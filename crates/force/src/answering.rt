@@ -13,7 +13,7 @@ ghost use mathlib.Core.Path.{_≡_};
 ghost use Rattle.program.specs.WellFormed.{WellFormed};
 ghost use Rattle.program.specs.Decode.{accepted, decode};
 ghost use Rattle.decoder.specs.Compiled.{programOf};
-ghost use Rattle.game.specs.Forced.{Answer, Said, Forced};
+ghost use Rattle.game.specs.Forced.{Answer, ForcedIn, Forced};
 ghost use Rattle.force.specs.Answered.{answerOf, FirstMissing};
 
 pub enum ForceAnswer {
@@ -44,7 +44,7 @@ fn missing(set: u8, threads: usize) -> u8
 // Of an accepted program: at most 24 steps and 25 passes, of which the first step or pass is the hostile side's.
 fn decided(program: Compiled, set: u8) -> ForceAnswer
     requires { ⌜ WellFormed (programOf program) ⌝ }
-    ensures { λ r. ⌜ ((a : Answer) × Said set (programOf program) a × (r ≡ answerOf a)) ⌝ }
+    ensures { λ r. ⌜ ((a : Answer) × ForcedIn set (programOf program) a × (r ≡ answerOf a)) ⌝ }
 {
     let code = program.code;
     let lengths = program.lengths;
@@ -78,7 +78,7 @@ fn asserts_nothing(program: Compiled) -> bool
 // Where no schedule fails the friendly side can; else the game decides. The list is not asked where no assertion can be reached.
 fn played(file: &[u8], program: Compiled, set: u8) -> ForceAnswer
     requires { ⌜ decode (now file) ≡ accepted (programOf program) ⌝ }
-    ensures { λ r. ⌜ ((a : Answer) × Said set (programOf program) a × (r ≡ answerOf a)) ⌝ }
+    ensures { λ r. ⌜ ((a : Answer) × ForcedIn set (programOf program) a × (r ≡ answerOf a)) ⌝ }
 {
     if asserts_nothing(program) {
         return decided(program, set);

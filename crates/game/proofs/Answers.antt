@@ -23,7 +23,7 @@ use Rattle.sc.proofs.Lawful.{lawful, falls, start-24}
 use Rattle.survivors.specs.Sets.{has}
 use Rattle.game.specs.Game.{Side, hostile, friendly, other, mine, able, Forces, ExactlyOne, Keeps}
 use Rattle.game.proofs.Value.{keepsBy, value}
-use Rattle.game.specs.Forced.{gameOf, CanForce, HasStep, LeastFirst, Names, LowestMissing, Answer, hostile-can, friendly-can, refusing, Asked, Said, hostile-steps, hostile-passes, friendly-forces, Forced, program-refused, set-refused, played}
+use Rattle.game.specs.Forced.{gameOf, CanForce, HasStep, LeastFirst, Names, LowestMissing, Answer, hostile-can, friendly-can, refusing, Asked, ForcedIn, hostile-steps, hostile-passes, friendly-forces, Forced, program-refused, set-refused, played}
 use Rattle.game.proofs.Sides.{differ, mine-enabled, full-play}
 use Rattle.game.proofs.Against.{not-both, forced-play}
 use Rattle.game.proofs.Determined.{value-able, value-passes, best-some, best-no, keeps-mine, keeps-wins, keeps-of, value-forces, forces-value, exactly-one}
@@ -73,10 +73,10 @@ module _ (set : ℕ) (p : Program) (w : WellFormed p) where
   can y e = subst (λ (z : Side). CanForce z set p) e (value-forces (gameOf set) lawful 49 hostile σ (omega (arith, start-24 p w)))
 
   -- a first step that keeps the win, and no smaller one does
-  pub steps-said : (t : ℕ) → t < 6 → able (gameOf set) hostile σ ≡ true → keepsBy (gameOf set) ahead hostile σ t ≡ true
-      → ((u : ℕ) → u < t → keepsBy (gameOf set) ahead hostile σ u ≡ false) → Said set p (hostile-can (some t))
+  pub steps-forced : (t : ℕ) → t < 6 → able (gameOf set) hostile σ ≡ true → keepsBy (gameOf set) ahead hostile σ t ≡ true
+      → ((u : ℕ) → u < t → keepsBy (gameOf set) ahead hostile σ u ≡ false) → ForcedIn set p (hostile-can (some t))
   unfolding other
-  steps-said t h a e n = hostile-steps t
+  steps-forced t h a e n = hostile-steps t
       (can hostile (value-able (gameOf set) 48 hostile σ a ∙ best-some (gameOf set) ahead hostile σ (any-of (keepsBy (gameOf set) ahead hostile σ) (SC .names) t (lawful .named σ t (mine-enabled (gameOf set) hostile σ t (keeps-mine (gameOf set) ahead hostile σ t e))) e)))
       a
       (record { keeps = keeps-first t e; least = λ u k. go u k (decLt u t) })
@@ -86,7 +86,7 @@ module _ (set : ℕ) (p : Program) (w : WellFormed p) where
       go u k (no i) = omega arith
 
   -- no first step keeps the win
-  pub steps-lost : able (gameOf set) hostile σ ≡ true → ((u : ℕ) → u < 6 → keepsBy (gameOf set) ahead hostile σ u ≡ false) → Said set p friendly-can
+  pub steps-lost : able (gameOf set) hostile σ ≡ true → ((u : ℕ) → u < 6 → keepsBy (gameOf set) ahead hostile σ u ≡ false) → ForcedIn set p friendly-can
   unfolding other
   steps-lost a n = friendly-forces (can friendly (value-able (gameOf set) 48 hostile σ a ∙ best-no (gameOf set) ahead hostile σ (go (any (keepsBy (gameOf set) ahead hostile σ) (SC .names)) refl)))
     where
@@ -97,11 +97,11 @@ module _ (set : ℕ) (p : Program) (w : WellFormed p) where
       go false e = e
 
   -- the hostile side passes first
-  pub pass-won : able (gameOf set) hostile σ ≡ false → ahead σ ≡ hostile → Said set p (hostile-can none)
+  pub pass-won : able (gameOf set) hostile σ ≡ false → ahead σ ≡ hostile → ForcedIn set p (hostile-can none)
   unfolding other
   pass-won a e = hostile-passes (can hostile (value-passes (gameOf set) 48 hostile σ a ∙ e)) (λ s. true≢false (sym s ∙ a))
 
-  pub pass-lost : able (gameOf set) hostile σ ≡ false → ahead σ ≡ friendly → Said set p friendly-can
+  pub pass-lost : able (gameOf set) hostile σ ≡ false → ahead σ ≡ friendly → ForcedIn set p friendly-can
   unfolding other
   pass-lost a e = friendly-forces (can friendly (value-passes (gameOf set) 48 hostile σ a ∙ e))
 
@@ -126,18 +126,18 @@ first-below f (suc n) = go (first-below f n)
     go (inl r) = inl (r .0, omega (arith, r .1), r .2, r .3)
     go (inr h) = more h (f n) refl
 
-said-exists : (set : ℕ) (p : Program) → WellFormed p → (a : Answer) × Said set p a
-said-exists set p w = go (able (gameOf set) hostile (start p)) refl
+forced-in-exists : (set : ℕ) (p : Program) → WellFormed p → (a : Answer) × ForcedIn set p a
+forced-in-exists set p w = go (able (gameOf set) hostile (start p)) refl
   where
-    steps : able (gameOf set) hostile (start p) ≡ true → First (keepsBy (gameOf set) (ahead set p w) hostile (start p)) 6 → (a : Answer) × Said set p a
-    steps e (inl r) = (hostile-can (some (r .0)), steps-said set p w (r .0) (r .1) e (r .2) (r .3))
+    steps : able (gameOf set) hostile (start p) ≡ true → First (keepsBy (gameOf set) (ahead set p w) hostile (start p)) 6 → (a : Answer) × ForcedIn set p a
+    steps e (inl r) = (hostile-can (some (r .0)), steps-forced set p w (r .0) (r .1) e (r .2) (r .3))
     steps e (inr h) = (friendly-can, steps-lost set p w e h)
 
-    passes : able (gameOf set) hostile (start p) ≡ false → (y : Side) → ahead set p w (start p) ≡ y → (a : Answer) × Said set p a
+    passes : able (gameOf set) hostile (start p) ≡ false → (y : Side) → ahead set p w (start p) ≡ y → (a : Answer) × ForcedIn set p a
     passes e hostile q = (hostile-can none, pass-won set p w e q)
     passes e friendly q = (friendly-can, pass-lost set p w e q)
 
-    go : (b : Bool) → able (gameOf set) hostile (start p) ≡ b → (a : Answer) × Said set p a
+    go : (b : Bool) → able (gameOf set) hostile (start p) ≡ b → (a : Answer) × ForcedIn set p a
     go true e = steps e (first-below (keepsBy (gameOf set) (ahead set p w) hostile (start p)) 6)
     go false e = passes e (ahead set p w (start p)) refl
 
@@ -160,7 +160,7 @@ forced-exists file set = go (decode file) refl
       }),
     )
     by p e (inr h) =
-        let r = said-exists set p (accepted-well-formed file p e) in
+        let r = forced-in-exists set p (accepted-well-formed file p e) in
         (r .0, played p (r .0) (record { accepts = e; names = λ k b m. small p k m (h k b) (decLt k (length (p .threads))) }) (r .1))
 
     go : (d : Decoded) → decode file ≡ d → (a : Answer) × Forced file set a
@@ -171,16 +171,16 @@ forced-exists file set = go (decode file) refl
 first-unique : (set : ℕ) (p : Program) (t u : ℕ) → LeastFirst set p t → LeastFirst set p u → t ≡ u
 first-unique set p t u a b = omega (arith, a .least u (b .keeps), b .least t (a .keeps))
 
-said-unique : (set : ℕ) (p : Program) (a b : Answer) → Said set p a → Said set p b → a ≡ b
-said-unique set p _ _ (hostile-steps t f s l) (hostile-steps u g r k) = ap (λ (n : ℕ). hostile-can (some n)) (first-unique set p t u l k)
-said-unique set p _ _ (hostile-steps t f s l) (hostile-passes g n) = absurd (n s)
-said-unique set p _ _ (hostile-steps t f s l) (friendly-forces g) = absurd (not-both (gameOf set) lawful hostile (start p) f g)
-said-unique set p _ _ (hostile-passes f n) (hostile-steps u g r k) = absurd (n r)
-said-unique set p _ _ (hostile-passes f n) (hostile-passes g m) = refl
-said-unique set p _ _ (hostile-passes f n) (friendly-forces g) = absurd (not-both (gameOf set) lawful hostile (start p) f g)
-said-unique set p _ _ (friendly-forces f) (hostile-steps u g r k) = absurd (not-both (gameOf set) lawful hostile (start p) g f)
-said-unique set p _ _ (friendly-forces f) (hostile-passes g m) = absurd (not-both (gameOf set) lawful hostile (start p) g f)
-said-unique set p _ _ (friendly-forces f) (friendly-forces g) = refl
+forced-in-unique : (set : ℕ) (p : Program) (a b : Answer) → ForcedIn set p a → ForcedIn set p b → a ≡ b
+forced-in-unique set p _ _ (hostile-steps t f s l) (hostile-steps u g r k) = ap (λ (n : ℕ). hostile-can (some n)) (first-unique set p t u l k)
+forced-in-unique set p _ _ (hostile-steps t f s l) (hostile-passes g n) = absurd (n s)
+forced-in-unique set p _ _ (hostile-steps t f s l) (friendly-forces g) = absurd (not-both (gameOf set) lawful hostile (start p) f g)
+forced-in-unique set p _ _ (hostile-passes f n) (hostile-steps u g r k) = absurd (n r)
+forced-in-unique set p _ _ (hostile-passes f n) (hostile-passes g m) = refl
+forced-in-unique set p _ _ (hostile-passes f n) (friendly-forces g) = absurd (not-both (gameOf set) lawful hostile (start p) f g)
+forced-in-unique set p _ _ (friendly-forces f) (hostile-steps u g r k) = absurd (not-both (gameOf set) lawful hostile (start p) g f)
+forced-in-unique set p _ _ (friendly-forces f) (hostile-passes g m) = absurd (not-both (gameOf set) lawful hostile (start p) g f)
+forced-in-unique set p _ _ (friendly-forces f) (friendly-forces g) = refl
 
 missing-unique : (set : ℕ) (p : Program) (k j : ℕ) → LowestMissing set p k → LowestMissing set p j → k ≡ j
 missing-unique set p k j a b = go (decLt k j) (decLt j k)
@@ -220,4 +220,4 @@ forced-unique file set _ _ (set-refused p k e l) (set-refused q j d i) = ap (ref
 forced-unique file set _ _ (set-refused p k e l) (played q b r s) = absurd (omega (arith, r .names k (l .eight) (l .named), subst (λ (o : Program). LowestMissing set o k) (ap (programIn p) (sym e ∙ r .accepts)) l .missing))
 forced-unique file set _ _ (played p a q s) (program-refused m j d) = absurd (clash file p m j (q .accepts) d)
 forced-unique file set _ _ (played p a q s) (set-refused r j d i) = absurd (omega (arith, q .names j (i .eight) (i .named), subst (λ (o : Program). LowestMissing set o j) (ap (programIn r) (sym d ∙ q .accepts)) i .missing))
-forced-unique file set _ _ (played p a q s) (played r b o k) = said-unique set r a b (subst (λ (z : Program). Said set z a) (ap (programIn p) (sym (q .accepts) ∙ o .accepts)) s) k
+forced-unique file set _ _ (played p a q s) (played r b o k) = forced-in-unique set r a b (subst (λ (z : Program). ForcedIn set z a) (ap (programIn p) (sym (q .accepts) ∙ o .accepts)) s) k

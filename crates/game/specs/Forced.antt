@@ -60,13 +60,13 @@ pub record Asked (file : List ℕ) (set : ℕ) (p : Program) : Type 0 where
   pub names : Names set p
 
 -- what the answer says of the program's game
-pub data Said (set : ℕ) (p : Program) : Answer → Type 0 where
-  hostile-steps : (t : ℕ) → CanForce hostile set p → HasStep set p → LeastFirst set p t → Said set p (hostile-can (some t))
-  hostile-passes : CanForce hostile set p → (HasStep set p → ⊥) → Said set p (hostile-can none)
-  friendly-forces : CanForce friendly set p → Said set p friendly-can
+pub data ForcedIn (set : ℕ) (p : Program) : Answer → Type 0 where
+  hostile-steps : (t : ℕ) → CanForce hostile set p → HasStep set p → LeastFirst set p t → ForcedIn set p (hostile-can (some t))
+  hostile-passes : CanForce hostile set p → (HasStep set p → ⊥) → ForcedIn set p (hostile-can none)
+  friendly-forces : CanForce friendly set p → ForcedIn set p friendly-can
 
 -- the answer to a program file and a set
 pub data Forced (file : List ℕ) (set : ℕ) : Answer → Type 0 where
   program-refused : (n k : ℕ) → decode file ≡ refused n k → Forced file set (refusing n k)
   set-refused : (p : Program) (k : ℕ) → decode file ≡ accepted p → LowestMissing set p k → Forced file set (refusing 48 k)
-  played : (p : Program) (a : Answer) → Asked file set p → Said set p a → Forced file set a
+  played : (p : Program) (a : Answer) → Asked file set p → ForcedIn set p a → Forced file set a

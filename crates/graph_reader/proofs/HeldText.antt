@@ -10,12 +10,12 @@ use Rattle.lines.specs.TextLines.{split}
 use Rattle.lines.specs.Meaning.{framed, spelt, lineOf}
 use Rattle.lines.specs.declared.reader.Line.the-variants.{Frame, Remark, Broken}
 use Rattle.lines.proofs.Split.{before-end}
-use Rattle.lines.proofs.Meaning.{told-frame, told-remark, told-broken}
+use Rattle.lines.proofs.Meaning.{spelt-as-frame, spelt-as-remark, spelt-as-broken}
 use Rattle.graph_reader.specs.declared.table.Table.{Table}
 use Rattle.graph_reader.specs.declared.text.Verdict.the-variants.{Passed, Refused}
 use Rattle.consistent.specs.Reading.{Reading, refusal, after, fresh, readLines, readGraph}
 use Rattle.graph_reader.specs.Held.{Holds, emptyTable, Passes, Taken, ReadAs}
-use Rattle.consistent.proofs.LineTurns.{text-over, line-unended, line-broken, line-remarked, line-refused, line-passes}
+use Rattle.consistent.proofs.LineByLine.{text-over, line-unended, line-broken, line-remarked, line-refused, line-passes}
 use Rattle.consistent.proofs.Parsed.{passed}
 use Rattle.graph_reader.proofs.HeldAfter.{held-fresh}
 
@@ -56,7 +56,7 @@ module _ (n : ℕ) (text : List ℕ) (s : Table) (at number : ℕ) (p : Progress
 
       -- it is neither a frame nor a remark
       pub read-broken : lineOf line ≡ Broken → ReadAs (Refused 30 number) s (readGraph n text)
-      read-broken q = p .rest ∙ line-broken n number text at (p .read) end e inside (told-broken line q)
+      read-broken q = p .rest ∙ line-broken n number text at (p .read) end e inside (spelt-as-broken line q)
 
       -- it is a remark: it is passed over, and counted
       pub read-remark : lineOf line ≡ Remark → Progress n text s (end + 1) (number + 1)
@@ -65,15 +65,15 @@ module _ (n : ℕ) (text : List ℕ) (s : Table) (at number : ℕ) (p : Progress
         counted = let c = p .counted in omega arith;
         read = p .read;
         holds = p .holds;
-        rest = p .rest ∙ line-remarked n number text at (p .read) end e inside (told-remark line q);
+        rest = p .rest ∙ line-remarked n number text at (p .read) end e inside (spelt-as-remark line q);
       }
 
       module _ (size : ℕ) (z : lineOf line ≡ Frame size) where
         its-frame : spelt line ≡ framed (pairs line)
-        its-frame = told-frame line size z .0
+        its-frame = spelt-as-frame line size z .0
 
         pub read-size : size ≡ length (pairs line)
-        read-size = sym (told-frame line size z .1)
+        read-size = sym (spelt-as-frame line size z .1)
 
         module _ (k : ℕ) (r : k ≡ refusal n (p .read) (pairs line)) where
           -- it is refused

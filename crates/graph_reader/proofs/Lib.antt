@@ -2,7 +2,7 @@
 -- the reader's code: the writes of a line, marks of events, places of lines, entries of the table, and that the table holds what has been read
 pub mod LineWrites
 pub mod Marks
-pub mod MarkTurns
+pub mod MarkLoop
 pub mod Ranks
 pub mod Entries
 pub mod HeldRefusal

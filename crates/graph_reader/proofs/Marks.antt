@@ -95,14 +95,14 @@ module _ (seen : List ℕ) (rows : List (List Event)) (size : length seen ≡ 96
 joined : (x e : Event) (es : List Event) (rows : List (List Event)) → written x (es ∷ (e ∷ []) ∷ rows) ≡ written x ((e ∷ es) ∷ rows)
 joined x e es rows =
     written-cons x es ((e ∷ []) ∷ rows) ∙ ap (λ (b : Bool). any (sameEvent x) es || b) (one-written x e rows)
-    ∙ turned (any (sameEvent x) es) (sameEvent x e) (written x rows)
+    ∙ or-exchanged (any (sameEvent x) es) (sameEvent x e) (written x rows)
     ∙ sym (written-cons x (e ∷ es) rows ∙ ap (λ (b : Bool). b || written x rows) (any-cons (sameEvent x) e es))
   where
-    turned : (a b c : Bool) → (a || (b || c)) ≡ ((b || a) || c)
-    turned true true c = refl
-    turned true false c = refl
-    turned false true c = refl
-    turned false false c = refl
+    or-exchanged : (a b c : Bool) → (a || (b || c)) ≡ ((b || a) || c)
+    or-exchanged true true c = refl
+    or-exchanged true false c = refl
+    or-exchanged false true c = refl
+    or-exchanged false false c = refl
 
 pub seen-marked : (ws : List Event) (seen : List ℕ) (rows : List (List Event)) → length seen ≡ 96 → Seen seen rows → ((e : Event) → List·Memᴰ e ws → Named 6 e)
     → Seen (markedBy seen ws) (ws ∷ rows)
@@ -114,8 +114,8 @@ seen-marked (e ∷ es) seen rows size S h t i a b =
     ∙ ap not (joined (t, i) e es rows)
 
 -- where a location has no writes yet, its list may stand in front as well as in its place
-any-turned : (x : Event) (ws : List Event) → any (sameEvent x) (reverse ws) ≡ any (sameEvent x) ws
-any-turned x ws = go (any (sameEvent x) (reverse ws)) (any (sameEvent x) ws) refl refl
+any-reverse : (x : Event) (ws : List Event) → any (sameEvent x) (reverse ws) ≡ any (sameEvent x) ws
+any-reverse x ws = go (any (sameEvent x) (reverse ws)) (any (sameEvent x) ws) refl refl
   where
     one-way : (vs us : List Event) → ((y : Event) → List·Memᴰ y vs → List·Memᴰ y us) → any (sameEvent x) vs ≡ true → any (sameEvent x) us ≡ true
     one-way vs us k h = let r = any-yes (sameEvent x) vs h in any-of (sameEvent x) us (r .0) (k (r .0) (r .1)) (r .2)
@@ -130,7 +130,7 @@ written-set : (x : Event) (ws : List Event) (rows : List (List Event)) (l : ℕ)
 unfolding any
 written-set x ws [] l h e = absurd (omega arith)
 written-set x ws (r ∷ rows) zero h e =
-    written-cons x ws (r ∷ rows) ∙ ap₂ _||_ (sym (any-turned x ws)) (written-cons x r rows ∙ ap (λ (r : List Event). any (sameEvent x) r || written x rows) e)
+    written-cons x ws (r ∷ rows) ∙ ap₂ _||_ (sym (any-reverse x ws)) (written-cons x r rows ∙ ap (λ (r : List Event). any (sameEvent x) r || written x rows) e)
     ∙ sym (written-cons x (reverse ws) rows)
 written-set x ws (r ∷ rows) (suc l) h e =
     written-cons x ws (r ∷ rows) ∙ ap (λ (b : Bool). any (sameEvent x) ws || b) (written-cons x r rows)

@@ -31,7 +31,7 @@ use Rattle.consistent.specs.Answer.{Answer, consistent, inconsistent, refusing,
 use Rattle.graph_reader.specs.Held.{Tabled, ReadAs}
 use Rattle.judge.specs.Call.{outcomeOf}
 use Rattle.judge.specs.HeldYes.{JudgedAs}
-use Rattle.rounds.proofs.HeldRoundTurns.{six-held}
+use Rattle.rounds.proofs.HeldRoundLoop.{six-held}
 
 -- two arrays, compared number by number
 pub agree-more : (a b : List ℕ) (k : ℕ) → ((j : ℕ) → j < k → getD a j 0 ≡ getD b j 0) → getD a k 0 ≡ getD b k 0 → (j : ℕ) → j < k + 1 → getD a j 0 ≡ getD b j 0

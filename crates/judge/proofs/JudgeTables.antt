@@ -29,7 +29,7 @@ use Rattle.consistent.proofs.Tests.{same-graph-is, is-same-graph}
 use Rattle.consistent.proofs.Readable.{Readable}
 use Rattle.consistent.proofs.Parsed.{read-readable}
 use Rattle.consistent.proofs.RunRead.{run-readable}
-use Rattle.rounds.proofs.HeldRoundTurns.{six-held}
+use Rattle.rounds.proofs.HeldRoundLoop.{six-held}
 use Rattle.graph_reader.proofs.TabledGraph.{tabled-same}
 
 -- a graph has one table

@@ -1,6 +1,8 @@
 -- Laws that the crates above cite.
 -- what is written is read back, and what is read and written again is the lower-case line
 pub mod RoundTrip
+-- what the test of two lists says
+pub mod Lists
 -- when a line is a frame
 pub mod Frame
 -- what a line says, and what the reader's answer tells of it

@@ -82,9 +82,9 @@ unfolding lineOf answer
 lineOf-frame l r h e = ap answer (spelt-frame l (pairs l) r (frame-of l h e)) ∙ ap Frame (length-pairs l)
 
 -- ---- what the answer tells
-pub told-frame : (l : List ℕ) (n : ℕ) → lineOf l ≡ Frame n → (spelt l ≡ framed (pairs l)) × (length (pairs l) ≡ n)
+pub spelt-as-frame : (l : List ℕ) (n : ℕ) → lineOf l ≡ Frame n → (spelt l ≡ framed (pairs l)) × (length (pairs l) ≡ n)
 unfolding lineOf answer
-told-frame l n e = go (spelt l) refl
+spelt-as-frame l n e = go (spelt l) refl
   where
     go : (m : Meaning) → spelt l ≡ m → (spelt l ≡ framed (pairs l)) × (length (pairs l) ≡ n)
     go remarked q = let s : Remark ≡ Frame n = rw (q, answer) at e in let z : _≡_ {A = ℕ} 0 1 = cc in absurd (omega arith)
@@ -95,18 +95,18 @@ told-frame l n e = go (spelt l) refl
         let p : f ≡ pairs l = sym (frame-some l f (spelt-framed l f q) .1) in
         (q ∙ ap framed p, ap length (sym p) ∙ k)
 
-pub told-remark : (l : List ℕ) → lineOf l ≡ Remark → spelt l ≡ remarked
+pub spelt-as-remark : (l : List ℕ) → lineOf l ≡ Remark → spelt l ≡ remarked
 unfolding lineOf answer
-told-remark l e = go (spelt l) refl
+spelt-as-remark l e = go (spelt l) refl
   where
     go : (m : Meaning) → spelt l ≡ m → spelt l ≡ remarked
     go remarked q = q
     go broken q = let s : Broken ≡ Remark = rw (q, answer) at e in let z : _≡_ {A = ℕ} 0 1 = cc in absurd (omega arith)
     go (framed f) q = let s : Frame (length f) ≡ Remark = rw (q, answer) at e in let z : _≡_ {A = ℕ} 0 1 = cc in absurd (omega arith)
 
-pub told-broken : (l : List ℕ) → lineOf l ≡ Broken → spelt l ≡ broken
+pub spelt-as-broken : (l : List ℕ) → lineOf l ≡ Broken → spelt l ≡ broken
 unfolding lineOf answer
-told-broken l e = go (spelt l) refl
+spelt-as-broken l e = go (spelt l) refl
   where
     go : (m : Meaning) → spelt l ≡ m → spelt l ≡ broken
     go broken q = q

@@ -1,4 +1,6 @@
 -- What a reader of this crate must believe, in reading order.
+-- small functions on lists: the same list, ascending
+pub mod Lists
 -- one hexadecimal digit: which bytes are digits, and what each is worth
 pub mod Digit
 -- a line to its frame: the bytes that its digits spell, or none

@@ -13,7 +13,7 @@ use Rattle.sc_model.specs.Sequential.{sc}
 use Rattle.sc_model.proofs.Laws.{sc-laws}
 unfoldable pub use Rattle.model.proofs.Permitted.{tabled}
 pub use Rattle.model.proofs.Permitted.{or-left, or-right, together-true, true-together, permitted-exchange, exchange-permitted, permitted-none}
-pub use Rattle.sc_model.proofs.Turned.{renames-true, true-renames}
+pub use Rattle.sc_model.proofs.Renamed.{renames-true, true-renames}
 
 -- THE TEST OF BEING ALIKE
 pub alike-exact : (p : Program) (a b : Schedule) → (alike p a b ≡ true) ↔ Alike p a b

@@ -11,7 +11,7 @@ use Rattle.schedules.specs.Permutations.{moved}
 use Rattle.sc.specs.State.{SC, start}
 use Rattle.sc.specs.Graph.{Graph, graph}
 unfoldable pub use Rattle.model.specs.Exchange.{together, permits, permitted}
-unfoldable pub use Rattle.sc_model.specs.Turned.{renames}
+unfoldable pub use Rattle.sc_model.specs.Renamed.{renames}
 
 -- whether some of these permutations does
 unfoldable pub alikeBy : List (List ℕ) → Graph → Graph → Bool

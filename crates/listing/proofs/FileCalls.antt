@@ -135,11 +135,11 @@ module _ (file s out : List ℕ) where
   continue-file-refused n k e = ap (λ (d : Decoded). continueOn d s out) e ∙ unchanged n k out
 
 -- ---- violation
-same-said : (b : Bool) (o : Option Schedule) → listAnswerOf (answerTo b o) ≡ violationAnswerOf (violationBy b o)
+same-violation-answer : (b : Bool) (o : Option Schedule) → listAnswerOf (answerTo b o) ≡ violationAnswerOf (violationBy b o)
 unfolding listAnswerOf violationAnswerOf violationBy
-same-said true o = ap listAnswerOf (Offered.answer-short o)
-same-said false none = ap listAnswerOf Offered.answer-none
-same-said false (some s) = ap listAnswerOf (Offered.answer-some s)
+same-violation-answer true o = ap listAnswerOf (Offered.answer-short o)
+same-violation-answer false none = ap listAnswerOf Offered.answer-none
+same-violation-answer false (some s) = ap listAnswerOf (Offered.answer-some s)
 
 same-content : (b : Bool) (o : Option Schedule) (out : List ℕ) → content (answerTo b o) out ≡ violationContent (violationBy b o) out
 unfolding violationContent violationBy
@@ -164,7 +164,7 @@ module _ (file out : List ℕ) where
     pub violation-answer : listAnswerOf (answerTo (short 24 out) (headOf l)) ≡ violationAnswerOf (violationFile file out .0)
     unfolding violationOf
     violation-answer =
-        same-said (short 24 out) (headOf l)
+        same-violation-answer (short 24 out) (headOf l)
         ∙ ap (λ (o : Option Schedule). violationAnswerOf (violationBy (short 24 out) o)) sought-first ∙ ap (λ (r : Violation × List ℕ). violationAnswerOf (r .0)) violation-on
 
     pub violation-output : content (answerTo (short 24 out) (headOf l)) out ≡ violationFile file out .1

@@ -12,6 +12,6 @@ pub mod CountedRows
 -- what count says of a program file
 pub mod CountCalled
 -- the calls by rows, way by way
-pub mod RowsSaid
+pub mod RowsAnswered
 -- files that differ only in remarks and capitals
 pub mod PlainFiles

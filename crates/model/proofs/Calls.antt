@@ -16,7 +16,7 @@ use Rattle.schedules.specs.Order.{Schedule, less}
 use Rattle.schedules.specs.System.{System, FullFrom}
 use Rattle.schedules.specs.Calls.{Answer, found, nomore, offer, answerTo, short, Result, result, called, last, Dialogue, due}
 use Rattle.schedules.proofs.Calls.{called-found, called-nomore, dialogue-answers}
-use Rattle.schedules.proofs.Offered.{offer-in, offer-next, answer-short, last-turn}
+use Rattle.schedules.proofs.Offered.{offer-in, offer-next, answer-short, last-answer}
 use Rattle.schedules.proofs.First.{find-none, next-find}
 use Rattle.schedules.proofs.FirstIn.{FirstIn, find-in, in-find, none-find}
 use Rattle.model.specs.Model.{Model, Full}
@@ -73,7 +73,7 @@ module _ (M : Model) (p : Program) where
 module _ (M : Model) (L : Laws M) (file : List ℕ) (p : Program) (e : admit M (decode file) ≡ accepted p) where
   -- behind an answer too
   known-next : (o : Option Schedule) → Known M p o → (out : List ℕ) → Known M p (last o (called (M .need) (listOf M p) o out .0))
-  known-next o k out = last-turn (Full M p) (Known M p) (λ s f. f) (short (M .need) out) (offer (listOf M p) o) o k (λ s q. list-exact M L p s .0 (offer-in (listOf M p) o s q) .0)
+  known-next o k out = last-answer (Full M p) (Known M p) (λ s f. f) (short (M .need) out) (offer (listOf M p) o) o k (λ s q. list-exact M L p s .0 (offer-in (listOf M p) o s q) .0)
 
   pub continue-file : (s : Schedule) → Full M p s → (out : List ℕ) → continueFile M file s out ≡ called (M .need) (listOf M p) (some s) out
   unfolding continueOn

@@ -21,7 +21,7 @@ use Rattle.model.specs.LateSet.{taken}
 use Rattle.model.specs.Search.{Sound, lateRule}
 use Rattle.model.proofs.Passing.{Passed, passed-append, late-passes, passed-next, passed-clear}
 use Rattle.model.proofs.Traces.{stands, trace-append, trace-cons}
-use Rattle.model.proofs.Orders.{turned-round}
+use Rattle.model.proofs.Orders.{steps-commute}
 use Rattle.model.proofs.Alike.{alike-end}
 
 module _ (M : Model) (L : StepLaws M) where
@@ -36,7 +36,7 @@ module _ (M : Model) (L : StepLaws M) where
       acts σ u ≡ before ++ (d ∷ rest) → FullFrom (M .system) σ u →
       (r : Schedule) × FullFrom (M .system) σ (b ∷ r) × (run (M .system) σ (b ∷ r) ≡ run (M .system) σ u)
   front u σ before rest b d own pass e f =
-      let p = Schedules.pulled (M .system) (L .lawful) (L .ascend) (M .who) (M .dependent) (M .act) (L .by) (turned-round M L) u σ b d f
+      let p = Schedules.pulled (M .system) (L .lawful) (L .ascend) (M .who) (M .dependent) (M .act) (L .by) (steps-commute M L) u σ b d f
       (ap (λ (y : List (M .Action)). nextOf (M .who) (M .dependent) y b) e ∙ passed-next (M .who) (M .dependent) before d rest b own pass)
       (ap (λ (y : List (M .Action)). clear (M .who) (M .dependent) y b d) e ∙ passed-clear (M .who) (M .dependent) before d rest b own pass) in
       (p .0, p .1, p .2)

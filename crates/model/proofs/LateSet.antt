@@ -15,7 +15,7 @@ use Rattle.schedules.proofs.Runs.{full-split}
 use Rattle.model.specs.Model.{Model, endOf, Runs, Full}
 use Rattle.model.specs.Laws.{Admitted, StepLaws, Laws}
 use Rattle.model.specs.Late.{late}
-use Rattle.model.specs.LateSet.{lateBehind, lateAlong, LateSet, taken, lateSet}
+use Rattle.model.specs.LateSet.{lateBehind, lateAfter, LateSet, taken, lateSet}
 use Rattle.model.specs.Search.{Sound, lateSetRule}
 use Rattle.model.proofs.Late.{late-smaller}
 
@@ -71,16 +71,16 @@ module _ (M : Model) (L : StepLaws M) where
           ap (λ (z : Bool). z || ltb c b) (h c (L .swap σ b c ne m n j .0) ∙ ap (late (M .who) (M .dependent) acts) (sym (L .waits σ b c ne m n j .0)))
 
   -- ALL STEPS of a schedule
-  pub late-set-along : (s : Schedule) (σ : M .system .State) (acts : List (M .Action)) (set : ℕ → Bool) → Allowed (M .system) σ s → LateSet M σ acts set →
-      LateSet M (run (M .system) σ s) (reverse (trace (M .system) (M .act) σ s) ++ acts) (lateAlong M σ set s)
-  unfolding lateAlong run trace
-  late-set-along [] σ acts set r h = h
-  late-set-along (b ∷ s) σ acts set r h =
+  pub late-set-after : (s : Schedule) (σ : M .system .State) (acts : List (M .Action)) (set : ℕ → Bool) → Allowed (M .system) σ s → LateSet M σ acts set →
+      LateSet M (run (M .system) σ s) (reverse (trace (M .system) (M .act) σ s) ++ acts) (lateAfter M σ set s)
+  unfolding lateAfter run trace
+  late-set-after [] σ acts set r h = h
+  late-set-after (b ∷ s) σ acts set r h =
       let T : List (M .Action) = trace (M .system) (M .act) (M .system .step σ b) s in
       let e : reverse (M .act σ b ∷ T) ++ acts ≡ reverse T ++ (M .act σ b ∷ acts) =
       ap (λ (k : List (M .Action)). k ++ acts) (reverse-cons (M .act σ b) T) ∙ append-assoc (reverse T) (M .act σ b ∷ []) acts in
-      subst (λ (k : List (M .Action)). LateSet M (run (M .system) (M .system .step σ b) s) k (lateAlong M (M .system .step σ b) (lateBehind M σ b set) s)) (sym e)
-      (late-set-along s (M .system .step σ b) (M .act σ b ∷ acts) (lateBehind M σ b set) (r .1) (late-set-step σ acts set b (r .0) h))
+      subst (λ (k : List (M .Action)). LateSet M (run (M .system) (M .system .step σ b) s) k (lateAfter M (M .system .step σ b) (lateBehind M σ b set) s)) (sym e)
+      (late-set-after s (M .system .step σ b) (M .act σ b ∷ acts) (lateBehind M σ b set) (r .1) (late-set-step σ acts set b (r .0) h))
 
   nothing-late : (σ : M .system .State) → LateSet M σ [] (λ c. false)
   unfolding late
@@ -89,8 +89,8 @@ module _ (M : Model) (L : StepLaws M) where
   -- FROM THE START: a byte that may step is in the set exactly when its next step comes late
   pub late-set-is : (p : Program) (v : Schedule) → Runs M p v → LateSet M (endOf M p v) (taken M p v) (lateSet M p v)
   unfolding lateSet
-  late-set-is p v r = subst (λ (k : List (M .Action)). LateSet M (endOf M p v) k (lateAlong M (M .start p) (λ c. false) v)) (append-nil (taken M p v))
-      (late-set-along v (M .start p) [] (λ c. false) r (nothing-late (M .start p)))
+  late-set-is p v r = subst (λ (k : List (M .Action)). LateSet M (endOf M p v) k (lateAfter M (M .start p) (λ c. false) v)) (append-nil (taken M p v))
+      (late-set-after v (M .start p) [] (λ c. false) r (nothing-late (M .start p)))
 
 -- the rule that asks the set is sound
 pub late-set-sound : (M : Model) (L : Laws M) (p : Program) → Admitted M p → Sound M p (lateSetRule M p)

@@ -17,15 +17,15 @@ use Rattle.model.specs.Laws.{Admitted, StepLaws, Laws}
 
 module _ (M : Model) (L : StepLaws M) where
   -- a step that need not stay behind the one before it: both can be turned round, and do what they did
-  pub turned-round : (σ : M .system .State) (a b : ℕ) → a ≢ b → M .system .enabled σ a ≡ true → M .system .enabled (M .system .step σ a) b ≡ true →
+  pub steps-commute : (σ : M .system .State) (a b : ℕ) → a ≢ b → M .system .enabled σ a ≡ true → M .system .enabled (M .system .step σ a) b ≡ true →
       M .dependent (M .act σ a) (M .act (M .system .step σ a) b) ≡ false →
       Commute (M .system) σ a b × (M .act (M .system .step σ a) b ≡ M .act σ b) × (M .act (M .system .step σ b) a ≡ M .act σ a)
-  turned-round σ a b ne m n d = let k = L .waits σ a b ne m n d in (L .swap σ a b ne m n d, k .0, k .1)
+  steps-commute σ a b ne m n d = let k = L .waits σ a b ne m n d in (L .swap σ a b ne m n d, k .0, k .1)
 
   -- OWN STEPS REORDERED stay full, with the same end
   pub order-full : (v w : Schedule) (σ : M .system .State) → FullFrom (M .system) σ w → OrderOf (M .who) (M .dependent) (M .system .names) (trace (M .system) (M .act) σ w) v →
       FullFrom (M .system) σ v × (run (M .system) σ v ≡ run (M .system) σ w)
-  order-full = Schedules.order-full (M .system) (L .lawful) (L .ascend) (M .who) (M .dependent) (M .act) (L .by) turned-round
+  order-full = Schedules.order-full (M .system) (L .lawful) (L .ascend) (M .who) (M .dependent) (M .act) (L .by) steps-commute
 
   -- the least order of these actions in which dependent ones keep theirs
   abbrev pub leastOf : List (M .Action) → Schedule
@@ -34,7 +34,7 @@ module _ (M : Model) (L : StepLaws M) where
   pub order-least : (σ : M .system .State) (w : Schedule) → FullFrom (M .system) σ w →
       FullFrom (M .system) σ (leastOf (trace (M .system) (M .act) σ w)) × (run (M .system) σ (leastOf (trace (M .system) (M .act) σ w)) ≡ run (M .system) σ w) ×
       ((r : Schedule) → OrderOf (M .who) (M .dependent) (M .system .names) (trace (M .system) (M .act) σ w) r → AtMost (leastOf (trace (M .system) (M .act) σ w)) r)
-  order-least = Schedules.order-least (M .system) (L .lawful) (L .ascend) (M .who) (M .dependent) (M .act) (L .by) turned-round
+  order-least = Schedules.order-least (M .system) (L .lawful) (L .ascend) (M .who) (M .dependent) (M .act) (L .by) steps-commute
 
 module _ (M : Model) (L : Laws M) (p : Program) (a : Admitted M p) where
   -- ONE GRAPH, ONE END

@@ -24,7 +24,7 @@ module _ (M : Model) (L : Laws M) (p : Program) (a : Admitted M p) where
   -- the least schedule with the graph of s exchanged by π
   pub record LeastAlike (π : ℕ → ℕ) (s g : Schedule) : Type 0 where
     pub full : Full M p g
-    pub turned : M .Renames π (graph M p s) (graph M p g)
+    pub image : M .Renames π (graph M p s) (graph M p g)
     pub least : (r : Schedule) → Full M p r → M .Renames π (graph M p s) (graph M p r) → AtMost g r
 
   pub least-alike : (s : Schedule) → Full M p s → (π : ℕ → ℕ) → Exchange p π → LeastAlike π s (leastOf M (L .steps) (map (M .movedAction π) (actions M p s)))
@@ -34,7 +34,7 @@ module _ (M : Model) (L : Laws M) (p : Program) (a : Admitted M p) where
       let o = least-with-graph M L p a (movedSchedule M π s) (e .0) in
       subst (λ (acts : List (M .Action)). LeastAlike π s (leastOf M (L .steps) acts)) (exchanged-actions M L p a π x s f) (record {
         full = o .0;
-        turned = subst (M .Renames π (graph M p s)) (sym (ap (M .graphOf) (o .1))) g;
+        image = subst (M .Renames π (graph M p s)) (sym (ap (M .graphOf) (o .1))) g;
         least = λ r fr t. o .2 r fr (L .program p a .renamed-once π x s r (movedSchedule M π s) t g);
       })
 
@@ -64,7 +64,7 @@ module _ (M : Model) (L : Laws M) (p : Program) (a : Admitted M p) where
       let x = all-not (λ π. not (less (leastBy M π (actions M p s)) s)) (permitted p) e in
       let g = least-by s f (x .0) (x .1) in
       let r : Schedule = leastBy M (x .0) (actions M p s) in
-      (r, g .full, not-false (less r s) (x .2), alike-sym M L p a s r (moved (x .0), permitted-exchange p (x .0) (x .1), g .turned))
+      (r, g .full, not-false (less r s) (x .2), alike-sym M L p a s r (moved (x .0), permitted-exchange p (x .0) (x .1), g .image))
     where
       not-false : (b : Bool) → not b ≡ false → b ≡ true
       not-false true q = refl

@@ -16,9 +16,9 @@ module _ (M : Model) where
   lateBehind σ b set c = (set c || ltb c b) && (not (eqb b c) && not (M .dependent (M .act σ b) (M .act (M .system .step σ b) c)))
 
   -- behind all steps of a schedule
-  unfoldable pub lateAlong : M .system .State → (ℕ → Bool) → Schedule → ℕ → Bool
-  lateAlong σ set [] = set
-  lateAlong σ set (b ∷ s) = lateAlong (M .system .step σ b) (lateBehind σ b set) s
+  unfoldable pub lateAfter : M .system .State → (ℕ → Bool) → Schedule → ℕ → Bool
+  lateAfter σ set [] = set
+  lateAfter σ set (b ∷ s) = lateAfter (M .system .step σ b) (lateBehind σ b set) s
 
   -- among the bytes that may step in σ the set has exactly those whose next step comes late behind these actions, given latest first
   abbrev pub LateSet : M .system .State → List (M .Action) → (ℕ → Bool) → Type 0
@@ -30,7 +30,7 @@ module _ (M : Model) where
 
   -- behind a prefix; before the first step no byte is late
   unfoldable pub lateSet : Program → Schedule → ℕ → Bool
-  lateSet p v = lateAlong (M .start p) (λ c. false) v
+  lateSet p v = lateAfter (M .start p) (λ c. false) v
 
 -- bit i of a word
 unfoldable pub bit : ℕ → ℕ → Bool

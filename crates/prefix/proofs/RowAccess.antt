@@ -16,7 +16,7 @@ use Rattle.rows.proofs.Rows.{row-store, row-load, row-fetch-add, row-compare-sw
 use Rattle.accesses.specs.CarriedOut.{accessOf}
 use Rattle.sc.specs.Local.{accessPlace, firstPlace}
 use Rattle.sc.specs.Actions.{Action, conflict}
-use Rattle.sc.specs.Ahead.{couldAdd, accessMayPut, firstMayPut}
+use Rattle.sc.specs.Ahead.{couldAdd, accessMayWrite, firstMayWrite}
 use Rattle.sc.proofs.Trails.{conflict-elsewhere, conflict-written, conflict-read}
 use Rattle.prefix.specs.Steps.{accessingAt}
 
@@ -37,16 +37,16 @@ module _ (code : List ℕ) (k : ℕ) (h : k < 96) where
   unfolding firstPlace accessPlace
   place-compare-swap e = rw (row-compare-swap code k h e)
 
-  pub writer-store : getD code (k * 16) 0 ≡ 0x10 → true ≡ firstMayPut (instructionAt code k ∷ [])
-  unfolding firstMayPut accessMayPut
+  pub writer-store : getD code (k * 16) 0 ≡ 0x10 → true ≡ firstMayWrite (instructionAt code k ∷ [])
+  unfolding firstMayWrite accessMayWrite
   writer-store e = rw (row-store code k h e)
 
-  pub writer-fetch-add : getD code (k * 16) 0 ≡ 0x12 → (p : Operand) → p ≡ operand (rowAt code k) 3 → (b : Bool) → b ≡ couldAdd p → b ≡ firstMayPut (instructionAt code k ∷ [])
-  unfolding firstMayPut accessMayPut
+  pub writer-fetch-add : getD code (k * 16) 0 ≡ 0x12 → (p : Operand) → p ≡ operand (rowAt code k) 3 → (b : Bool) → b ≡ couldAdd p → b ≡ firstMayWrite (instructionAt code k ∷ [])
+  unfolding firstMayWrite accessMayWrite
   writer-fetch-add e p ep b eb = eb ∙ ap couldAdd ep ∙ rw (row-fetch-add code k h e)
 
-  pub writer-compare-swap : getD code (k * 16) 0 ≡ 0x13 → true ≡ firstMayPut (instructionAt code k ∷ [])
-  unfolding firstMayPut accessMayPut
+  pub writer-compare-swap : getD code (k * 16) 0 ≡ 0x13 → true ≡ firstMayWrite (instructionAt code k ∷ [])
+  unfolding firstMayWrite accessMayWrite
   writer-compare-swap e = rw (row-compare-swap code k h e)
 
   module _ (n10 : getD code (k * 16) 0 ≡ 0x10 → ⊥) (n12 : getD code (k * 16) 0 ≡ 0x12 → ⊥) (n13 : getD code (k * 16) 0 ≡ 0x13 → ⊥) where
@@ -54,13 +54,13 @@ module _ (code : List ℕ) (k : ℕ) (h : k < 96) where
     unfolding firstPlace
     place-none n11 = row-no-access code k h (λ i. 0 ≡ firstPlace (i ∷ [])) n10 n11 n12 n13 (λ o. refl)
 
-    pub writer-none : false ≡ firstMayPut (instructionAt code k ∷ [])
-    unfolding firstMayPut accessMayPut
+    pub writer-none : false ≡ firstMayWrite (instructionAt code k ∷ [])
+    unfolding firstMayWrite accessMayWrite
     writer-none = go (ℕ-discrete (getD code (k * 16) 0) 0x11)
       where
-        go : Dec (getD code (k * 16) 0 ≡ 0x11) → false ≡ firstMayPut (instructionAt code k ∷ [])
+        go : Dec (getD code (k * 16) 0 ≡ 0x11) → false ≡ firstMayWrite (instructionAt code k ∷ [])
         go (yes e) = rw (row-load code k h e)
-        go (no n11) = row-no-access code k h (λ i. false ≡ firstMayPut (i ∷ [])) n10 n11 n12 n13 (λ o. refl)
+        go (no n11) = row-no-access code k h (λ i. false ≡ firstMayWrite (i ∷ [])) n10 n11 n12 n13 (λ o. refl)
 
 -- the code that is left begins with the row's instruction
 pub place-first : (x : Instruction) (is : List Instruction) → firstPlace (x ∷ is) ≡ firstPlace (x ∷ [])
@@ -68,8 +68,8 @@ unfolding firstPlace
 place-first (Memory a) is = refl
 place-first (Alone o) is = refl
 
-pub writer-first : (x : Instruction) (is : List Instruction) → firstMayPut (x ∷ is) ≡ firstMayPut (x ∷ [])
-unfolding firstMayPut
+pub writer-first : (x : Instruction) (is : List Instruction) → firstMayWrite (x ∷ is) ≡ firstMayWrite (x ∷ [])
+unfolding firstMayWrite
 writer-first (Memory a) is = refl
 writer-first (Alone o) is = refl
 

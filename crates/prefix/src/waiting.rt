@@ -9,7 +9,7 @@ ghost use Prim.Native.Nat.{_<_};
 ghost use Rattle.rows.specs.Rows.{instructionAt};
 ghost use Rattle.sc.specs.Local.{firstPlace};
 ghost use Rattle.sc.specs.Actions.{conflict};
-ghost use Rattle.sc.specs.Ahead.{couldAdd, firstMayPut};
+ghost use Rattle.sc.specs.Ahead.{couldAdd, firstMayWrite};
 ghost use Rattle.prefix.specs.Steps.{accessingAt};
 
 // The location of the access in a row; 0 where there is none.
@@ -47,7 +47,7 @@ fn could_add(p: Operand) -> bool
 // Whether it could write.
 pub fn is_writer(code: &Code, row: usize) -> bool
     requires { ⌜ row < 96 ⌝ }
-    ensures { λ r. ⌜ r ≡ firstMayPut (instructionAt (now (code .entry)) row ∷ []) ⌝ }
+    ensures { λ r. ⌜ r ≡ firstMayWrite (instructionAt (now (code .entry)) row ∷ []) ⌝ }
 {
     let b = code[row * 16];
     if b == 0x10 {

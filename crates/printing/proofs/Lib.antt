@@ -2,7 +2,7 @@
 -- rows of listed schedules, and the frames printed of them
 pub mod RowText
 -- the lines of schedules, one after the other, and how long lines are
-pub mod LineTurns
+pub mod LineLoop
 -- all is left at the beginning
 pub mod Beginning
 -- the next piece

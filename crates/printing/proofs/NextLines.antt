@@ -31,7 +31,7 @@ use Rattle.printing.specs.declared.pieces.Stage.{Stage}
 use Rattle.printing.specs.declared.pieces.Stage.the-variants.{Refused, Walking, Ended}
 use Rattle.printing.specs.declared.pieces.Listing.{Listing}
 use Rattle.printing.specs.Pieces.{Short, left, counts, framesLeft, rest, Ready, Sound, Next}
-use Rattle.printing.proofs.LineTurns.{lines-length, text-append, lines-some, count-length, refusal-length}
+use Rattle.printing.proofs.LineLoop.{lines-length, text-append, lines-some, count-length, refusal-length}
 
 -- ---- what stands in front of the buffer
 -- the text of these frames, where it fits

@@ -6,44 +6,35 @@ use mathlib.Core.Bool.{true, false, not, false≢true, or-true}
 use mathlib.Core.List.{List, [], _∷_, _++_, map, List·Memᴰ, List·Memᴰ·head, List·Memᴰ·tail, List·Memᴰ·not-nil}
 use lib.ListN.{length}
 use lib.Dec.{eqb, ltb}
-use borrow.Author.Tests.{eqb-true, ltb-true, eq-eqb, not-true}
+use borrow.Author.Tests.{eqb-true, ltb-true, lt-ltb, eq-eqb, not-true}
+use Rattle.lines.specs.Lists.{sameList, Ascends}
+use Rattle.lines.proofs.Lists.{same-list-is}
 use Rattle.program.specs.Frames.{Frame}
-use Rattle.program.specs.Decode.{Placed, Reading, threadAt, same, sameCode, among, grouped, memberFits, followersFit, membersFit}
-use Rattle.program.specs.WellFormed.{Everywhere, Ascending, Apart}
+use Rattle.program.specs.Decode.{Placed, Reading, threadAt, sameBytes, sameCode, among, grouped, memberFits, followersFit, membersFit}
+use Rattle.program.specs.WellFormed.{Everywhere, Apart}
 use Rattle.program.proofs.Tests.{both}
 use Rattle.program.proofs.Everywhere.{everywhere-at, everywhere-all, everywhere-weaken, everywhere-append}
 
 -- ---- equal code
-same-equal : (xs ys : List ℕ) → same xs ys ≡ true → xs ≡ ys
-unfolding same
-same-equal [] [] e = refl
-same-equal [] (y ∷ ys) e = absurd (false≢true e)
-same-equal (x ∷ xs) [] e = absurd (false≢true e)
-same-equal (x ∷ xs) (y ∷ ys) e =
-    let p = both (eqb x y) (same xs ys) e in
-    let h = eqb-true x y (p .0) in
-    let t = same-equal xs ys (p .1) in
-    cc
-
 -- the frames of a thread, without their lines' numbers
 unfoldable pub framesOf : List Placed → List Frame
 framesOf xs = map (λ x. x .code) xs
 
 pub same-frames : (xs ys : List Placed) → sameCode xs ys ≡ true → framesOf xs ≡ framesOf ys
-unfolding sameCode framesOf
+unfolding sameCode sameBytes sameList framesOf
 same-frames [] [] e = refl
 same-frames [] (y ∷ ys) e = absurd (false≢true e)
 same-frames (x ∷ xs) [] e = absurd (false≢true e)
 same-frames (x ∷ xs) (y ∷ ys) e =
-    let p = both (same (x .code) (y .code)) (sameCode xs ys) e in
-    let h = same-equal (x .code) (y .code) (p .0) in
+    let p = both (sameBytes x y) (sameCode xs ys) e in
+    let h = same-list-is eqb eqb-true (x .code) (y .code) (p .0) in
     let t = same-frames xs ys (p .1) in
     cc
 
 -- ---- the members of one line
 record Follow (r : Reading) (t : ℕ) (us : List ℕ) : Type 0 where
   above : Everywhere (λ u. t < u) us
-  ascend : Ascending us
+  ascend : Ascends ltb us
   fit : Everywhere (λ u. memberFits r u ≡ true) us
   equal : Everywhere (λ u. framesOf (threadAt r t) ≡ framesOf (threadAt r u)) us
 
@@ -60,13 +51,13 @@ follow r t (u ∷ us) e =
     let Equal : ℕ → ℕ → Type 0 = λ v w. framesOf (threadAt r v) ≡ framesOf (threadAt r w) in
     record {
       above = (less, everywhere-weaken (λ v. u < v) (λ v. t < v) (λ v h. omega arith) us (later .above));
-      ascend = (later .above, later .ascend);
+      ascend = ((λ v m. lt-ltb u v (everywhere-at (λ v. u < v) m (later .above))), later .ascend);
       fit = (m .0, later .fit);
       equal = (code, everywhere-weaken (Equal u) (Equal t) (λ v h. code ∙ h) us (later .equal));
     }
 
 pub record Members (r : Reading) (g : List ℕ) : Type 0 where
-  pub ascend : Ascending g
+  pub ascend : Ascends ltb g
   pub fit : Everywhere (λ t. memberFits r t ≡ true) g
   pub equal : (t u : ℕ) → List·Memᴰ t g → List·Memᴰ u g → framesOf (threadAt r t) ≡ framesOf (threadAt r u)
 
@@ -78,7 +69,7 @@ members r (a ∷ us) e =
     let f = follow r a us (m .1) in
     let all : Everywhere (λ u. framesOf (threadAt r a) ≡ framesOf (threadAt r u)) (a ∷ us) = (refl, f .equal) in
     record {
-      ascend = (f .above, f .ascend);
+      ascend = ((λ v m. lt-ltb a v (everywhere-at (λ v. a < v) m (f .above))), f .ascend);
       fit = (m .0, f .fit);
       equal = λ t u mt mu.
           sym (everywhere-at (λ u. framesOf (threadAt r a) ≡ framesOf (threadAt r u)) mt all)

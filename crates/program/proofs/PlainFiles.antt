@@ -8,6 +8,7 @@ use mathlib.Core.List.{List, [], _∷_, _++_, map, map-append}
 use lib.ListN.{length, getD, set, drop, length-map, List·getD-map}
 use lib.Dec.{eqb, ltb}
 use borrow.Author.Tests.{ne-eqb, le-ltb, ltb-false}
+use Rattle.lines.specs.Lists.{sameList}
 use Rattle.lines.specs.TextLines.{TextLine, split}
 use Rattle.lines.specs.Meaning.{Meaning, remarked, framed, broken, meaning}
 use Rattle.lines.specs.Plain.{isRemark, kept, lowered, plain}
@@ -15,7 +16,7 @@ use Rattle.lines.proofs.Plain.{loweredLine, length-lowered, split-lowered, spli
 use Rattle.program.specs.declared.instruction.Instruction.{Instruction}
 use Rattle.program.specs.Program.{Program}
 use Rattle.program.specs.Frames.{Frame, known, inRange, opens, declares, starts, byte, word, isAccess, skipOf, instruction}
-use Rattle.program.specs.Decode.{Placed, Start, Reading, fresh, threadAt, lastThread, inPlace, accessesIn, allAccessesIn, withinLimits, isGiven, valueAt, startFits, same, sameCode, grouped, memberFits, followersFit, membersFit, alikeFits, frameRefusal, after, farSkip, firstFarSkip, locations, programIn, Decoded, accepted, refused, finish, readLines, decode}
+use Rattle.program.specs.Decode.{Placed, Start, Reading, fresh, threadAt, lastThread, inPlace, accessesIn, allAccessesIn, withinLimits, isGiven, valueAt, startFits, sameBytes, sameCode, grouped, memberFits, followersFit, membersFit, alikeFits, frameRefusal, after, farSkip, firstFarSkip, locations, programIn, Decoded, accepted, refused, finish, readLines, decode}
 use Rattle.program.specs.SameButPlace.{SameButPlace}
 use Rattle.program.specs.WellFormed.{Everywhere}
 use Rattle.program.proofs.Places.{after-every}
@@ -65,7 +66,7 @@ all-accesses-bare [] = refl
 all-accesses-bare (c ∷ cs) = ap₂ (λ (m n : ℕ). m + n) (accesses-bare c) (all-accesses-bare cs)
 
 code-bare : (xs ys : List Placed) → sameCode (map bare xs) (map bare ys) ≡ sameCode xs ys
-unfolding sameCode
+unfolding sameCode sameBytes sameList
 code-bare [] [] = refl
 code-bare [] (y ∷ ys) = refl
 code-bare (x ∷ xs) [] = refl

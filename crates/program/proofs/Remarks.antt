@@ -4,6 +4,7 @@ use mathlib.Core.Path.{_≡_, refl}
 use mathlib.Core.Bool.{Bool, true, false, _&&_}
 use mathlib.Core.List.{List, [], _∷_, _++_}
 use lib.Dec.{eqb}
+use Rattle.lines.specs.Lists.{sameList}
 use Rattle.lines.specs.Digit.{lower, digit, value, digitOf}
 use Rattle.lines.specs.Frame.{hexadecimal, pairs, frame}
 use Rattle.lines.specs.Text.{digits, text}
@@ -12,16 +13,16 @@ use Rattle.lines.specs.Meaning.{remark, spelt, meaning}
 use Rattle.program.specs.Program.{zeros}
 use Rattle.program.specs.Kinds.{kinds, lookup, kindOf}
 use Rattle.program.specs.Frames.{Frame, word, kind, known, registerFits, locationFits, skipFits, operandFits, inRange, opens, declares, starts, isAccess, skipOf, operand, buildOwn, build, instruction}
-use Rattle.program.specs.Decode.{fresh, threadAt, lastThread, inPlace, accessesIn, allAccessesIn, withinLimits, isGiven, valueAt, startFits, same, sameCode, among, grouped, memberFits, followersFit, membersFit, alikeFits, frameRefusal, after, farSkip, firstFarSkip, programIn, Decoded, accepted, refused, finish, readLines, decode}
+use Rattle.program.specs.Decode.{fresh, threadAt, lastThread, inPlace, accessesIn, allAccessesIn, withinLimits, isGiven, valueAt, startFits, sameBytes, sameCode, among, grouped, memberFits, followersFit, membersFit, alikeFits, frameRefusal, after, farSkip, firstFarSkip, programIn, Decoded, accepted, refused, finish, readLines, decode}
 
 -- what a proof names on its `unfolding` line to compute what a file is read as
 unfoldable reading : List ℕ → Decoded
-unfolding lower digit value digitOf hexadecimal pairs frame digits text prepend before split remark spelt meaning kinds lookup kindOf word kind known registerFits locationFits skipFits operandFits inRange opens declares starts isAccess skipOf operand buildOwn build instruction fresh threadAt lastThread inPlace accessesIn allAccessesIn withinLimits isGiven valueAt startFits same sameCode among grouped memberFits followersFit membersFit alikeFits frameRefusal after farSkip firstFarSkip programIn finish readLines decode
+unfolding lower digit value digitOf hexadecimal pairs frame digits text prepend before split remark spelt meaning kinds lookup kindOf word kind known registerFits locationFits skipFits operandFits inRange opens declares starts isAccess skipOf operand buildOwn build instruction fresh threadAt lastThread inPlace accessesIn allAccessesIn withinLimits isGiven valueAt startFits sameBytes sameList sameCode among grouped memberFits followersFit membersFit alikeFits frameRefusal after farSkip firstFarSkip programIn finish readLines decode
 reading file = decode file
 
 -- a remark with 00, 0d, ff and `#` in it
-abbrev said : List ℕ
-said = 0x23 ∷ 0 ∷ 0x0d ∷ 0xff ∷ 0x23 ∷ 10 ∷ []
+abbrev aside : List ℕ
+aside = 0x23 ∷ 0 ∷ 0x0d ∷ 0xff ∷ 0x23 ∷ 10 ∷ []
 
 abbrev thread : List ℕ
 thread = text (0x01 ∷ [])
@@ -37,7 +38,7 @@ abbrev both : List ℕ
 both = text (0x02 ∷ 0 ∷ 1 ∷ [])
 
 -- CODE IS COMPARED BY ITS BYTES: two threads, one in capitals, are declared alike; and remarks stand everywhere
-loud-alike : decode (said ++ (thread ++ (loud ++ (said ++ (thread ++ (store ++ (said ++ (both ++ said)))))))) ≡ decode (thread ++ (store ++ (thread ++ (store ++ both))))
+loud-alike : decode (aside ++ (thread ++ (loud ++ (aside ++ (thread ++ (store ++ (aside ++ (both ++ aside)))))))) ≡ decode (thread ++ (store ++ (thread ++ (store ++ both))))
 unfolding reading
 loud-alike = refl
 
@@ -60,12 +61,12 @@ skip-accepted : passes (thread ++ (skip ++ load)) ≡ true
 unfolding reading passes
 skip-accepted = refl
 
-skipped : decode (thread ++ (skip ++ (said ++ load))) ≡ decode (thread ++ (skip ++ load))
+skipped : decode (thread ++ (skip ++ (aside ++ load))) ≡ decode (thread ++ (skip ++ load))
 unfolding reading
 skipped = refl
 
 -- NOTHING BUT REMARKS is the program of no thread
-only-remarks : decode (said ++ said) ≡ accepted (record { threads = []; groups = []; starting = zeros })
+only-remarks : decode (aside ++ aside) ≡ accepted (record { threads = []; groups = []; starting = zeros })
 unfolding reading
 only-remarks = refl
 
@@ -89,12 +90,12 @@ refusals =
     -- a remark without its 0a; a space in front of `#`; `G`
     row (thread ++ (0x23 ∷ [])) 2 2 ∷
     row (thread ++ (0x20 ∷ 0x23 ∷ 10 ∷ [])) 2 2 ∷
-    row (said ++ (0x30 ∷ 0x47 ∷ 10 ∷ [])) 2 2 ∷
+    row (aside ++ (0x30 ∷ 0x47 ∷ 10 ∷ [])) 2 2 ∷
     -- every remark counts as a line: 3, 5, 8, and 7 behind the last line
-    row (said ++ (thread ++ (said ++ text (0xff ∷ [])))) 3 4 ∷
-    row (said ++ load) 5 2 ∷
-    row (thread ++ (said ++ (thread ++ (said ++ (said ++ text (0x02 ∷ 1 ∷ 0 ∷ [])))))) 8 6 ∷
-    row (said ++ (thread ++ (said ++ (skip ++ said)))) 7 4 ∷
+    row (aside ++ (thread ++ (aside ++ text (0xff ∷ [])))) 3 4 ∷
+    row (aside ++ load) 5 2 ∷
+    row (thread ++ (aside ++ (thread ++ (aside ++ (aside ++ text (0x02 ∷ 1 ∷ 0 ∷ [])))))) 8 6 ∷
+    row (aside ++ (thread ++ (aside ++ (skip ++ aside)))) 7 4 ∷
     []
 
 all-right : all refusals ≡ true

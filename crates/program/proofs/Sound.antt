@@ -7,11 +7,12 @@ use mathlib.Core.List.{List, [], _∷_, _++_, List·Memᴰ}
 use lib.ListN.{length, getD, set, drop, length-append, length-drop, length-set}
 use lib.Dec.{eqb, ltb}
 use borrow.Author.Tests.{eqb-true, ltb-true, ne-eqb}
+use Rattle.lines.specs.Lists.{Ascends}
 use Rattle.lines.specs.Frame.{Bytes}
 use Rattle.program.specs.Kinds.{kinds, lookup, kindOf}
 use Rattle.program.specs.Frames.{Frame, byte, kind, known, inRange, opens, declares, starts, isAccess, word}
 use Rattle.program.specs.Decode.{Placed, Start, Reading, fresh, threadAt, lastThread, inPlace, allAccessesIn, withinLimits, startFits, memberFits, membersFit, alikeFits, frameRefusal, after}
-use Rattle.program.specs.WellFormed.{Everywhere, Ascending, Apart}
+use Rattle.program.specs.WellFormed.{Everywhere, Apart}
 use Rattle.program.proofs.Tests.{both, second}
 use Rattle.program.proofs.KindTable.{known-range}
 use Rattle.program.proofs.Everywhere.{everywhere-getD, everywhere-append, everywhere-set, everywhere-weaken}
@@ -31,7 +32,7 @@ pub record Good (x : Placed) : Type 0 where
 pub record Alike (cs : List (List Placed)) (g : List ℕ) : Type 0 where
   pub two : 2 ≤ length g
   pub six : length g ≤ 6
-  pub ascend : Ascending g
+  pub ascend : Ascends ltb g
   pub exist : Everywhere (λ t. t < length cs) g
   pub equal : (t u : ℕ) → List·Memᴰ t g → List·Memᴰ u g → framesOf (getD cs t []) ≡ framesOf (getD cs u [])
 

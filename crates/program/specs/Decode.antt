@@ -6,6 +6,7 @@ use mathlib.Core.Bool.{Bool, true, false, cond, not, _&&_, _||_}
 use mathlib.Core.List.{List, [], _∷_, _++_, map}
 use lib.ListN.{length, getD, set, drop}
 use lib.Dec.{eqb, ltb}
+use Rattle.lines.specs.Lists.{sameList}
 use Rattle.lines.specs.TextLines.{TextLine, split}
 use Rattle.lines.specs.Meaning.{remarked, framed, broken, meaning}
 use Rattle.program.specs.Program.{Program}
@@ -74,18 +75,12 @@ unfoldable pub startFits : Reading → Frame → Bool
 startFits r f =
     not (starts f) || (eqb (length (r .threads)) 0 && (eqb (length (r .groups)) 0 && not (isGiven (byte f 1) (r .given))))
 
--- whether two lists of numbers, and two threads' code byte for byte, are the same
-unfoldable pub same : List ℕ → List ℕ → Bool
-same [] [] = true
-same [] (y ∷ ys) = false
-same (x ∷ xs) [] = false
-same (x ∷ xs) (y ∷ ys) = eqb x y && same xs ys
+-- whether two instructions, and two threads' code, are the same byte for byte
+unfoldable pub sameBytes : Placed → Placed → Bool
+sameBytes x y = sameList eqb (x .code) (y .code)
 
 unfoldable pub sameCode : List Placed → List Placed → Bool
-sameCode [] [] = true
-sameCode [] (y ∷ ys) = false
-sameCode (x ∷ xs) [] = false
-sameCode (x ∷ xs) (y ∷ ys) = same (x .code) (y .code) && sameCode xs ys
+sameCode xs ys = sameList sameBytes xs ys
 
 -- whether a thread stands among these, and in one of these groups
 unfoldable pub among : ℕ → List ℕ → Bool

@@ -3,6 +3,8 @@ use Prim.Native.Nat.{ℕ, suc, _+_, _≤_, _<_, _^_}
 use mathlib.Core.Path.{_≡_}
 use mathlib.Core.List.{List, [], _∷_, List·Memᴰ}
 use lib.ListN.{length}
+use lib.Dec.{ltb}
+use Rattle.lines.specs.Lists.{Ascends}
 use Rattle.program.specs.declared.instruction.Operand.{Operand}
 use Rattle.program.specs.declared.instruction.Operand.the-variants.{Constant, Register}
 use Rattle.program.specs.declared.instruction.Access.{Access}
@@ -68,16 +70,11 @@ abbrev pub SkipsInside : List Instruction → Type 0
 SkipsInside [] = Unit {0}
 SkipsInside (i ∷ is) = (mostSkipped i ≤ length is) × SkipsInside is
 
--- each number is below all that follow it
-abbrev pub Ascending : List ℕ → Type 0
-Ascending [] = Unit {0}
-Ascending (t ∷ ts) = Everywhere (λ u. t < u) ts × Ascending ts
-
 -- a `02` line of this program: two to six threads that exist, ascending, of equal code
 pub record Group (p : Program) (g : List ℕ) : Type 0 where
   pub two : 2 ≤ length g
   pub six : length g ≤ 6
-  pub ascend : Ascending g
+  pub ascend : Ascends ltb g
   pub exist : Everywhere (λ t. t < length (p .threads)) g
   pub equal : (t u : ℕ) → List·Memᴰ t g → List·Memᴰ u g → codeOf p t ≡ codeOf p u
 

@@ -11,7 +11,9 @@ use lib.Seq.{ext-getD}
 use borrow.Author.Tests.{eq-eqb, eqb-true}
 use Rattle.refusals.specs.declared.counts.Counts.{Counts}
 use Rattle.program.specs.Frames.{Frame, byte}
-use Rattle.program.specs.Decode.{Placed, Reading, threadAt, same, sameCode}
+use Rattle.lines.specs.Lists.{sameList}
+use Rattle.lines.proofs.Lists.{same-list}
+use Rattle.program.specs.Decode.{Placed, Reading, threadAt, sameBytes, sameCode}
 use Rattle.refusals.specs.Held.{codeAgrees, noInstruction, frameAt, Bounded, Holds}
 use Rattle.program.proofs.Tests.{both, equal-tests}
 use Rattle.program.proofs.GroupLines.{framesOf, same-frames}
@@ -19,20 +21,15 @@ use Rattle.program.proofs.FrameBytes.{sizes-same}
 use Rattle.rows.proofs.Agree.{agree-true, agree-all}
 
 -- the same frames are the same code
-same-itself : (xs : List ℕ) → same xs xs ≡ true
-unfolding same
-same-itself [] = refl
-same-itself (x ∷ xs) = rw (eq-eqb x x refl, same-itself xs)
-
 frames-same : (xs ys : List Placed) → framesOf xs ≡ framesOf ys → sameCode xs ys ≡ true
-unfolding sameCode framesOf
+unfolding sameCode sameBytes sameList framesOf
 frames-same [] [] e = refl
 frames-same [] (y ∷ ys) e = let z : _≡_ {A = ℕ} 0 1 = cc in absurd (omega arith)
 frames-same (x ∷ xs) [] e = let z : _≡_ {A = ℕ} 0 1 = cc in absurd (omega arith)
 frames-same (x ∷ xs) (y ∷ ys) e =
     let h : x .code ≡ y .code = cc in
     let t : framesOf xs ≡ framesOf ys = cc in
-    rw (h, same-itself (y .code), frames-same xs ys t)
+    rw (h, same-list eqb (λ n. eq-eqb n n refl) (y .code), frames-same xs ys t)
 
 frame-map : (xs : List Placed) (i : ℕ) → getD (framesOf xs) i [] ≡ getD xs i noInstruction .code
 unfolding framesOf noInstruction

@@ -18,7 +18,7 @@ use Rattle.consistent.specs.Same.{sameEvent}
 use Rattle.consistent.proofs.RoundValues.{sourceIn, leftBy, nextRound, values}
 use Rattle.graph_reader.specs.Held.{noLine, lineIn, Tabled}
 use Rattle.rounds.specs.HeldRounds.{valuesIn, RoundHeld, sourced}
-pub use Rattle.rounds.proofs.HeldRoundTurns.{zeros}
+pub use Rattle.rounds.proofs.HeldRoundLoop.{zeros}
 use Rattle.consistent.proofs.Readable.{Named, Source, Readable}
 use Rattle.consistent.proofs.RoundTables.{named-source, round-same, location-same}
 

@@ -19,7 +19,7 @@ use Rattle.schedules.proofs.Lists.{in-range, all-at, all-of, all-yes, all-no}
 use Rattle.schedules.proofs.Loops.{range-none, range-more}
 use Rattle.sc.specs.Local.{accessTakes, firstPlace, firstTakes, placeOf}
 use Rattle.sc.specs.State.{State, threadOf, place}
-use Rattle.sc.specs.Ahead.{firstMayPut, mayPut}
+use Rattle.sc.specs.Ahead.{firstMayWrite, mayWrite}
 use Rattle.survivors.specs.Sets.{has, addend, setOf, joined}
 use Rattle.survivors.specs.Sleepers.{readsLeft, writesLeft, meets, wakes, sleepsIn}
 use Rattle.survivors.proofs.Sets.{has-none, set-same, joined-there, joined-new, joined-below}
@@ -57,8 +57,8 @@ unfolding readsLeft firstTakes firstPlace
 reads-front (Memory a) is = refl
 reads-front (Alone o) is = refl
 
-writes-front : (x : Instruction) (is : List Instruction) → writesLeft (x ∷ is) ≡ cond (firstMayPut (x ∷ [])) (joined (firstPlace (x ∷ [])) (writesLeft is)) (writesLeft is)
-unfolding writesLeft firstMayPut firstPlace
+writes-front : (x : Instruction) (is : List Instruction) → writesLeft (x ∷ is) ≡ cond (firstMayWrite (x ∷ [])) (joined (firstPlace (x ∷ [])) (writesLeft is)) (writesLeft is)
+unfolding writesLeft firstMayWrite firstPlace
 writes-front (Memory a) is = refl
 writes-front (Alone o) is = refl
 
@@ -69,10 +69,10 @@ module _ (x : Instruction) (is : List Instruction) (set : ℕ) where
   pub reads-same : firstTakes (x ∷ []) ≡ false → set ≡ readsLeft is → set ≡ readsLeft (x ∷ is)
   reads-same t es = es ∙ sym (reads-front x is ∙ ap (λ (b : Bool). cond b (joined (firstPlace (x ∷ [])) (readsLeft is)) (readsLeft is)) t)
 
-  pub writes-more : (l r : ℕ) → firstMayPut (x ∷ []) ≡ true → l ≡ firstPlace (x ∷ []) → set ≡ writesLeft is → r ≡ joined l set → r ≡ writesLeft (x ∷ is)
+  pub writes-more : (l r : ℕ) → firstMayWrite (x ∷ []) ≡ true → l ≡ firstPlace (x ∷ []) → set ≡ writesLeft is → r ≡ joined l set → r ≡ writesLeft (x ∷ is)
   writes-more l r t el es er = er ∙ ap₂ joined el es ∙ sym (writes-front x is ∙ ap (λ (b : Bool). cond b (joined (firstPlace (x ∷ [])) (writesLeft is)) (writesLeft is)) t)
 
-  pub writes-same : firstMayPut (x ∷ []) ≡ false → set ≡ writesLeft is → set ≡ writesLeft (x ∷ is)
+  pub writes-same : firstMayWrite (x ∷ []) ≡ false → set ≡ writesLeft is → set ≡ writesLeft (x ∷ is)
   writes-same t es = es ∙ sym (writes-front x is ∙ ap (λ (b : Bool). cond b (joined (firstPlace (x ∷ [])) (writesLeft is)) (writesLeft is)) t)
 
 -- whether the access in a row reads, by the row's first byte
@@ -117,24 +117,24 @@ meets-read R W l w e f = rw (e, f)
 
 -- ---- the access that a thread stands at
 module _ (code lengths at : List ℕ) (σ : State) (rests : Rests code lengths at σ) (t : ℕ) (h : t < 6) where
-  pub stands-ended : getD lengths t 0 ≤ getD at t 0 → (0 ≡ place σ t) × (false ≡ mayPut (threadOf σ t .local))
-  unfolding place placeOf mayPut firstPlace firstMayPut
+  pub stands-ended : getD lengths t 0 ≤ getD at t 0 → (0 ≡ place σ t) × (false ≡ mayWrite (threadOf σ t .local))
+  unfolding place placeOf mayWrite firstPlace firstMayWrite
   stands-ended l =
       let e = rests t h ∙ code-end code t (getD lengths t 0) (getD at t 0) l in
-      (sym (ap firstPlace e), sym (ap firstMayPut e))
+      (sym (ap firstPlace e), sym (ap firstMayWrite e))
 
   pub stands-at : getD at t 0 < getD lengths t 0 → (row : ℕ) → row ≡ t * 16 + getD at t 0 →
-      (firstPlace (instructionAt code row ∷ []) ≡ place σ t) × (firstMayPut (instructionAt code row ∷ []) ≡ mayPut (threadOf σ t .local))
-  unfolding place placeOf mayPut
+      (firstPlace (instructionAt code row ∷ []) ≡ place σ t) × (firstMayWrite (instructionAt code row ∷ []) ≡ mayWrite (threadOf σ t .local))
+  unfolding place placeOf mayWrite
   stands-at l row er =
       let e = rests t h ∙ code-at code t (getD lengths t 0) (getD at t 0) l in
       let q = ap (instructionAt code) er in (
         ap (λ (x : Instruction). firstPlace (x ∷ [])) q ∙ sym (ap firstPlace e ∙ place-first _ _),
-        ap (λ (x : Instruction). firstMayPut (x ∷ [])) q ∙ sym (ap firstMayPut e ∙ writer-first _ _),
+        ap (λ (x : Instruction). firstMayWrite (x ∷ [])) q ∙ sym (ap firstMayWrite e ∙ writer-first _ _),
       )
 
   -- whether thread u is in the set or could not wake it
-  pub quiet-held : (s u l : ℕ) (w : Bool) → u < 6 → l ≡ place σ t → w ≡ mayPut (threadOf σ t .local) →
+  pub quiet-held : (s u l : ℕ) (w : Bool) → u < 6 → l ≡ place σ t → w ≡ mayWrite (threadOf σ t .local) →
       (has s u || not (meets (readsLeft (drop (getD at u 0) (threadCode code u (getD lengths u 0)))) (writesLeft (drop (getD at u 0) (threadCode code u (getD lengths u 0)))) l w))
       ≡ (has s u || not (wakes σ t u))
   unfolding wakes

@@ -15,7 +15,7 @@ ghost use Rattle.program.specs.Program.{Program};
 ghost use Rattle.schedules.specs.Order.{Schedule};
 ghost use Rattle.sc.specs.State.{State, threadOf, place};
 ghost use Rattle.sc.specs.Graph.{endOf};
-ghost use Rattle.sc.specs.Ahead.{mayPut};
+ghost use Rattle.sc.specs.Ahead.{mayWrite};
 ghost use Rattle.survivors.specs.LateSet.{lateSet};
 ghost use Rattle.survivors.specs.Sets.{has};
 ghost use Rattle.survivors.specs.Sleepers.{sleepsIn, unwoken, sleepers};
@@ -32,7 +32,7 @@ pub struct Awaited {
 fn access_of(code: &Code, lengths: &[usize; 6], at: &[usize; 6], t: usize) -> Awaited
     requires { ⌜ (t < 6) × ShortAt (now lengths) (now at) ⌝ }
     ensures { λ r. ⌜ ((σ : State) → Rests (now (code .entry)) (now (lengths .entry)) (now (at .entry)) σ
-        → (r .location ≡ place σ t) × (r .writer ≡ mayPut (threadOf σ t .local))) ⌝ }
+        → (r .location ≡ place σ t) × (r .writer ≡ mayWrite (threadOf σ t .local))) ⌝ }
 {
     let i = at[t];
     if lengths[t] <= i {

@@ -18,12 +18,12 @@ use Rattle.program.proofs.Tests.{neither}
 use Rattle.schedules.specs.Lists.{any}
 use Rattle.schedules.proofs.Lists.{any-yes, any-of, any-no}
 use Rattle.sc.specs.Local.{Local, eval, sum32, accessPlace, accessTakes, accessPuts, beginsWithAccess, firstPlace, firstPuts, pending, placeOf, puts}
-use Rattle.sc.specs.Ahead.{couldAdd, accessMayPut, firstMayPut, mayPut, couldConflict, couldMeet}
+use Rattle.sc.specs.Ahead.{couldAdd, accessMayWrite, firstMayWrite, mayWrite, couldConflict, couldMeet}
 use Rattle.sc.proofs.Suffix.{Suffix}
 
 -- an access reads or could write
-pub takes-or-puts : (a : Access) → (accessTakes a || accessMayPut a) ≡ true
-unfolding accessTakes accessMayPut
+pub takes-or-puts : (a : Access) → (accessTakes a || accessMayWrite a) ≡ true
+unfolding accessTakes accessMayWrite
 takes-or-puts (Store l p) = refl
 takes-or-puts (Load r l) = refl
 takes-or-puts (FetchAdd r l p) = refl
@@ -36,21 +36,21 @@ only-zero (Constant v) rs e = not-false (eqb v 0) e
 only-zero (Register k) rs e = absurd (true≢false e)
 
 -- one that could not write writes nothing
-access-puts-not : (a : Access) → accessMayPut a ≡ false → (rs : List ℕ) (x : ℕ) → accessPuts rs a x ≡ none
-unfolding accessMayPut accessPuts
+access-puts-not : (a : Access) → accessMayWrite a ≡ false → (rs : List ℕ) (x : ℕ) → accessPuts rs a x ≡ none
+unfolding accessMayWrite accessPuts
 access-puts-not (Store l p) e rs x = absurd (true≢false e)
 access-puts-not (Load r l) e rs x = refl
 access-puts-not (FetchAdd r l p) e rs x = rw (only-zero p rs e)
 access-puts-not (CompareSwap r l c v) e rs x = absurd (true≢false e)
 
-first-puts-not : (is : List Instruction) → firstMayPut is ≡ false → (rs : List ℕ) (x : ℕ) → firstPuts rs is x ≡ none
-unfolding firstMayPut firstPuts
+first-puts-not : (is : List Instruction) → firstMayWrite is ≡ false → (rs : List ℕ) (x : ℕ) → firstPuts rs is x ≡ none
+unfolding firstMayWrite firstPuts
 first-puts-not [] e rs x = refl
 first-puts-not (Memory a ∷ is) e rs x = access-puts-not a e rs x
 first-puts-not (Alone o ∷ is) e rs x = refl
 
-pub puts-not : (h : Local) → mayPut h ≡ false → (x : ℕ) → puts h x ≡ none
-unfolding mayPut puts
+pub puts-not : (h : Local) → mayWrite h ≡ false → (x : ℕ) → puts h x ≡ none
+unfolding mayWrite puts
 puts-not h e x = first-puts-not (h .rest) e (h .registers) x
 
 -- elsewhere, or only a read where nothing writes
@@ -61,11 +61,11 @@ and-false false b e = inl refl
 first-elsewhere : (l : ℕ) (w : Bool) (i : Instruction) (is : List Instruction) → beginsWithAccess (i ∷ is) ≡ true → couldConflict l w i ≡ false →
     (firstPlace (i ∷ is) ≢ l) ⊎ ((w ≡ false) × ((rs : List ℕ) (x : ℕ) → firstPuts rs (i ∷ is) x ≡ none))
 unfolding beginsWithAccess couldConflict firstPlace firstPuts
-first-elsewhere l w (Memory a) is b e = go (and-false (eqb (accessPlace a) l) (accessMayPut a || w) e)
+first-elsewhere l w (Memory a) is b e = go (and-false (eqb (accessPlace a) l) (accessMayWrite a || w) e)
   where
-    go : (eqb (accessPlace a) l ≡ false) ⊎ ((accessMayPut a || w) ≡ false) → (accessPlace a ≢ l) ⊎ ((w ≡ false) × ((rs : List ℕ) (x : ℕ) → accessPuts rs a x ≡ none))
+    go : (eqb (accessPlace a) l ≡ false) ⊎ ((accessMayWrite a || w) ≡ false) → (accessPlace a ≢ l) ⊎ ((w ≡ false) × ((rs : List ℕ) (x : ℕ) → accessPuts rs a x ≡ none))
     go (inl q) = inl (eqb-false (accessPlace a) l q)
-    go (inr q) = let n = neither (accessMayPut a) w q in inr (n .1, access-puts-not a (n .0))
+    go (inr q) = let n = neither (accessMayWrite a) w q in inr (n .1, access-puts-not a (n .0))
 first-elsewhere l w (Alone o) is b e = absurd (false≢true b)
 
 elsewhere-at : (l : ℕ) (w : Bool) (is : List Instruction) → beginsWithAccess is ≡ true → any (couldConflict l w) is ≡ false → (firstPlace is ≢ l) ⊎ ((w ≡ false) × ((rs : List ℕ) (x : ℕ) → firstPuts rs is x ≡ none))

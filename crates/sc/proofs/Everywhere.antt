@@ -3,9 +3,9 @@ use mathlib.Core.List.{List, [], _∷_, reverse, reverseAux}
 use Rattle.program.specs.WellFormed.{Everywhere}
 
 module _ {A : Type 0} (P : A → Type 0) where
-  turned : (l r : List A) → Everywhere P l → Everywhere P r → Everywhere P (reverseAux l r)
-  turned [] r h k = k
-  turned (x ∷ l) r h k = turned l (x ∷ r) (h .1) (h .0, k)
+  reversed : (l r : List A) → Everywhere P l → Everywhere P r → Everywhere P (reverseAux l r)
+  reversed [] r h k = k
+  reversed (x ∷ l) r h k = reversed l (x ∷ r) (h .1) (h .0, k)
 
   pub everywhere-reverse : (l : List A) → Everywhere P l → Everywhere P (reverse l)
-  everywhere-reverse l h = turned l [] h tt
+  everywhere-reverse l h = reversed l [] h tt

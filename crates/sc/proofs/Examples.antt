@@ -84,8 +84,8 @@ unfolding seen wraps
 wrapped = refl
 
 -- one thread: minus 1 is at most 0 and not skipped, the greatest value is not at most the least and skips, and the assertion that it is fails
-turns : Program
-turns = record {
+crossed : Program
+crossed = record {
   threads = (
       Alone (Assign 0 (Constant 0xffffffff)) ∷
       Alone (SkipUnless (test AtMost 0 (Constant 0)) 1) ∷
@@ -103,14 +103,14 @@ turns = record {
   starting = zeros;
 }
 
-turned : seen turns (0 ∷ 0 ∷ []) ≡ record {
+crossed-seen : seen crossed (0 ∷ 0 ∷ []) ≡ record {
   full = true;
   fails = true;
   memory = 1 ∷ 3 ∷ 0 ∷ 0 ∷ 0 ∷ 0 ∷ 0 ∷ 0 ∷ [];
   frames = (0x41 ∷ 0 ∷ 0 ∷ 0 ∷ []) ∷ (0x41 ∷ 1 ∷ 0 ∷ 1 ∷ []) ∷ [];
 }
-unfolding seen turns
-turned = refl
+unfolding seen crossed
+crossed-seen = refl
 
 -- adding a constant zero and adding a register that holds zero only read; a compare and swap of 0 to 0 writes
 addingZero : Program

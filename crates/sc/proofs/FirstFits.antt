@@ -49,11 +49,11 @@ nothing-between P n (ends r y) h x np a b c k =
     absurd (np (subst P (sym (before-end a (b ++ (x ∷ r)) x y c k′)) (h y (Memᴰ·append-right r (List·Memᴰ·head refl)))))
 
 module _ (σ : State) (reg : Regular σ) (t : ℕ) (v w : Schedule) (fv : FullFrom SC σ (t ∷ v)) (fw : FullFrom SC σ w) (same : graphOf (run SC σ (t ∷ v)) ≡ graphOf (run SC σ w)) where
-  turn : FirstStep σ w t
-  turn = first-step-of w σ t fw (fv .0)
+  at-first : FirstStep σ w t
+  at-first = first-step-of w σ t fw (fv .0)
 
   abbrev z : Schedule
-  z = turn .front
+  z = at-first .front
 
   abbrev l : ℕ
   l = place σ t
@@ -61,17 +61,17 @@ module _ (σ : State) (reg : Regular σ) (t : ℕ) (v w : Schedule) (fv : FullFr
   abbrev ρ : State
   ρ = run SC σ z
 
-  cut : Allowed SC σ z × FullFrom SC ρ (t ∷ turn .rest)
-  cut = full-split SC σ z (t ∷ turn .rest) (subst (FullFrom SC σ) (turn .split) fw)
+  cut : Allowed SC σ z × FullFrom SC ρ (t ∷ at-first .rest)
+  cut = full-split SC σ z (t ∷ at-first .rest) (subst (FullFrom SC σ) (at-first .split) fw)
 
   regρ : Regular ρ
   regρ = regular-run z σ reg (cut .0)
 
   lρ : place ρ t ≡ l
-  lρ = same-place ρ σ t (turn .waits)
+  lρ = same-place ρ σ t (at-first .waits)
 
-  end-w : run SC σ w ≡ run SC ρ (t ∷ turn .rest)
-  end-w = ap (run SC σ) (turn .split) ∙ run-append SC σ z (t ∷ turn .rest)
+  end-w : run SC σ w ≡ run SC ρ (t ∷ at-first .rest)
+  end-w = ap (run SC σ) (at-first .split) ∙ run-append SC σ z (t ∷ at-first .rest)
 
   -- nothing before t's turn writes where t goes: a read would get another source, a write another place in the order
   nothing-new : (g : Grown σ z l) → g .new ≡ []
@@ -80,20 +80,20 @@ module _ (σ : State) (reg : Regular σ) (t : ℕ) (v w : Schedule) (fv : FullFr
       go : (b : Bool) → takes (threadOf σ t .local) ≡ b → g .new ≡ []
       go true e = same-latest σ reg z l g
           (ap (λ (x : ℕ). latest (cellOf ρ x .writes)) (sym lρ)
-          ∙ same-source ρ σ t (turn .rest) v (full-allowed SC ρ (t ∷ turn .rest) (cut .1) .0) (full-allowed SC σ (t ∷ v) fv .0) (turn .waits) e
+          ∙ same-source ρ σ t (at-first .rest) v (full-allowed SC ρ (t ∷ at-first .rest) (cut .1) .0) (full-allowed SC σ (t ∷ v) fv .0) (at-first .waits) e
           (ap (λ (x : State). threadOf x t .history .reads) (sym end-w) ∙ sym (same-reads (run SC σ (t ∷ v)) (run SC σ w) same t)))
       go false e =
           let a = writes-own σ reg t l refl (blind-writes σ t (fv .0) e) in
-          let b = writes-own ρ regρ t l (sym lρ) (blind-writes ρ t (cut .1 .0) (ap (λ (h : Thread). takes (h .local)) (turn .waits) ∙ e)) in
+          let b = writes-own ρ regρ t l (sym lρ) (blind-writes ρ t (cut .1 .0) (ap (λ (h : Thread). takes (h .local)) (at-first .waits) ∙ e)) in
           let gv = grown v (step σ t) (regular-step σ t reg (fv .0)) (full-allowed SC (step σ t) v (fv .1) .0) l in
-          let gw = grown (turn .rest) (step ρ t) (regular-step ρ t regρ (cut .1 .0)) (full-allowed SC (step ρ t) (turn .rest) (cut .1 .1) .0) l in
+          let gw = grown (at-first .rest) (step ρ t) (regular-step ρ t regρ (cut .1 .0)) (full-allowed SC (step ρ t) (at-first .rest) (cut .1 .1) .0) l in
           let ev : Event = (t, threadOf σ t .history .done) in
           let bw : cellOf (step ρ t) l .writes ≡ ev ∷ (g .new ++ cellOf σ l .writes) =
-          b ∙ ap₂ (λ (x : Thread) (y : List Event). (let q : Event = (t, x .history .done) in q) ∷ y) (turn .waits) (g .whole) in
+          b ∙ ap₂ (λ (x : Thread) (y : List Event). (let q : Event = (t, x .history .done) in q) ∷ y) (at-first .waits) (g .whole) in
           let whole : gv .new ++ (ev ∷ cellOf σ l .writes) ≡ gw .new ++ (ev ∷ (g .new ++ cellOf σ l .writes)) =
           ap (λ (k : List Event). gv .new ++ k) (sym a) ∙ sym (gv .whole) ∙ ap (λ (x : State). cellOf x l .writes) (sym (run-cons SC σ t v)) ∙ same-writes (run SC σ (t ∷ v)) (run SC σ w) same l
-          ∙ ap (λ (x : State). cellOf x l .writes) (end-w ∙ run-cons SC ρ t (turn .rest)) ∙ gw .whole ∙ ap (λ (k : List Event). gw .new ++ k) bw in
-          nothing-between (λ x. List·Memᴰ (x .0) z) (g .new) (ends-of (g .new)) (g .of) ev (turn .not-yet) (gv .new) (gw .new) (cellOf σ l .writes) whole
+          ∙ ap (λ (x : State). cellOf x l .writes) (end-w ∙ run-cons SC ρ t (at-first .rest)) ∙ gw .whole ∙ ap (λ (k : List Event). gw .new ++ k) bw in
+          nothing-between (λ x. List·Memᴰ (x .0) z) (g .new) (ends-of (g .new)) (g .of) ev (at-first .not-yet) (gv .new) (gw .new) (cellOf σ l .writes) whole
 
   cell-waits : cellOf ρ l ≡ cellOf σ l
   cell-waits = let g = grown z σ reg (cut .0) l in g .none-new (nothing-new g)
@@ -103,14 +103,14 @@ module _ (σ : State) (reg : Regular σ) (t : ℕ) (v w : Schedule) (fv : FullFr
     abbrev α : State
     α = run SC σ x
 
-    split : w ≡ x ++ ((a ∷ y) ++ (t ∷ turn .rest))
-    split = turn .split ∙ ap (λ (k : Schedule). k ++ (t ∷ turn .rest)) e ∙ append-assoc x (a ∷ y) (t ∷ turn .rest)
+    split : w ≡ x ++ ((a ∷ y) ++ (t ∷ at-first .rest))
+    split = at-first .split ∙ ap (λ (k : Schedule). k ++ (t ∷ at-first .rest)) e ∙ append-assoc x (a ∷ y) (t ∷ at-first .rest)
 
-    cut-x : Allowed SC σ x × FullFrom SC α ((a ∷ y) ++ (t ∷ turn .rest))
-    cut-x = full-split SC σ x ((a ∷ y) ++ (t ∷ turn .rest)) (subst (FullFrom SC σ) split fw)
+    cut-x : Allowed SC σ x × FullFrom SC α ((a ∷ y) ++ (t ∷ at-first .rest))
+    cut-x = full-split SC σ x ((a ∷ y) ++ (t ∷ at-first .rest)) (subst (FullFrom SC σ) split fw)
 
     allowed-y : Allowed SC α (a ∷ y)
-    allowed-y = full-split SC α (a ∷ y) (t ∷ turn .rest) (cut-x .1) .0
+    allowed-y = full-split SC α (a ∷ y) (t ∷ at-first .rest) (cut-x .1) .0
 
     regα : Regular α
     regα = regular-run x σ reg (cut-x .0)
@@ -129,7 +129,7 @@ module _ (σ : State) (reg : Regular σ) (t : ℕ) (v w : Schedule) (fv : FullFr
     no-write q k = longer (a, threadOf α a .history .done) (cellOf α l .writes) (sym (writes-own α regα a l q k) ∙ ap (λ (c : Cell). c .writes) cell-xa)
 
     not-t : a ≢ t
-    not-t q = turn .not-yet (subst (λ (k : Schedule). List·Memᴰ t k) (sym e) (Memᴰ·append-right x (List·Memᴰ·head (sym q))))
+    not-t q = at-first .not-yet (subst (λ (k : Schedule). List·Memᴰ t k) (sym e) (Memᴰ·append-right x (List·Memᴰ·head (sym q))))
 
     -- a read there, with t writing: in the other schedule it comes behind t, and has another source
     behind-t : writes σ t ≡ true → (f r : Schedule) → (t ∷ v) ≡ f ++ (a ∷ r) → latest (cellOf (run SC σ f) l .writes) ≡ latest (cellOf σ l .writes) → ⊥
@@ -144,7 +144,7 @@ module _ (σ : State) (reg : Regular σ) (t : ℕ) (v w : Schedule) (fv : FullFr
 
     no-read : l ≡ place α a → writes α a ≡ false → writes σ t ≡ true → ⊥
     no-read q k wr =
-        let m = determined σ reg (t ∷ v) w fv fw same x a (y ++ (t ∷ turn .rest)) split in
+        let m = determined σ reg (t ∷ v) w fv fw same x a (y ++ (t ∷ at-first .rest)) split in
         let pl : place (run SC σ (m .front)) a ≡ l = same-place (run SC σ (m .front)) α a (m .thread) ∙ sym q in
         behind-t wr (m .front) (m .rest) (m .split)
         (ap (λ (i : ℕ). latest (cellOf (run SC σ (m .front)) i .writes)) (sym pl) ∙ m .from (still-takes α a (allowed-y .0) k)
@@ -163,6 +163,6 @@ module _ (σ : State) (reg : Regular σ) (t : ℕ) (v w : Schedule) (fv : FullFr
   -- FIRST FITS: t's first step in w is the step that t does first in v, and nothing before it conflicts with it
   pub first-fits : (nextOf who conflict (actions σ w) t ≡ some (action σ t)) × (clear who conflict (actions σ w) t (action σ t) ≡ true)
   first-fits = (
-    ap (λ (k : Schedule). nextOf who conflict (actions σ k) t) (turn .split) ∙ first-at z (turn .rest) σ t (turn .not-yet) ∙ ap (λ (d : Action). some d) (same-action ρ σ t (turn .waits) cell-waits),
-    ap (λ (k : Schedule). clear who conflict (actions σ k) t (action σ t)) (turn .split) ∙ clear-at z (turn .rest) σ t (action σ t) (turn .not-yet) no-conflict,
+    ap (λ (k : Schedule). nextOf who conflict (actions σ k) t) (at-first .split) ∙ first-at z (at-first .rest) σ t (at-first .not-yet) ∙ ap (λ (d : Action). some d) (same-action ρ σ t (at-first .waits) cell-waits),
+    ap (λ (k : Schedule). clear who conflict (actions σ k) t (action σ t)) (at-first .split) ∙ clear-at z (at-first .rest) σ t (action σ t) (at-first .not-yet) no-conflict,
   )

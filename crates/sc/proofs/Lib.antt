@@ -55,7 +55,7 @@ pub mod Frames
 pub mod Text
 pub mod Printed
 -- for the listing: graphs and trails of exchanged schedules, what an exchange leaves as it is, steps that can be moved, and what is left to do
-pub mod Turning
+pub mod Renaming
 pub mod ProgramGraphs
 -- graphs that an exchange leaves the same
 pub mod Fixed

@@ -47,9 +47,9 @@ pub commute : (σ : State) (a t : ℕ) → a ≢ t → Independent σ a t → en
 commute σ a t ne i m n = (sym (enabled-other σ a t (Ne·symm ne)) ∙ n, enabled-other σ t a ne ∙ m, swap σ a t ne i)
 
 -- so can steps that do not conflict, and both do what they did
-pub turned-round : (σ : State) (a t : ℕ) → a ≢ t → enabled σ a ≡ true → enabled (step σ a) t ≡ true → conflict (action σ a) (action (step σ a) t) ≡ false →
+pub steps-commute : (σ : State) (a t : ℕ) → a ≢ t → enabled σ a ≡ true → enabled (step σ a) t ≡ true → conflict (action σ a) (action (step σ a) t) ≡ false →
     Commute SC σ a t × (action (step σ a) t ≡ action σ t) × (action (step σ t) a ≡ action σ a)
-turned-round σ a t ne m n c =
+steps-commute σ a t ne m n c =
     let i = apart σ a t (Ne·symm ne) c in (
       commute σ a t ne i m n,
       action-after σ a t (Ne·symm ne) i,
@@ -63,11 +63,11 @@ Reorders ds s = OrderOf who conflict (SC .names) ds s
 -- the first step of t, if nothing before it conflicts with it, can be taken first
 pub pulled : (w : Schedule) (σ : State) (t : ℕ) (d : Action) → FullFrom SC σ w → nextOf who conflict (actions σ w) t ≡ some d → clear who conflict (actions σ w) t d ≡ true →
     (r : Schedule) × FullFrom SC σ (t ∷ r) × (run SC σ (t ∷ r) ≡ run SC σ w) × (actions (step σ t) r ≡ takeOut who conflict (actions σ w) t) × (action σ t ≡ d)
-pulled = Orders.pulled SC lawful names-ascend who conflict action action-who turned-round
+pulled = Orders.pulled SC lawful names-ascend who conflict action action-who steps-commute
 
 pub reorders-full : (v w : Schedule) (σ : State) → FullFrom SC σ w → Reorders (actions σ w) v → FullFrom SC σ v × (run SC σ v ≡ run SC σ w)
-reorders-full = Orders.order-full SC lawful names-ascend who conflict action action-who turned-round
+reorders-full = Orders.order-full SC lawful names-ascend who conflict action action-who steps-commute
 
 pub least-order : (σ : State) (w : Schedule) → FullFrom SC σ w →
     FullFrom SC σ (leastOf (actions σ w)) × (run SC σ (leastOf (actions σ w)) ≡ run SC σ w) × ((r : Schedule) → Reorders (actions σ w) r → AtMost (leastOf (actions σ w)) r)
-least-order = Orders.order-least SC lawful names-ascend who conflict action action-who turned-round
+least-order = Orders.order-least SC lawful names-ascend who conflict action action-who steps-commute

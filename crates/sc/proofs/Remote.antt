@@ -11,7 +11,7 @@ use Rattle.schedules.proofs.Front.{Free}
 use Rattle.sc.specs.Local.{placeOf, puts}
 use Rattle.sc.specs.State.{State, threadOf, cellOf, place, step, enabled, SC}
 use Rattle.sc.specs.Actions.{given, writes}
-use Rattle.sc.specs.Ahead.{mayPut, couldMeet}
+use Rattle.sc.specs.Ahead.{mayWrite, couldMeet}
 use Rattle.sc.proofs.Steps.{enabled-pending, thread-other, place-other}
 use Rattle.sc.proofs.Swap.{Independent}
 use Rattle.sc.proofs.Histories.{rest-run}
@@ -19,7 +19,7 @@ use Rattle.sc.proofs.Ahead.{puts-not, elsewhere, meet-end}
 
 -- nothing left to u could conflict with t's next access
 abbrev pub Unmet : State → ℕ → ℕ → Type 0
-Unmet σ t u = couldMeet (place σ t) (mayPut (threadOf σ t .local)) (threadOf σ u .local) ≡ false
+Unmet σ t u = couldMeet (place σ t) (mayWrite (threadOf σ t .local)) (threadOf σ u .local) ≡ false
 
 writes-not : (σ : State) (t : ℕ) → ((x : ℕ) → puts (threadOf σ t .local) x ≡ none) → writes σ t ≡ false
 unfolding writes given
@@ -27,16 +27,16 @@ writes-not σ t h = ap given (h (cellOf σ (place σ t) .value))
 
 unmet-independent : (σ : State) (a t : ℕ) → enabled σ a ≡ true → Unmet σ t a → Independent σ a t
 unfolding place
-unmet-independent σ a t m r = go (elsewhere (place σ t) (mayPut (threadOf σ t .local)) (threadOf σ a .local) (enabled-pending σ a m) r)
+unmet-independent σ a t m r = go (elsewhere (place σ t) (mayWrite (threadOf σ t .local)) (threadOf σ a .local) (enabled-pending σ a m) r)
   where
-    go : (placeOf (threadOf σ a .local) ≢ place σ t) ⊎ ((mayPut (threadOf σ t .local) ≡ false) × ((x : ℕ) → puts (threadOf σ a .local) x ≡ none)) → Independent σ a t
+    go : (placeOf (threadOf σ a .local) ≢ place σ t) ⊎ ((mayWrite (threadOf σ t .local) ≡ false) × ((x : ℕ) → puts (threadOf σ a .local) x ≡ none)) → Independent σ a t
     go (inl q) = inl q
     go (inr q) = inr (writes-not σ a (q .1), writes-not σ t (puts-not (threadOf σ t .local) (q .0)))
 
 unmet-step : (σ : State) (a t u : ℕ) → enabled σ a ≡ true → a ≢ t → Unmet σ t u → Unmet (step σ a) t u
 unfolding run
 unmet-step σ a t u m ne r =
-    let k = meet-end (place σ t) (mayPut (threadOf σ t .local)) (threadOf σ u .local) (threadOf (step σ a) u .local) (rest-run (a ∷ []) σ (m, tt) u) r in
+    let k = meet-end (place σ t) (mayWrite (threadOf σ t .local)) (threadOf σ u .local) (threadOf (step σ a) u .local) (rest-run (a ∷ []) σ (m, tt) u) r in
     let e = thread-other σ a t (Ne·symm ne) in
     let q = place-other σ a t (Ne·symm ne) in
     rw (q, e) k

@@ -7,6 +7,7 @@ use mathlib.Core.List.{List, [], _∷_}
 use borrow.Author.Tests.{eqb-true, eq-eqb, ne-eqb, not-true}
 use lib.Dec.{eqb}
 use Rattle.program.proofs.Tests.{both}
+pub use Rattle.lines.proofs.Lists.{same-list-is, same-list}
 use Rattle.sc.specs.State.{Event}
 use Rattle.sc.specs.Same.{sameEvent, sameRead, sameList}
 
@@ -77,15 +78,3 @@ module _ {A : Type 0} (f : A → A → Bool) where
   pub same-longer : (x : A) (xs : List A) → sameList f (x ∷ xs) [] ≡ false
   unfolding sameList
   same-longer x xs = refl
-
-  pub same-list-is : ((x y : A) → f x y ≡ true → x ≡ y) → (xs ys : List A) → sameList f xs ys ≡ true → xs ≡ ys
-  unfolding sameList
-  same-list-is s [] [] e = refl
-  same-list-is s [] (y ∷ ys) e = absurd (false≢true e)
-  same-list-is s (x ∷ xs) [] e = absurd (false≢true e)
-  same-list-is s (x ∷ xs) (y ∷ ys) e = let r = both (f x y) (sameList f xs ys) e in ap₂ (λ (a : A) (b : List A). a ∷ b) (s x y (r .0)) (same-list-is s xs ys (r .1))
-
-  pub same-list : ((x : A) → f x x ≡ true) → (xs : List A) → sameList f xs xs ≡ true
-  unfolding sameList
-  same-list s [] = refl
-  same-list s (x ∷ xs) = both-and (s x) (same-list s xs)

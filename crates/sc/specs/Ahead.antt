@@ -19,25 +19,25 @@ couldAdd (Constant v) = not (eqb v 0)
 couldAdd (Register k) = true
 
 -- whether an access could write; a compare and swap could, and a fetch and add unless it adds a constant zero
-unfoldable pub accessMayPut : Access → Bool
-accessMayPut (Store l p) = true
-accessMayPut (Load r l) = false
-accessMayPut (FetchAdd r l p) = couldAdd p
-accessMayPut (CompareSwap r l e v) = true
+unfoldable pub accessMayWrite : Access → Bool
+accessMayWrite (Store l p) = true
+accessMayWrite (Load r l) = false
+accessMayWrite (FetchAdd r l p) = couldAdd p
+accessMayWrite (CompareSwap r l e v) = true
 
 -- whether this code's first access could write
-unfoldable pub firstMayPut : List Instruction → Bool
-firstMayPut [] = false
-firstMayPut (Memory a ∷ is) = accessMayPut a
-firstMayPut (Alone o ∷ is) = false
+unfoldable pub firstMayWrite : List Instruction → Bool
+firstMayWrite [] = false
+firstMayWrite (Memory a ∷ is) = accessMayWrite a
+firstMayWrite (Alone o ∷ is) = false
 
 -- whether the thread's next access could write
-unfoldable pub mayPut : Local → Bool
-mayPut h = firstMayPut (h .rest)
+unfoldable pub mayWrite : Local → Bool
+mayWrite h = firstMayWrite (h .rest)
 
 -- whether this instruction could conflict with an access at l, which could write (w) or only reads
 unfoldable pub couldConflict : ℕ → Bool → Instruction → Bool
-couldConflict l w (Memory a) = eqb (accessPlace a) l && (accessMayPut a || w)
+couldConflict l w (Memory a) = eqb (accessPlace a) l && (accessMayWrite a || w)
 couldConflict l w (Alone o) = false
 
 -- whether anything that is left to the thread could

@@ -1,8 +1,8 @@
 -- Whether two events, two reads with their sources, and two lists are the same.
 use Prim.Native.Nat.{ℕ}
-use mathlib.Core.Bool.{Bool, true, false, _&&_}
-use mathlib.Core.List.{List, [], _∷_}
+use mathlib.Core.Bool.{Bool, _&&_}
 use lib.Dec.{eqb}
+unfoldable pub use Rattle.lines.specs.Lists.{sameList}
 use Rattle.sc.specs.State.{Event}
 
 unfoldable pub sameEvent : Event → Event → Bool
@@ -10,9 +10,3 @@ sameEvent a b = eqb (a .0) (b .0) && eqb (a .1) (b .1)
 
 unfoldable pub sameRead : ℕ × Event → ℕ × Event → Bool
 sameRead a b = eqb (a .0) (b .0) && sameEvent (a .1) (b .1)
-
-unfoldable pub sameList : {A : Type 0} → (A → A → Bool) → List A → List A → Bool
-sameList f [] [] = true
-sameList f [] (y ∷ ys) = false
-sameList f (x ∷ xs) [] = false
-sameList f (x ∷ xs) (y ∷ ys) = f x y && sameList f xs ys

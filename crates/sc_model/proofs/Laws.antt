@@ -21,17 +21,17 @@ use Rattle.sc.proofs.Lawful.{lawful, names-ascend, start-24}
 use Rattle.sc.proofs.Steps.{enabled-small}
 use Rattle.sc.proofs.Start.{start-threads}
 use Rattle.sc.proofs.Regular.{regular-start}
-use Rattle.sc.proofs.Orders.{turned-round, action-who}
+use Rattle.sc.proofs.Orders.{steps-commute, action-who}
 use Rattle.sc.proofs.SameGraph.{same-graph-reorders}
 use Rattle.sc.proofs.Exchange.{moves-enabled, moves-step, moves-ended, moves-graph, moves-memory}
 use Rattle.sc.proofs.ExchangedActions.{moves-action}
 use Rattle.sc.proofs.Permitted.{moves-start}
 use Rattle.sc.proofs.ProgramGraphs.{graph-rows}
-use Rattle.sc.proofs.Turning.{renames-none, renames-back, renames-both, renamed-once}
+use Rattle.sc.proofs.Renaming.{renames-none, renames-back, renames-both, renamed-once}
 use Rattle.sc.proofs.Failing.{moves-fails}
 use Rattle.sc.proofs.Halted.{stays-failed}
 use Rattle.sc_model.specs.Sequential.{sc}
-use Rattle.sc_model.proofs.Turned.{renames-true, true-renames}
+use Rattle.sc_model.proofs.Renamed.{renames-true, true-renames}
 
 step-laws : StepLaws sc
 step-laws = record {
@@ -40,8 +40,8 @@ step-laws = record {
   named = let e = range-length 0 6 in omega arith;
   below = enabled-small;
   by = action-who;
-  swap = λ σ a b ne m n c. turned-round σ a b ne m n c .0;
-  waits = λ σ a b ne m n c. let r = turned-round σ a b ne m n c in (r .1, r .2);
+  swap = λ σ a b ne m n c. steps-commute σ a b ne m n c .0;
+  waits = λ σ a b ne m n c. let r = steps-commute σ a b ne m n c in (r .1, r .2);
   renames-exact = λ π g h. (renames-true π g h, true-renames π g h);
   renames-none = renames-none;
 }

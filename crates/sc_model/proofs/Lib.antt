@@ -1,5 +1,5 @@
 -- the test of exchanged graphs is exact
-pub mod Turned
+pub mod Renamed
 -- the laws of a memory model
 pub mod Laws
 -- DEMAND 3

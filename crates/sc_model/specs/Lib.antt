@@ -1,4 +1,4 @@
 -- the test of exchanged graphs
-pub mod Turned
+pub mod Renamed
 -- sequential consistency as a memory model
 pub mod Sequential

@@ -7,7 +7,7 @@ use Rattle.sc.specs.Actions.{Action, action, who, conflict}
 use Rattle.sc.specs.Graph.{Graph, graphOf}
 use Rattle.sc.specs.Exchange.{Moves, Renames}
 use Rattle.sc.specs.ExchangedActions.{movedAction}
-use Rattle.sc_model.specs.Turned.{renames}
+use Rattle.sc_model.specs.Renamed.{renames}
 
 abbrev pub sc : Model
 sc = record {

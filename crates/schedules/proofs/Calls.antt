@@ -37,11 +37,11 @@ pub behind-next : (l : List Schedule) (o : Option Schedule) (x : Schedule) (v : 
 behind-next l none x v r = ([], r)
 behind-next l (some s) x v r = (r .0 ++ (s ∷ []), r .1 ∙ sym (append-assoc (r .0) (s ∷ []) (x ∷ v)))
 
-behind-turn : (l : List Schedule) (b : Bool) (o : Option Schedule) (v : List Schedule) → Behind l o v → Behind l (last o (answerTo b (headOf v))) (left b v)
+behind-answer : (l : List Schedule) (b : Bool) (o : Option Schedule) (v : List Schedule) → Behind l o v → Behind l (last o (answerTo b (headOf v))) (left b v)
 unfolding last answerTo headOf left
-behind-turn l true o v r = r
-behind-turn l false o [] r = r
-behind-turn l false o (x ∷ v) r = behind-next l o x v r
+behind-answer l true o v r = r
+behind-answer l false o [] r = r
+behind-answer l false o (x ∷ v) r = behind-next l o x v r
 
 next-at : (u : List Schedule) (s : Schedule) (v : List Schedule) → Ascends less (u ++ (s ∷ v)) → next (u ++ (s ∷ v)) s ≡ headOf v
 unfolding next headOf
@@ -65,7 +65,7 @@ module _ (need : ℕ) (l : List Schedule) (asc : Ascends less l) where
       let e : r ≡ result (answerTo (short need out) (headOf v)) out = d .0 ∙ ap (λ (x : Option Schedule). result (answerTo (short need out) x) out) (offer-behind l asc o v b) in
       ap₂ {C = List Result} (λ x xs. x ∷ xs) e
       (from-here outs rs (last o (r .0)) (left (short need out) v)
-      (subst (λ (x : Result). Behind l (last o (x .0)) (left (short need out) v)) (sym e) (behind-turn l (short need out) o v b)) (d .1))
+      (subst (λ (x : Result). Behind l (last o (x .0)) (left (short need out) v)) (sym e) (behind-answer l (short need out) o v b)) (d .1))
 
   -- THE CLAIM: calls that start with nothing answered give what is due
   pub dialogue-answers : (outs : List (List ℕ)) (rs : List Result) → Dialogue need l none outs rs → rs ≡ due need l outs

@@ -44,12 +44,12 @@ unfolding past
 past-other b bs t ne = rw (ne-eqb b t ne, past)
 
 -- one behind the other, one at a time
-turn-more : {A : Type 0} (f : ℕ → List A) (j i d : ℕ) → j ≡ suc i → concatRange f j d ≡ f d ++ concatRange f i (d + 1)
+concat-range-next : {A : Type 0} (f : ℕ → List A) (j i d : ℕ) → j ≡ suc i → concatRange f j d ≡ f d ++ concatRange f i (d + 1)
 unfolding concatRange
-turn-more f j i d e = rw e
+concat-range-next f j i d e = rw e
 
 pub concat-range-more : {A : Type 0} (f : ℕ → List A) (top t : ℕ) → t < top → concatRange f (top - t) t ≡ f t ++ concatRange f (top - (t + 1)) (t + 1)
-concat-range-more f top t h = turn-more f (top - t) (top - (t + 1)) t (omega arith)
+concat-range-more f top t h = concat-range-next f (top - t) (top - (t + 1)) t (omega arith)
 
 none-left : {A : Type 0} (f : ℕ → List A) (j d : ℕ) → j ≡ 0 → concatRange f j d ≡ []
 unfolding concatRange
@@ -105,9 +105,9 @@ module _ (M : System) (top : ℕ) (cut : Schedule → M .State → ℕ → Bool)
   unfolding foundFrom
   found-suc k o v σ e = rw (e, foundFrom)
 
-  pub found-turns : (k : ℕ) (o : Option Schedule) (v : Schedule) (σ : M .State) → ended M σ ≡ false → 0 < k →
+  pub found-branches : (k : ℕ) (o : Option Schedule) (v : Schedule) (σ : M .State) → ended M σ ≡ false → 0 < k →
       foundFrom M top cut listed k o v σ ≡ concatRange (foundBy M top cut listed (λ a b c. foundFrom M top cut listed (k - 1) a b c) o v σ) (top - low o) (low o)
-  found-turns zero o v σ e h = absurd (omega arith)
-  found-turns (suc k) o v σ e h =
+  found-branches zero o v σ e h = absurd (omega arith)
+  found-branches (suc k) o v σ e h =
       found-suc k o v σ e
       ∙ ap (λ (i : ℕ). concatRange (foundBy M top cut listed (λ a b c. foundFrom M top cut listed i a b c) o v σ) (top - low o) (low o)) (sym (sub-one (suc k)))

@@ -71,10 +71,10 @@ module _ {A : Type 0} where
       go false e false q ih = rw (e, filter, q) ih
 
   -- one list for each number, as a function over a list of numbers
-  pub turn-flat : (f : ℕ → List A) (j d : ℕ) → concatRange f j d ≡ flatMap f (range d j)
+  pub concat-range-flat : (f : ℕ → List A) (j d : ℕ) → concatRange f j d ≡ flatMap f (range d j)
   unfolding concatRange flatMap range
-  turn-flat f zero d = refl
-  turn-flat f (suc j) d = ap (λ (l : List A). f d ++ l) (turn-flat f j (d + 1) ∙ ap (λ (k : ℕ). flatMap f (range k j)) (add-one d))
+  concat-range-flat f zero d = refl
+  concat-range-flat f (suc j) d = ap (λ (l : List A). f d ++ l) (concat-range-flat f j (d + 1) ∙ ap (λ (k : ℕ). flatMap f (range k j)) (add-one d))
 
   pub flat-same : (f g : ℕ → List A) (ts : List ℕ) → ((t : ℕ) → List·Memᴰ t ts → f t ≡ g t) → flatMap f ts ≡ flatMap g ts
   unfolding flatMap

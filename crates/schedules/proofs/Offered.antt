@@ -60,8 +60,8 @@ unfolding content
 content-refused n k out = refl
 
 -- a property of what was answered last, behind an answer
-pub last-turn : (P : Schedule → Type 0) (Q : Option Schedule → Type 0) → ((s : Schedule) → P s → Q (some s)) → (b : Bool) (x o : Option Schedule) → Q o → ((s : Schedule) → x ≡ some s → P s) → Q (last o (answerTo b x))
+pub last-answer : (P : Schedule → Type 0) (Q : Option Schedule → Type 0) → ((s : Schedule) → P s → Q (some s)) → (b : Bool) (x o : Option Schedule) → Q o → ((s : Schedule) → x ≡ some s → P s) → Q (last o (answerTo b x))
 unfolding answerTo last
-last-turn P Q f true x o k h = k
-last-turn P Q f false none o k h = k
-last-turn P Q f false (some s) o k h = f s (h s refl)
+last-answer P Q f true x o k h = k
+last-answer P Q f false none o k h = k
+last-answer P Q f false (some s) o k h = f s (h s refl)

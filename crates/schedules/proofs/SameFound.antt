@@ -14,10 +14,10 @@ use Rattle.schedules.specs.Search.{low, past, Uncut}
 use Rattle.schedules.specs.Found.{concatRange, foundAt, foundBy, foundFrom}
 use Rattle.schedules.proofs.Runs.{run-nil, run-snoc, allowed-join, allowed-full}
 
-turns-same : {A : Type 0} (f g : ℕ → List A) → ((d : ℕ) → f d ≡ g d) → (j d : ℕ) → concatRange f j d ≡ concatRange g j d
+concat-range-same : {A : Type 0} (f g : ℕ → List A) → ((d : ℕ) → f d ≡ g d) → (j d : ℕ) → concatRange f j d ≡ concatRange g j d
 unfolding concatRange
-turns-same f g h zero d = refl
-turns-same {A} f g h (suc j) d = ap₂ {C = List A} (λ a b. a ++ b) (h d) (turns-same f g h j (d + 1))
+concat-range-same f g h zero d = refl
+concat-range-same {A} f g h (suc j) d = ap₂ {C = List A} (λ a b. a ++ b) (h d) (concat-range-same f g h j (d + 1))
 
 -- where a list with one more at the end is split: behind all, or before
 pub split-last : {A : Type 0} (v : List A) (d : A) (u : List A) (e : A) (z : List A) → v ++ (d ∷ []) ≡ u ++ (e ∷ z) → ((v ≡ u) × (d ≡ e)) ⊎ ((y : List A) × (v ≡ u ++ (e ∷ y)))
@@ -81,7 +81,7 @@ module _ (M : System) (top : ℕ) (cut : Schedule → M .State → ℕ → Bool)
         go : (b : Bool) → ended M σ ≡ b → ((t : ℕ) → M .enabled σ t ≡ true → cut v σ t ≡ false → foundFrom M top cut f k (past o t) (v ++ (t ∷ [])) (M .step σ t) ≡ foundFrom M top cut g k (past o t) (v ++ (t ∷ [])) (M .step σ t)) →
             foundFrom M top cut f (suc k) o v σ ≡ foundFrom M top cut g (suc k) o v σ
         go true e ih = rw (e, foundFrom) (at-same o v (agree v (allowed-full M ρ v a (ap (λ (τ : M .State). ended M τ) (sym s) ∙ e)) u))
-        go false e ih = rw (e, foundFrom) (turns-same (foundBy M top cut f F o v σ) (foundBy M top cut g G o v σ) (λ t. by-same F G o v σ t (ih t)) (top - low o) (low o))
+        go false e ih = rw (e, foundFrom) (concat-range-same (foundBy M top cut f F o v σ) (foundBy M top cut g G o v σ) (λ t. by-same F G o v σ t (ih t)) (top - low o) (low o))
 
     -- THE SAME IS FOUND
     pub found-same : (k : ℕ) (o : Option Schedule) → foundFrom M top cut f k o [] ρ ≡ foundFrom M top cut g k o [] ρ

@@ -18,8 +18,8 @@ use Rattle.schedules.proofs.Order.{less-front, less-heads, more-heads, 
 use Rattle.schedules.proofs.Lists.{both-false, in-range, of-range, range-ascends, filter-yes, filter-no}
 use Rattle.schedules.proofs.Runs.{run-nil, run-snoc, full-join, allowed-join}
 use Rattle.schedules.proofs.Fulls.{of-fronts, branch-enabled, branch-not, fulls-ended, fulls-none, fulls-branch, fulls-sound, fulls-enough}
-use Rattle.schedules.proofs.Found.{by-not, by-cut, by-live, found-ended, found-stuck, found-turns}
-use Rattle.schedules.proofs.Kept.{filter-append, filter-none, filter-filter, turn-flat, flat-same, flat-two, flat-through}
+use Rattle.schedules.proofs.Found.{by-not, by-cut, by-live, found-ended, found-stuck, found-branches}
+use Rattle.schedules.proofs.Kept.{filter-append, filter-none, filter-filter, concat-range-flat, flat-same, flat-two, flat-through}
 
 -- above the bound
 unfoldable pub above : Option Schedule → Schedule → Bool
@@ -180,7 +180,7 @@ module _ (M : System) (top : ℕ) (cut : Schedule → M .State → ℕ → Bool)
 
       all-children : concatRange child (top - low o) (low o) ≡ picked o v (branch M F σ (M .names))
       all-children =
-          turn-flat child (top - low o) (low o)
+          concat-range-flat child (top - low o) (low o)
           ∙ flat-same child (λ t. picked o v (behind F σ t)) (range (low o) (top - low o)) (λ t m. child-is t (of-range (low o) (top - low o) t m .0))
           ∙ flat-two (λ t. picked o v (behind F σ t)) (range (low o) (top - low o)) (M .names) (range-ascends (low o) (top - low o)) asc tried
           ∙ sym (flat-through (picked o v) (picked-nil o v) (picked-append o v) (behind F σ) (M .names)) ∙ ap (picked o v) (sym (branch-flat F σ (M .names)))
@@ -197,7 +197,7 @@ module _ (M : System) (top : ℕ) (cut : Schedule → M .State → ℕ → Bool)
         go : (b : Bool) → ended M σ ≡ b → Finds k → foundFrom M top cut listed (suc k) o v σ ≡ picked o v (fullsFrom M (suc k) σ)
         go true e ih = found-ended M top cut listed (suc k) o v σ e ∙ at-is o v ∙ ap (picked o v) (sym (fulls-ended M (suc k) σ e))
         go false e ih =
-            found-turns M top cut listed (suc k) o v σ e (omega arith)
+            found-branches M top cut listed (suc k) o v σ e (omega arith)
             ∙ ap (λ (i : ℕ). concatRange (foundBy M top cut listed (λ a b c. foundFrom M top cut listed i a b c) o v σ) (top - low o) (low o)) (sub-one (suc k))
             ∙ all-children k ih o v σ at ∙ ap (picked o v) (sym (fulls-branch M k σ e))
 

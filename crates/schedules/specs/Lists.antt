@@ -4,6 +4,7 @@ use mathlib.Core.Path.{_≡_}
 use mathlib.Core.Bool.{Bool, true, false}
 use mathlib.Core.Option.{Option, none, some}
 use mathlib.Core.List.{List, [], _∷_, List·Memᴰ}
+pub use Rattle.lines.specs.Lists.{Ascends}
 
 -- so many numbers from a on
 unfoldable pub range : ℕ → ℕ → List ℕ
@@ -44,8 +45,3 @@ headOf (x ∷ xs) = some x
 abbrev pub Distinct : {A : Type 0} → List A → Type 0
 Distinct [] = Unit {0}
 Distinct (x ∷ xs) = (List·Memᴰ x xs → ⊥) × Distinct xs
-
--- each member is smaller than all later ones
-abbrev pub Ascends : {A : Type 0} → (A → A → Bool) → List A → Type 0
-Ascends less [] = Unit {0}
-Ascends {A} less (x ∷ xs) = ((y : A) → List·Memᴰ y xs → less x y ≡ true) × Ascends less xs

@@ -91,9 +91,9 @@ module _ (σ : State) (s : Schedule) (f : FullFrom SC σ s) where
       (two-cuts a b c d (sym e ∙ k))
 
   -- a thread does each of its accesses once
-  same-turn : (t : ℕ) (a b c d : Schedule) → s ≡ a ++ (t ∷ b) → s ≡ c ++ (t ∷ d) → count (run SC σ a) t ≡ count (run SC σ c) t → (y : Schedule) → c ≡ a ++ y → (t ∷ b) ≡ y ++ (t ∷ d) → a ≡ c
-  same-turn t a b c d e k n [] q r = sym (q ∙ append-nil a)
-  same-turn t a b c d e k n (x ∷ y) q r =
+  same-occurrence : (t : ℕ) (a b c d : Schedule) → s ≡ a ++ (t ∷ b) → s ≡ c ++ (t ∷ d) → count (run SC σ a) t ≡ count (run SC σ c) t → (y : Schedule) → c ≡ a ++ y → (t ∷ b) ≡ y ++ (t ∷ d) → a ≡ c
+  same-occurrence t a b c d e k n [] q r = sym (q ∙ append-nil a)
+  same-occurrence t a b c d e k n (x ∷ y) q r =
       let i : x ≡ t = cc in
       let fa = parts a (t ∷ b) e .1 in
       let own = done-own (run SC σ a) t (enabled-range (run SC σ a) t (fa .0)) in
@@ -103,10 +103,10 @@ module _ (σ : State) (s : Schedule) (f : FullFrom SC σ s) where
       let two : count (run SC σ ((a ++ (t ∷ [])) ++ y)) t ≡ count (run SC σ c) t = ap (λ (z : Schedule). count (run SC σ z) t) (sym q′) in
       absurd (omega arith)
 
-  pub one-turn : (t : ℕ) (a b c d : Schedule) → s ≡ a ++ (t ∷ b) → s ≡ c ++ (t ∷ d) → count (run SC σ a) t ≡ count (run SC σ c) t → a ≡ c
-  one-turn t a b c d e k n = ⊎-elim
-      (λ (q : (y : Schedule) × (c ≡ a ++ y) × ((t ∷ b) ≡ y ++ (t ∷ d))). same-turn t a b c d e k n (q .0) (q .1) (q .2))
-      (λ (q : (y : Schedule) × (a ≡ c ++ y) × ((t ∷ d) ≡ y ++ (t ∷ b))). sym (same-turn t c d a b k e (sym n) (q .0) (q .1) (q .2)))
+  pub one-occurrence : (t : ℕ) (a b c d : Schedule) → s ≡ a ++ (t ∷ b) → s ≡ c ++ (t ∷ d) → count (run SC σ a) t ≡ count (run SC σ c) t → a ≡ c
+  one-occurrence t a b c d e k n = ⊎-elim
+      (λ (q : (y : Schedule) × (c ≡ a ++ y) × ((t ∷ b) ≡ y ++ (t ∷ d))). same-occurrence t a b c d e k n (q .0) (q .1) (q .2))
+      (λ (q : (y : Schedule) × (a ≡ c ++ y) × ((t ∷ d) ≡ y ++ (t ∷ b))). sym (same-occurrence t c d a b k e (sym n) (q .0) (q .1) (q .2)))
       (two-cuts a (t ∷ b) c (t ∷ d) (sym e ∙ k))
 
 -- of two ends of one list the longer begins with an element that stands before the shorter

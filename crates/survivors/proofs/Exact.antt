@@ -28,7 +28,7 @@ use Rattle.sc.proofs.Regular.{regular-start, regular-run}
 use Rattle.sc.proofs.FixedState.{fixed-state}
 use Rattle.sc.proofs.Permitted.{exchanged, exchanged-graph}
 use Rattle.sc.proofs.ProgramGraphs.{graph-rows, graph-moved-end}
-use Rattle.sc.proofs.Turning.{renames-back}
+use Rattle.sc.proofs.Renaming.{renames-back}
 use Rattle.list.specs.Alike.{Exchange, Alike, Smaller, Listed}
 use Rattle.list.specs.ListOf.{permits, permitted}
 use Rattle.list.specs.Rules.{late, taken, twin}
@@ -47,7 +47,7 @@ use Rattle.list.proofs.TheList.{list-exact}
 use Rattle.list.proofs.AsModel.{one-each}
 use Rattle.survivors.specs.Survivor.{Survives}
 use Rattle.survivors.proofs.GoesFirst.{Quiet}
-use Rattle.survivors.proofs.TurnedRound.{turned-equal, turned-quiet}
+use Rattle.survivors.proofs.Inverted.{inverted-equal, inverted-quiet}
 use Rattle.survivors.proofs.Inversions.{ties}
 use Rattle.survivors.proofs.Preferring.{quiet-cell, never-survivor, never-listed, never-moved, Line, line-sym, line-trans}
 
@@ -61,8 +61,8 @@ pub survivor-least : (p : Program) → WellFormed p → (w : Schedule) → Full 
 survivor-least p wf w f s = on-time-least sc sc-laws p (wf, refl) w f .0 (survivor-timely p w s)
 
 module _ (p : Program) (wf : WellFormed p) where
-  turn-back : (π : ℕ → ℕ) (x : Exchange p π) (a b : Schedule) → Renames π (graph p a) (graph p b) → Renames (x .0 .inverse) (graph p b) (graph p a)
-  turn-back π x a b t = renames-back π (x .0) (graph p a) (graph p b)
+  renames-back-here : (π : ℕ → ℕ) (x : Exchange p π) (a b : Schedule) → Renames π (graph p a) (graph p b) → Renames (x .0 .inverse) (graph p b) (graph p a)
+  renames-back-here π x a b t = renames-back π (x .0) (graph p a) (graph p b)
       (λ u h. let i = graph-rows p a in let j = graph-rows p b in let k = within p wf (x .0 .inverse) (exchange-back p π x) u (omega arith) in omega arith) t
 
   module _ (w m : Schedule) (fw : Full p w) (s : Survives p w) (lm : Listed p m) (π : List ℕ) (mem : List·Memᴰ π (permitted p)) (t : Renames (moved π) (graph p m) (graph p w)) where
@@ -102,9 +102,9 @@ module _ (p : Program) (wf : WellFormed p) where
         go (inr k) = inr k
 
     -- a pair that is turned round: w prefers the one, the exchanged m the other
-    tied-turned : (a b : ℕ) → a < b → moved π b < moved π a → Line p a b → Tied (moved π a) (moved π b)
-    tied-turned a b h k (inl e) = absurd (omega arith)
-    tied-turned a b h k (inr l) = go (line-trans p wf (moved π b) b (moved π a) (line-sym p b (moved π b) (line-moved b)) (line-trans p wf b a (moved π a) (line-sym p a b (inr l)) (line-moved a)))
+    tied-inverted : (a b : ℕ) → a < b → moved π b < moved π a → Line p a b → Tied (moved π a) (moved π b)
+    tied-inverted a b h k (inl e) = absurd (omega arith)
+    tied-inverted a b h k (inr l) = go (line-trans p wf (moved π b) b (moved π a) (line-sym p b (moved π b) (line-moved b)) (line-trans p wf b a (moved π a) (line-sym p a b (inr l)) (line-moved a)))
       where
         go : Line p (moved π b) (moved π a) → Tied (moved π a) (moved π b)
         go (inl e) = absurd (omega arith)
@@ -118,8 +118,8 @@ module _ (p : Program) (wf : WellFormed p) where
             let small-z : moved π a < 6 = omega (arith, r .1) in
             let ny = never-survivor p w s (moved π b) (moved π a) k g in
             let nz = never-moved p wf (moved π) x m (lm .0) a b (never-listed p wf m lm a b h l) in
-            let eq = turned-equal (start p) (regular-start p wf) v w fv fw same (moved π b) (moved π a) ne begin first small-y small-z ny nz in
-            let qs = turned-quiet (start p) (regular-start p wf) v w fv fw same (moved π b) (moved π a) ne begin first small-y small-z ny nz in
+            let eq = inverted-equal (start p) (regular-start p wf) v w fv fw same (moved π b) (moved π a) ne begin first small-y small-z ny nz in
+            let qs = inverted-quiet (start p) (regular-start p wf) v w fv fw same (moved π b) (moved π a) ne begin first small-y small-z ny nz in
             inr (sym eq, qs .1, qs .0)
 
     in-permutations : List·Memᴰ π permutations
@@ -129,7 +129,7 @@ module _ (p : Program) (wf : WellFormed p) where
     -- so each thread ends as the one in whose place it comes, and none that moves writes
     tied-moved : (a : ℕ) → Tied (moved π a) (moved π (moved π a))
     tied-moved = ties π in-permutations (Line p) (λ a b. Tied (moved π a) (moved π b)) (λ a. inl refl) (line-sym p) (line-trans p wf) line-moved
-        (λ a. inl refl) (λ a b. tied-sym (moved π a) (moved π b)) (λ a b c. tied-trans (moved π a) (moved π b) (moved π c)) tied-turned
+        (λ a. inl refl) (λ a b. tied-sym (moved π a) (moved π b)) (λ a b c. tied-trans (moved π a) (moved π b) (moved π c)) tied-inverted
 
     tied-all : (u : ℕ) → Tied u (moved π u)
     tied-all u = subst (λ (i : ℕ). Tied i (moved π i)) (x .0 .after-inverse u) (tied-moved (x .0 .inverse u))
@@ -157,7 +157,7 @@ module _ (p : Program) (wf : WellFormed p) where
 
     -- ONE GRAPH
     one-graph : graph p m ≡ graph p w
-    one-graph = exchanged-once p wf (x .0 .inverse) (exchange-back p (moved π) x) w m w (turn-back (moved π) x m w t) (turn-back (moved π) x w w (graph-moved-end p (moved π) w w fixed))
+    one-graph = exchanged-once p wf (x .0 .inverse) (exchange-back p (moved π) x) w m w (renames-back-here (moved π) x m w t) (renames-back-here (moved π) x w w (graph-moved-end p (moved π) w w fixed))
 
   alike-survivor : (w m : Schedule) → Full p w → Survives p w → Listed p m → Alike p m w → graph p m ≡ graph p w
   alike-survivor w m fw s lm l =

@@ -40,7 +40,7 @@ use Rattle.survivors.specs.Search.{givenUp, foundBehind, foundWith}
 use Rattle.survivors.proofs.Sets.{has-none, set-none}
 use Rattle.survivors.proofs.LateSet.{late-below, late-more}
 use Rattle.survivors.proofs.Sleepers.{sleepers-greatest, sleepers-none}
-use Rattle.survivors.proofs.Search.{up-not, with-ended, with-live, behind-turns}
+use Rattle.survivors.proofs.Search.{up-not, with-ended, with-live, behind-branches}
 
 -- only t may step
 pub record Alone (σ : State) (t : ℕ) : Type 0 where
@@ -68,10 +68,10 @@ rest-some h e = go (h .rest) e
     go (i ∷ is) q = λ z. omega arith
 
 -- among these only f t is not empty
-only-turn : {A : Type 0} (f : ℕ → List A) (n d t : ℕ) → d ≤ t → t < d + n → ((u : ℕ) → u ≢ t → f u ≡ []) → concatRange f n d ≡ f t
+concat-range-only : {A : Type 0} (f : ℕ → List A) (n d t : ℕ) → d ≤ t → t < d + n → ((u : ℕ) → u ≢ t → f u ≡ []) → concatRange f n d ≡ f t
 unfolding concatRange
-only-turn f zero d t l h e = absurd (omega arith)
-only-turn {A} f (suc n) d t l h e = go (ℕ-discrete d t) (λ k. only-turn f n (d + 1) t k (omega arith) e)
+concat-range-only f zero d t l h e = absurd (omega arith)
+concat-range-only {A} f (suc n) d t l h e = go (ℕ-discrete d t) (λ k. concat-range-only f n (d + 1) t k (omega arith) e)
   where
     rest : (m d : ℕ) → t < d → concatRange f m d ≡ []
     rest zero d k = refl
@@ -142,6 +142,6 @@ module _ (p : Program) (w : WellFormed p) (v : Schedule) (a : Allowed SC (start 
   pub last-alone : (failures : Bool) (steps : ℕ) (o : Option Schedule) → steps < 24 → low o ≤ t → sleepers (endOf p v) (lateSet p v) ≡ 0 →
       foundBehind failures p steps o v ≡ foundBehind failures p (steps + 1) (past o t) (v ++ (t ∷ []))
   last-alone failures steps o h l z =
-      behind-turns failures p steps v o (not-ended SC lawful σ t (one .live)) h
-      ∙ only-turn (λ d. foundWith failures p steps o v d) (6 - low o) (low o) t l (omega (arith, l, enabled-small σ t (one .live))) (λ u n. with-ended failures p steps o v u (one .others u n))
+      behind-branches failures p steps v o (not-ended SC lawful σ t (one .live)) h
+      ∙ concat-range-only (λ d. foundWith failures p steps o v d) (6 - low o) (low o) t l (omega (arith, l, enabled-small σ t (one .live))) (λ u n. with-ended failures p steps o v u (one .others u n))
       ∙ with-live failures p steps o v t (one .live) (last-goes-on z)

@@ -23,7 +23,7 @@ use Rattle.model.specs.Late as Late
 pub use Rattle.model.proofs.LateSet.{and-false}
 use Rattle.list.specs.Rules.{late, taken}
 use Rattle.survivors.specs.Sets.{has}
-use Rattle.survivors.specs.LateSet.{lateNow, lateBehind, lateAlong, lateSet}
+use Rattle.survivors.specs.LateSet.{lateNow, lateBehind, lateAfter, lateSet}
 use Rattle.survivors.proofs.Sets.{has-none, set-below, set-has, set-above}
 
 not-small : (σ : State) (t : ℕ) → (t < 6 → ⊥) → enabled σ t ≡ false
@@ -67,21 +67,21 @@ module _ (σ : State) (b s : ℕ) (past : List Action) (t : ℕ) (so-far : has s
   pub late-step : has (lateBehind (step σ b) s (action σ b)) t ≡ (enabled (step σ b) t && late (action σ b ∷ past) (action (step σ b) t))
   late-step = behind-has τ s (action σ b) t ∙ now (eqb (action σ b .thread) t) (conflict (action σ b) (action τ t)) (ltb t (action σ b .thread)) refl refl refl
 
-late-along : (v : Schedule) (σ : State) (s : ℕ) (past : List Action) → ((t : ℕ) → has s t ≡ (enabled σ t && late past (action σ t))) → (t : ℕ) →
-    has (lateAlong σ s v) t ≡ (enabled (run SC σ v) t && late (reverse (actions σ v) ++ past) (action (run SC σ v) t))
-unfolding lateAlong run trace
-late-along [] σ s past h t = h t
-late-along (b ∷ v) σ s past h t =
+late-after : (v : Schedule) (σ : State) (s : ℕ) (past : List Action) → ((t : ℕ) → has s t ≡ (enabled σ t && late past (action σ t))) → (t : ℕ) →
+    has (lateAfter σ s v) t ≡ (enabled (run SC σ v) t && late (reverse (actions σ v) ++ past) (action (run SC σ v) t))
+unfolding lateAfter run trace
+late-after [] σ s past h t = h t
+late-after (b ∷ v) σ s past h t =
     let w : reverse (action σ b ∷ actions (step σ b) v) ++ past ≡ reverse (actions (step σ b) v) ++ (action σ b ∷ past) =
     ap (λ (k : List Action). k ++ past) (reverse-cons (action σ b) (actions (step σ b) v)) ∙ append-assoc (reverse (actions (step σ b) v)) (action σ b ∷ []) past in
-    late-along v (step σ b) (lateBehind (step σ b) s (action σ b)) (action σ b ∷ past) (λ u. late-step σ b s past u (h u)) t
+    late-after v (step σ b) (lateBehind (step σ b) s (action σ b)) (action σ b ∷ past) (λ u. late-step σ b s past u (h u)) t
     ∙ ap (λ (k : List Action). enabled (run SC (step σ b) v) t && late k (action (run SC (step σ b) v) t)) (sym w)
 
 -- EXACTLY THE LATE
 pub late-set : (p : Program) (v : Schedule) (t : ℕ) → has (lateSet p v) t ≡ (enabled (endOf p v) t && late (taken p v) (action (endOf p v) t))
 unfolding lateSet Late.late
 late-set p v t =
-    late-along v (start p) 0 [] (λ u. has-none u ∙ sym (and-false (enabled (start p) u))) t
+    late-after v (start p) 0 [] (λ u. has-none u ∙ sym (and-false (enabled (start p) u))) t
     ∙ ap (λ (k : List Action). enabled (endOf p v) t && late k (action (endOf p v) t)) (append-nil (reverse (actions (start p) v)))
 
 -- of a thread that may step
@@ -90,27 +90,27 @@ late-exact p v t m = late-set p v t ∙ ap (λ (b : Bool). b && late (taken p v)
 
 -- ---- as code carries it: none at the start, then step by step; it is a byte
 pub late-start : (p : Program) → lateSet p [] ≡ 0
-unfolding lateSet lateAlong
+unfolding lateSet lateAfter
 late-start p = refl
 
-along-more : (v : Schedule) (σ : State) (s t : ℕ) → lateAlong σ s (v ++ (t ∷ [])) ≡ lateBehind (step (run SC σ v) t) (lateAlong σ s v) (action (run SC σ v) t)
-unfolding lateAlong run
-along-more [] σ s t = refl
-along-more (b ∷ v) σ s t = along-more v (step σ b) (lateBehind (step σ b) s (action σ b)) t
+late-after-more : (v : Schedule) (σ : State) (s t : ℕ) → lateAfter σ s (v ++ (t ∷ [])) ≡ lateBehind (step (run SC σ v) t) (lateAfter σ s v) (action (run SC σ v) t)
+unfolding lateAfter run
+late-after-more [] σ s t = refl
+late-after-more (b ∷ v) σ s t = late-after-more v (step σ b) (lateBehind (step σ b) s (action σ b)) t
 
 pub late-more : (p : Program) (v : Schedule) (t : ℕ) → lateSet p (v ++ (t ∷ [])) ≡ lateBehind (step (endOf p v) t) (lateSet p v) (action (endOf p v) t)
 unfolding lateSet
-late-more p v t = along-more v (start p) 0 t
+late-more p v t = late-after-more v (start p) 0 t
 
 pub behind-below : (σ : State) (s : ℕ) (a : Action) → lateBehind σ s a < 64
 unfolding lateBehind
 behind-below σ s a = set-below (lateNow σ s a) 6
 
-along-below : (v : Schedule) (σ : State) (s : ℕ) → s < 64 → lateAlong σ s v < 64
-unfolding lateAlong
-along-below [] σ s h = h
-along-below (b ∷ v) σ s h = along-below v (step σ b) (lateBehind (step σ b) s (action σ b)) (behind-below (step σ b) s (action σ b))
+late-after-below : (v : Schedule) (σ : State) (s : ℕ) → s < 64 → lateAfter σ s v < 64
+unfolding lateAfter
+late-after-below [] σ s h = h
+late-after-below (b ∷ v) σ s h = late-after-below v (step σ b) (lateBehind (step σ b) s (action σ b)) (behind-below (step σ b) s (action σ b))
 
 pub late-below : (p : Program) (v : Schedule) → lateSet p v < 64
 unfolding lateSet
-late-below p v = along-below v (start p) 0 (omega arith)
+late-below p v = late-after-below v (start p) 0 (omega arith)

@@ -4,7 +4,7 @@ pub mod Counting
 -- of two threads that agree, the preferred one goes first
 pub mod GoesFirst
 -- two schedules with one graph that prefer differently: the two threads do the same
-pub mod TurnedRound
+pub mod Inverted
 -- the pairs that a permutation turns round tie together what it moves
 pub mod Inversions
 -- what R2 says of survivors, listed and exchanged schedules

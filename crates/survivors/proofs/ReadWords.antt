@@ -26,7 +26,7 @@ use Rattle.sc.proofs.Regular.{Regular, Written, place-in, changes, regular-step
 use Rattle.sc.proofs.Histories.{upcoming, Done, upcoming-undone, done-cases}
 use Rattle.sc.proofs.Swap.{still-cells}
 use Rattle.sc.proofs.Trails.{writes-own, still-takes}
-use Rattle.survivors.specs.ReadWords.{Words, lone, wordBehind, stampsBehind, wordsBehind, wordsAlong, noWords}
+use Rattle.survivors.specs.ReadWords.{Words, lone, wordBehind, stampsBehind, wordsBehind, wordsAfter, noWords}
 use Rattle.survivors.proofs.Counting.{latest-front}
 use Rattle.survivors.proofs.GoesFirst.{Quiet}
 use Rattle.survivors.proofs.Digits.{numbered, numbered-at, numbered-else, digits, Plain, Sources, digits-same, digits-below, led, led-same}
@@ -273,11 +273,11 @@ module _ (ρ σ : State) (n : ℕ) (m : Words) (C : Held ρ σ n m) (g : Regular
           (subst (λ (x : ℕ). Reads ρ τ code' val' x t ⊎ Lone τ x t) (sym (getD-set-same (m .words) t (wordBehind t (getD (m .words) t 0) stamp (writes σ t)) 0 (omega (arith, small, C .six)))) (steps (getD (m .words) t 0) (writes σ t) refl (C .worded t small)))
 
 -- ---- along a run
-pub held-run : (v : Schedule) (ρ σ : State) (n : ℕ) (m : Words) → Held ρ σ n m → Regular σ → Allowed SC σ v → n + length v ≤ 24 → Held ρ (run SC σ v) (n + length v) (wordsAlong σ n m v)
-unfolding run wordsAlong
+pub held-run : (v : Schedule) (ρ σ : State) (n : ℕ) (m : Words) → Held ρ σ n m → Regular σ → Allowed SC σ v → n + length v ≤ 24 → Held ρ (run SC σ v) (n + length v) (wordsAfter σ n m v)
+unfolding run wordsAfter
 held-run [] ρ σ n m C g a h = subst (λ (k : ℕ). Held ρ σ k m) (omega arith) C
 held-run (t ∷ v) ρ σ n m C g a h =
-    subst (λ (k : ℕ). Held ρ (run SC (step σ t) v) k (wordsAlong (step σ t) (n + 1) (wordsBehind σ (n + 1) m t) v)) (omega arith)
+    subst (λ (k : ℕ). Held ρ (run SC (step σ t) v) k (wordsAfter (step σ t) (n + 1) (wordsBehind σ (n + 1) m t) v)) (omega arith)
     (held-run v ρ (step σ t) (n + 1) (wordsBehind σ (n + 1) m t) (held-step ρ σ n m C g t (a .0) (omega arith)) (regular-step σ t g (a .0)) (a .1) (omega arith))
 
 zeros : (l : ℕ) → (getD (noWords .stamps) l 0 ≡ 0) × (getD (noWords .words) l 0 ≡ 0)

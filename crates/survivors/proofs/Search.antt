@@ -20,7 +20,7 @@ use Rattle.schedules.specs.Found.{after, concatRange, foundFrom}
 use Rattle.schedules.proofs.Lists.{of-range, any-yes}
 use Rattle.schedules.proofs.Runs.{run-nil, run-snoc}
 use Rattle.schedules.proofs.After.{after-none}
-use Rattle.schedules.proofs.Found.{at-bound, at-listed, at-unlisted, by-not, by-cut, by-live, found-ended, found-stuck, found-turns}
+use Rattle.schedules.proofs.Found.{at-bound, at-listed, at-unlisted, by-not, by-cut, by-live, found-ended, found-stuck, found-branches}
 use Rattle.sc.specs.State.{State, SC, enabled, step, start}
 use Rattle.sc.specs.Graph.{Full, endOf}
 use Rattle.list.specs.Alike.{Smaller}
@@ -160,5 +160,5 @@ module _ (failures : Bool) (p : Program) (steps : ℕ) (v : Schedule) where
   pub behind-stuck : (o : Option Schedule) → ended SC (endOf p v) ≡ false → 24 ≤ steps → foundBehind failures p steps o v ≡ []
   behind-stuck o e h = found-stuck SC 6 (givenUp p) (lookedFor failures p) (24 - steps) o v (endOf p v) e (omega arith)
 
-  pub behind-turns : (o : Option Schedule) → ended SC (endOf p v) ≡ false → steps < 24 → foundBehind failures p steps o v ≡ concatRange (λ d. foundWith failures p steps o v d) (6 - low o) (low o)
-  behind-turns o e h = found-turns SC 6 (givenUp p) (lookedFor failures p) (24 - steps) o v (endOf p v) e (omega arith)
+  pub behind-branches : (o : Option Schedule) → ended SC (endOf p v) ≡ false → steps < 24 → foundBehind failures p steps o v ≡ concatRange (λ d. foundWith failures p steps o v d) (6 - low o) (low o)
+  behind-branches o e h = found-branches SC 6 (givenUp p) (lookedFor failures p) (24 - steps) o v (endOf p v) e (omega arith)

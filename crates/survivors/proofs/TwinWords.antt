@@ -33,7 +33,7 @@ use Rattle.model.specs.Exchange.{Together}
 use Rattle.list.proofs.Tests.{together-true}
 use Rattle.list.proofs.Twins.{members}
 use Rattle.list.specs.Rules.{sameLocal, sameHistory, silent, twin}
-use Rattle.survivors.specs.ReadWords.{Words, lone, wordsBehind, wordsAlong, noWords, wordsOf, twinByWord}
+use Rattle.survivors.specs.ReadWords.{Words, lone, wordsBehind, wordsAfter, noWords, wordsOf, twinByWord}
 use Rattle.survivors.proofs.GoesFirst.{Quiet}
 use Rattle.survivors.proofs.Preferring.{silent-quiet, twin-of}
 use Rattle.survivors.proofs.Digits.{digits, Plain, plain-once, digits-once, led}
@@ -69,7 +69,7 @@ module _ (p : Program) (w : WellFormed p) (v : Schedule) (a : Allowed SC (start 
 
   held : Held (start p) (endOf p v) (length v) (wordsOf p v)
   unfolding wordsOf
-  held = subst (λ (k : ℕ). Held (start p) (endOf p v) k (wordsAlong (start p) 0 noWords v)) (omega arith) (held-run v (start p) (start p) 0 noWords (held-start p w) (regular-start p w) a (omega (arith, short)))
+  held = subst (λ (k : ℕ). Held (start p) (endOf p v) k (wordsAfter (start p) 0 noWords v)) (omega arith) (held-run v (start p) (start p) 0 noWords (held-start p w) (regular-start p w) a (omega (arith, short)))
 
 -- ---- the test
 module _ (p : Program) (w : WellFormed p) (v : Schedule) (a : Allowed SC (start p) v) (u t : ℕ) (ne : u ≢ t) (hu : u < 6) (ht : t < 6) where
@@ -158,17 +158,17 @@ twins-by-word p w v a t h = any-same (twinByWord p (wordsOf p v) t) (twin p (end
 
 -- ---- as code carries them: zeros at the start, then step by step; a word fits 64 bits, a stamp a byte
 pub words-start : (p : Program) → wordsOf p [] ≡ noWords
-unfolding wordsOf wordsAlong
+unfolding wordsOf wordsAfter
 words-start p = refl
 
-along-more : (v : Schedule) (σ : State) (n : ℕ) (m : Words) (t : ℕ) → wordsAlong σ n m (v ++ (t ∷ [])) ≡ wordsBehind (run SC σ v) (n + length v + 1) (wordsAlong σ n m v) t
-unfolding wordsAlong run
-along-more [] σ n m t = ap (λ (k : ℕ). wordsBehind σ (k + 1) m t) (omega arith)
-along-more (b ∷ v) σ n m t = along-more v (step σ b) (n + 1) (wordsBehind σ (n + 1) m b) t ∙ ap (λ (k : ℕ). wordsBehind (run SC (step σ b) v) (k + 1) (wordsAlong (step σ b) (n + 1) (wordsBehind σ (n + 1) m b) v) t) (omega arith)
+late-after-more : (v : Schedule) (σ : State) (n : ℕ) (m : Words) (t : ℕ) → wordsAfter σ n m (v ++ (t ∷ [])) ≡ wordsBehind (run SC σ v) (n + length v + 1) (wordsAfter σ n m v) t
+unfolding wordsAfter run
+late-after-more [] σ n m t = ap (λ (k : ℕ). wordsBehind σ (k + 1) m t) (omega arith)
+late-after-more (b ∷ v) σ n m t = late-after-more v (step σ b) (n + 1) (wordsBehind σ (n + 1) m b) t ∙ ap (λ (k : ℕ). wordsBehind (run SC (step σ b) v) (k + 1) (wordsAfter (step σ b) (n + 1) (wordsBehind σ (n + 1) m b) v) t) (omega arith)
 
 pub words-more : (p : Program) (v : Schedule) (t : ℕ) → wordsOf p (v ++ (t ∷ [])) ≡ wordsBehind (endOf p v) (length v + 1) (wordsOf p v) t
 unfolding wordsOf
-words-more p v t = along-more v (start p) 0 noWords t ∙ ap (λ (k : ℕ). wordsBehind (endOf p v) (k + 1) (wordsAlong (start p) 0 noWords v) t) (omega arith)
+words-more p v t = late-after-more v (start p) 0 noWords t ∙ ap (λ (k : ℕ). wordsBehind (endOf p v) (k + 1) (wordsAfter (start p) 0 noWords v) t) (omega arith)
 
 module _ (p : Program) (w : WellFormed p) (v : Schedule) (a : Allowed SC (start p) v) where
   pub words-below : (t : ℕ) → t < 6 → getD (wordsOf p v .words) t 0 < 2 ^ 61

@@ -11,7 +11,7 @@ use Rattle.program.specs.declared.instruction.Instruction.the-variants.{Memory,
 use Rattle.schedules.specs.Lists.{any}
 use Rattle.sc.specs.Local.{Local, accessPlace, accessTakes}
 use Rattle.sc.specs.State.{State, threadOf, place}
-use Rattle.sc.specs.Ahead.{accessMayPut, mayPut, couldConflict, couldMeet}
+use Rattle.sc.specs.Ahead.{accessMayWrite, mayWrite, couldConflict, couldMeet}
 use Rattle.sc.proofs.Ahead.{takes-or-puts}
 use Rattle.survivors.specs.Sets.{has, joined}
 use Rattle.survivors.specs.Sleepers.{readsLeft, writesLeft, meets, wakes}
@@ -43,10 +43,10 @@ module _ (l : ℕ) (h : l < 8) (w : Bool) where
   left-law [] = rw (has-none l)
   left-law (Memory a ∷ is) =
       any-cons (couldConflict l w) (Memory a) is
-      ∙ ap (λ (b : Bool). (eqb (accessPlace a) l && (accessMayPut a || w)) || b) (left-law is)
-      ∙ left-test (eqb (accessPlace a) l) (accessTakes a) (accessMayPut a) w (has (readsLeft is) l) (has (writesLeft is) l) (takes-or-puts a)
+      ∙ ap (λ (b : Bool). (eqb (accessPlace a) l && (accessMayWrite a || w)) || b) (left-law is)
+      ∙ left-test (eqb (accessPlace a) l) (accessTakes a) (accessMayWrite a) w (has (readsLeft is) l) (has (writesLeft is) l) (takes-or-puts a)
       ∙ ap₂ (λ (a b : Bool). a || (b && w))
-      (sym (left-has (accessMayPut a) (accessPlace a) (writesLeft is) l h)) (sym (left-has (accessTakes a) (accessPlace a) (readsLeft is) l h))
+      (sym (left-has (accessMayWrite a) (accessPlace a) (writesLeft is) l h)) (sym (left-has (accessTakes a) (accessPlace a) (readsLeft is) l h))
   left-law (Alone o ∷ is) = left-law is
 
 -- THE SETS ARE EXACT
@@ -68,10 +68,10 @@ reads-below (Alone o ∷ is) = reads-below is
 pub writes-below : (is : List Instruction) → writesLeft is < 256
 unfolding writesLeft
 writes-below [] = omega arith
-writes-below (Memory a ∷ is) = left-below (accessMayPut a) (accessPlace a) (writesLeft is) (writes-below is)
+writes-below (Memory a ∷ is) = left-below (accessMayWrite a) (accessPlace a) (writesLeft is) (writes-below is)
 writes-below (Alone o ∷ is) = writes-below is
 
 -- so is who could wake whom
-pub wakes-exact : (σ : State) (t u : ℕ) → place σ t < 8 → wakes σ t u ≡ couldMeet (place σ t) (mayPut (threadOf σ t .local)) (threadOf σ u .local)
+pub wakes-exact : (σ : State) (t u : ℕ) → place σ t < 8 → wakes σ t u ≡ couldMeet (place σ t) (mayWrite (threadOf σ t .local)) (threadOf σ u .local)
 unfolding wakes
-wakes-exact σ t u h = sym (left-exact (place σ t) h (mayPut (threadOf σ t .local)) (threadOf σ u .local))
+wakes-exact σ t u h = sym (left-exact (place σ t) h (mayWrite (threadOf σ t .local)) (threadOf σ u .local))

@@ -20,10 +20,10 @@ unfoldable pub lateBehind : State → ℕ → Action → ℕ
 lateBehind σ late a = setOf (lateNow σ late a) 6
 
 -- the late set behind these steps
-unfoldable pub lateAlong : State → ℕ → Schedule → ℕ
-lateAlong σ late [] = late
-lateAlong σ late (t ∷ v) = lateAlong (step σ t) (lateBehind (step σ t) late (action σ t)) v
+unfoldable pub lateAfter : State → ℕ → Schedule → ℕ
+lateAfter σ late [] = late
+lateAfter σ late (t ∷ v) = lateAfter (step σ t) (lateBehind (step σ t) late (action σ t)) v
 
 -- the late set behind a program's prefix; at the start none is late
 unfoldable pub lateSet : Program → Schedule → ℕ
-lateSet p v = lateAlong (start p) 0 v
+lateSet p v = lateAfter (start p) 0 v

@@ -41,9 +41,9 @@ wordsBehind σ n m t =
     }
 
 -- both behind these steps, with n steps before
-unfoldable pub wordsAlong : State → ℕ → Words → Schedule → Words
-wordsAlong σ n m [] = m
-wordsAlong σ n m (t ∷ v) = wordsAlong (step σ t) (n + 1) (wordsBehind σ (n + 1) m t) v
+unfoldable pub wordsAfter : State → ℕ → Words → Schedule → Words
+wordsAfter σ n m [] = m
+wordsAfter σ n m (t ∷ v) = wordsAfter (step σ t) (n + 1) (wordsBehind σ (n + 1) m t) v
 
 -- before the first step
 unfoldable pub noWords : Words
@@ -51,7 +51,7 @@ noWords = record { stamps = 0 ∷ 0 ∷ 0 ∷ 0 ∷ 0 ∷ 0 ∷ 0 ∷ 0 ∷ []; 
 
 -- both behind a program's prefix
 unfoldable pub wordsOf : Program → Schedule → Words
-wordsOf p v = wordsAlong (start p) 0 noWords v
+wordsOf p v = wordsAfter (start p) 0 noWords v
 
 -- R2, u is t's twin: of t's `02` line, with the same word
 unfoldable pub twinByWord : Program → Words → ℕ → ℕ → Bool

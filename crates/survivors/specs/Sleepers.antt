@@ -10,7 +10,7 @@ use Rattle.program.specs.declared.instruction.Instruction.the-variants.{Memory,
 use Rattle.schedules.specs.Lists.{range, all}
 use Rattle.sc.specs.Local.{accessPlace, accessTakes}
 use Rattle.sc.specs.State.{State, threadOf, place}
-use Rattle.sc.specs.Ahead.{accessMayPut, mayPut}
+use Rattle.sc.specs.Ahead.{accessMayWrite, mayWrite}
 use Rattle.survivors.specs.Sets.{has, setOf, joined}
 
 -- the locations that this code may still read; what a skip may leave out is counted all the same
@@ -22,7 +22,7 @@ readsLeft (Alone o ∷ is) = readsLeft is
 -- those that it may still write
 unfoldable pub writesLeft : List Instruction → ℕ
 writesLeft [] = 0
-writesLeft (Memory a ∷ is) = cond (accessMayPut a) (joined (accessPlace a) (writesLeft is)) (writesLeft is)
+writesLeft (Memory a ∷ is) = cond (accessMayWrite a) (joined (accessPlace a) (writesLeft is)) (writesLeft is)
 writesLeft (Alone o ∷ is) = writesLeft is
 
 -- whether code that may still read and write these locations could conflict with an access at l, which could write (w) or only reads
@@ -33,7 +33,7 @@ meets reads writes l w = has writes l || (has reads l && w)
 unfoldable pub wakes : State → ℕ → ℕ → Bool
 wakes σ t u =
     let rest = threadOf σ u .local .rest in
-    meets (readsLeft rest) (writesLeft rest) (place σ t) (mayPut (threadOf σ t .local))
+    meets (readsLeft rest) (writesLeft rest) (place σ t) (mayWrite (threadOf σ t .local))
 
 -- t is in the set, and no thread outside could wake it
 unfoldable pub sleepsIn : State → ℕ → ℕ → Bool

@@ -3,7 +3,7 @@ pub mod Checked
 -- What the machine's answer to a graph call says.
 pub mod Graphs
 -- What the answer to a class call says.
-pub mod ClassSaid
+pub mod ClassAnswered
 -- What the judge's answer says.
 pub mod Judgements
 -- What the listing's answers say.

@@ -15,7 +15,7 @@ use Rattle.schedules.proofs.Lists.{range-length}
 use Rattle.model.specs.Exchange.{Permutation, Exchange}
 use Rattle.model.specs.Laws.{StepLaws, ExchangeLaws, ProgramLaws, Laws}
 use Rattle.model.proofs.Exchanges.{exchange-back}
-use Rattle.sc.proofs.Turning.{renames-none, renames-back, renames-both, renamed-once}
+use Rattle.sc.proofs.Renaming.{renames-none, renames-back, renames-both, renamed-once}
 use Rattle.sc.proofs.Renamed.{renames-true, true-renames}
 use Rattle.tso.specs.State.{State, start}
 use Rattle.tso.specs.Graph.{graph}

@@ -22,7 +22,7 @@ use Rattle.survivors.specs.Sets.{has}
 use Rattle.survivors.specs.LateSet.{lateSet}
 use Rattle.survivors.specs.Sleepers.{sleepers}
 use Rattle.survivors.specs.Search.{foundBehind, foundWith}
-use Rattle.survivors.proofs.Search.{up-asleep, up-not, with-given-up, with-live, behind-bound, behind-turns}
+use Rattle.survivors.proofs.Search.{up-asleep, up-not, with-given-up, with-live, behind-bound, behind-branches}
 use Rattle.prefix.specs.Reached.{Reached}
 use Rattle.prefix.specs.declared.place.Place.{Place}
 use Rattle.prefix.proofs.ReachedStep.{reached-room}
@@ -88,7 +88,7 @@ module _ (code lengths class : List ℕ) (failures : Bool) (x : Place) (o : Opti
       → x .steps < 24 → t ≡ low o → Still out₀ rows t
   rest-start t e h q threads groups p v at out' n' a =
       adds-same p room _ _ out₀ out' rows n'
-      (behind-turns failures p (x .steps) v o (e threads groups p v at) h ∙ ap (λ (d : ℕ). concatRange (λ d. foundWith failures p (x .steps) o v d) (6 - d) d) (sym q)) a
+      (behind-branches failures p (x .steps) v o (e threads groups p v at) h ∙ ap (λ (d : ℕ). concatRange (λ d. foundWith failures p (x .steps) o v d) (6 - d) d) (sym q)) a
 
   -- one step more
   pub rest-next : (out out' : List ℕ) (n n' t : ℕ) → t < 6 → Still out n t

@@ -28,23 +28,23 @@ abbrev μ-loop : tie.MeasureT-loop
 loop-holds : tie.Need-loop-holds Inv-loop μ-loop
 loop-holds c = (search needs, λ p g s W u h. absurd (omega arith))
 
-may-go-requires : tie.Need-may-go-requires Inv-loop μ-loop
-may-go-requires c κs = c .before .before .pre
+is-allowed-requires : tie.Need-is-allowed-requires Inv-loop μ-loop
+is-allowed-requires c κs = c .before .before .pre
 
 returns : tie.Need-returns Inv-loop μ-loop
 returns c =
     let args = c .before .before .before .before .args in
     let loop = c .before .before .before .loop in
     let loop-test = c .before .before .loop-test in
-    let may-go = c .before .may-go in
-    (search needs, λ p g s W. chosen-one (args .code .now) (args .lengths .now) (args .threads) (args .pairs) (args .places) p g (args .m) (args .counts) s W (loop .t) (loop-test .taken) (loop .inv .1 p g s W) (sym (may-go .ensures p g s W) ∙ c .if1 .taken))
+    let is-allowed = c .before .is-allowed in
+    (search needs, λ p g s W. chosen-one (args .code .now) (args .lengths .now) (args .threads) (args .pairs) (args .places) p g (args .m) (args .counts) s W (loop .t) (loop-test .taken) (loop .inv .1 p g s W) (sym (is-allowed .ensures p g s W) ∙ c .if1 .taken))
 
 loop-again : tie.Need-loop-again Inv-loop μ-loop
 loop-again c =
     let args = c .before .before .before .before .args in
     let loop = c .before .before .before .loop in
-    let may-go = c .before .may-go in
-    (search needs, λ p g s W. passed-over (args .code .now) (args .lengths .now) (args .threads) (args .pairs) (args .places) p g (args .m) (args .counts) s W (loop .t) (loop .inv .1 p g s W) (sym (may-go .ensures p g s W) ∙ c .if1 .left))
+    let is-allowed = c .before .is-allowed in
+    (search needs, λ p g s W. passed-over (args .code .now) (args .lengths .now) (args .threads) (args .pairs) (args .places) p g (args .m) (args .counts) s W (loop .t) (loop .inv .1 p g s W) (sym (is-allowed .ensures p g s W) ∙ c .if1 .left))
 
 returns-2 : tie.Need-returns-2 Inv-loop μ-loop
 returns-2 c =
@@ -53,4 +53,4 @@ returns-2 c =
     (search needs, λ p g s W. chosen-none (args .code .now) (args .lengths .now) (args .threads) (args .pairs) (args .places) p g (args .m) (args .counts) s W (loop .t) (c .loop-test .left) (loop .inv .1 p g s W))
 
 pub chosen-spec : {M : Type 1} → statement M
-chosen-spec = tie.close (tie.spec Inv-loop μ-loop loop-holds may-go-requires returns (λ c. search needs) (λ c. search needs) loop-again returns-2)
+chosen-spec = tie.close (tie.spec Inv-loop μ-loop loop-holds is-allowed-requires returns (λ c. search needs) (λ c. search needs) loop-again returns-2)

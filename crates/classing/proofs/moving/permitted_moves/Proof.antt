@@ -25,7 +25,7 @@ loop-again c =
     let loop = c .before .before .before .loop in
     let args = c .before .before .before .before .args in
     let gs = groupsOf (args .class) (args .groups) in
-    (search needs, search needs, rw (c .before .wide .ensures .0) (filled-next (λ j. mayGo gs (j / 6) (j % 6)) (loop .may) (loop .k) (c .may-go .result) (omega (arith, loop .inv .1, c .before .before .loop-test .taken)) (loop .inv .2) (c .may-go .ensures ∙ ap (λ (i : ℕ). mayGo gs (i / 6) (i % 6)) (c .before .wide .ensures .0))))
+    (search needs, search needs, rw (c .before .wide .ensures .0) (filled-next (λ j. mayGo gs (j / 6) (j % 6)) (loop .may) (loop .k) (c .is-allowed .result) (omega (arith, loop .inv .1, c .before .before .loop-test .taken)) (loop .inv .2) (c .is-allowed .ensures ∙ ap (λ (i : ℕ). mayGo gs (i / 6) (i % 6)) (c .before .wide .ensures .0))))
 
 returns : tie.Need-returns Inv-loop μ-loop
 returns c = let loop = c .before .loop in λ j b. loop .inv .2 j (omega (arith, b, c .loop-test .left))

@@ -8,7 +8,7 @@ use Rattle.decoder.specs.Compiled.{programOf}
 use Rattle.sc.specs.State.{start}
 use Rattle.machine.proofs.HeldStart.{loaded-compiled, starting-compiled}
 use Rattle.game.specs.Forced.{hostile-can, friendly-can}
-use Rattle.game.proofs.Answers.{steps-said, steps-lost, pass-won, pass-lost}
+use Rattle.game.proofs.Answers.{steps-forced, steps-lost, pass-won, pass-lost}
 use Rattle.force.specs.Answered.{answerOf}
 use Rattle.force.specs.Standing.{sideOf}
 use Rattle.force.proofs.Steps.{standing-start}
@@ -43,7 +43,7 @@ returns c =
     let able = c .before .before .before .before .before .before .has-step .ensures (program .code) (start p) held in
     let first = c .before .least-winning .ensures (program .threads) p standing in
     let t = c .before .least-winning .result in
-    (hostile-can (some t), steps-said set p w t (c .if2 .taken) (sym able ∙ c .before .before .before .before .before .if1 .taken) (first .found (c .if2 .taken)) (first .below), refl)
+    (hostile-can (some t), steps-forced set p w t (c .if2 .taken) (sym able ∙ c .before .before .before .before .before .if1 .taken) (first .found (c .if2 .taken)) (first .below), refl)
 
 returns-2 : tie.Need-returns-2
 unfolding answerOf sideOf

@@ -13,7 +13,7 @@ use Rattle.machine.proofs.HeldAsking.{one-more}
 use Rattle.game.specs.Game.{hostile, other}
 use Rattle.force.specs.Standing.{sideOf, Standing, keepsFirst}
 use Rattle.force.proofs.Steps.{standing-ready, standing-step}
-use Rattle.force.proofs.Moves.{turn-skipped, turn-enabled, turn-won, turn-lost}
+use Rattle.force.proofs.Moves.{step-skipped, step-enabled, step-won, step-lost}
 use Rattle.force.proofs.first.least_winning.Statement.{statement}
 use Rattle.force.proofs.first.least_winning.Tie as tie
 
@@ -34,7 +34,7 @@ step-requires c κs =
     let e = c .before .before .before .before .pre in
     let may-step = c .before .may-step in
     let loop = c .before .before .before .loop in
-    standing-ready (args .code .now) (args .lengths .now) (args .tails .now) (e .0) (args .m) (e .1) [] (e .2) (loop .t) (turn-enabled (args .set) 49 hostile (e .1) [] (loop .t) (may-step .result) (may-step .ensures (args .code .now) (endOf (e .1) []) (e .2 .holds)) (c .if1 .taken))
+    standing-ready (args .code .now) (args .lengths .now) (args .tails .now) (e .0) (args .m) (e .1) [] (e .2) (loop .t) (step-enabled (args .set) 49 hostile (e .1) [] (loop .t) (may-step .result) (may-step .ensures (args .code .now) (endOf (e .1) []) (e .2 .holds)) (c .if1 .taken))
 
 friendly-move-requires : tie.Need-friendly-move-requires Inv-loop μ-loop
 unfolding sideOf
@@ -44,7 +44,7 @@ friendly-move-requires c κs =
     let step = c .before .step in
     let may-step = c .before .before .before .may-step in
     let loop = c .before .before .before .before .before .loop in
-    let ok = turn-enabled (args .set) 49 hostile (e .1) [] (loop .t) (may-step .result) (may-step .ensures (args .code .now) (endOf (e .1) []) (e .2 .holds)) (c .before .before .if1 .taken) in
+    let ok = step-enabled (args .set) 49 hostile (e .1) [] (loop .t) (may-step .result) (may-step .ensures (args .code .now) (endOf (e .1) []) (e .2 .holds)) (c .before .before .if1 .taken) in
     (e .0, e .1, loop .t ∷ [], standing-step (args .code .now) (args .lengths .now) (args .tails .now) (e .0) (args .m) (e .1) [] (e .2) (loop .t) ok (step .result) (step .ensures) (step .result .machine) refl)
 
 returns : tie.Need-returns Inv-loop μ-loop
@@ -57,10 +57,10 @@ returns c =
     let loop = c .before .before .before .before .before .before .before .loop in
     λ threads p st.
     let mine = may-step .ensures (args .code .now) (endOf p []) (st .holds) in
-    let ok = turn-enabled (args .set) 49 hostile p [] (loop .t) (may-step .result) mine (c .before .before .before .before .if1 .taken) in
+    let ok = step-enabled (args .set) 49 hostile p [] (loop .t) (may-step .result) mine (c .before .before .before .before .if1 .taken) in
     record {
       most = loop .inv .0;
-      found = λ b. turn-won (args .set) 49 hostile p [] (loop .t) (may-step .result) mine (c .before .before .before .before .if1 .taken) (moved .result)
+      found = λ b. step-won (args .set) 49 hostile p [] (loop .t) (may-step .result) mine (c .before .before .before .before .if1 .taken) (moved .result)
           (moved .ensures threads p (loop .t ∷ []) (standing-step (args .code .now) (args .lengths .now) (args .tails .now) threads (args .m) p [] st (loop .t) ok (step .result) (step .ensures) (step .result .machine) refl)) (c .if2 .taken);
       below = loop .inv .1 threads p st;
     }
@@ -77,10 +77,10 @@ loop-again c =
           one-more (λ (u : ℕ). keepsFirst (args .set) p u ≡ false) (loop .t) (loop .inv .1 threads p st)
           (⊎-elim
           (λ w.
-          let ok = turn-enabled (args .set) 49 hostile p [] (loop .t) (may-step .result) mine (w .0 .taken) in
-          turn-lost (args .set) 49 hostile p [] (loop .t) (may-step .result) mine (w .0 .taken) (w .3 .result)
+          let ok = step-enabled (args .set) 49 hostile p [] (loop .t) (may-step .result) mine (w .0 .taken) in
+          step-lost (args .set) 49 hostile p [] (loop .t) (may-step .result) mine (w .0 .taken) (w .3 .result)
           (w .3 .ensures threads p (loop .t ∷ []) (standing-step (args .code .now) (args .lengths .now) (args .tails .now) threads (args .m) p [] st (loop .t) ok (w .1 .result) (w .1 .ensures) (w .1 .result .machine) refl)) (w .4 .left))
-          (λ w. turn-skipped (args .set) 49 hostile p [] (loop .t) (may-step .result) mine (w .left))
+          (λ w. step-skipped (args .set) 49 hostile p [] (loop .t) (may-step .result) mine (w .left))
           (c .if1 .came)),
     )
 

@@ -14,7 +14,7 @@ use Rattle.machine.proofs.HeldAsking.{one-more}
 use Rattle.game.specs.Game.{hostile, friendly, other, same}
 use Rattle.force.specs.Standing.{sideOf}
 use Rattle.force.proofs.Steps.{standing-ready, standing-step}
-use Rattle.force.proofs.Moves.{keeps, Lost, move-failed, move-spent, move-silent, move-passes, move-lost, move-won, turn-skipped, turn-enabled, turn-won, turn-lost}
+use Rattle.force.proofs.Moves.{keeps, Lost, move-failed, move-spent, move-silent, move-passes, move-lost, move-won, step-skipped, step-enabled, step-won, step-lost}
 use Rattle.force.proofs.moving.friendly_move.Reads as friendly-move
 use Rattle.force.proofs.moving.friendly_move.Kinds as friendly-move-kinds
 use Rattle.force.proofs.moving.+friendly_move+hostile_move.Lts-friendly_move as friendly-move-lts
@@ -99,7 +99,7 @@ friendly-move-step-requires t c κs =
     let e = entry .pre .1 in
     let may-step = c .before .may-step in
     let loop = c .before .before .before .loop in
-    standing-ready (args .code .now) (args .lengths .now) (args .tails .now) (e .0) (args .m) (e .1) (e .2) (e .3) (loop .t) (turn-enabled (args .set) (args .left) friendly (e .1) (e .2) (loop .t) (may-step .result) (may-step .ensures (args .code .now) (endOf (e .1) (e .2)) (e .3 .holds)) (c .if5 .taken))
+    standing-ready (args .code .now) (args .lengths .now) (args .tails .now) (e .0) (args .m) (e .1) (e .2) (e .3) (loop .t) (step-enabled (args .set) (args .left) friendly (e .1) (e .2) (loop .t) (may-step .result) (may-step .ensures (args .code .now) (endOf (e .1) (e .2)) (e .3 .holds)) (c .if5 .taken))
 
 friendly-move-hostile-move-requires-2 : (t : ℕ) → friendly-move-lts.Need-hostile-move-requires-2 (friendly-move-callees t) (friendly-move-at t) friendly-move.Post friendly-move-Inv-loop friendly-move-μ-loop
 unfolding sideOf
@@ -110,7 +110,7 @@ friendly-move-hostile-move-requires-2 t c κs =
     let step = c .before .step in
     let may-step = c .before .before .before .may-step in
     let loop = c .before .before .before .before .before .loop in
-    let ok = turn-enabled (args .set) (args .left) friendly (e .1) (e .2) (loop .t) (may-step .result) (may-step .ensures (args .code .now) (endOf (e .1) (e .2)) (e .3 .holds)) (c .before .before .if5 .taken) in
+    let ok = step-enabled (args .set) (args .left) friendly (e .1) (e .2) (loop .t) (may-step .result) (may-step .ensures (args .code .now) (endOf (e .1) (e .2)) (e .3 .holds)) (c .before .before .if5 .taken) in
     (omega (arith, entry .pre .0, c .before .before .before .before .before .before .before .before .before .before .if2 .left), (e .0, e .1, e .2 ++ (loop .t ∷ []), standing-step (args .code .now) (args .lengths .now) (args .tails .now) (e .0) (args .m) (e .1) (e .2) (e .3) (loop .t) ok (step .result) (step .ensures) (step .result .machine) refl))
 
 friendly-move-returns-5 : (t : ℕ) → friendly-move-lts.Need-returns-5 (friendly-move-callees t) (friendly-move-at t) friendly-move.Post friendly-move-Inv-loop friendly-move-μ-loop
@@ -124,9 +124,9 @@ friendly-move-returns-5 t c =
     let has-step = c .before .before .before .before .before .before .before .before .before .has-step in
     λ threads p v st.
     let mine = may-step .ensures (args .code .now) (endOf p v) (st .holds) in
-    let ok = turn-enabled (args .set) (args .left) friendly p v (loop .t) (may-step .result) mine (c .before .before .before .before .if5 .taken) in
+    let ok = step-enabled (args .set) (args .left) friendly p v (loop .t) (may-step .result) mine (c .before .before .before .before .if5 .taken) in
     move-won (args .code .now) (args .lengths .now) (args .tails .now) threads (args .m) p v st (args .set) (args .left) friendly (c .before .before .before .before .before .before .before .before .before .before .before .before .if2 .left) (has-step .result) (has-step .ensures (args .code .now) (endOf p v) (st .holds)) (c .before .before .before .before .before .before .before .before .if4 .left) (loop .t)
-    (turn-won (args .set) (args .left) friendly p v (loop .t) (may-step .result) mine (c .before .before .before .before .if5 .taken) (moved .result)
+    (step-won (args .set) (args .left) friendly p v (loop .t) (may-step .result) mine (c .before .before .before .before .if5 .taken) (moved .result)
     (moved .ensures threads p (v ++ (loop .t ∷ [])) (standing-step (args .code .now) (args .lengths .now) (args .tails .now) threads (args .m) p v st (loop .t) ok (step .result) (step .ensures) (step .result .machine) refl)) (c .if6 .taken))
 
 friendly-move-loop-again : (t : ℕ) → friendly-move-lts.Need-loop-again (friendly-move-callees t) (friendly-move-at t) friendly-move.Post friendly-move-Inv-loop friendly-move-μ-loop
@@ -141,10 +141,10 @@ friendly-move-loop-again t c =
           one-more (λ (u : ℕ). keeps (args .set) (args .left) friendly (endOf p v) u ≡ false) (loop .t) (loop .inv .1 threads p v st)
           (⊎-elim
           (λ w.
-          let ok = turn-enabled (args .set) (args .left) friendly p v (loop .t) (may-step .result) mine (w .0 .taken) in
-          turn-lost (args .set) (args .left) friendly p v (loop .t) (may-step .result) mine (w .0 .taken) (w .3 .result)
+          let ok = step-enabled (args .set) (args .left) friendly p v (loop .t) (may-step .result) mine (w .0 .taken) in
+          step-lost (args .set) (args .left) friendly p v (loop .t) (may-step .result) mine (w .0 .taken) (w .3 .result)
           (w .3 .ensures threads p (v ++ (loop .t ∷ [])) (standing-step (args .code .now) (args .lengths .now) (args .tails .now) threads (args .m) p v st (loop .t) ok (w .1 .result) (w .1 .ensures) (w .1 .result .machine) refl)) (w .4 .left))
-          (λ w. turn-skipped (args .set) (args .left) friendly p v (loop .t) (may-step .result) mine (w .left))
+          (λ w. step-skipped (args .set) (args .left) friendly p v (loop .t) (may-step .result) mine (w .left))
           (c .if5 .came)),
     )
 
@@ -209,7 +209,7 @@ hostile-move-step-requires t c κs =
     let e = entry .pre .1 in
     let may-step = c .before .may-step in
     let loop = c .before .before .before .loop in
-    standing-ready (args .code .now) (args .lengths .now) (args .tails .now) (e .0) (args .m) (e .1) (e .2) (e .3) (loop .t) (turn-enabled (args .set) (args .left) hostile (e .1) (e .2) (loop .t) (may-step .result) (may-step .ensures (args .code .now) (endOf (e .1) (e .2)) (e .3 .holds)) (c .if5 .taken))
+    standing-ready (args .code .now) (args .lengths .now) (args .tails .now) (e .0) (args .m) (e .1) (e .2) (e .3) (loop .t) (step-enabled (args .set) (args .left) hostile (e .1) (e .2) (loop .t) (may-step .result) (may-step .ensures (args .code .now) (endOf (e .1) (e .2)) (e .3 .holds)) (c .if5 .taken))
 
 hostile-move-friendly-move-requires-2 : (t : ℕ) → hostile-move-lts.Need-friendly-move-requires-2 (hostile-move-callees t) (hostile-move-at t) hostile-move.Post hostile-move-Inv-loop hostile-move-μ-loop
 unfolding sideOf
@@ -220,7 +220,7 @@ hostile-move-friendly-move-requires-2 t c κs =
     let step = c .before .step in
     let may-step = c .before .before .before .may-step in
     let loop = c .before .before .before .before .before .loop in
-    let ok = turn-enabled (args .set) (args .left) hostile (e .1) (e .2) (loop .t) (may-step .result) (may-step .ensures (args .code .now) (endOf (e .1) (e .2)) (e .3 .holds)) (c .before .before .if5 .taken) in
+    let ok = step-enabled (args .set) (args .left) hostile (e .1) (e .2) (loop .t) (may-step .result) (may-step .ensures (args .code .now) (endOf (e .1) (e .2)) (e .3 .holds)) (c .before .before .if5 .taken) in
     (omega (arith, entry .pre .0, c .before .before .before .before .before .before .before .before .before .before .if2 .left), (e .0, e .1, e .2 ++ (loop .t ∷ []), standing-step (args .code .now) (args .lengths .now) (args .tails .now) (e .0) (args .m) (e .1) (e .2) (e .3) (loop .t) ok (step .result) (step .ensures) (step .result .machine) refl))
 
 hostile-move-returns-5 : (t : ℕ) → hostile-move-lts.Need-returns-5 (hostile-move-callees t) (hostile-move-at t) hostile-move.Post hostile-move-Inv-loop hostile-move-μ-loop
@@ -234,9 +234,9 @@ hostile-move-returns-5 t c =
     let has-step = c .before .before .before .before .before .before .before .before .before .has-step in
     λ threads p v st.
     let mine = may-step .ensures (args .code .now) (endOf p v) (st .holds) in
-    let ok = turn-enabled (args .set) (args .left) hostile p v (loop .t) (may-step .result) mine (c .before .before .before .before .if5 .taken) in
+    let ok = step-enabled (args .set) (args .left) hostile p v (loop .t) (may-step .result) mine (c .before .before .before .before .if5 .taken) in
     move-won (args .code .now) (args .lengths .now) (args .tails .now) threads (args .m) p v st (args .set) (args .left) hostile (c .before .before .before .before .before .before .before .before .before .before .before .before .if2 .left) (has-step .result) (has-step .ensures (args .code .now) (endOf p v) (st .holds)) (c .before .before .before .before .before .before .before .before .if4 .left) (loop .t)
-    (turn-won (args .set) (args .left) hostile p v (loop .t) (may-step .result) mine (c .before .before .before .before .if5 .taken) (moved .result)
+    (step-won (args .set) (args .left) hostile p v (loop .t) (may-step .result) mine (c .before .before .before .before .if5 .taken) (moved .result)
     (moved .ensures threads p (v ++ (loop .t ∷ [])) (standing-step (args .code .now) (args .lengths .now) (args .tails .now) threads (args .m) p v st (loop .t) ok (step .result) (step .ensures) (step .result .machine) refl)) (c .if6 .taken))
 
 hostile-move-loop-again : (t : ℕ) → hostile-move-lts.Need-loop-again (hostile-move-callees t) (hostile-move-at t) hostile-move.Post hostile-move-Inv-loop hostile-move-μ-loop
@@ -251,10 +251,10 @@ hostile-move-loop-again t c =
           one-more (λ (u : ℕ). keeps (args .set) (args .left) hostile (endOf p v) u ≡ false) (loop .t) (loop .inv .1 threads p v st)
           (⊎-elim
           (λ w.
-          let ok = turn-enabled (args .set) (args .left) hostile p v (loop .t) (may-step .result) mine (w .0 .taken) in
-          turn-lost (args .set) (args .left) hostile p v (loop .t) (may-step .result) mine (w .0 .taken) (w .3 .result)
+          let ok = step-enabled (args .set) (args .left) hostile p v (loop .t) (may-step .result) mine (w .0 .taken) in
+          step-lost (args .set) (args .left) hostile p v (loop .t) (may-step .result) mine (w .0 .taken) (w .3 .result)
           (w .3 .ensures threads p (v ++ (loop .t ∷ [])) (standing-step (args .code .now) (args .lengths .now) (args .tails .now) threads (args .m) p v st (loop .t) ok (w .1 .result) (w .1 .ensures) (w .1 .result .machine) refl)) (w .4 .left))
-          (λ w. turn-skipped (args .set) (args .left) hostile p v (loop .t) (may-step .result) mine (w .left))
+          (λ w. step-skipped (args .set) (args .left) hostile p v (loop .t) (may-step .result) mine (w .left))
           (c .if5 .came)),
     )
 

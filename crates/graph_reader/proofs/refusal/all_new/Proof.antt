@@ -13,7 +13,7 @@ use Rattle.sc.specs.Text.{eventsIn}
 use Rattle.consistent.specs.Reading.{isEvent, writesIn, allNew}
 use Rattle.graph_reader.specs.Held.{Seen}
 use Rattle.graph_reader.proofs.Marks.{seen-more}
-use Rattle.graph_reader.proofs.MarkTurns.{turn-named, turn-found, turn-next}
+use Rattle.graph_reader.proofs.MarkLoop.{iteration-named, iteration-found, iteration-next}
 use Rattle.graph_reader.proofs.LineWrites.{no-event}
 use Rattle.graph_reader.proofs.refusal.all_new.Statement.{statement}
 use Rattle.graph_reader.proofs.refusal.all_new.Tie as tie
@@ -46,7 +46,7 @@ array-read-if1 c =
     let args = entry .args in
     let loop = c .before .before .before .loop in
     let field = c .before .field in
-    let n = turn-named (pairs (args .line .now)) (loop .k) (field .result) (c .field2 .result) (omega (arith, loop .inv .0, pre .0, pre .1)) (field .ensures .0) (c .field2 .ensures .0) (loop .inv .2) in omega (arith, n .0 .0, n .0 .1, loop .inv .1)
+    let n = iteration-named (pairs (args .line .now)) (loop .k) (field .result) (c .field2 .result) (omega (arith, loop .inv .0, pre .0, pre .1)) (field .ensures .0) (c .field2 .ensures .0) (loop .inv .2) in omega (arith, n .0 .0, n .0 .1, loop .inv .1)
 
 returns : tie.Need-returns Inv-loop μ-loop
 returns c =
@@ -56,7 +56,7 @@ returns c =
     let loop = c .before .before .before .before .loop in
     let field = c .before .before .field in
     let field2 = c .before .field2 in
-    λ rows S. let v = loop .inv .3 rows S in sym (v .2 ∙ turn-found (pairs (args .line .now)) (loop .k) (field .result) (field2 .result) (omega (arith, loop .inv .0, pre .0, pre .1)) (field .ensures .0) (field2 .ensures .0) (loop .s) (v .0) (turn-named (pairs (args .line .now)) (loop .k) (field .result) (field2 .result) (omega (arith, loop .inv .0, pre .0, pre .1)) (field .ensures .0) (field2 .ensures .0) (loop .inv .2) .0) (v .1) (c .if1 .taken))
+    λ rows S. let v = loop .inv .3 rows S in sym (v .2 ∙ iteration-found (pairs (args .line .now)) (loop .k) (field .result) (field2 .result) (omega (arith, loop .inv .0, pre .0, pre .1)) (field .ensures .0) (field2 .ensures .0) (loop .s) (v .0) (iteration-named (pairs (args .line .now)) (loop .k) (field .result) (field2 .result) (omega (arith, loop .inv .0, pre .0, pre .1)) (field .ensures .0) (field2 .ensures .0) (loop .inv .2) .0) (v .1) (c .if1 .taken))
 
 array-write-s : tie.Need-array-write-s Inv-loop μ-loop
 array-write-s c =
@@ -66,7 +66,7 @@ array-write-s c =
     let loop = c .before .before .before .before .loop in
     let field = c .before .before .field in
     let field2 = c .before .field2 in
-    let n = turn-named (pairs (args .line .now)) (loop .k) (field .result) (field2 .result) (omega (arith, loop .inv .0, pre .0, pre .1)) (field .ensures .0) (field2 .ensures .0) (loop .inv .2) in omega (arith, n .0 .0, n .0 .1, loop .inv .1)
+    let n = iteration-named (pairs (args .line .now)) (loop .k) (field .result) (field2 .result) (omega (arith, loop .inv .0, pre .0, pre .1)) (field .ensures .0) (field2 .ensures .0) (loop .inv .2) in omega (arith, n .0 .0, n .0 .1, loop .inv .1)
 
 add-k : tie.Need-add-k Inv-loop μ-loop
 add-k c = omega (arith, c .before .before .before .before .loop .inv .0, c .before .before .before .before .before .before .pre .1)
@@ -82,7 +82,7 @@ loop-again c =
     let loop = c .before .before .before .before .loop in
     let field = c .before .before .field in
     let field2 = c .before .field2 in
-    (search needs, length-set (loop .s) (field .result * 16 + field2 .result) 1 ∙ loop .inv .1, turn-named (pairs (args .line .now)) (loop .k) (field .result) (field2 .result) (omega (arith, loop .inv .0, pre .0, pre .1)) (field .ensures .0) (field2 .ensures .0) (loop .inv .2) .1, λ rows S. let v = loop .inv .3 rows S in (((field .result, field2 .result) ∷ []) ∷ v .0, seen-more (loop .s) (v .0) (loop .inv .1) (v .1) (field .result, field2 .result) (turn-named (pairs (args .line .now)) (loop .k) (field .result) (field2 .result) (omega (arith, loop .inv .0, pre .0, pre .1)) (field .ensures .0) (field2 .ensures .0) (loop .inv .2) .0), v .2 ∙ turn-next (pairs (args .line .now)) (loop .k) (field .result) (field2 .result) (omega (arith, loop .inv .0, pre .0, pre .1)) (field .ensures .0) (field2 .ensures .0) (loop .s) (v .0) (turn-named (pairs (args .line .now)) (loop .k) (field .result) (field2 .result) (omega (arith, loop .inv .0, pre .0, pre .1)) (field .ensures .0) (field2 .ensures .0) (loop .inv .2) .0) (v .1) (c .if1 .left)))
+    (search needs, length-set (loop .s) (field .result * 16 + field2 .result) 1 ∙ loop .inv .1, iteration-named (pairs (args .line .now)) (loop .k) (field .result) (field2 .result) (omega (arith, loop .inv .0, pre .0, pre .1)) (field .ensures .0) (field2 .ensures .0) (loop .inv .2) .1, λ rows S. let v = loop .inv .3 rows S in (((field .result, field2 .result) ∷ []) ∷ v .0, seen-more (loop .s) (v .0) (loop .inv .1) (v .1) (field .result, field2 .result) (iteration-named (pairs (args .line .now)) (loop .k) (field .result) (field2 .result) (omega (arith, loop .inv .0, pre .0, pre .1)) (field .ensures .0) (field2 .ensures .0) (loop .inv .2) .0), v .2 ∙ iteration-next (pairs (args .line .now)) (loop .k) (field .result) (field2 .result) (omega (arith, loop .inv .0, pre .0, pre .1)) (field .ensures .0) (field2 .ensures .0) (loop .s) (v .0) (iteration-named (pairs (args .line .now)) (loop .k) (field .result) (field2 .result) (omega (arith, loop .inv .0, pre .0, pre .1)) (field .ensures .0) (field2 .ensures .0) (loop .inv .2) .0) (v .1) (c .if1 .left)))
 
 returns-2 : tie.Need-returns-2 Inv-loop μ-loop
 unfolding allNew

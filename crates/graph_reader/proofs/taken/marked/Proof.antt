@@ -10,7 +10,7 @@ use Rattle.schedules.specs.Lists.{all}
 use Rattle.sc.specs.Text.{eventsIn}
 use Rattle.consistent.specs.Reading.{isEvent, writesIn}
 use Rattle.graph_reader.specs.Held.{markedBy}
-use Rattle.graph_reader.proofs.MarkTurns.{turn-named, turn-marked}
+use Rattle.graph_reader.proofs.MarkLoop.{iteration-named, iteration-marked}
 use Rattle.graph_reader.proofs.LineWrites.{no-event}
 use Rattle.graph_reader.proofs.taken.marked.Statement.{statement}
 use Rattle.graph_reader.proofs.taken.marked.Tie as tie
@@ -43,7 +43,7 @@ array-write-s c =
     let args = entry .args in
     let loop = c .before .before .before .loop in
     let field = c .before .field in
-    let n = turn-named (pairs (args .line .now)) (loop .k) (field .result) (c .field2 .result) (omega (arith, loop .inv .0, pre .0, pre .1)) (field .ensures .0) (c .field2 .ensures .0) (loop .inv .2) in omega (arith, n .0 .0, n .0 .1, loop .inv .1)
+    let n = iteration-named (pairs (args .line .now)) (loop .k) (field .result) (c .field2 .result) (omega (arith, loop .inv .0, pre .0, pre .1)) (field .ensures .0) (c .field2 .ensures .0) (loop .inv .2) in omega (arith, n .0 .0, n .0 .1, loop .inv .1)
 
 add-k : tie.Need-add-k Inv-loop μ-loop
 add-k c = omega (arith, c .before .before .before .loop .inv .0, c .before .before .before .before .before .pre .1)
@@ -58,7 +58,7 @@ loop-again c =
     let args = entry .args in
     let loop = c .before .before .before .loop in
     let field = c .before .field in
-    (search needs, length-set (loop .s) (field .result * 16 + c .field2 .result) 1 ∙ loop .inv .1, turn-named (pairs (args .line .now)) (loop .k) (field .result) (c .field2 .result) (omega (arith, loop .inv .0, pre .0, pre .1)) (field .ensures .0) (c .field2 .ensures .0) (loop .inv .2) .1, loop .inv .3 ∙ turn-marked (pairs (args .line .now)) (loop .k) (field .result) (c .field2 .result) (omega (arith, loop .inv .0, pre .0, pre .1)) (field .ensures .0) (c .field2 .ensures .0) (loop .s))
+    (search needs, length-set (loop .s) (field .result * 16 + c .field2 .result) 1 ∙ loop .inv .1, iteration-named (pairs (args .line .now)) (loop .k) (field .result) (c .field2 .result) (omega (arith, loop .inv .0, pre .0, pre .1)) (field .ensures .0) (c .field2 .ensures .0) (loop .inv .2) .1, loop .inv .3 ∙ iteration-marked (pairs (args .line .now)) (loop .k) (field .result) (c .field2 .result) (omega (arith, loop .inv .0, pre .0, pre .1)) (field .ensures .0) (c .field2 .ensures .0) (loop .s))
 
 returns : tie.Need-returns Inv-loop μ-loop
 unfolding markedBy

@@ -11,7 +11,7 @@ use Rattle.sc.specs.Graph.{Graph}
 use Rattle.allowed.specs.HeldWalk.{Given}
 use Rattle.rounds.proofs.HeldValues.{zeros}
 use Rattle.allowed.proofs.WalkChoice.{walk-near, walk-ready}
-use Rattle.judge.proofs.WalkTurns.{Progress, walk-start, walk-on, walk-whole, walk-stops, walk-enabled, walk-note, walk-more, few-more}
+use Rattle.judge.proofs.WalkLoop.{Progress, walk-start, walk-on, walk-whole, walk-stops, walk-enabled, walk-note, walk-more, few-more}
 use Rattle.judge.proofs.walking.walked.Statement.{statement}
 use Rattle.judge.proofs.walking.walked.Tie as tie
 

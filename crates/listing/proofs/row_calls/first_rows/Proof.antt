@@ -7,7 +7,7 @@ use mathlib.Core.Path.{sym, _∙_}
 use Rattle.schedules.proofs.After.{after-none}
 use Rattle.list.specs.Search.{sought}
 use Rattle.decoder.proofs.Decoded.{decoded-refused, decoded-accepted, decoded-well-formed}
-use Rattle.listing.proofs.RowsSaid.{rows-refused, rows-paged}
+use Rattle.listing.proofs.RowsAnswered.{rows-refused, rows-paged}
 use Rattle.listing.proofs.row_calls.first_rows.Statement.{statement}
 use Rattle.listing.proofs.row_calls.first_rows.Tie as tie
 

@@ -4,7 +4,7 @@ use mathlib.Core.Option.{some}
 use Rattle.decoder.specs.Compiled.{programOf}
 use mathlib.Core.Bool.{false}
 use Rattle.decoder.proofs.Decoded.{decoded-refused, decoded-accepted, decoded-well-formed}
-use Rattle.listing.proofs.RowsSaid.{rows-refused, rows-paged}
+use Rattle.listing.proofs.RowsAnswered.{rows-refused, rows-paged}
 use Rattle.listing.proofs.row_calls.next_rows.Statement.{statement}
 use Rattle.listing.proofs.row_calls.next_rows.Tie as tie
 

@@ -1,7 +1,7 @@
 -- `count_line` writes the frame of the two counts.
 use borrow.Author.Needs.{needs}
 use Rattle.listing.specs.Printed.{bytesOf, countFrame}
-use Rattle.printing.proofs.LineTurns.{frame-wrote}
+use Rattle.printing.proofs.LineLoop.{frame-wrote}
 use Rattle.printing.proofs.frames.count_line.Statement.{statement}
 use Rattle.printing.proofs.frames.count_line.Tie as tie
 

@@ -1,7 +1,7 @@
 -- `refusal_line` writes the frame of a refusal.
 use borrow.Author.Needs.{needs}
 use Rattle.listing.specs.Printed.{bytesOf, printedFrames}
-use Rattle.printing.proofs.LineTurns.{frame-wrote}
+use Rattle.printing.proofs.LineLoop.{frame-wrote}
 use Rattle.printing.proofs.frames.refusal_line.Statement.{statement}
 use Rattle.printing.proofs.frames.refusal_line.Tie as tie
 

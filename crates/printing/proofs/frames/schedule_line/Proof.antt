@@ -7,7 +7,7 @@ use lib.Seq.{length-take-le}
 use Prim.Native.Nat.{_+_, _≤_}
 use Rattle.lines.proofs.Text.{length-written}
 use Rattle.printing.proofs.RowText.{row-frame}
-use Rattle.printing.proofs.LineTurns.{frame-wrote}
+use Rattle.printing.proofs.LineLoop.{frame-wrote}
 use Rattle.printing.proofs.frames.schedule_line.Statement.{statement}
 use Rattle.printing.proofs.frames.schedule_line.Tie as tie
 

@@ -16,7 +16,7 @@ use Rattle.list.specs.Answers.{failing}
 use Rattle.walker.specs.Rows.{Shown}
 use Rattle.listing.specs.Printed.{scheduleFrame}
 use Rattle.printing.specs.Pieces.{Short}
-use Rattle.printing.proofs.LineTurns.{lines-more}
+use Rattle.printing.proofs.LineLoop.{lines-more}
 use Rattle.printing.proofs.frames.schedule_lines.Statement.{statement}
 use Rattle.printing.proofs.frames.schedule_lines.Tie as tie
 

@@ -6,14 +6,14 @@ use Rattle.printing.proofs.pieces.begin.Tie as tie
 
 returns : tie.Need-returns
 returns c =
-    let told = c .before .before .before .before .before in
-    begun-refused (told .before .before .args .file .now) (told .decode .result) (c .unprinted .result) (told .decode .ensures) _ _ (c .before .before .v .given .1) (c .unprinted .ensures .0)
+    let read = c .before .before .before .before .before in
+    begun-refused (read .before .before .args .file .now) (read .decode .result) (c .unprinted .result) (read .decode .ensures) _ _ (c .before .before .v .given .1) (c .unprinted .ensures .0)
 
 returns-2 : tie.Need-returns-2
 returns-2 c =
-    let told = c .before .before .before .before in
+    let read = c .before .before .before .before in
     let u = c .unprinted2 .ensures in
-    begun-accepted (told .before .before .args .file .now) (told .decode .result) (c .unprinted2 .result) (told .decode .ensures) (c .before .enum-told .given .1)
+    begun-accepted (read .before .before .args .file .now) (read .decode .result) (c .unprinted2 .result) (read .decode .ensures) (c .before .enum-told .given .1)
     (u .1) (u .2) (u .3) (u .4) (u .0)
 
 pub begin-spec : {M : Type 1} → statement M

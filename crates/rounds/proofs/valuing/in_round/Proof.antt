@@ -8,7 +8,7 @@ use lib.ListN.{length, getD, length-set}
 use Rattle.program.specs.Program.{Program, initial}
 use Rattle.machine.specs.Held.{Loaded}
 use Rattle.machine.proofs.HeldStart.{short-held}
-use Rattle.rounds.proofs.HeldRoundTurns.{Progress, six-held, near-held, turn-standing, standing-bounded, turn-more, turns-onward, onward-grows, turns-done, turns-start}
+use Rattle.rounds.proofs.HeldRoundLoop.{Progress, six-held, near-held, iteration-standing, standing-bounded, iteration-more, iterations-onward, onward-grows, iterations-done, iterations-start}
 use Rattle.rounds.proofs.valuing.in_round.Statement.{statement}
 use Rattle.rounds.proofs.valuing.in_round.Tie as tie
 
@@ -26,7 +26,7 @@ loop-holds : tie.Need-loop-holds Inv-loop μ-loop
 loop-holds c =
     let args = c .before .before .args in
     let started = c .before .started in
-    (search needs, search needs, λ p loaded e. turns-start (args .code .now) (args .lengths .now) p (args .values .now) (started .result) _ (started .ensures .1 p loaded (sym (started .ensures .0) ∙ e)))
+    (search needs, search needs, λ p loaded e. iterations-start (args .code .now) (args .lengths .now) p (args .values .now) (started .result) _ (started .ensures .1 p loaded (sym (started .ensures .0) ∙ e)))
 
 mul-loop : tie.Need-mul-loop Inv-loop μ-loop
 mul-loop c =
@@ -79,7 +79,7 @@ met-requires c κs =
     let loop = c .before .before .before .before .loop in
     let loop-test = c .before .before .before .loop-test in
     let standing = c .before .standing in
-    let S = (turn-standing (args .code .now) (args .lengths .now) (args .threads) (pre .0) (pre .1) (args .values .now) (started .result) (loop .thread) (loop .k) (loop .places) (loop .left) (started .ensures .1 (pre .0) (pre .1) (pre .2)) (loop .inv .2 (pre .0) (pre .1) (started .ensures .0 ∙ pre .2)) (standing .result) (standing .ensures)) in (
+    let S = (iteration-standing (args .code .now) (args .lengths .now) (args .threads) (pre .0) (pre .1) (args .values .now) (started .result) (loop .thread) (loop .k) (loop .places) (loop .left) (started .ensures .1 (pre .0) (pre .1) (pre .2)) (loop .inv .2 (pre .0) (pre .1) (started .ensures .0 ∙ pre .2)) (standing .result) (standing .ensures)) in (
       omega (arith, six-held (args .code .now) (args .lengths .now) (args .threads) (pre .0) (pre .1)),
       short-held (args .code .now) (args .lengths .now) (args .threads) (pre .0) (pre .1) (loop .k / 16) (omega (arith, loop-test .taken)),
       standing-bounded (args .code .now) (args .lengths .now) (args .threads) (pre .0) (pre .1) (loop .k / 16) (omega (arith, loop-test .taken)) S,
@@ -145,14 +145,14 @@ loop-again c =
     let loop-test = c .before .before .before .before .before .before .before .loop-test in
     let standing = c .before .before .before .before .before .standing in
     let met = c .before .before .before .met in
-    (length-set (loop .places) (loop .k) (met .result .place) ∙ loop .inv .0, length-set (loop .left) (loop .k) (met .result .left) ∙ loop .inv .1, λ p loaded e. let S = (turn-standing (args .code .now) (args .lengths .now) (args .threads) p loaded (args .values .now) (started .result) (loop .thread) (loop .k) (loop .places) (loop .left) (started .ensures .1 p loaded (sym (started .ensures .0) ∙ e)) (loop .inv .2 p loaded e) (standing .result) (standing .ensures)) in turns-onward (args .code .now) (args .lengths .now) (args .threads) p loaded (args .values .now) (started .result) (met .result .thread) (loop .k) _ _ (started .ensures .1 p loaded (sym (started .ensures .0) ∙ e)) (turn-more (args .code .now) (args .lengths .now) (args .threads) p loaded (args .values .now) (started .result) (loop .thread) (loop .k) (loop .places) (loop .left) (started .ensures .1 p loaded (sym (started .ensures .0) ∙ e)) (loop .inv .2 p loaded e) (standing .result) S (met .result) (met .ensures (S .machine) (S .state) (S .here) (S .holds) (near-held (args .code .now) (args .lengths .now) (args .threads) p loaded (S .machine) (S .state) (S .holds) (loop .k / 16) (omega (arith, loop-test .taken)))) (loop .inv .0) (loop .inv .1) (omega (arith, six-held (args .code .now) (args .lengths .now) (args .threads) (pre .0) (pre .1)))) (omega (arith, six-held (args .code .now) (args .lengths .now) (args .threads) (pre .0) (pre .1))) (c .onward .result) (c .onward .ensures))
+    (length-set (loop .places) (loop .k) (met .result .place) ∙ loop .inv .0, length-set (loop .left) (loop .k) (met .result .left) ∙ loop .inv .1, λ p loaded e. let S = (iteration-standing (args .code .now) (args .lengths .now) (args .threads) p loaded (args .values .now) (started .result) (loop .thread) (loop .k) (loop .places) (loop .left) (started .ensures .1 p loaded (sym (started .ensures .0) ∙ e)) (loop .inv .2 p loaded e) (standing .result) (standing .ensures)) in iterations-onward (args .code .now) (args .lengths .now) (args .threads) p loaded (args .values .now) (started .result) (met .result .thread) (loop .k) _ _ (started .ensures .1 p loaded (sym (started .ensures .0) ∙ e)) (iteration-more (args .code .now) (args .lengths .now) (args .threads) p loaded (args .values .now) (started .result) (loop .thread) (loop .k) (loop .places) (loop .left) (started .ensures .1 p loaded (sym (started .ensures .0) ∙ e)) (loop .inv .2 p loaded e) (standing .result) S (met .result) (met .ensures (S .machine) (S .state) (S .here) (S .holds) (near-held (args .code .now) (args .lengths .now) (args .threads) p loaded (S .machine) (S .state) (S .holds) (loop .k / 16) (omega (arith, loop-test .taken)))) (loop .inv .0) (loop .inv .1) (omega (arith, six-held (args .code .now) (args .lengths .now) (args .threads) (pre .0) (pre .1)))) (omega (arith, six-held (args .code .now) (args .lengths .now) (args .threads) (pre .0) (pre .1))) (c .onward .result) (c .onward .ensures))
 
 returns : tie.Need-returns Inv-loop μ-loop
 returns c =
     let args = c .before .before .before .before .args in
     let started = c .before .before .before .started in
     let loop = c .before .loop in
-    λ p loaded e. turns-done (args .code .now) (args .lengths .now) (args .threads) p loaded (args .values .now) (started .result) (loop .thread) (loop .k) (loop .places) (loop .left) (started .ensures .1 p loaded e) (loop .inv .2 p loaded (started .ensures .0 ∙ e)) (c .loop-test .left)
+    λ p loaded e. iterations-done (args .code .now) (args .lengths .now) (args .threads) p loaded (args .values .now) (started .result) (loop .thread) (loop .k) (loop .places) (loop .left) (started .ensures .1 p loaded e) (loop .inv .2 p loaded (started .ensures .0 ∙ e)) (c .loop-test .left)
 
 pub in-round-spec : {M : Type 1} → statement M
 in-round-spec = tie.close (tie.spec Inv-loop μ-loop started-requires (λ c. search needs) loop-holds mul-loop mul-standing element-copy-out-standing (λ c κs. search needs) cast-met mul-met element-copy-out-met met-requires array-write-places mul-left array-write-left mul-onward element-copy-out-onward onward-requires loop-less loop-again returns)

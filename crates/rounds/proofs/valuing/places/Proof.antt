@@ -14,7 +14,7 @@ use Rattle.graph_reader.specs.Held.{Tabled}
 use Rattle.rounds.specs.HeldRounds.{valuesIn}
 use Rattle.consistent.proofs.Readable.{Named}
 use Rattle.consistent.proofs.Parsed.{read-readable}
-use Rattle.rounds.proofs.HeldRoundTurns.{six-held}
+use Rattle.rounds.proofs.HeldRoundLoop.{six-held}
 use Rattle.rounds.proofs.HeldValues.{values-start, values-more, places-are, places-stay}
 use Rattle.rounds.proofs.valuing.places.Statement.{statement}
 use Rattle.rounds.proofs.valuing.places.Tie as tie

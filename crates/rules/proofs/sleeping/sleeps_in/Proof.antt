@@ -7,7 +7,7 @@ use mathlib.Core.Bool.{Bool, not, _||_}
 use native.Mathlib.Omega.{arith}
 use Rattle.schedules.specs.Lists.{range, all}
 use Rattle.sc.specs.State.{State, Thread, threadOf, place}
-use Rattle.sc.specs.Ahead.{mayPut}
+use Rattle.sc.specs.Ahead.{mayWrite}
 use Rattle.survivors.specs.Sets.{has}
 use Rattle.survivors.specs.Sleepers.{wakes}
 use Rattle.rules.specs.Left.{Left, Rests}
@@ -41,7 +41,7 @@ returns-2 c =
     λ σ rests left.
     let s = (c .before .before .before .before .access-of) .ensures σ rests in
     let q = quiet-held (a .code .now) (a .lengths .now) (a .at .now) σ rests (a .t) ((c .before .before .before .before .before .before .before .before .pre) .0) (a .set) u ((c .before .before .before .before .access-of) .result .location) ((c .before .before .before .before .access-of) .result .writer) ((c .before .before .loop-test) .taken)
-    (s .0 ∙ ap (place σ) ((c .before .before .before .before .before .wide) .ensures .0)) (s .1 ∙ ap (λ (i : ℕ). mayPut (threadOf σ i .local)) ((c .before .before .before .before .before .wide) .ensures .0)) in
+    (s .0 ∙ ap (place σ) ((c .before .before .before .before .before .wide) .ensures .0)) (s .1 ∙ ap (λ (i : ℕ). mayWrite (threadOf σ i .local)) ((c .before .before .before .before .before .wide) .ensures .0)) in
     sleeps-by σ (a .set) (a .t) _ (sym ((c .before .before .before .before .before .before .before .is-in) .ensures) ∙ not-false _ ((c .before .before .before .before .before .before .if1) .left))
     ((c .before .before .before .loop) .inv .1 σ rests left ∙ all-fails (λ k. has (a .set) k || not (wakes σ (a .t) k)) u (6 - u) (omega (arith, (c .before .before .loop-test) .taken)) (sym q ∙ sym ((c .before .is-quiet) .ensures (a .code .now) left) ∙ not-true _ ((c .if2) .taken)))
 
@@ -53,7 +53,7 @@ loop-again c =
       λ σ rests holds.
           let s = (c .before .before .before .before .access-of) .ensures σ rests in
           let q = quiet-held (a .code .now) (a .lengths .now) (a .at .now) σ rests (a .t) ((c .before .before .before .before .before .before .before .before .pre) .0) (a .set) u ((c .before .before .before .before .access-of) .result .location) ((c .before .before .before .before .access-of) .result .writer) ((c .before .before .loop-test) .taken)
-          (s .0 ∙ ap (place σ) ((c .before .before .before .before .before .wide) .ensures .0)) (s .1 ∙ ap (λ (i : ℕ). mayPut (threadOf σ i .local)) ((c .before .before .before .before .before .wide) .ensures .0)) in
+          (s .0 ∙ ap (place σ) ((c .before .before .before .before .before .wide) .ensures .0)) (s .1 ∙ ap (λ (i : ℕ). mayWrite (threadOf σ i .local)) ((c .before .before .before .before .before .wide) .ensures .0)) in
           let n : 6 - u - 1 ≡ 6 - (u + 1) = omega arith in
           (c .before .before .before .loop) .inv .1 σ rests holds ∙ all-further (λ k. has (a .set) k || not (wakes σ (a .t) k)) u (6 - u) (omega (arith, (c .before .before .loop-test) .taken)) (sym q ∙ sym ((c .before .is-quiet) .ensures (a .code .now) holds) ∙ not-false _ ((c .if2) .left))
           ∙ ap (λ (j : ℕ). all (λ k. has (a .set) k || not (wakes σ (a .t) k)) (range (u + 1) j)) n,

@@ -10,8 +10,8 @@ use Rattle.tarczolin.proofs.against.tarczolin_covers.Tie as tie
 
 returns : tie.Need-returns
 returns c =
-    let said = c .before .before .before .covers .ensures in
-    (said .0, said .1, c .against-word .ensures ∙ ap (λ (x : CoversAnswer). wordOf (againstReply x)) (said .2) ∙ ap wordOf (word-against (said .0)), said .3)
+    let answer = c .before .before .before .covers .ensures in
+    (answer .0, answer .1, c .against-word .ensures ∙ ap (λ (x : CoversAnswer). wordOf (againstReply x)) (answer .2) ∙ ap wordOf (word-against (answer .0)), answer .3)
 
 pub tarczolin-covers-spec : {M : Type 1} → statement M
 tarczolin-covers-spec = tie.close (tie.spec (λ c κs. search needs) (λ c κs. search needs) (λ c. search needs) returns)

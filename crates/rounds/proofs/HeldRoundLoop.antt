@@ -71,9 +71,9 @@ module _ (code lengths : List ℕ) (threads : ℕ) (p : Program) (loaded : Loade
   standing-bounded {v} {n} {i} t h S = subst (λ (k : ThreadState). k .done ≤ k .at) (S .here) (S .holds .threads t (omega (arith, six-held)) .bounded)
 
   module _ (vs : List ℕ) (first : Machine) (thread : ThreadState) (k : ℕ) (places left : List ℕ) (F : Holds code lengths first (start p)) (G : Progress code lengths p vs thread k places left) where
-    pub turn-standing : (n : ThreadState) → n ≡ cond (eqb (k % 16) 0) (threadAt first (k / 16)) thread → Standing code lengths p (valuesIn vs) n (k / 16) (k % 16)
+    pub iteration-standing : (n : ThreadState) → n ≡ cond (eqb (k % 16) 0) (threadAt first (k / 16)) thread → Standing code lengths p (valuesIn vs) n (k / 16) (k % 16)
     unfolding alone
-    turn-standing n e = go (ℕ-discrete (k % 16) 0)
+    iteration-standing n e = go (ℕ-discrete (k % 16) 0)
       where
         go : Dec (k % 16 ≡ 0) → Standing code lengths p (valuesIn vs) n (k / 16) (k % 16)
         go (yes q) = record {
@@ -96,9 +96,9 @@ module _ (code lengths : List ℕ) (threads : ℕ) (p : Program) (loaded : Loade
       value-here : getD vs k 0 ≡ valuesIn vs (k / 16, k % 16)
       value-here = ap (λ (j : ℕ). getD vs j 0) (omega arith)
 
-      pub turn-more : Progress code lengths p vs (r .thread) (k + 1) (set places k (r .place)) (set left k (r .left))
+      pub iteration-more : Progress code lengths p vs (r .thread) (k + 1) (set places k (r .place)) (set left k (r .left))
       unfolding alone
-      turn-more = record {
+      iteration-more = record {
         machine = M .machine;
         state = M .state;
         holds = M .holds;
@@ -154,8 +154,8 @@ module _ (code lengths : List ℕ) (threads : ℕ) (p : Program) (loaded : Loade
       nothing j b = ap (λ (is : List Instruction). orZero (firstPuts (alone p (valuesIn vs) t j .registers) is (valuesIn vs (t, j)))) (stays j b)
 
     -- so they need not be met
-    turns-over : k % 16 ≢ 0 → k < 96 → getD lengths (k / 16) 0 ≤ thread .at → (n : ℕ) → n ≡ k / 16 * 16 + 16 → Progress code lengths p vs thread n places left
-    turns-over q h e n z = record {
+    iterations-over : k % 16 ≢ 0 → k < 96 → getD lengths (k / 16) 0 ≤ thread .at → (n : ℕ) → n ≡ k / 16 * 16 + 16 → Progress code lengths p vs thread n places left
+    iterations-over q h e n z = record {
       machine = G .machine;
       state = G .state;
       holds = G .holds;
@@ -177,8 +177,8 @@ module _ (code lengths : List ℕ) (threads : ℕ) (p : Program) (loaded : Loade
             ∙ nothing (k / 16) (k % 16) (omega (arith, h)) (G .local q) (G .here q) e (j % 16) (omega (arith, b, c, z)))
 
     -- all accesses of these threads have been met
-    pub turns-done : 16 * threads ≤ k → RoundHeld threads p vs places left
-    turns-done d = record {
+    pub iterations-done : 16 * threads ≤ k → RoundHeld threads p vs places left
+    iterations-done d = record {
       at = λ t i a b. G .at (t * 16 + i) (omega arith) ∙ ap₂ (λ (u j : ℕ). locationOf p (valuesIn vs) (u, j)) (omega arith) (omega arith);
       leaves = λ t i a b. G .leaves (t * 16 + i) (omega arith) ∙ ap₂ (λ (u j : ℕ). orZero (outOf p (valuesIn vs) (u, j))) (omega arith) (omega arith);
     }
@@ -189,10 +189,10 @@ onward-grows true k n e = omega (arith, e)
 onward-grows false k n e = omega (arith, e)
 
 -- the next access to be met: behind a thread's end that is the first of the next thread
-pub turns-onward : (code lengths : List ℕ) (threads : ℕ) (p : Program) → Loaded code lengths threads p → (vs : List ℕ) (first : Machine) (thread : ThreadState) (k : ℕ) (places left : List ℕ) → Holds code lengths first (start p)
+pub iterations-onward : (code lengths : List ℕ) (threads : ℕ) (p : Program) → Loaded code lengths threads p → (vs : List ℕ) (first : Machine) (thread : ThreadState) (k : ℕ) (places left : List ℕ) → Holds code lengths first (start p)
     → Progress code lengths p vs thread (k + 1) places left → k < 96 → (n : ℕ) → n ≡ cond (ltb (thread .at) (getD lengths (k / 16) 0)) (k + 1) (k / 16 * 16 + 16)
     → Progress code lengths p vs thread n places left
-turns-onward code lengths threads p loaded vs first thread k places left F G h n e = go (decLt (thread .at) (getD lengths (k / 16) 0)) (ℕ-discrete ((k + 1) % 16) 0)
+iterations-onward code lengths threads p loaded vs first thread k places left F G h n e = go (decLt (thread .at) (getD lengths (k / 16) 0)) (ℕ-discrete ((k + 1) % 16) 0)
   where
     same : (j : ℕ) → n ≡ j → Progress code lengths p vs thread j places left → Progress code lengths p vs thread n places left
     same j q x = subst (λ (i : ℕ). Progress code lengths p vs thread i places left) (sym q) x
@@ -202,13 +202,13 @@ turns-onward code lengths threads p loaded vs first thread k places left F G h n
     go (no a) (yes q) = same (k + 1) (e ∙ rw (le-ltb (thread .at) (getD lengths (k / 16) 0) (omega (arith, a))) (omega (arith, q))) G
     go (no a) (no q) =
         let z : (k + 1) / 16 ≡ k / 16 = omega (arith, q) in
-        turns-over code lengths threads p loaded vs first thread (k + 1) places left F G q (omega (arith, h, q))
+        iterations-over code lengths threads p loaded vs first thread (k + 1) places left F G q (omega (arith, h, q))
         (subst (λ (t : ℕ). getD lengths t 0 ≤ thread .at) (sym z) (omega (arith, a))) n
         (e ∙ rw (le-ltb (thread .at) (getD lengths (k / 16) 0) (omega (arith, a))) (ap (λ (t : ℕ). t * 16 + 16) (sym z)))
 
-pub turns-start : (code lengths : List ℕ) (p : Program) (vs : List ℕ) (m : Machine) (thread : ThreadState) → Holds code lengths m (start p)
+pub iterations-start : (code lengths : List ℕ) (p : Program) (vs : List ℕ) (m : Machine) (thread : ThreadState) → Holds code lengths m (start p)
     → Progress code lengths p vs thread 0 (replicate 96 0) (replicate 96 0)
-turns-start code lengths p vs m thread F = record {
+iterations-start code lengths p vs m thread F = record {
   machine = m;
   state = start p;
   holds = F;

@@ -1,9 +1,9 @@
--- `may_go` compares the classes of two threads.
+-- `is_allowed` compares the classes of two threads.
 use borrow.Author.Needs.{needs}
 use Rattle.prefix.specs.ClassGroups.{groupsOf}
 use Rattle.classing.proofs.MayGo.{may-own, may-alone, may-unknown, may-line}
-use Rattle.classing.proofs.moving.may_go.Statement.{statement}
-use Rattle.classing.proofs.moving.may_go.Tie as tie
+use Rattle.classing.proofs.moving.is_allowed.Statement.{statement}
+use Rattle.classing.proofs.moving.is_allowed.Tie as tie
 
 returns : tie.Need-returns
 returns c = let args = c .before .args in may-own (groupsOf (args .t1) (args .groups)) (args .t) (args .u) (c .if1 .taken)
@@ -20,5 +20,5 @@ returns-4 c =
     let args = entry .args in
     may-line (args .t1) (args .groups) (args .t) (args .u) (c .before .before .if1 .left) (entry .pre .0) (entry .pre .1) (c .before .if2 .left) (c .if3 .left)
 
-pub may-go-spec : {M : Type 1} → statement M
-may-go-spec = tie.close (tie.spec returns (λ c. search needs) (λ c. search needs) returns-2 returns-3 (λ c. search needs) (λ c. search needs) returns-4)
+pub is-allowed-spec : {M : Type 1} → statement M
+is-allowed-spec = tie.close (tie.spec returns (λ c. search needs) (λ c. search needs) returns-2 returns-3 (λ c. search needs) (λ c. search needs) returns-4)

@@ -26,15 +26,15 @@ module _ (f : Frame) (k t i : ℕ) (inside : k + 1 < length f) (first : t ≡ by
   here = event-here f k inside ∙ ap₂ (λ (x y : ℕ). let z : Event = (x, y) in z ∷ rest) (sym first) (sym second)
 
   -- it is in range, and so are those behind it
-  pub turn-named : all (isEvent 6) (eventsIn (drop k f)) ≡ true → Named 6 (t, i) × (all (isEvent 6) rest ≡ true)
-  turn-named h =
+  pub iteration-named : all (isEvent 6) (eventsIn (drop k f)) ≡ true → Named 6 (t, i) × (all (isEvent 6) rest ≡ true)
+  iteration-named h =
       let r = both (isEvent 6 (t, i)) (all (isEvent 6) rest) (sym (all-cons (isEvent 6) (t, i) rest) ∙ ap (all (isEvent 6)) (sym here) ∙ h) in
       (event-is 6 (t, i) (r .0), r .1)
 
   -- it is marked
-  pub turn-marked : (s : List ℕ) → markedBy s (eventsIn (drop k f)) ≡ markedBy (set s (t * 16 + i) 1) rest
+  pub iteration-marked : (s : List ℕ) → markedBy s (eventsIn (drop k f)) ≡ markedBy (set s (t * 16 + i) 1) rest
   unfolding markedBy
-  turn-marked s = ap (markedBy s) here
+  iteration-marked s = ap (markedBy s) here
 
   module _ (s : List ℕ) (rows : List (List Event)) (n : Named 6 (t, i)) (S : Seen s rows) where
     tested : allNew rows (eventsIn (drop k f)) ≡ (eqb (getD s (t * 16 + i) 0) 0 && allNew (((t, i) ∷ []) ∷ rows) rest)
@@ -43,9 +43,9 @@ module _ (f : Frame) (k t i : ℕ) (inside : k + 1 < length f) (first : t ≡ by
         ∙ ap (λ (b : Bool). b && allNew (((t, i) ∷ []) ∷ rows) rest) (sym (S t i (n .0) (omega (arith, n .1))))
 
     -- it has a mark
-    pub turn-found : (getD s (t * 16 + i) 0 ≡ 0 → ⊥) → allNew rows (eventsIn (drop k f)) ≡ false
-    turn-found h = tested ∙ rw (ne-eqb (getD s (t * 16 + i) 0) 0 h)
+    pub iteration-found : (getD s (t * 16 + i) 0 ≡ 0 → ⊥) → allNew rows (eventsIn (drop k f)) ≡ false
+    iteration-found h = tested ∙ rw (ne-eqb (getD s (t * 16 + i) 0) 0 h)
 
     -- it has none: what is left decides
-    pub turn-next : getD s (t * 16 + i) 0 ≡ 0 → allNew rows (eventsIn (drop k f)) ≡ allNew (((t, i) ∷ []) ∷ rows) rest
-    turn-next h = tested ∙ rw (eq-eqb (getD s (t * 16 + i) 0) 0 h)
+    pub iteration-next : getD s (t * 16 + i) 0 ≡ 0 → allNew rows (eventsIn (drop k f)) ≡ allNew (((t, i) ∷ []) ∷ rows) rest
+    iteration-next h = tested ∙ rw (eq-eqb (getD s (t * 16 + i) 0) 0 h)

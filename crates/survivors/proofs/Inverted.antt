@@ -23,7 +23,7 @@ use Rattle.sc.proofs.Rows.{same-writes}
 use Rattle.sc.proofs.Reading.{first-step-of}
 use Rattle.sc.proofs.Determined.{Meeting, determined}
 use Rattle.sc.proofs.SameGraph.{same-graph-end}
-use Rattle.survivors.proofs.Counting.{count, waiting, taken-at, parts, by-count, one-turn, as-many, wrote-nothing}
+use Rattle.survivors.proofs.Counting.{count, waiting, taken-at, parts, by-count, one-occurrence, as-many, wrote-nothing}
 use Rattle.survivors.proofs.GoesFirst.{Quiet, Never, Agree, agree-sym, no-fewer, one-more, untouched, goes-first, goes-on}
 
 -- a thread that may not step does not move any more
@@ -143,7 +143,7 @@ module _ (σ : State) (reg : Regular σ) (v w : Schedule) (fv : FullFrom SC σ v
     k = determined σ reg v w fv fw same u z r cut
 
     there : k .front ≡ c
-    there = one-turn σ v fv z (k .front) (k .rest) c (snd .1 ++ (y ∷ m .rest)) (k .split) cut-c (ap (λ (h : Thread). h .history .done) (k .thread) ∙ n ∙ sym (snd .3))
+    there = one-occurrence σ v fv z (k .front) (k .rest) c (snd .1 ++ (y ∷ m .rest)) (k .split) cut-c (ap (λ (h : Thread). h .history .done) (k .thread) ∙ n ∙ sym (snd .3))
 
     abbrev l : ℕ
     l = place (run SC σ a) y
@@ -299,11 +299,11 @@ module _ (σ : State) (reg : Regular σ) (v w : Schedule) (fv : FullFrom SC σ v
       go (no h) (no d) = omega arith
 
   -- TURNED ROUND: at the end the two threads are equal, and neither has written
-  pub turned-equal : threadOf (run SC σ w) y ≡ threadOf (run SC σ w) z
-  turned-equal = agree-all (count (run SC σ w) y) .same w [] w [] (sym (append-nil w)) (sym (append-nil w)) as-long (omega arith)
+  pub inverted-equal : threadOf (run SC σ w) y ≡ threadOf (run SC σ w) z
+  inverted-equal = agree-all (count (run SC σ w) y) .same w [] w [] (sym (append-nil w)) (sym (append-nil w)) as-long (omega arith)
 
-  pub turned-quiet : Quiet (run SC σ w) y × Quiet (run SC σ w) z
-  turned-quiet = (
+  pub inverted-quiet : Quiet (run SC σ w) y × Quiet (run SC σ w) z
+  inverted-quiet = (
     (λ l j m. let k = agree-all (suc j) .quiet-first l j m in omega arith),
     λ l j m. let k = agree-all (suc j) .quiet-second l j m in omega arith,
   )
