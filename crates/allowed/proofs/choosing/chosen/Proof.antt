@@ -28,8 +28,8 @@ abbrev μ-loop : tie.MeasureT-loop
 loop-holds : tie.Need-loop-holds Inv-loop μ-loop
 loop-holds c = (search needs, λ p g s W u h. absurd (omega arith))
 
-may-go-requires : tie.Need-may-go-requires Inv-loop μ-loop
-may-go-requires c κs = c .before .before .pre
+is-allowed-requires : tie.Need-is-allowed-requires Inv-loop μ-loop
+is-allowed-requires c κs = c .before .before .pre
 
 returns : tie.Need-returns Inv-loop μ-loop
 returns c =
@@ -53,4 +53,4 @@ returns-2 c =
     (search needs, λ p g s W. chosen-none (args .code .now) (args .lengths .now) (args .threads) (args .pairs) (args .places) p g (args .m) (args .counts) s W (loop .t) (c .loop-test .left) (loop .inv .1 p g s W))
 
 pub chosen-spec : {M : Type 1} → statement M
-chosen-spec = tie.close (tie.spec Inv-loop μ-loop loop-holds may-go-requires returns (λ c. search needs) (λ c. search needs) loop-again returns-2)
+chosen-spec = tie.close (tie.spec Inv-loop μ-loop loop-holds is-allowed-requires returns (λ c. search needs) (λ c. search needs) loop-again returns-2)

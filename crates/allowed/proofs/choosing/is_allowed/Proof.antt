@@ -43,5 +43,5 @@ returns-2 c =
     let step = c .before .before .step in
     λ p g s W. c .allowed .ensures g (locationOf p (values p g 24)) (run SC (start p) s) (args .t) (walk-drawn (args .code .now) (args .lengths .now) (args .threads) (args .pairs) (args .places) p g (args .m) (args .counts) s W) (walk-ordering (args .code .now) (args .lengths .now) (args .threads) (args .pairs) (args .places) p g (args .m) (args .counts) s W) (sym (enabled .ensures ∙ enabled-by (W .holds) (args .t)) ∙ not-false _ (if1 .left)) (walk-below (args .code .now) (args .lengths .now) (args .threads) (args .pairs) (args .places) p g (args .m) (args .counts) s W (args .t) (sym (enabled .ensures ∙ enabled-by (W .holds) (args .t)) ∙ not-false _ (if1 .left))) (step .ensures (run SC (start p) s) (W .holds) (sym (enabled .ensures ∙ enabled-by (W .holds) (args .t)) ∙ not-false _ (if1 .left)) (walk-near (args .code .now) (args .lengths .now) (args .threads) (args .pairs) (args .places) p g (args .m) (args .counts) s W (args .t) (sym (enabled .ensures ∙ enabled-by (W .holds) (args .t)) ∙ not-false _ (if1 .left))) .noted) (walk-unmarked (args .code .now) (args .lengths .now) (args .threads) (args .pairs) (args .places) p g (args .m) (args .counts) s W (args .t) (sym (enabled .ensures ∙ enabled-by (W .holds) (args .t)) ∙ not-false _ (if1 .left)) _ (step .ensures (run SC (start p) s) (W .holds) (sym (enabled .ensures ∙ enabled-by (W .holds) (args .t)) ∙ not-false _ (if1 .left)) (walk-near (args .code .now) (args .lengths .now) (args .threads) (args .pairs) (args .places) p g (args .m) (args .counts) s W (args .t) (sym (enabled .ensures ∙ enabled-by (W .holds) (args .t)) ∙ not-false _ (if1 .left))) .noted))
 
-pub may-go-spec : {M : Type 1} → statement M
-may-go-spec = tie.close (tie.spec (λ c κs. search needs) returns step-requires allowed-requires returns-2)
+pub is-allowed-spec : {M : Type 1} → statement M
+is-allowed-spec = tie.close (tie.spec (λ c κs. search needs) returns step-requires allowed-requires returns-2)

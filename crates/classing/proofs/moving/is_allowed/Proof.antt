@@ -20,5 +20,5 @@ returns-4 c =
     let args = entry .args in
     may-line (args .t1) (args .groups) (args .t) (args .u) (c .before .before .if1 .left) (entry .pre .0) (entry .pre .1) (c .before .if2 .left) (c .if3 .left)
 
-pub may-go-spec : {M : Type 1} → statement M
-may-go-spec = tie.close (tie.spec returns (λ c. search needs) (λ c. search needs) returns-2 returns-3 (λ c. search needs) (λ c. search needs) returns-4)
+pub is-allowed-spec : {M : Type 1} → statement M
+is-allowed-spec = tie.close (tie.spec returns (λ c. search needs) (λ c. search needs) returns-2 returns-3 (λ c. search needs) (λ c. search needs) returns-4)
