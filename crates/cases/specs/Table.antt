@@ -6,7 +6,6 @@ use mathlib.Core.Path.{_≡_, refl}
 use mathlib.Core.Bool.{Bool, true, false}
 use mathlib.Core.List.{List, [], _∷_}
 use lib.Dec.{eqb}
-use Rattle.lines.specs.Lists.{sameList}
 use Rattle.lines.specs.Digit.{lower, digit, value, digitOf}
 use Rattle.lines.specs.Frame.{hexadecimal, pairs, frame}
 use Rattle.lines.specs.Text.{digits, text}
@@ -40,7 +39,7 @@ use Rattle.cases.specs.Graphs.{Graph, neither, one, blank, carried, zero
 
 -- what a proof names to compute what is printed
 unfoldable pub computed : List ℕ → List ℕ
-unfolding computing seen lower digit value digitOf hexadecimal pairs frame digits text prepend before split remark spelt meaning kinds lookup kindOf word kind known registerFits locationFits skipFits operandFits inRange opens declares starts isAccess skipOf operand buildOwn build instruction fresh threadAt lastThread inPlace accessesIn allAccessesIn withinLimits isGiven valueAt startFits sameBytes sameList sameCode among grouped memberFits followersFit membersFit alikeFits frameRefusal after farSkip firstFarSkip programIn finish readLines decode accesses size accessesLeft movedEvent movedRead movedReads movedWrites together permits permitted sameEvent sameRead sameList renames alikeBy alike listOf failing countOf bytesOf flag scheduleFrame countFrame printedFrames textOf printed
+unfolding computing seen lower digit value digitOf hexadecimal pairs frame digits text prepend before split remark spelt meaning kinds lookup kindOf word kind known registerFits locationFits skipFits operandFits inRange opens declares starts isAccess skipOf operand buildOwn build instruction fresh threadAt lastThread inPlace accessesIn allAccessesIn withinLimits isGiven valueAt startFits sameBytes sameList sameCode among grouped memberFits followersFit membersFit alikeFits frameRefusal after farSkip firstFarSkip programIn finish readLines decode accesses size accessesLeft movedEvent movedRead movedReads movedWrites together permits permitted sameEvent sameRead renames alikeBy alike listOf failing countOf bytesOf flag scheduleFrame countFrame printedFrames textOf printed
 computed file = printed file
 
 -- a row: a program with its list, or a graph text with the judge's answer

@@ -49,16 +49,16 @@ schedule-lines-requires c κs =
     (few-rows (state r) (ready r) empty (rows r) (page r) wide (paged r), search needs)
 
 -- the lines of these schedules
-abbrev paged : (c : tie.After-slice-known2) → tie.After-next-page
-paged c = c .before .before .before .before .before .before .before
+abbrev asked-for : (c : tie.After-slice-known2) → tie.After-next-page
+asked-for c = c .before .before .before .before .before .before .before
 
 abbrev out : (c : tie.After-slice-known2) → List ℕ
 out c = c .before .before .before .before .before .before .before .before .before .before .before .args .out .now
 
-wrote : (c : tie.After-slice-known2) → (Wrote (map (scheduleFrame (programOf (state (paged c) .program))) (take 256 (left (state (paged c))))) (out c) (c .before .before .schedule-lines .last .0) (c .before .before .schedule-lines .result .length))
-    × (c .before .before .schedule-lines .result .failed ≡ length (filter (failing (programOf (state (paged c) .program))) (take 256 (left (state (paged c))))))
+wrote : (c : tie.After-slice-known2) → (Wrote (map (scheduleFrame (programOf (state (asked-for c) .program))) (take 256 (left (state (asked-for c))))) (out c) (c .before .before .schedule-lines .last .0) (c .before .before .schedule-lines .result .length))
+    × (c .before .before .schedule-lines .result .failed ≡ length (filter (failing (programOf (state (asked-for c) .program))) (take 256 (left (state (asked-for c))))))
 wrote c =
-    let r = paged c in
+    let r = asked-for c in
     c .before .before .schedule-lines .ensures (programOf (state r .program)) (take 256 (left (state r))) empty
     (shown-left (state r) (ready r) empty (rows r) (page r) wide (paged r)) (short-left (state r) (ready r))
 
@@ -67,14 +67,14 @@ room c = let h = wrote-within _ _ _ _ (wrote c .0) in omega (arith, h .0, h .1)
 
 add-listed : tie.Need-add-listed
 add-listed c =
-    let r = paged (c .before) in
+    let r = asked-for (c .before) in
     let h : state r .listed + page r .rows < 2 ^ 64 = listed-fits (state r) (ready r) empty (rows r) (page r) wide (paged r) in
     omega (arith, h)
 
 add-failed : tie.Need-add-failed
 add-failed c =
     let d = c .before .before in
-    let r = paged d in
+    let r = asked-for d in
     let h : state r .listed + page r .rows < 2 ^ 64 = listed-fits (state r) (ready r) empty (rows r) (page r) wide (paged r) in
     let k : state r .failed + d .before .before .schedule-lines .result .failed ≤ state r .listed + page r .rows =
     failed-fits (state r) (ready r) empty (rows r) (page r) wide (paged r) (d .before .before .schedule-lines .result .failed) (wrote d .1) in
@@ -101,7 +101,7 @@ returns : tie.Need-returns
 returns c =
     let d = c .before .before .before .before .before .before .before .before .before in
     let count-line = c .before .before .before .count-line in
-    let r = paged d in
+    let r = asked-for d in
     let s : Listing = state r in
     let xs : List ℕ = d .before .before .schedule-lines .last .0 in
     let ys : List ℕ = count-line .last .0 in
@@ -115,7 +115,7 @@ returns c =
 returns-2 : tie.Need-returns-2
 returns-2 c =
     let d = c .before .before .before .before in
-    let r = paged d in
+    let r = asked-for d in
     let q = d .before .before .before .before .before .before .before .before .before .before .before .pre in
     next-more (state r) (ready r) empty (rows r) (page r) wide (paged r) (sym (c .before .is-end .ensures) ∙ c .if1 .left) _ (d .before .before .schedule-lines .result .failed) (wrote d .1)
     refl refl refl refl (out d) (d .before .before .schedule-lines .last .0) (d .before .before .schedule-lines .result .length) (q .0) refl (q .2) (wrote d .0)
