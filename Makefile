@@ -16,6 +16,8 @@ SECONDS ?= 600
 CARGO = cargo
 QUIET = --quiet --release --offline --locked
 LIBRARY = target/staticlib/libtarczolin.a
+# the crates whose functions C and Rust call: their archives become one
+EXPORTED = tarczolin tarczolin_beside
 EXPLORER = target/bin/explorer
 SOURCES = crates.txt $(shell find crates -name '*.rt' -o -name '*.antt')
 VALGRIND = valgrind --quiet --error-exitcode=9 --leak-check=full --show-leak-kinds=definite --errors-for-leak-kinds=definite \
@@ -82,7 +84,10 @@ $(LIBRARY):
 	@install -D -m 644 $(LIBRARY_FROM) $(LIBRARY)
 else
 $(LIBRARY): $(SOURCES)
-	@rt staticlib tarczolin
+	@for crate in $(EXPORTED); do rt staticlib $$crate || exit 1; done
+	@rm -rf target/objects && mkdir target/objects
+	@cd target/objects && for crate in $(EXPORTED); do ar x ../staticlib/lib$$crate.a || exit 1; done
+	@rm $(LIBRARY) && ar rcs $(LIBRARY) target/objects/*.o
 endif
 
 $(EXPLORER): $(SOURCES)

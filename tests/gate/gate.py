@@ -204,9 +204,10 @@ def rust_lints(tally):
 
 def rust_tests(tally):
     library = TARGET / 'staticlib' / 'libtarczolin.a'
-    status, _ = run(['rt', 'staticlib', 'tarczolin'])
+    library.unlink(missing_ok=True)
+    status, _ = run(['make', '--no-print-directory', 'library'])
     if status != 0 or not library.is_file():
-        tally.fail('rt staticlib tarczolin made no library, so the Rust tests were not run')
+        tally.fail('make library made no library, so the Rust tests were not run')
         return
     if not (TARGET / 'bin' / 'explorer').is_file():
         tally.fail('rt ci left no target/bin/explorer for the Rust tests to run')

@@ -1,4 +1,4 @@
-//! Links the static library that `rt staticlib tarczolin` wrote.
+//! Links the static library that `make library` wrote.
 use std::path::Path;
 
 fn main() {

@@ -5,7 +5,7 @@ use Rattle.decoder.specs.declared.file.Answer.{Answer}
 use Rattle.decoder.specs.declared.file.Verdict.the-variants.{Accepted, Refused}
 use Rattle.program.specs.Decode.{Decoded}
 use Rattle.decoder.specs.Compiled.{answerOf, verdictOf}
-use Rattle.tarczolin.specs.Word as word
+use Rattle.words.specs.Word as word
 use Rattle.tarczolin.specs.Check.{checkReply}
 
 pub checked-accepted : (a : Answer) (d : Decoded) → answerOf a ≡ d → a .verdict ≡ Accepted → checkReply d ≡ word.answered 0

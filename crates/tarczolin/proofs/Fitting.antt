@@ -33,18 +33,13 @@ use Rattle.list.proofs.TheList.{list-exact}
 use Rattle.list.proofs.Answered.{Within, ViolationWithin, start-within, continue-within, violation-within}
 use Rattle.listing.specs.OnFile.{startOn, continueOn, violationOn, countOn, startFile, continueFile, violationFile, countFile}
 use Rattle.listing.specs.RowsCall.{fitting, rowsAnswerOf}
-use Rattle.tarczolin.specs.Word.{Fits}
+use Rattle.words.specs.Word.{Fits}
+use Rattle.words.proofs.Refusals.{refusal-fits}
 use Rattle.tarczolin.specs.Check.{checkReply}
 use Rattle.tarczolin.specs.Graphed.{graphReply}
 use Rattle.tarczolin.specs.Listed.{listed, violationReply}
 use Rattle.tarczolin.specs.Tallied.{countReply}
 use Rattle.tarczolin.specs.ByRows.{rowsReply}
-
--- a refusal of the program fits every call's word
-pub refusal-fits : (file : List ℕ) (n k : ℕ) → decode file ≡ refused n k → (n < 256) × (k < 2 ^ 48)
-refusal-fits file n k e =
-    let h = rw e at (decode-within file) in
-    (⊎-elim (λ (a : n ≤ 8). let z : n < 256 = omega arith in z) (λ (a : n ≡ 40). omega arith) (h .0), omega (arith, h .1))
 
 -- THE CHECK
 pub check-fits : (file : List ℕ) → Fits (checkReply (decode file))

@@ -6,7 +6,7 @@ use lib.ListN.{length}
 use Rattle.replay.specs.declared.graph_call.GraphAnswer.the-variants.{Written, Refused}
 use Rattle.sc.specs.GraphCall.{GraphResult, texted, refusing}
 use Rattle.replay.specs.GraphWord.{graphAnswerOf}
-use Rattle.tarczolin.specs.Word as word
+use Rattle.words.specs.Word as word
 use Rattle.tarczolin.specs.Graphed.{graphReply}
 
 pub graphed-written : (g : GraphResult) (n : ℕ) → graphAnswerOf g ≡ Written n → graphReply g ≡ word.answered n

@@ -14,10 +14,10 @@ use Rattle.list.specs.Answers.{Violation, fails-first, none-fails, refused-by}
 use Rattle.listing.specs.OnFile.{startFile, continueFile, violationFile}
 use Rattle.listing.specs.Demand3.{InFront}
 use Rattle.listing.proofs.Standing.{start-stands, continue-stands, violation-stands}
-use Rattle.tarczolin.specs.Word.{answered, wordOf, kindIn, restIn}
+use Rattle.words.specs.Word.{answered, wordOf, kindIn, restIn}
 use Rattle.tarczolin.specs.Graphed.{graphReply}
 use Rattle.tarczolin.specs.Listed.{listed, violationReply}
-use Rattle.tarczolin.proofs.Words.{kind-one}
+use Rattle.words.proofs.Words.{kind-one}
 use Rattle.tarczolin.proofs.Fitting.{GraphWithin, graph-within, graph-fits, start-fits, continue-fits, violation-fits}
 
 -- the word w says of this output what stands in front of it: a schedule, or a text

@@ -15,10 +15,10 @@ use Rattle.consistent.specs.Reading.{refusedAt, readGraph}
 use Rattle.consistent.specs.Answer.{Answer, consistent, inconsistent, refusing, outputAfter, Judgement, program-refused, output-refused, text-refused, judged-yes, judged-no}
 use Rattle.consistent.proofs.SmallRefusals.{Within, read-within}
 use Rattle.listing.specs.Demand3.{InFront}
-use Rattle.tarczolin.specs.Word.{answered, wordOf, Fits, kindIn, restIn}
+use Rattle.words.specs.Word.{answered, wordOf, Fits, kindIn, restIn}
 use Rattle.tarczolin.specs.Judged.{judged}
-use Rattle.tarczolin.proofs.Words.{Kinded, kinded-one}
-use Rattle.tarczolin.proofs.Fitting.{refusal-fits}
+use Rattle.words.proofs.Words.{Kinded, kinded-one}
+use Rattle.words.proofs.Refusals.{refusal-fits}
 
 -- a schedule has at most 24 steps, and is answered only where there is room for it
 abbrev pub JudgeWithin : List ℕ → ℕ → Answer → Type 0

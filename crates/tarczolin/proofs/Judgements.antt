@@ -6,7 +6,7 @@ use lib.ListN.{length}
 use Rattle.judge.specs.declared.answering.Outcome.the-variants.{Yes, No, Refused}
 use Rattle.consistent.specs.Answer.{Answer, consistent, inconsistent, refusing}
 use Rattle.judge.specs.Call.{outcomeOf}
-use Rattle.tarczolin.specs.Word as word
+use Rattle.words.specs.Word as word
 use Rattle.tarczolin.specs.Judged.{judged}
 
 pub judged-yes : (a : Answer) (n : ℕ) → outcomeOf a ≡ Yes n → judged a ≡ word.answered n

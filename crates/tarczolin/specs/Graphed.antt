@@ -1,7 +1,7 @@
 -- What the graph call says: answered, with the text's length, or the refusal.
 use lib.ListN.{length}
 use Rattle.sc.specs.GraphCall.{GraphResult, texted, refusing}
-use Rattle.tarczolin.specs.Word as word
+use Rattle.words.specs.Word as word
 
 unfoldable pub graphReply : GraphResult → word.Reply
 graphReply (texted t) = word.answered (length t)

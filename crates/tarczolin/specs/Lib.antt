@@ -1,14 +1,8 @@
 -- What a reader of this crate must believe, in reading order.
--- what a call says, and the word that says it
-pub mod Word
 -- what the check of a program file says
 pub mod Check
 -- what the graph call says
 pub mod Graphed
--- what the class call says
-pub mod Classed
--- and what it and the count call say together
-pub mod ClassSums
 -- what the judge says
 pub mod Judged
 -- what start, continue and violation say
@@ -17,7 +11,3 @@ pub mod Listed
 pub mod Tallied
 -- what the calls by rows say
 pub mod ByRows
--- what the call over two files says
-pub mod Against
--- who can force the failure
-pub mod Forced

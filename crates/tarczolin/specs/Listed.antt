@@ -4,7 +4,7 @@ use Rattle.schedules.specs.Calls.{Answer, found, nomore, refused}
 use Rattle.listing.specs.declared.calling.ListAnswer.{ListAnswer}
 use Rattle.listing.specs.declared.calling.ListAnswer.the-variants.{Found, NoMore, Refused}
 use Rattle.list.specs.Answers.{Violation, fails-first, none-fails, refused-by}
-use Rattle.tarczolin.specs.Word as word
+use Rattle.words.specs.Word as word
 
 -- start and continue
 unfoldable pub listed : Answer → word.Reply

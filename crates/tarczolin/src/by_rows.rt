@@ -1,12 +1,12 @@
 // Many listed schedules at a time.
-use crate::word::answered;
-use crate::word::refused;
+use words::answered;
+use words::refused;
 use listing::RowsAnswer;
 ghost use mathlib.Core.Path.{_≡_};
 ghost use mathlib.Core.Option.{none, some};
 ghost use Rattle.program.specs.Decode.{decode};
 ghost use Rattle.listing.specs.RowsCall.{rowsAnswerOf, rowsOutput};
-ghost use Rattle.tarczolin.specs.Word.{wordOf};
+ghost use Rattle.words.specs.Word.{wordOf};
 ghost use Rattle.tarczolin.specs.ByRows.{rowsReply};
 
 // The word of an answer.

@@ -1,10 +1,10 @@
 // Whether a file is a program.
-use crate::word::answered;
-use crate::word::refused;
+use words::answered;
+use words::refused;
 use decoder::Verdict;
 ghost use mathlib.Core.Path.{_≡_};
 ghost use Rattle.program.specs.Decode.{decode};
-ghost use Rattle.tarczolin.specs.Word.{wordOf};
+ghost use Rattle.words.specs.Word.{wordOf};
 ghost use Rattle.tarczolin.specs.Check.{checkReply};
 
 // Kind 1 for an accepted program, kind 3 with number and place for a refused file. The file is only read.

@@ -1,11 +1,11 @@
 // The graph of a schedule.
-use crate::word::answered;
-use crate::word::refused;
+use words::answered;
+use words::refused;
 use replay::GraphAnswer;
 ghost use mathlib.Core.Path.{_≡_};
 ghost use lib.ListN.{length};
 ghost use Rattle.sc.specs.GraphCall.{graphFile, graphOutput};
-ghost use Rattle.tarczolin.specs.Word.{wordOf};
+ghost use Rattle.words.specs.Word.{wordOf};
 ghost use Rattle.tarczolin.specs.Graphed.{graphReply};
 
 // Kind 1 with the text's length, the text in front of `out`; kind 3 with number and place, and no byte of `out` changed.

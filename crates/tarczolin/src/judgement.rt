@@ -1,12 +1,12 @@
 // Whether a graph can happen.
-use crate::word::answered;
-use crate::word::nothing;
-use crate::word::refused;
+use words::answered;
+use words::nothing;
+use words::refused;
 use judge::Outcome;
 ghost use mathlib.Core.Path.{_≡_};
 ghost use lib.ListN.{length};
 ghost use Rattle.consistent.specs.Answer.{Answer, Judgement, outputAfter};
-ghost use Rattle.tarczolin.specs.Word.{wordOf};
+ghost use Rattle.words.specs.Word.{wordOf};
 ghost use Rattle.tarczolin.specs.Judged.{judged};
 
 // Kind 1 for yes, with the least schedule in front of `out` and its length; kind 2 for no; kind 3 with number and place. Only a yes changes

@@ -1,11 +1,11 @@
 // Listed schedules: the first one, the next one, the first one that fails.
-use crate::word::answered;
-use crate::word::nothing;
-use crate::word::refused;
+use words::answered;
+use words::nothing;
+use words::refused;
 use listing::ListAnswer;
 ghost use mathlib.Core.Path.{_≡_};
 ghost use Rattle.listing.specs.OnFile.{startFile, continueFile, violationFile};
-ghost use Rattle.tarczolin.specs.Word.{wordOf};
+ghost use Rattle.words.specs.Word.{wordOf};
 ghost use Rattle.tarczolin.specs.Listed.{listed, violationReply, replyOf};
 
 // The word of an answer.

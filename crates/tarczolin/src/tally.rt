@@ -1,10 +1,10 @@
 // How many schedules are listed, and how many of these fail.
-use crate::word::answered;
-use crate::word::refused;
+use words::answered;
+use words::refused;
 use listing::CountAnswer;
 ghost use mathlib.Core.Path.{_≡_};
 ghost use Rattle.listing.specs.OnFile.{countFile};
-ghost use Rattle.tarczolin.specs.Word.{wordOf};
+ghost use Rattle.words.specs.Word.{wordOf};
 ghost use Rattle.tarczolin.specs.Tallied.{countReply, listedLater, failingLater};
 
 // Kind 1, with the two numbers in the words; kind 3 with number and place, and both words unchanged.

@@ -1,7 +1,7 @@
 -- `tarczolin_check` says what the decoder answers.
 use borrow.Author.Needs.{needs}
 use mathlib.Core.Path.{_∙_, ap, sym}
-use Rattle.tarczolin.specs.Word.{wordOf}
+use Rattle.words.specs.Word.{wordOf}
 use Rattle.tarczolin.proofs.Checked.{checked-accepted, checked-refused}
 use Rattle.tarczolin.proofs.check.tarczolin_check.Statement.{statement}
 use Rattle.tarczolin.proofs.check.tarczolin_check.Tie as tie

@@ -1,7 +1,7 @@
 -- `tarczolin_graph` says what the machine answers.
 use borrow.Author.Needs.{needs}
 use mathlib.Core.Path.{_∙_, ap, sym}
-use Rattle.tarczolin.specs.Word.{wordOf}
+use Rattle.words.specs.Word.{wordOf}
 use Rattle.tarczolin.proofs.Graphs.{graphed-written, graphed-refused}
 use Rattle.tarczolin.proofs.graph.tarczolin_graph.Statement.{statement}
 use Rattle.tarczolin.proofs.graph.tarczolin_graph.Tie as tie

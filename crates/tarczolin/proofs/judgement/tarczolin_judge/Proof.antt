@@ -1,7 +1,7 @@
 -- `tarczolin_judge` says what the judge answers.
 use borrow.Author.Needs.{needs}
 use mathlib.Core.Path.{_∙_, ap, sym}
-use Rattle.tarczolin.specs.Word.{wordOf}
+use Rattle.words.specs.Word.{wordOf}
 use Rattle.tarczolin.proofs.Judgements.{judged-yes, judged-no, judged-refused}
 use Rattle.tarczolin.proofs.judgement.tarczolin_judge.Statement.{statement}
 use Rattle.tarczolin.proofs.judgement.tarczolin_judge.Tie as tie

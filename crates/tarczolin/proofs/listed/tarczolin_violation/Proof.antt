@@ -2,7 +2,7 @@
 use borrow.Author.Needs.{needs}
 use mathlib.Core.Path.{_∙_, ap}
 use Rattle.listing.specs.declared.calling.ListAnswer.{ListAnswer}
-use Rattle.tarczolin.specs.Word.{wordOf}
+use Rattle.words.specs.Word.{wordOf}
 use Rattle.tarczolin.specs.Listed.{replyOf}
 use Rattle.tarczolin.proofs.ReplyOf.{word-violation}
 use Rattle.tarczolin.proofs.listed.tarczolin_violation.Statement.{statement}

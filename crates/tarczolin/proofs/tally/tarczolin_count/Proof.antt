@@ -1,7 +1,7 @@
 -- `tarczolin_count` says what the listing answers.
 use borrow.Author.Needs.{needs}
 use mathlib.Core.Path.{_∙_, ap, sym}
-use Rattle.tarczolin.specs.Word.{wordOf}
+use Rattle.words.specs.Word.{wordOf}
 use Rattle.tarczolin.proofs.Tallies.{tallied-counted, tallied-refused}
 use Rattle.tarczolin.proofs.tally.tarczolin_count.Statement.{statement}
 use Rattle.tarczolin.proofs.tally.tarczolin_count.Tie as tie

@@ -1,0 +1,12 @@
+// The calls for C and Rust beside those of the base, each with one word as answer.
+
+// How large a class is: tarczolin_class.
+mod class;
+// One program against another: tarczolin_covers.
+mod against;
+// Who can force the failure: tarczolin_force.
+mod forcing;
+
+pub use against::tarczolin_covers;
+pub use class::tarczolin_class;
+pub use forcing::tarczolin_force;

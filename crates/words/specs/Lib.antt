@@ -1,0 +1,3 @@
+-- What a reader of this crate must believe.
+-- what a call says, and the word that says it
+pub mod Word
