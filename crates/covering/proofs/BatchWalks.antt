@@ -2,8 +2,7 @@
 use Prim.Native.Nat.{ℕ, suc, _+_, _/_, _<_, _≤_}
 use mathlib.Core.Path.{_≡_, refl, sym, ap, ap₂, subst, _∙_}
 use mathlib.Core.Bool.{Bool, true, false, cond}
-use mathlib.Core.Option.{Option, some}
-use mathlib.Core.List.{List, [], _∷_, _++_, append-nil, append-assoc, List·Memᴰ, List·Memᴰ·not-nil, Memᴰ·append-left}
+use mathlib.Core.List.{List, [], _∷_, _++_, append-nil, append-assoc, List·Memᴰ, Memᴰ·append-left}
 use native.Mathlib.Omega.{arith}
 use lib.ListN.{length, getD, set, take, drop, length-take, take-append-drop}
 use lib.Seq.{take-suc, take-all}
@@ -11,19 +10,17 @@ use Rattle.program.specs.Program.{Program}
 use Rattle.program.specs.WellFormed.{WellFormed}
 use Rattle.schedules.specs.Lists.{any, find}
 use Rattle.schedules.specs.Order.{Schedule}
-use Rattle.schedules.proofs.After.{of-after}
+use Rattle.list.specs.Answers.{failing}
 use Rattle.list.specs.ListOf.{listOf}
 use Rattle.list.specs.Search.{sought}
 use Rattle.outcomes.specs.declared.outcome.Outcome.{Outcome}
 use Rattle.outcomes.specs.Covers.{outcomeOf}
 use Rattle.outcomes.specs.Same.{comesTo}
-use Rattle.walker.specs.declared.cursor.Position.{Position}
-use Rattle.walker.specs.declared.cursor.Position.the-variants.{Beginning, Behind, End}
-use Rattle.walker.specs.declared.cursor.Cursor.{Cursor}
-use Rattle.walker.specs.declared.paging.Page.{Page}
-use Rattle.walker.specs.Cursor.{from, remaining, isEnd, pages, Paged}
-use Rattle.walker.proofs.PageLaws.{page-split, page-size, page-less}
-use Rattle.walker.proofs.CursorLaws.{remaining-end}
+use Rattle.pages.specs.declared.cursor.Cursor.{Cursor}
+use Rattle.pages.specs.declared.cursor.Page.{Page}
+use Rattle.walker.specs.Cursor.{remaining, isEnd, pages, Paged}
+use Rattle.pages.proofs.PageLaws.{page-split, page-size, page-less}
+use Rattle.pages.proofs.CursorLaws.{from-end, of-from}
 use Rattle.covering.specs.declared.batch.Found.{Found}
 use Rattle.covering.specs.declared.batch.Batch.{Batch}
 use Rattle.covering.specs.declared.collecting.Collected.{Collected}
@@ -106,19 +103,14 @@ gathering-over p rows n a b k g h ss r = record {
 -- ---- the list walked
 -- what a cursor has yet to come is listed
 pub remaining-listed : (p : Program) (c : Cursor) (s : Schedule) → List·Memᴰ s (remaining p false c) → List·Memᴰ s (listOf p)
-unfolding remaining from sought
-remaining-listed p c s m = go (c .position) m
-  where
-    go : (g : Position) → List·Memᴰ s (from g (take (c .steps) (c .schedule)) (sought false p)) → List·Memᴰ s (listOf p)
-    go Beginning q = q
-    go Behind q = of-after (some (take (c .steps) (c .schedule))) (listOf p) s q
-    go End q = absurd (List·Memᴰ·not-nil q)
+unfolding sought
+remaining-listed p c s m = of-from (sought false p) c s m
 
 of-take : (n : ℕ) (l : List Schedule) (s : Schedule) → List·Memᴰ s (take n l) → List·Memᴰ s l
 of-take n l s m = subst (List·Memᴰ s) (take-append-drop n l) (Memᴰ·append-left (drop n l) m)
 
 ended-pages : (p : Program) (c : Cursor) → isEnd (c .position) ≡ true → pages p false c ≡ 0
-ended-pages p c e = ap₂ (λ (l : List Schedule) (b : Bool). length l + cond b 0 1) (remaining-end p false c e) e
+ended-pages p c e = ap₂ (λ (l : List Schedule) (b : Bool). length l + cond b 0 1) (from-end (sought false p) c e) e
 
 some-pages : (p : Program) (c : Cursor) → isEnd (c .position) ≡ false → pages p false c ≡ length (remaining p false c) + 1
 some-pages p c e = ap (λ (b : Bool). length (remaining p false c) + cond b 0 1) e
@@ -183,7 +175,7 @@ module _ (p : Program) (c : Cursor) (rows : List ℕ) (b : Batch) (d : Cursor) (
   collecting-64 = omega (arith, page .shown .counted, length-take (length rows / 26) (remaining p false d), page-room)
 
   pub collecting-size : length rows' ≡ 1664
-  collecting-size = page-size p false d rows rows' r page ∙ k .size
+  collecting-size = page-size 24 (failing p) (sought false p) d rows rows' r page ∙ k .size
 
   pub collecting-rows : Rows p shown-now rows' (r .rows)
   collecting-rows = record {
@@ -194,7 +186,7 @@ module _ (p : Program) (c : Cursor) (rows : List ℕ) (b : Batch) (d : Cursor) (
   }
 
   pub collecting-less : isEnd (d .position) ≡ false → pages p false (r .cursor) < pages p false d
-  collecting-less e = page-less p false d rows rows' r page (omega (arith, page-room)) e
+  collecting-less e = page-less 24 (failing p) (sought false p) d rows rows' r page (omega (arith, page-room)) e
 
   pub collecting-next : isEnd (d .position) ≡ false → b .size ≤ 64 → (b' : Batch)
       → ((ss : List Schedule) → Rows p ss rows' (r .rows) → Gathers p ss b b') → Collecting p c rows' b' (r .cursor)
@@ -209,7 +201,7 @@ module _ (p : Program) (c : Cursor) (rows : List ℕ) (b : Batch) (d : Cursor) (
         schedules = x .0;
         held = x .1;
         firsts = λ f y.
-            k .firsts f y ∙ ap (λ (l : List Schedule). find f (k .schedules ++ l)) (page-split p false d rows rows' r page)
+            k .firsts f y ∙ ap (λ (l : List Schedule). find f (k .schedules ++ l)) (page-split 24 (failing p) (sought false p) d rows rows' r page)
             ∙ ap (find f) (sym (append-assoc (k .schedules) shown-now rest)) ∙ x .2 f y rest;
         back = omega (arith, k .back, collecting-less e);
         onward = λ h. omega (arith, k .back, collecting-less e);

@@ -19,9 +19,9 @@ use Rattle.outcomes.specs.Covers.{outcomeOf}
 use Rattle.outcomes.specs.Answer.{Answer, covered, lacking, first-refused, second-refused, output-refused, Accepted, Comparison, by-first, by-second, by-output, outputAfter}
 use Rattle.outcomes.proofs.Attained.{attained, lacksOf, lacks-same}
 use Rattle.outcomes.proofs.Comparisons.{answerBy, compared}
-use Rattle.walker.specs.declared.cursor.Cursor.{Cursor}
+use Rattle.pages.specs.declared.cursor.Cursor.{Cursor}
 use Rattle.walker.specs.Cursor.{remaining, isEnd}
-use Rattle.walker.proofs.CursorLaws.{remaining-end}
+use Rattle.pages.proofs.CursorLaws.{from-end}
 use Rattle.covering.specs.declared.covers_call.CoversAnswer.{CoversAnswer}
 use Rattle.covering.specs.declared.covers_call.CoversAnswer.the-variants.{Covered, Lacking, RefusedFirst, RefusedSecond, RefusedOutput}
 use Rattle.covering.specs.declared.batch.Found.{Found}
@@ -51,7 +51,7 @@ module _ (p q : Program) where
   to-come-start c e = ap (find (lacksOf p q)) (sym e)
 
   pub to-come-end : (c : Cursor) → ToCome p q c → isEnd (c .position) ≡ true → find (lacksOf p q) (listOf q) ≡ none
-  to-come-end c t e = t ∙ ap (find (lacksOf p q)) (remaining-end q false c e) ∙ find-none (lacksOf p q) [] (λ s m. absurd (List·Memᴰ·not-nil m))
+  to-come-end c t e = t ∙ ap (find (lacksOf p q)) (from-end (sought false q) c e) ∙ find-none (lacksOf p q) [] (λ s m. absurd (List·Memᴰ·not-nil m))
 
   module _ (c : Cursor) (t : ToCome p q c) (r : Collected) (x : Collects q c r) (k : ℕ) (l : Lacks p q (x .schedules) k) where
     whole : find (lacksOf p q) (listOf q) ≡ find (lacksOf p q) (x .schedules ++ remaining q false (r .cursor))

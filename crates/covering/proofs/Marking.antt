@@ -18,9 +18,9 @@ use Rattle.outcomes.specs.declared.outcome.Outcome.{Outcome}
 use Rattle.outcomes.specs.Covers.{outcomeOf}
 use Rattle.outcomes.specs.Same.{comesTo}
 use Rattle.outcomes.proofs.Attained.{comes-same}
-use Rattle.walker.specs.declared.cursor.Cursor.{Cursor}
+use Rattle.pages.specs.declared.cursor.Cursor.{Cursor}
 use Rattle.walker.specs.Cursor.{remaining, isEnd}
-use Rattle.walker.proofs.CursorLaws.{remaining-end}
+use Rattle.pages.proofs.CursorLaws.{from-end}
 use Rattle.covering.specs.declared.batch.Batch.{Batch}
 use Rattle.covering.specs.declared.collecting.Collected.{Collected}
 use Rattle.covering.specs.Batches.{nothing, Held, Collects, Marks, Lacks}
@@ -148,5 +148,5 @@ attaining-end p wanted marks c k e j f q ss a = record {
     marked : (i : ℕ) → i < wanted .size → met p q ss (listOf p) i ≡ getD marks i false
     marked i h =
         k .all q ss a i h ∙ ap (λ (b : Bool). getD marks i false || b)
-        (ap (λ (l : List Schedule). met p q ss l i) (remaining-end p false c e) ∙ any-nil (comesTo p (outcomeOf q (getD ss i []))))
+        (ap (λ (l : List Schedule). met p q ss l i) (from-end (sought false p) c e) ∙ any-nil (comesTo p (outcomeOf q (getD ss i []))))
         ∙ or-false (getD marks i false)

@@ -12,7 +12,7 @@ use Rattle.list.specs.ListOf.{listOf}
 use Rattle.outcomes.specs.declared.outcome.Outcome.{Outcome}
 use Rattle.outcomes.specs.Covers.{outcomeOf}
 use Rattle.outcomes.specs.Same.{comesTo}
-use Rattle.walker.specs.declared.cursor.Cursor.{Cursor}
+use Rattle.pages.specs.declared.cursor.Cursor.{Cursor}
 use Rattle.walker.specs.Rows.{Shown}
 use Rattle.walker.specs.Cursor.{remaining, isEnd, pages}
 use Rattle.covering.specs.declared.batch.Found.{Found}

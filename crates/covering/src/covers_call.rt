@@ -2,9 +2,9 @@
 use crate::collecting::collect;
 use crate::lacking::first_lacking;
 use decoder::Compiled;
+use pages::beginning;
+use pages::is_end;
 use program::STEPS;
-use walker::beginning;
-use walker::is_end;
 ghost use mathlib.Core.Path.{_≡_};
 ghost use mathlib.Core.List.{List};
 ghost use Prim.Native.Nat.{ℕ, _≤_};

@@ -1,20 +1,19 @@
 -- The calls that give a schedule, way by way.
-use Prim.Native.Nat.{ℕ, _/_, _<_, _≤_}
-use mathlib.Core.Path.{_≡_, refl, sym, ap, ap₂, subst, _∙_}
+use Prim.Native.Nat.{ℕ, _<_, _≤_}
+use mathlib.Core.Path.{_≡_, sym, ap, _∙_}
 use mathlib.Core.Bool.{Bool, true, false}
-use mathlib.Core.List.{List, List·Memᴰ, List·Memᴰ·head}
+use mathlib.Core.List.{List}
 use mathlib.Core.Option.{Option, none, some}
-use lib.ListN.{length, getD, take, drop}
+use lib.ListN.{length}
 use borrow.Author.Tests.{lt-ltb, le-ltb}
 use Rattle.program.specs.Program.{Program}
-use Rattle.program.specs.WellFormed.{WellFormed}
 use Rattle.program.specs.Decode.{Decoded, accepted, decode}
 use Rattle.program.specs.Decode as File
 use Rattle.schedules.specs.Lists.{filter, find, headOf}
 use Rattle.schedules.specs.Order.{Schedule}
-use Rattle.schedules.specs.Calls.{Answer, found, nomore, refused, answerTo, short, content, Result}
+use Rattle.schedules.specs.Calls.{Answer, refused, answerTo, short, content}
 use Rattle.schedules.specs.Found.{after}
-use Rattle.schedules.proofs.First.{head-cons, head-filter}
+use Rattle.schedules.proofs.First.{head-filter}
 use Rattle.schedules.proofs.After.{after-none, offer-after}
 use Rattle.schedules.proofs.Offered as Offered
 use Rattle.schedules.proofs.Offered.{content-found, content-nomore, content-refused}
@@ -28,49 +27,11 @@ use Rattle.listing.specs.OnFile.{startOn, startFile, continueOn, continu
 use Rattle.listing.specs.AnswerOf.{listAnswerOf, violationAnswerOf}
 use Rattle.list.specs.ListOf.{listOf}
 use Rattle.list.specs.Search.{sought}
-use Rattle.walker.specs.declared.cursor.Cursor.{Cursor}
-use Rattle.walker.specs.Rows.{rowOf, Shown}
-use Rattle.walker.specs.Cursor.{remaining}
-use Rattle.walker.proofs.RowsRead.{row-steps, row-steps-count}
-use Rattle.walker.proofs.CursorLaws.{remaining-24}
-use Rattle.listing.proofs.FirstRow.{First, first-some}
+use Rattle.pages.proofs.Answered.{unchanged}
 
 -- an answer is said, and the output is what it leaves
 abbrev pub Says : ListAnswer → List ℕ → Answer → List ℕ → Type 0
 Says r out' a out = (r ≡ listAnswerOf a) × (out' ≡ content a out)
-
--- ---- the first one
-module _ (out : List ℕ) (o : Option Schedule) where
-  pub answer-short : length out < 24 → answerTo (short 24 out) o ≡ refused 22 0
-  answer-short h = ap (λ (b : Bool). answerTo b o) (lt-ltb (length out) 24 h) ∙ Offered.answer-short o
-
-  pub answer-none : 24 ≤ length out → o ≡ none → answerTo (short 24 out) o ≡ nomore
-  answer-none h e = ap₂ answerTo (le-ltb (length out) 24 h) e ∙ Offered.answer-none
-
-  pub answer-some : (s : Schedule) → 24 ≤ length out → o ≡ some s → answerTo (short 24 out) o ≡ found s
-  answer-some s h e = ap₂ answerTo (le-ltb (length out) 24 h) e ∙ Offered.answer-some s
-
--- what is read off the row of the first of a list
-module _ (p : Program) (held row : List ℕ) (rows : ℕ) (size : length held ≡ 26) (failures : Bool) (c : Cursor) (w : WellFormed p)
-    (nonzero : (rows ≡ 0) → ⊥) (shown : Shown p (take (length held / 26) (remaining p failures c)) held row rows) where
-  abbrev here : First p held row rows size (remaining p failures c)
-  here = first-some p held row rows size (remaining p failures c) nonzero shown
-
-  pub first-24 : length (here .schedule) ≤ 24
-  first-24 = remaining-24 p failures c w (here .schedule) (subst (λ (l : List Schedule). List·Memᴰ (here .schedule) l) (sym (here .is)) (List·Memᴰ·head refl))
-
-  pub first-head : headOf (remaining p failures c) ≡ some (here .schedule)
-  first-head = ap headOf (here .is) ∙ head-cons (here .schedule) (here .rest)
-
-  pub first-length : (n : ℕ) → n ≡ getD row 0 0 → n ≡ length (here .schedule)
-  unfolding rowOf
-  first-length n e = e ∙ ap (λ (b : List ℕ). getD b 0 0) (here .bytes) ∙ row-steps-count (here .schedule) (failing p (here .schedule))
-
-  pub first-steps : (n : ℕ) → n ≡ getD row 0 0 → take n (drop 2 row) ≡ here .schedule
-  unfolding rowOf
-  first-steps n e =
-      ap (λ (k : ℕ). take k (drop 2 row)) (first-length n e) ∙ ap (λ (b : List ℕ). take (length (here .schedule)) (drop 2 b)) (here .bytes)
-      ∙ row-steps (here .schedule) (failing p (here .schedule)) first-24
 
 -- ---- start, on a file
 module _ (file out : List ℕ) where
@@ -97,10 +58,6 @@ module _ (file out : List ℕ) where
     pub start-output : decode file ≡ accepted p → content (answerTo (short 24 out) (headOf l)) out ≡ startFile file out .1
     unfolding startOn startOf
     start-output e = ap (λ (a : Answer). content a out) start-answer ∙ ap (λ (d : Decoded). startOn d out .1) (sym e)
-
--- a refusal changes no byte of the output
-unchanged : (n k : ℕ) (out : List ℕ) → _≡_ {A = Result} (refused n k, content (refused n k) out) (refused n k, out)
-unchanged n k out = ap {B = Result} (λ (l : List ℕ). (refused n k, l)) (content-refused n k out)
 
 -- ---- continue, on a program
 module _ (p : Program) (s : Schedule) (out : List ℕ) where
@@ -135,13 +92,13 @@ module _ (file s out : List ℕ) where
   continue-file-refused n k e = ap (λ (d : Decoded). continueOn d s out) e ∙ unchanged n k out
 
 -- ---- violation
-same-violation-answer : (b : Bool) (o : Option Schedule) → listAnswerOf (answerTo b o) ≡ violationAnswerOf (violationBy b o)
+pub same-violation-answer : (b : Bool) (o : Option Schedule) → listAnswerOf (answerTo b o) ≡ violationAnswerOf (violationBy b o)
 unfolding listAnswerOf violationAnswerOf violationBy
 same-violation-answer true o = ap listAnswerOf (Offered.answer-short o)
 same-violation-answer false none = ap listAnswerOf Offered.answer-none
 same-violation-answer false (some s) = ap listAnswerOf (Offered.answer-some s)
 
-same-content : (b : Bool) (o : Option Schedule) (out : List ℕ) → content (answerTo b o) out ≡ violationContent (violationBy b o) out
+pub same-content : (b : Bool) (o : Option Schedule) (out : List ℕ) → content (answerTo b o) out ≡ violationContent (violationBy b o) out
 unfolding violationContent violationBy
 same-content true o out = ap (λ (a : Answer). content a out) (Offered.answer-short o) ∙ content-refused 22 0 out
 same-content false none out = ap (λ (a : Answer). content a out) Offered.answer-none ∙ content-nomore out

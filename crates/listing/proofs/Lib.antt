@@ -3,12 +3,8 @@
 pub mod Standing
 -- demand 3 holds
 pub mod Demand3
--- the first row of a page, read back
-pub mod FirstRow
 -- the calls that give a schedule, way by way
 pub mod FileCalls
--- the list counted by pieces
-pub mod CountedRows
 -- what count says of a program file
 pub mod CountCalled
 -- the calls by rows, way by way

@@ -12,8 +12,8 @@ use Rattle.schedules.specs.Found.{after}
 use Rattle.list.specs.Search.{sought}
 use Rattle.listing.specs.declared.row_calls.RowsAnswer.{RowsAnswer}
 use Rattle.listing.specs.declared.row_calls.RowsAnswer.the-variants.{Written, Refused}
-use Rattle.walker.specs.declared.cursor.Cursor.{Cursor}
-use Rattle.walker.specs.declared.paging.Page.{Page}
+use Rattle.pages.specs.declared.cursor.Cursor.{Cursor}
+use Rattle.pages.specs.declared.cursor.Page.{Page}
 use Rattle.walker.specs.Rows.{Shown}
 use Rattle.walker.specs.Cursor.{remaining, Paged}
 use Rattle.listing.specs.RowsCall.{fitting, rowsAnswerOf, rowsOutput}

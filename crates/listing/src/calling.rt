@@ -1,18 +1,16 @@
 // The calls that give a schedule: start, continue, violation.
 use decoder::Compiled;
 use lines::wide;
+use pages::Cursor;
+use pages::beginning;
+use pages::behind;
+use pages::put_schedule;
 use program::STEPS;
 use replay::Verdict;
 use replay::replayed;
-use walker::Cursor;
 use walker::ROW;
-use walker::beginning;
-use walker::behind;
 use walker::next_page;
 ghost use mathlib.Core.Path.{_≡_};
-ghost use Prim.Native.Nat.{_+_, _≤_};
-ghost use lib.ListN.{length, take, drop};
-ghost use Rattle.lines.specs.Over.{over};
 ghost use Rattle.program.specs.WellFormed.{WellFormed};
 ghost use Rattle.decoder.specs.Compiled.{programOf};
 ghost use Rattle.schedules.specs.Lists.{headOf};
@@ -29,18 +27,6 @@ pub enum ListAnswer {
     NoMore,
     // The refusal's number and place.
     Refused(u8, usize),
-}
-
-// Copies the n steps of a row to the front of the output.
-fn put_schedule(out: &mut [u8], row: &[u8; ROW], n: usize)
-    requires { ⌜ (n ≤ 24) × (24 ≤ length (now out)) × (length (now row) ≡ 26) ⌝ }
-    ensures { λ r. ⌜ now (out .exit) ≡ over (take n (drop 2 (now (row .entry)))) (now (out .entry)) ⌝ }
-{
-    let mut k = 0;
-    while k < n {
-        out[k] = row[k + 2];
-        k += 1;
-    }
 }
 
 // The first one that is yet to come, of all that are listed or of those that fail.

@@ -1,6 +1,6 @@
 // Listed schedules of a program file by rows: from the first one on, or behind a schedule.
-use walker::beginning;
-use walker::behind;
+use pages::beginning;
+use pages::behind;
 use walker::next_page;
 ghost use mathlib.Core.Path.{_≡_};
 ghost use mathlib.Core.Option.{none, some};

@@ -19,7 +19,7 @@ use Rattle.sc.proofs.Lawful.{fits-64-bits}
 use Rattle.list.specs.ListOf.{listOf}
 use Rattle.list.specs.Answers.{failing, Counts, countOf}
 use Rattle.list.specs.Search.{sought}
-use Rattle.walker.specs.Cursor.{remaining}
+use Rattle.pages.specs.Cursor.{from}
 use Rattle.listing.specs.Printed.{scheduleFrame, countFrame, printedFrames, printed}
 use Rattle.list.proofs.TheList.{list-length}
 use Rattle.decoder.proofs.Decoded.{decoded-refused, decoded-accepted, decoded-well-formed}
@@ -40,13 +40,13 @@ module _ (file : List ℕ) (a : Answer) (s : Listing) (e : answerOf a ≡ decode
 
   -- an accepted one
   module _ (v : a .verdict ≡ File.Accepted) (program : s .program ≡ a .program) (listed : s .listed ≡ 0) (failed : s .failed ≡ 0)
-      (all : (p : Program) (only : Bool) → remaining p only (s .cursor) ≡ sought only p) where
+      (all : (l : List Schedule) → from (s .cursor) l ≡ l) where
     abbrev p : Program
     p = programOf (a .program)
 
     left-all : left s ≡ listOf p
     unfolding left sought
-    left-all = all (programOf (s .program)) false ∙ ap (λ (c : Compiled). listOf (programOf c)) program
+    left-all = all (sought false (programOf (s .program))) ∙ ap (λ (c : Compiled). listOf (programOf c)) program
 
     counts-all : counts s ≡ countOf p
     unfolding counts countOf

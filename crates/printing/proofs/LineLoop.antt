@@ -21,10 +21,11 @@ use Rattle.sc.specs.Text.{textOf}
 use Rattle.graph_writer.specs.NoteText.{Wrote}
 use Rattle.graph_writer.proofs.WrittenLines.{wrote-one, wrote-more}
 use Rattle.list.specs.Answers.{failing, Counts}
-use Rattle.walker.specs.Rows.{rowBytes, rowOf, Shown}
+use Rattle.pages.specs.Rows.{rowOf}
+use Rattle.walker.specs.Rows.{rowBytes, Shown}
 use Rattle.listing.specs.Printed.{bytesOf, scheduleFrame, countFrame, printedFrames}
 use Rattle.printing.specs.Pieces.{Short}
-use Rattle.walker.proofs.RowsRead.{row-shown}
+use Rattle.pages.proofs.RowsRead.{row-shown}
 use Rattle.printing.proofs.RowText.{row-failed, frame-is}
 
 -- ---- one line
@@ -60,7 +61,7 @@ module _ (p : Program) (ss : List Schedule) where
   lines-more held rows out xs ys row n k at m failed w short h so e line =
       let s : Schedule = getD ss k [] in
       let b : k < length ss = omega (arith, w .counted) in
-      let r : row ≡ rowBytes s (failing p s) = e ∙ row-shown p ss held rows n w k h in
+      let r : row ≡ rowBytes s (failing p s) = e ∙ row-shown 24 (failing p) ss held rows n w k h in
       let wrote = line s (failing p s) r (everywhere-getD (λ s. length s ≤ 24) ss k [] short (omega arith)) in (
         wrote-more (map (scheduleFrame p) (take k ss)) (scheduleFrame p s ∷ []) (map (scheduleFrame p) (take (k + 1) ss)) out xs ys at m (next-frames k b) (so .0)
             (subst (λ (f : List ℕ). Wrote (f ∷ []) (midOf at (length xs - at) xs) ys m) (frame-is p s) wrote),

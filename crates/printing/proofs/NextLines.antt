@@ -20,12 +20,14 @@ use Rattle.sc.specs.Text.{textOf}
 use Rattle.graph_writer.specs.NoteText.{Wrote}
 use Rattle.graph_writer.proofs.WrittenLines.{wrote-whole, wrote-more}
 use Rattle.list.specs.Answers.{failing, Counts}
-use Rattle.walker.specs.declared.cursor.Cursor.{Cursor}
-use Rattle.walker.specs.declared.paging.Page.{Page}
+use Rattle.list.specs.Search.{sought}
+use Rattle.pages.specs.declared.cursor.Cursor.{Cursor}
+use Rattle.pages.specs.declared.cursor.Page.{Page}
 use Rattle.walker.specs.Rows.{Shown}
 use Rattle.walker.specs.Cursor.{remaining, isEnd, Paged}
-use Rattle.walker.proofs.CursorLaws.{remaining-24, remaining-end}
-use Rattle.walker.proofs.PageLaws.{page-split}
+use Rattle.walker.proofs.Pages.{remaining-24}
+use Rattle.pages.proofs.CursorLaws.{from-end}
+use Rattle.pages.proofs.PageLaws.{page-split}
 use Rattle.listing.specs.Printed.{scheduleFrame, countFrame, printedFrames}
 use Rattle.printing.specs.declared.pieces.Stage.{Stage}
 use Rattle.printing.specs.declared.pieces.Stage.the-variants.{Refused, Walking, Ended}
@@ -79,7 +81,7 @@ pub short-left : (s : Listing) → Ready s → Short (take 256 (left s))
 unfolding left
 short-left s r =
     let l : List Schedule = remaining (programOf (s .program)) false (s .cursor) in
-    everywhere-take (λ x. length x ≤ 24) 256 l (everywhere-all (λ x. length x ≤ 24) l (remaining-24 (programOf (s .program)) false (s .cursor) (r .wellFormed)))
+    everywhere-take (λ x. length x ≤ 24) 256 l (everywhere-all (λ x. length x ≤ 24) l (remaining-24 (programOf (s .program)) (r .wellFormed) false (s .cursor)))
 
 module _ (s : Listing) (r : Ready s) (held rows : List ℕ) (page : Page) (size : length held ≡ 6656)
     (paged : Paged (programOf (s .program)) false (s .cursor) held rows page) where
@@ -104,7 +106,7 @@ module _ (s : Listing) (r : Ready s) (held rows : List ℕ) (page : Page) (size 
   split-left : left s ≡ next256 ++ remaining p false (page .cursor)
   unfolding left
   split-left =
-      page-split p false (s .cursor) held rows page paged
+      page-split 24 (failing p) (sought false p) (s .cursor) held rows page paged
       ∙ ap (λ (k : ℕ). take k (remaining p false (s .cursor)) ++ remaining p false (page .cursor)) most
 
   pub few-rows : n ≤ 256
@@ -123,7 +125,7 @@ module _ (s : Listing) (r : Ready s) (held rows : List ℕ) (page : Page) (size 
 
   -- at the end these are all that are left, and the counts come behind them
   all-left : isEnd (page .cursor .position) ≡ true → next256 ≡ left s
-  all-left e = sym (split-left ∙ ap (λ (l : List Schedule). next256 ++ l) (remaining-end p false (page .cursor) e) ∙ append-nil next256)
+  all-left e = sym (split-left ∙ ap (λ (l : List Schedule). next256 ++ l) (from-end (sought false p) (page .cursor) e) ∙ append-nil next256)
 
   pub next-counts : (s' : Listing) (out xs ys : List ℕ) (at m failed : ℕ) → s .stage ≡ Walking → s' .stage ≡ Ended → 13603 ≤ length out → isEnd (page .cursor .position) ≡ true
       → Wrote (map (scheduleFrame p) next256) out xs at → failed ≡ length (filter (failing p) next256)

@@ -11,23 +11,24 @@ use Rattle.lines.proofs.Over.{over-whole}
 use Rattle.program.specs.Program.{Program}
 use Rattle.schedules.specs.Order.{Schedule}
 use Rattle.list.specs.Answers.{failing}
+use Rattle.pages.specs.Rows as Pages
 use Rattle.walker.specs.Rows.{rowBytes}
 use Rattle.listing.specs.Printed.{flag, scheduleFrame}
-use Rattle.walker.proofs.RowsRead.{row-steps}
+use Rattle.pages.proofs.RowsRead.{row-steps}
 
 -- ---- one row
 -- with 50 in place of the number of steps
 pub row-frame : (s : Schedule) (f : Bool) (row : List ℕ) (n : ℕ) → row ≡ rowBytes s f → length s ≤ 24 → n ≡ length s → take (n + 2) (set row 0 0x50) ≡ 0x50 ∷ cond f 1 0 ∷ s
-unfolding rowBytes
+unfolding Pages.rowBytes
 row-frame s f row n e h c =
     let k : n + 2 ≡ suc (suc n) = omega arith in
     ap (λ (j : ℕ). take j (set row 0 0x50)) k
     ∙ ap₂ (λ (m : ℕ) (l : List ℕ). take (suc (suc m)) (set l 0 0x50)) c e
-    ∙ ap (λ (l : List ℕ). 0x50 ∷ cond f 1 0 ∷ l) (row-steps s f h)
+    ∙ ap (λ (l : List ℕ). 0x50 ∷ cond f 1 0 ∷ l) (row-steps 24 s f h)
 
 -- whether the schedule fails
 pub row-failed : (s : Schedule) (f : Bool) (row : List ℕ) → row ≡ rowBytes s f → getD row 1 0 ≡ cond f 1 0
-unfolding rowBytes
+unfolding Pages.rowBytes
 row-failed s f row e = ap (λ (l : List ℕ). getD l 1 0) e
 
 flagged : (f : Bool) → flag f ≡ cond f 1 0

@@ -4,17 +4,16 @@ use crate::frames::refusal_line;
 use crate::frames::schedule_lines;
 use decoder::Compiled;
 use decoder::Verdict;
-use walker::Cursor;
-use walker::beginning;
-use walker::is_end;
+use pages::Cursor;
+use pages::beginning;
+use pages::is_end;
 use walker::next_page;
 ghost use mathlib.Core.Path.{_≡_};
-ghost use mathlib.Core.Bool.{Bool};
+ghost use mathlib.Core.List.{List};
 ghost use Prim.Native.Nat.{_≤_};
 ghost use lib.ListN.{length, take};
-ghost use Rattle.program.specs.Program.{Program};
-ghost use Rattle.list.specs.Search.{sought};
-ghost use Rattle.walker.specs.Cursor.{remaining};
+ghost use Rattle.schedules.specs.Order.{Schedule};
+ghost use Rattle.pages.specs.Cursor.{from};
 ghost use Rattle.printing.specs.declared.pieces.Stage.the-variants.{Walking, Ended};
 ghost use Rattle.printing.specs.Pieces.{Ready, Sound, Begun, Next};
 
@@ -45,7 +44,7 @@ pub struct Piece {
 // Before anything is printed.
 fn unprinted(stage: Stage, program: Compiled) -> Listing
     ensures { λ r. ⌜ (r .stage ≡ stage) × (r .program ≡ program) × (r .listed ≡ 0) × (r .failed ≡ 0)
-        × ((p : Program) (only : Bool) → remaining p only (r .cursor) ≡ sought only p) ⌝ }
+        × ((l : List Schedule) → from (r .cursor) l ≡ l) ⌝ }
 {
     Listing {
         stage: stage,

@@ -18,8 +18,9 @@ use Rattle.survivors.specs.Search.{foundBehind, found}
 use Rattle.survivors.proofs.Search.{found-exactly}
 use Rattle.prefix.specs.ClassGroups.{groupsOf, Lined}
 use Rattle.prefix.proofs.ClassGroups.{program-groups}
-use Rattle.walker.specs.Bounds.{boundAt}
-use Rattle.walker.specs.Rows.{rowsOf, Shown}
+use Rattle.pages.specs.Bounds.{boundAt}
+use Rattle.pages.specs.Rows.{rowsOf}
+use Rattle.walker.specs.Rows.{Shown}
 use Rattle.walker.specs.Walked.{Adds}
 
 -- the classes that name a group are those of the program's threads

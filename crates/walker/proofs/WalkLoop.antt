@@ -1,6 +1,6 @@
 -- The search as the code walks it: with one next step, over the next steps in turn, and at a full schedule.
 use Prim.Native.Nat.{ℕ, _+_, _-_, _<_, _≤_}
-use mathlib.Core.Path.{_≡_, refl, sym, ap, subst, _∙_}
+use mathlib.Core.Path.{_≡_, refl, sym, ap, _∙_}
 use mathlib.Core.Bool.{Bool, true, false, not}
 use mathlib.Core.Option.{Option, none}
 use mathlib.Core.List.{List, [], _∷_, _++_}
@@ -14,10 +14,10 @@ use Rattle.schedules.specs.Order.{Schedule}
 use Rattle.schedules.specs.System.{ended}
 use Rattle.schedules.specs.Search.{low, past}
 use Rattle.schedules.specs.Found.{concatRange}
-use Rattle.schedules.proofs.Found.{concat-range-more, concat-range-over}
 use Rattle.sc.specs.State.{SC, enabled}
 use Rattle.sc.specs.Graph.{endOf}
 use Rattle.list.specs.Rules.{twin}
+use Rattle.list.specs.Answers.{failing}
 use Rattle.survivors.specs.Sets.{has}
 use Rattle.survivors.specs.LateSet.{lateSet}
 use Rattle.survivors.specs.Sleepers.{sleepers}
@@ -26,11 +26,11 @@ use Rattle.survivors.proofs.Search.{up-asleep, up-not, with-given-up, with-live
 use Rattle.prefix.specs.Reached.{Reached}
 use Rattle.prefix.specs.declared.place.Place.{Place}
 use Rattle.prefix.proofs.ReachedStep.{reached-room}
-use Rattle.walker.specs.Bounds.{boundAt}
+use Rattle.pages.specs.Bounds.{boundAt}
+use Rattle.pages.proofs.WalkLoop as Loop
 use Rattle.walker.specs.Tried.{tried}
 use Rattle.walker.specs.Walked.{Adds}
 use Rattle.walker.proofs.TriedSteps.{tried-enabled, tried-on-time, tried-alone, untried-none}
-use Rattle.walker.proofs.AddedRows.{adds-none, adds-full, adds-more, adds-same}
 
 -- ---- with one next step
 module _ (code lengths class : List ℕ) (threads groups : ℕ) (x : Place) (p : Program) (v : Schedule) (at : Reached code lengths class threads groups x p v)
@@ -73,66 +73,55 @@ pub bound-apart : (failures : Bool) (p : Program) (steps : ℕ) (v : Schedule) (
 unfolding boundAt
 bound-apart failures p steps v b = refl
 
+-- the programs and prefixes that the place may stand for
+abbrev pub Cases : (code lengths class : List ℕ) (x : Place) → Type 0
+Cases code lengths class x = (threads : ℕ) × (groups : ℕ) × (p : Program) × (v : Schedule) × Reached code lengths class threads groups x p v
+
 -- what is left to the loop: what the next steps from t on add completes the whole
 abbrev pub Rest : (code lengths class : List ℕ) (failures : Bool) (x : Place) (o : Option Schedule) (out₀ : List ℕ) (room rows : ℕ) (out : List ℕ) (n t : ℕ) → Type 0
 Rest code lengths class failures x o out₀ room rows out n t =
-    (threads groups : ℕ) (p : Program) (v : Schedule) → Reached code lengths class threads groups x p v
-    → (out' : List ℕ) (n' : ℕ) → Adds p room (concatRange (λ d. foundWith failures p (x .steps) o v d) (6 - t) t) out n out' n'
-    → Adds p room (foundBehind failures p (x .steps) o v) out₀ rows out' n'
+    Loop.Rest 24 (Cases code lengths class x) (λ k. failing (k .2)) 6 room (λ k d. foundWith failures (k .2) (x .steps) o (k .3) d) (λ k. foundBehind failures (k .2) (x .steps) o (k .3)) out₀ rows out n t
 
 module _ (code lengths class : List ℕ) (failures : Bool) (x : Place) (o : Option Schedule) (out₀ : List ℕ) (room rows : ℕ) where
+  abbrev each : Cases code lengths class x → ℕ → List Schedule
+  each k d = foundWith failures (k .2) (x .steps) o (k .3) d
+
+  abbrev whole : Cases code lengths class x → List Schedule
+  whole k = foundBehind failures (k .2) (x .steps) o (k .3)
+
   abbrev Still : (out : List ℕ) (n t : ℕ) → Type 0
   Still out n t = Rest code lengths class failures x o out₀ room rows out n t
 
   pub rest-start : (t : ℕ) → ((threads groups : ℕ) (p : Program) (v : Schedule) → Reached code lengths class threads groups x p v → ended SC (endOf p v) ≡ false)
       → x .steps < 24 → t ≡ low o → Still out₀ rows t
-  rest-start t e h q threads groups p v at out' n' a =
-      adds-same p room _ _ out₀ out' rows n'
-      (behind-branches failures p (x .steps) v o (e threads groups p v at) h ∙ ap (λ (d : ℕ). concatRange (λ d. foundWith failures p (x .steps) o v d) (6 - d) d) (sym q)) a
-
-  -- one step more
-  pub rest-next : (out out' : List ℕ) (n n' t : ℕ) → t < 6 → Still out n t
-      → ((threads groups : ℕ) (p : Program) (v : Schedule) → Reached code lengths class threads groups x p v → Adds p room (foundWith failures p (x .steps) o v t) out n out' n')
-      → Still out' n' (t + 1)
-  rest-next out out' n n' t h rest adds threads groups p v at out'' n'' a =
-      rest threads groups p v at out'' n''
-      (adds-same p room _ _ out out'' n n'' (concat-range-more (λ d. foundWith failures p (x .steps) o v d) 6 t h)
-      (adds-more p room (foundWith failures p (x .steps) o v t) _ out out' out'' n n' n'' (adds threads groups p v at) a))
-
-  -- one that is not tried
-  rest-skip : (out : List ℕ) (n t : ℕ) → t < 6 → Still out n t
-      → ((threads groups : ℕ) (p : Program) (v : Schedule) → Reached code lengths class threads groups x p v → tried p v t ≡ false)
-      → Still out n (t + 1)
-  rest-skip out n t h rest not-tried =
-      rest-next out out n n t h rest (λ threads groups p v at. adds-none p room _ out n (untried-none p v t failures (x .steps) o (not-tried threads groups p v at)))
-
-  -- an iteration of the loop, whether or not its step is tried: what the code holds behind it
-  abbrev Iterated : (out : List ℕ) (n t : ℕ) → Type 0
-  Iterated out n t = (n ≤ room) × (length out ≡ length out₀) × Still out n (t + 1)
-
-  iterated-as : (out out' : List ℕ) (n n' t : ℕ) → out' ≡ out → n' ≡ n → Iterated out n t → Iterated out' n' t
-  iterated-as out out' n n' t eo en h = subst (λ (l : List ℕ). Iterated l n' t) (sym eo) (subst (λ (k : ℕ). Iterated out k t) (sym en) h)
+  rest-start t e h q =
+      Loop.rest-start 24 (Cases code lengths class x) (λ k. failing (k .2)) 6 room each whole out₀ rows t
+      (λ k. behind-branches failures (k .2) (x .steps) (k .3) o (e (k .0) (k .1) (k .2) (k .3) (k .4)) h ∙ ap (λ (d : ℕ). concatRange (each k) (6 - d) d) (sym q))
 
   pub iteration-tried : (out out' behind : List ℕ) (n n' k t : ℕ) → t < 6 → length out ≡ length out₀ → Still out n t
       → n' ≤ room → length out' ≡ length out
       → ((threads groups : ℕ) (p : Program) (v : Schedule) → Reached code lengths class threads groups x p v → Adds p room (foundWith failures p (x .steps) o v t) out n out' n')
       → behind ≡ out' → k ≡ n' → (k ≤ room) × (length behind ≡ length out₀) × Still behind k (t + 1)
   iteration-tried out out' behind n n' k t h same rest fits long adds eo en =
-      iterated-as out' behind n' k t eo en (fits, long ∙ same, rest-next out out' n n' t h rest adds)
+      Loop.iteration-tried 24 (Cases code lengths class x) (λ k. failing (k .2)) 6 room each whole out₀ rows out out' behind n n' k t h same rest fits long
+      (λ k. adds (k .0) (k .1) (k .2) (k .3) (k .4)) eo en
 
+  -- one that is not tried
   pub iteration-skipped : (out behind : List ℕ) (n k t : ℕ) → t < 6 → n ≤ room → length out ≡ length out₀ → Still out n t
       → ((threads groups : ℕ) (p : Program) (v : Schedule) → Reached code lengths class threads groups x p v → tried p v t ≡ false)
       → behind ≡ out → k ≡ n → (k ≤ room) × (length behind ≡ length out₀) × Still behind k (t + 1)
   iteration-skipped out behind n k t h fits same rest not-tried eo en =
-      iterated-as out behind n k t eo en (fits, same, rest-skip out n t h rest not-tried)
+      Loop.iteration-skipped 24 (Cases code lengths class x) (λ k. failing (k .2)) 6 room each whole out₀ rows out behind n k t h fits same rest
+      (λ k. untried-none (k .2) (k .3) t failures (x .steps) o (not-tried (k .0) (k .1) (k .2) (k .3) (k .4))) eo en
 
   -- no step is left
   pub rest-over : (out : List ℕ) (n t : ℕ) → 6 ≤ t → Still out n t → (threads groups : ℕ) (p : Program) (v : Schedule)
       → Reached code lengths class threads groups x p v → Adds p room (foundBehind failures p (x .steps) o v) out₀ rows out n
   rest-over out n t h rest threads groups p v at =
-      rest threads groups p v at out n (adds-none p room _ out n (concat-range-over (λ d. foundWith failures p (x .steps) o v d) 6 t h))
+      Loop.rest-over 24 (Cases code lengths class x) (λ k. failing (k .2)) 6 room each whole out₀ rows out n t h rest (threads, groups, p, v, at)
 
   -- no room is left
   pub rest-full : (out : List ℕ) (n t : ℕ) → room ≤ n → Still out n t → (threads groups : ℕ) (p : Program) (v : Schedule)
       → Reached code lengths class threads groups x p v → Adds p room (foundBehind failures p (x .steps) o v) out₀ rows out n
-  rest-full out n t h rest threads groups p v at = rest threads groups p v at out n (adds-full p room _ out n h)
+  rest-full out n t h rest threads groups p v at =
+      Loop.rest-full 24 (Cases code lengths class x) (λ k. failing (k .2)) 6 room each whole out₀ rows out n t h rest (threads, groups, p, v, at)

@@ -3,8 +3,6 @@
 pub mod Rows
 -- a cursor in the list, and pages of it
 pub mod Cursor
--- a search's bound, step by step; for the code
-pub mod Bounds
 -- which next steps are tried; for the code
 pub mod Tried
 -- what the search adds to the rows in its output; for the code

@@ -1,11 +1,13 @@
 // What the search does at a full schedule.
-use crate::aim::Aim;
-use crate::putting::ROW;
-use crate::putting::put_row;
+use crate::listed::ROW;
 use accesses::ThreadState;
+use pages::Aim;
+use pages::is_meant;
+use pages::put_row;
 use prefix::Place;
+use program::STEPS;
 ghost use mathlib.Core.Path.{_≡_};
-ghost use mathlib.Core.Bool.{true, not, _||_};
+ghost use mathlib.Core.Bool.{true};
 ghost use mathlib.Core.List.{List};
 ghost use mathlib.Core.Option.{none};
 ghost use Prim.Native.Nat.{ℕ, _*_, _≤_};
@@ -20,16 +22,6 @@ ghost use Rattle.machine.specs.declared.state.Machine.{Machine};
 ghost use Rattle.survivors.specs.Search.{foundBehind};
 ghost use Rattle.prefix.specs.Reached.{Reached};
 ghost use Rattle.walker.specs.Walked.{Adds};
-
-// Whether a schedule that fails or not is looked for.
-fn is_meant(failures: bool, f: bool) -> bool
-    ensures { λ r. ⌜ r ≡ (not failures || f) ⌝ }
-{
-    if failures {
-        return f;
-    }
-    true
-}
 
 // Whether an assertion of one of these threads failed.
 fn some_failed(threads: [ThreadState; 6]) -> bool
@@ -64,6 +56,7 @@ pub(crate) fn at_end(x: Place, a: Aim, out: &mut [u8]) -> usize
         return rows;
     }
     let schedule = x.schedule;
-    put_row(&mut out[rows * ROW..], schedule, x.steps, f);
+    let steps = x.steps;
+    put_row(&mut out[rows * ROW..], STEPS, &schedule[..steps], f);
     rows + 1
 }

@@ -1,8 +1,7 @@
 // The listed schedules of a decoded program behind a bound, as rows in a lent buffer.
-use crate::aim::Aim;
-use crate::putting::ROW;
 use crate::walking::walk;
 use decoder::Compiled;
+use pages::Aim;
 use prefix::begun;
 use prefix::known_lines;
 use rules::left_sets;
@@ -12,8 +11,11 @@ ghost use Rattle.program.specs.WellFormed.{WellFormed};
 ghost use Rattle.decoder.specs.Compiled.{programOf};
 ghost use Rattle.schedules.specs.Found.{after};
 ghost use Rattle.list.specs.Search.{sought};
-ghost use Rattle.walker.specs.Bounds.{boundAt};
+ghost use Rattle.pages.specs.Bounds.{boundAt};
 ghost use Rattle.walker.specs.Rows.{Shown};
+
+// The bytes of a listed schedule's row.
+pub const ROW: usize = 26;
 
 // Writes the rows of the listed schedules (of those that fail, if only these are wanted) behind the bound, or from the first one on, as
 // many as the output has room for; answers how many.

@@ -1,24 +1,19 @@
 // The list by pages: rows of what a cursor has yet to come, and the cursor behind them. All that walks the list goes on by `next_page`.
-use crate::cursor::Cursor;
-use crate::cursor::Position;
-use crate::cursor::at_most_24;
-use crate::cursor::behind;
-use crate::cursor::end;
+use crate::listed::ROW;
 use crate::listed::listed_rows;
-use crate::putting::ROW;
 use decoder::Compiled;
 use lines::wide;
+use pages::Cursor;
+use pages::Page;
+use pages::Position;
+use pages::behind;
+use pages::bytes_kept;
+use pages::end;
 ghost use mathlib.Core.Path.{_≡_};
 ghost use mathlib.Core.Bool.{Bool, true};
 ghost use Rattle.program.specs.WellFormed.{WellFormed};
 ghost use Rattle.decoder.specs.Compiled.{programOf};
 ghost use Rattle.walker.specs.Cursor.{Paged, positionAt};
-
-// So many rows, and the cursor behind them.
-pub struct Page {
-    pub rows: usize,
-    pub cursor: Cursor,
-}
 
 // From the first one on, or behind the cursor's schedule.
 fn search_on(program: Compiled, cursor: Cursor, tight: bool, failures: bool, out: &mut [u8]) -> Page
@@ -26,7 +21,7 @@ fn search_on(program: Compiled, cursor: Cursor, tight: bool, failures: bool, out
     ensures { λ r. ⌜ Paged (programOf program) failures cursor (now (out .entry)) (now (out .exit)) r ⌝ }
 {
     let schedule = cursor.schedule;
-    let steps = at_most_24(cursor.steps);
+    let steps = bytes_kept(cursor.steps);
     let rows = listed_rows(program, failures, &schedule[..steps], tight, out);
     if rows < out.len() / ROW {
         return Page {

@@ -1,8 +1,8 @@
 // The search: depth first, threads ascending, from a prefix of a run.
-use crate::aim::Aim;
-use crate::bounds::first_thread;
-use crate::bounds::stays_tight;
 use crate::ending::at_end;
+use pages::Aim;
+use pages::first_byte;
+use pages::stays_tight;
 use prefix::Place;
 use prefix::advanced;
 use prefix::is_in;
@@ -20,7 +20,7 @@ ghost use Rattle.schedules.specs.Order.{Schedule};
 ghost use Rattle.survivors.specs.Search.{foundBehind, foundWith};
 ghost use Rattle.prefix.specs.Reached.{Reached};
 ghost use Rattle.rules.specs.Left.{Left};
-ghost use Rattle.walker.specs.Bounds.{boundAt};
+ghost use Rattle.pages.specs.Bounds.{boundAt};
 ghost use Rattle.walker.specs.Tried.{tried};
 ghost use Rattle.walker.specs.Walked.{Adds};
 
@@ -106,7 +106,7 @@ pub(crate) fn walk(
         return a.rows;
     }
     let mut n = a.rows;
-    let mut t = first_thread(bound, a.tight, x.steps);
+    let mut t = first_byte(bound, a.tight, x.steps);
     while t < 6 {
         if a.room <= n {
             return n;

@@ -5,7 +5,7 @@ use mathlib.Core.Path.{_≡_, refl, sym, ap, _∙_}
 use native.Mathlib.Omega.{arith}
 use lib.ListN.{length, take}
 use lib.Seq.{take-all}
-use Rattle.walker.proofs.CursorLaws.{bytes-more}
+use Rattle.pages.proofs.CursorLaws.{bytes-more}
 use Rattle.covering.proofs.batch.bytes_of.Statement.{statement}
 use Rattle.covering.proofs.batch.bytes_of.Tie as tie
 

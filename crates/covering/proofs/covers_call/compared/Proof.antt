@@ -5,6 +5,7 @@ use mathlib.Core.Path.{_≡_, refl, sym, ap, _∙_}
 use mathlib.Core.Bool.{false}
 use native.Mathlib.Omega.{arith}
 use lib.ListN.{length, take}
+use Rattle.list.specs.Search.{sought}
 use Rattle.lines.specs.Over.{over}
 use Rattle.decoder.specs.Compiled.{programOf}
 use Rattle.walker.specs.Cursor.{pages}
@@ -24,7 +25,7 @@ returns c = λ file other one two. answered-short file other (c .before .before 
 loop-holds : tie.Need-loop-holds Inv-loop μ-loop
 loop-holds c =
     let args = c .before .before .before .args in
-    (refl, to-come-start (programOf (args .first)) (programOf (args .second)) (c .beginning .result) (c .beginning .ensures (programOf (args .second)) false))
+    (refl, to-come-start (programOf (args .first)) (programOf (args .second)) (c .beginning .result) (c .beginning .ensures (sought false (programOf (args .second)))))
 
 put-steps-requires : tie.Need-put-steps-requires Inv-loop μ-loop
 put-steps-requires c κs =

@@ -4,6 +4,7 @@ use borrow.Author.Tests.{not-true, not-false}
 use mathlib.Core.Path.{_≡_, refl, sym, _∙_}
 use mathlib.Core.Bool.{false}
 use native.Mathlib.Omega.{arith}
+use Rattle.list.specs.Search.{sought}
 use Rattle.decoder.specs.Compiled.{programOf}
 use Rattle.walker.specs.Cursor.{pages}
 use Rattle.covering.proofs.Marking.{Attaining, attaining-start, attaining-next, attaining-end, unmarked}
@@ -19,7 +20,7 @@ abbrev μ-loop : tie.MeasureT-loop
 loop-holds : tie.Need-loop-holds Inv-loop μ-loop
 loop-holds c =
     let p = programOf (c .before .args .program) in
-    attaining-start p (c .before .args .wanted) _ (c .beginning .result) refl unmarked (c .beginning .ensures p false)
+    attaining-start p (c .before .args .wanted) _ (c .beginning .result) refl unmarked (c .beginning .ensures (sought false p))
 
 loop-less : tie.Need-loop-less Inv-loop μ-loop
 loop-less c = c .before .before .before .collect .ensures .onward (sym (c .before .before .before .before .before .is-end .ensures) ∙ not-true _ (c .before .before .before .before .if1 .taken))

@@ -3,6 +3,8 @@ use borrow.Author.Needs.{needs}
 use mathlib.Core.Bool.{false}
 use mathlib.Core.Path.{sym, ap, _∙_}
 use Rattle.decoder.specs.Compiled.{programOf}
+use Rattle.list.specs.Search.{sought}
+use Rattle.walker.proofs.Pages.{sought-48}
 use Rattle.schedules.specs.Calls.{Result}
 use Rattle.listing.specs.AnswerOf.{listAnswerOf}
 use Rattle.machine.proofs.HeldStart.{loaded-compiled, starting-compiled}
@@ -47,7 +49,7 @@ returns-3 c =
     let enum-told = c .before .before .before .before .before .enum-told in
     let next-listed = c .before .before .next-listed in
     let p = args .program in
-    let after = c .before .before .before .before .behind .ensures (programOf p) false (pre) in
+    let after = c .before .before .before .before .behind .ensures (sought false (programOf p)) (sought-48 (programOf p) pre false) in
     let h = replayed .ensures (programOf p) (loaded-compiled p (pre)) (starting-compiled p) in (
       next-listed .ensures .0 ∙ ap listAnswerOf (continue-whole (programOf p) (args .schedule .now) (args .out .now) (p .code) (p .lengths) (replayed .result) h (if1 .left) _ after (enum-told .given .1)),
       next-listed .ensures .1 ∙ continue-output (programOf p) (args .schedule .now) (args .out .now) (p .code) (p .lengths) (replayed .result) h (if1 .left) _ after (enum-told .given .1),

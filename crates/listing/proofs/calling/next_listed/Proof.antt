@@ -1,6 +1,7 @@
 -- `next_listed` asks for one row and reads it back.
 use borrow.Author.Needs.{needs}
-use mathlib.Core.Path.{refl, sym, ap, _∙_}
+use mathlib.Core.Path.{_≡_, refl, sym, ap, _∙_}
+use lib.ListN.{length}
 use native.Mathlib.Omega.{arith}
 use Rattle.lines.specs.Over.{over}
 use Rattle.decoder.specs.Compiled.{programOf}
@@ -10,8 +11,10 @@ use Rattle.schedules.proofs.Offered.{content-found, content-nomore, content-ref
 use Rattle.listing.specs.AnswerOf.{listAnswerOf}
 use Rattle.listing.specs.declared.calling.ListAnswer.{ListAnswer}
 use Rattle.listing.specs.declared.calling.ListAnswer.the-variants.{Found}
-use Rattle.listing.proofs.FirstRow.{first-none}
-use Rattle.listing.proofs.FileCalls.{answer-short, answer-none, answer-some, first-24, first-head, first-length, first-steps}
+use Rattle.list.specs.Answers.{failing}
+use Rattle.pages.proofs.Answered.{answer-short, answer-none, answer-some}
+use Rattle.pages.proofs.FirstRow.{first-none, first-of, first-head, first-length, first-steps}
+use Rattle.walker.proofs.Pages.{remaining-24}
 use Rattle.listing.proofs.calling.next_listed.Statement.{statement}
 use Rattle.listing.proofs.calling.next_listed.Tie as tie
 
@@ -19,7 +22,7 @@ returns : tie.Need-returns
 unfolding listAnswerOf
 returns c =
     let out = c .before .before .args .out .now in
-    let e = answer-short out _ (c .if1 .taken) in
+    let e = answer-short 24 out _ (c .if1 .taken) in
     (ap listAnswerOf (sym e), sym (content-refused 22 0 out) ∙ ap (λ (a : Answer). content a out) (sym e))
 
 returns-2 : tie.Need-returns-2
@@ -31,7 +34,7 @@ returns-2 c =
     let out = args .out .now in
     let p = programOf (args .program) in
     let l = remaining p (args .failures) (args .cursor) in
-    let e = answer-none out _ (if1 .left) (first-none p _ (page .last .1 .1 .1 .0) (page .result .rows) refl l (c .if2 .taken) (page .ensures .shown)) in
+    let e = answer-none 24 out _ (if1 .left) (first-none 24 (failing p) _ (page .last .1 .1 .1 .0) (page .result .rows) refl l (page .ensures .shown) (c .if2 .taken)) in
     (ap listAnswerOf (sym e), sym (content-nomore out) ∙ ap (λ (a : Answer). content a out) (sym e))
 
 put-schedule-requires : tie.Need-put-schedule-requires
@@ -45,9 +48,11 @@ put-schedule-requires c κs =
     let wide = c .before .before .wide in
     let p = programOf (args .program) in
     let row = page .last .1 .1 .1 .0 in
-    let h = first-24 p _ row (page .result .rows) refl (args .failures) (args .cursor) (pre) (if2 .left) (page .ensures .shown) in
-    let n = first-length p _ row (page .result .rows) refl (args .failures) (args .cursor) (pre) (if2 .left) (page .ensures .shown) (wide .result) (wide .ensures .0) in
-    (omega (arith, h, n), if1 .left, search needs)
+    let l = remaining p (args .failures) (args .cursor) in
+    let h = remaining-24 p pre (args .failures) (args .cursor) _ (first-of 24 (failing p) _ row (page .result .rows) refl l (page .ensures .shown) (if2 .left)) in
+    let n = first-length 24 (failing p) _ row (page .result .rows) refl l (page .ensures .shown) (if2 .left) (wide .result) (wide .ensures .0) in
+    let size : length row ≡ 26 = search needs in
+    (omega (arith, h, n, if1 .left), omega (arith, h, n, size))
 
 returns-3 : tie.Need-returns-3
 unfolding listAnswerOf
@@ -63,10 +68,12 @@ returns-3 c =
     let out = args .out .now in
     let p = programOf (args .program) in
     let row = page .last .1 .1 .1 .0 in
-    let n = first-length p _ row (page .result .rows) refl (args .failures) (args .cursor) (pre) (if2 .left) (page .ensures .shown) (wide .result) (wide .ensures .0) in
-    let s = first-steps p _ row (page .result .rows) refl (args .failures) (args .cursor) (pre) (if2 .left) (page .ensures .shown) (wide .result) (wide .ensures .0) in
-    let e = answer-some out _ _ (if1 .left) (first-head p _ row (page .result .rows) refl (args .failures) (args .cursor) (pre) (if2 .left) (page .ensures .shown)) in
+    let l = remaining p (args .failures) (args .cursor) in
+    let h = remaining-24 p pre (args .failures) (args .cursor) _ (first-of 24 (failing p) _ row (page .result .rows) refl l (page .ensures .shown) (if2 .left)) in
+    let n = first-length 24 (failing p) _ row (page .result .rows) refl l (page .ensures .shown) (if2 .left) (wide .result) (wide .ensures .0) in
+    let s = first-steps 24 (failing p) _ row (page .result .rows) refl l (page .ensures .shown) (if2 .left) (wide .result) (wide .ensures .0) h in
+    let e = answer-some 24 out _ _ (if1 .left) (first-head 24 (failing p) _ row (page .result .rows) refl l (page .ensures .shown) (if2 .left)) in
     (ap {B = ListAnswer} (λ k. Found k) n ∙ ap listAnswerOf (sym e), put-schedule .ensures ∙ ap (λ t. over t out) s ∙ sym (content-found _ out) ∙ ap (λ (a : Answer). content a out) (sym e))
 
 pub next-listed-spec : {M : Type 1} → statement M
-next-listed-spec = tie.close (tie.spec returns (λ c. search needs) (λ c κs. search needs) returns-2 (λ c. search needs) (λ c κs. search needs) put-schedule-requires (λ c. search needs) returns-3)
+next-listed-spec = tie.close (tie.spec returns (λ c. search needs) (λ c κs. search needs) returns-2 (λ c. search needs) (λ c κs. search needs) (λ c. search needs) put-schedule-requires (λ c. search needs) returns-3)

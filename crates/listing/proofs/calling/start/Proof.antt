@@ -3,6 +3,7 @@ use borrow.Author.Needs.{needs}
 use mathlib.Core.Bool.{false}
 use mathlib.Core.Path.{sym, ap, _∙_}
 use Rattle.decoder.specs.Compiled.{programOf}
+use Rattle.list.specs.Search.{sought}
 use Rattle.listing.specs.AnswerOf.{listAnswerOf}
 use Rattle.decoder.proofs.Decoded.{decoded-refused, decoded-accepted, decoded-well-formed}
 use Rattle.listing.proofs.FileCalls.{start-refused, start-refused-out, start-answered, start-output}
@@ -32,7 +33,7 @@ returns-2 c =
     let next-listed = c .before .before .next-listed in
     let e = decoded-accepted (decode .result) (args .file .now) (decode .ensures) (enum-told .given .1) in
     let p = programOf (decode .result .program) in
-    (next-listed .ensures .0 ∙ ap listAnswerOf (start-answered (args .file .now) (args .out .now) p _ (all p false) e), next-listed .ensures .1 ∙ start-output (args .file .now) (args .out .now) p _ (all p false) e)
+    (next-listed .ensures .0 ∙ ap listAnswerOf (start-answered (args .file .now) (args .out .now) p _ (all (sought false p)) e), next-listed .ensures .1 ∙ start-output (args .file .now) (args .out .now) p _ (all (sought false p)) e)
 
 pub start-spec : {M : Type 1} → statement M
 start-spec = tie.close (tie.spec (λ c κs. search needs) (λ c. search needs) (λ c. search needs) (λ c κs. search needs) next-listed-requires returns (λ c. search needs) returns-2)

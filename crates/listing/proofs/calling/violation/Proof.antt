@@ -5,6 +5,7 @@ use mathlib.Core.Path.{sym, ap, _∙_}
 use mathlib.Core.List.{List}
 use Prim.Native.Nat.{ℕ}
 use Rattle.decoder.specs.Compiled.{programOf}
+use Rattle.list.specs.Search.{sought}
 use Rattle.list.specs.Answers.{Violation}
 use Rattle.listing.specs.AnswerOf.{violationAnswerOf}
 use Rattle.decoder.proofs.Decoded.{decoded-refused, decoded-accepted, decoded-well-formed}
@@ -35,7 +36,7 @@ returns-2 c =
     let next-listed = c .before .before .next-listed in
     let e = decoded-accepted (decode .result) (args .file .now) (decode .ensures) (enum-told .given .1) in
     let p = programOf (decode .result .program) in
-    (next-listed .ensures .0 ∙ violation-answer (args .file .now) (args .out .now) p e _ (all p true), next-listed .ensures .1 ∙ violation-output (args .file .now) (args .out .now) p e _ (all p true))
+    (next-listed .ensures .0 ∙ violation-answer (args .file .now) (args .out .now) p e _ (all (sought true p)), next-listed .ensures .1 ∙ violation-output (args .file .now) (args .out .now) p e _ (all (sought true p)))
 
 pub violation-spec : {M : Type 1} → statement M
 violation-spec = tie.close (tie.spec (λ c κs. search needs) (λ c. search needs) (λ c. search needs) (λ c κs. search needs) next-listed-requires returns (λ c. search needs) returns-2)

@@ -31,7 +31,7 @@ returns-2 c =
     let page = c .before .before .next-page in
     let p = programOf (decode .result .program) in
     let e = decoded-accepted (decode .result) (args .file .now) (decode .ensures) (enum-told .given .1) in
-    rows-paged (args .file .now) (args .out .now) none p _ _ (page .result) e (c .before .before .before .before .beginning .ensures p false ∙ sym (after-none (sought false p))) (page .ensures)
+    rows-paged (args .file .now) (args .out .now) none p _ _ (page .result) e (c .before .before .before .before .beginning .ensures (sought false p) ∙ sym (after-none (sought false p))) (page .ensures)
 
 pub first-rows-spec : {M : Type 1} → statement M
 first-rows-spec = tie.close (tie.spec (λ c κs. search needs) (λ c. search needs) (λ c. search needs) (λ c κs. search needs) next-page-requires returns (λ c. search needs) returns-2)

@@ -2,6 +2,8 @@
 use borrow.Author.Needs.{needs}
 use mathlib.Core.Option.{some}
 use Rattle.decoder.specs.Compiled.{programOf}
+use Rattle.list.specs.Search.{sought}
+use Rattle.walker.proofs.Pages.{sought-48}
 use mathlib.Core.Bool.{false}
 use Rattle.decoder.proofs.Decoded.{decoded-refused, decoded-accepted, decoded-well-formed}
 use Rattle.listing.proofs.RowsAnswered.{rows-refused, rows-paged}
@@ -29,7 +31,7 @@ returns-2 c =
     let p = programOf (decode .result .program) in
     let e = decoded-accepted (decode .result) (args .file .now) (decode .ensures) (enum-told .given .1) in
     let w = decoded-well-formed (decode .result) (args .file .now) (decode .ensures) (enum-told .given .1) in
-    rows-paged (args .file .now) (args .out .now) (some (args .schedule .now)) p _ _ (page .result) e (c .before .before .before .before .behind .ensures p false w) (page .ensures)
+    rows-paged (args .file .now) (args .out .now) (some (args .schedule .now)) p _ _ (page .result) e (c .before .before .before .before .behind .ensures (sought false p) (sought-48 p w false)) (page .ensures)
 
 pub next-rows-spec : {M : Type 1} → statement M
 next-rows-spec = tie.close (tie.spec (λ c κs. search needs) (λ c. search needs) (λ c. search needs) (λ c κs. search needs) next-page-requires returns (λ c. search needs) returns-2)

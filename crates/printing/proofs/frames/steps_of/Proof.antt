@@ -8,12 +8,12 @@ use native.Mathlib.Omega.{arith}
 use lib.ListN.{length, getD}
 use Rattle.schedules.specs.Order.{Schedule}
 use Rattle.walker.specs.Rows.{rowBytes}
-use Rattle.walker.proofs.RowsRead.{row-steps-count}
+use Rattle.pages.proofs.RowsRead.{row-steps-count}
 use Rattle.printing.proofs.frames.steps_of.Statement.{statement}
 use Rattle.printing.proofs.frames.steps_of.Tie as tie
 
 counted : (s : Schedule) (f : Bool) (row : List ℕ) → row ≡ rowBytes s f → getD row 0 0 ≡ length s
-counted s f row e = ap (λ (l : List ℕ). getD l 0 0) e ∙ row-steps-count s f
+counted s f row e = ap (λ (l : List ℕ). getD l 0 0) e ∙ row-steps-count 24 s f
 
 returns : tie.Need-returns
 returns c = (omega arith, λ s f e h. omega (arith, h, c .if1 .taken, c .before .wide .ensures .0, counted s f (c .before .before .args .t1) e))

@@ -12,7 +12,7 @@ use Rattle.schedules.specs.Lists.{filter}
 use Rattle.graph_writer.specs.NoteText.{Wrote}
 use Rattle.graph_writer.proofs.WrittenLines.{wrote-within}
 use Rattle.list.specs.Answers.{failing}
-use Rattle.walker.specs.declared.paging.Page.{Page}
+use Rattle.pages.specs.declared.cursor.Page.{Page}
 use Rattle.walker.specs.Cursor.{Paged}
 use Rattle.listing.specs.Printed.{scheduleFrame}
 use Rattle.printing.specs.declared.pieces.Listing.{Listing}

@@ -7,38 +7,42 @@ use native.Mathlib.Omega.{arith}
 use lib.ListN.{length, take}
 use lib.Seq.{length-take-le}
 use Rattle.decoder.specs.Compiled.{programOf}
-use Rattle.walker.specs.declared.cursor.Cursor.{Cursor}
+use Rattle.list.specs.Answers.{failing}
+use Rattle.list.specs.Search.{sought}
+use Rattle.list.proofs.TheList.{sought-ascends}
+use Rattle.pages.specs.declared.cursor.Cursor.{Cursor}
 use Rattle.walker.specs.Cursor.{isEnd}
-use Rattle.walker.proofs.CursorLaws.{first-24}
-use Rattle.walker.proofs.PageLaws.{page-ended, page-none, last-few, last-within, page-full}
+use Rattle.pages.proofs.CursorLaws.{bytes-all}
+use Rattle.walker.proofs.Pages.{sought-24, sought-48}
+use Rattle.pages.proofs.PageLaws.{page-ended, page-none, last-few, last-within, page-full}
 use Rattle.walker.proofs.paging.search_on.Statement.{statement}
 use Rattle.walker.proofs.paging.search_on.Tie as tie
 
 array-share-prefix-schedule : tie.Need-array-share-prefix-schedule
 array-share-prefix-schedule c =
-    let s : length (c .before .before .before .args .cursor .schedule) ≡ 24 = search needs in
-    omega (arith, s, c .at-most-24 .ensures)
+    let s : length (c .before .before .before .args .cursor .schedule) ≡ 48 = search needs in
+    omega (arith, s, c .bytes-kept .ensures)
 
 slice-aggregate-listed-rows : tie.Need-slice-aggregate-listed-rows
 slice-aggregate-listed-rows c =
-    let s : length (c .before .before .before .before .args .cursor .schedule) ≡ 24 = search needs in
-    sym (length-take-le _ _ (omega (arith, s, c .before .at-most-24 .ensures)))
+    let s : length (c .before .before .before .before .args .cursor .schedule) ≡ 48 = search needs in
+    sym (length-take-le _ _ (omega (arith, s, c .before .bytes-kept .ensures)))
 
 -- the cursor, and its bytes as the search got them
 abbrev cursor : (c : tie.After-out) → Cursor
 cursor c = c .before .before .before .before .before .before .before .args .cursor
 
-bytes : (c : tie.After-out) → take (c .before .before .before .before .at-most-24 .result) (cursor c .schedule) ≡ take (cursor c .steps) (cursor c .schedule)
+bytes : (c : tie.After-out) → take (c .before .before .before .before .bytes-kept .result) (cursor c .schedule) ≡ take (cursor c .steps) (cursor c .schedule)
 bytes c =
-    let s : length (cursor c .schedule) ≡ 24 = search needs in
-    first-24 (cursor c .schedule) (cursor c .steps) _ s (c .before .before .before .before .at-most-24 .ensures)
+    let s : length (cursor c .schedule) ≡ 48 = search needs in
+    bytes-all (cursor c .schedule) (cursor c .steps) _ s (c .before .before .before .before .bytes-kept .ensures)
 
 returns : tie.Need-returns
 returns c =
     let d = c .before .before .before in
     let entry = d .before .before .before .before .before .before .before in
     let a = entry .args in
-    page-ended (programOf (a .program)) (entry .pre .0) (a .failures) (a .tight) (a .cursor) _ (a .out .now) _ _ (entry .pre .1) (bytes d) (d .before .listed-rows .ensures)
+    page-ended 24 (failing (programOf (a .program))) (sought (a .failures) (programOf (a .program))) (sought-ascends (a .failures) (programOf (a .program))) (sought-24 (programOf (a .program)) (entry .pre .0) (a .failures)) (a .tight) (a .cursor) _ (a .out .now) _ _ (entry .pre .1) (bytes d) (d .before .listed-rows .ensures)
     (c .end .result) (ap isEnd (c .end .ensures)) (c .before .if1 .taken)
 
 returns-2 : tie.Need-returns-2
@@ -46,7 +50,7 @@ returns-2 c =
     let d = c .before .before .before in
     let entry = d .before .before .before .before .before .before .before in
     let a = entry .args in
-    page-none (programOf (a .program)) (entry .pre .0) (a .failures) (a .tight) (a .cursor) _ (a .out .now) _ _ (entry .pre .1) (bytes d) (d .before .listed-rows .ensures)
+    page-none 24 (failing (programOf (a .program))) (sought (a .failures) (programOf (a .program))) (sought-ascends (a .failures) (programOf (a .program))) (sought-24 (programOf (a .program)) (entry .pre .0) (a .failures)) (a .tight) (a .cursor) _ (a .out .now) _ _ (entry .pre .1) (bytes d) (d .before .listed-rows .ensures)
     (c .before .if1 .left) (c .if2 .taken)
 
 -- the rows lie within the output
@@ -64,7 +68,7 @@ within c =
     let d = c .before .before .before in
     let entry = d .before .before .before .before .before .before .before in
     let a = entry .args in
-    last-within (programOf (a .program)) (entry .pre .0) (a .failures) (a .tight) (a .cursor) _ (a .out .now) _ _ (entry .pre .1) (bytes d) (d .before .listed-rows .ensures)
+    last-within 24 (failing (programOf (a .program))) (sought (a .failures) (programOf (a .program))) (sought-ascends (a .failures) (programOf (a .program))) (sought-24 (programOf (a .program)) (entry .pre .0) (a .failures)) (a .tight) (a .cursor) _ (a .out .now) _ _ (entry .pre .1) (bytes d) (d .before .listed-rows .ensures)
     (c .before .if1 .left) (c .if2 .left)
 
 few : (c : tie.After-wide) → c .wide .result ≤ 24
@@ -73,7 +77,7 @@ few c =
     let d = b .before .before .before in
     let entry = d .before .before .before .before .before .before .before in
     let a = entry .args in
-    last-few (programOf (a .program)) (entry .pre .0) (a .failures) (a .tight) (a .cursor) _ (a .out .now) _ _ (entry .pre .1) (bytes d) (d .before .listed-rows .ensures)
+    last-few 24 (failing (programOf (a .program))) (sought (a .failures) (programOf (a .program))) (sought-ascends (a .failures) (programOf (a .program))) (sought-24 (programOf (a .program)) (entry .pre .0) (a .failures)) (a .tight) (a .cursor) _ (a .out .now) _ _ (entry .pre .1) (bytes d) (d .before .listed-rows .ensures)
     (b .before .if1 .left) (b .if2 .left) (c .wide .result) (c .wide .ensures .0)
 
 mul-at : tie.Need-mul-at
@@ -104,8 +108,8 @@ returns-3 c =
     let d = b .before .before .before in
     let entry = d .before .before .before .before .before .before .before in
     let a = entry .args in
-    page-full (programOf (a .program)) (entry .pre .0) (a .failures) (a .tight) (a .cursor) _ (a .out .now) _ _ (entry .pre .1) (bytes d) (d .before .listed-rows .ensures)
-    (b .before .if1 .left) (b .if2 .left) (w .result) _ (c .behind .result) (w .ensures .0) refl (c .behind .ensures (programOf (a .program)) (a .failures) (entry .pre .0))
+    page-full 24 (failing (programOf (a .program))) (sought (a .failures) (programOf (a .program))) (sought-ascends (a .failures) (programOf (a .program))) (sought-24 (programOf (a .program)) (entry .pre .0) (a .failures)) (a .tight) (a .cursor) _ (a .out .now) _ _ (entry .pre .1) (bytes d) (d .before .listed-rows .ensures)
+    (b .before .if1 .left) (b .if2 .left) (w .result) _ (c .behind .result) (w .ensures .0) refl (c .behind .ensures (sought (a .failures) (programOf (a .program))) (sought-48 (programOf (a .program)) (entry .pre .0) (a .failures)))
 
 pub search-on-spec : {M : Type 1} → statement M
 search-on-spec =

@@ -12,8 +12,9 @@ use borrow.Fn.PlainCycle.{Measures, is, falls, and}
 use Rattle.sc.specs.Graph.{endOf}
 use Rattle.survivors.proofs.Search.{behind-stuck}
 use Rattle.prefix.proofs.ReachedStep.{reached-most, reached-ended, reached-going}
-use Rattle.walker.specs.Bounds.{boundAt}
-use Rattle.walker.proofs.AddedRows.{adds-none, adds-same}
+use Rattle.list.specs.Answers.{failing}
+use Rattle.pages.specs.Bounds.{boundAt}
+use Rattle.pages.proofs.AddedRows.{adds-none, adds-same}
 use Rattle.walker.proofs.TriedSteps.{tried-enabled}
 use Rattle.walker.proofs.WalkLoop.{visit-asleep, visit-less, visit-on, bound-met, bound-apart, Rest, rest-start, iteration-tried, iteration-skipped, rest-over, rest-full}
 use Rattle.walker.proofs.walking.visit.Reads as visit
@@ -24,8 +25,8 @@ use Rattle.walker.proofs.walking.walk.Kinds as walk-kinds
 use Rattle.walker.proofs.walking.+visit+walk.Lts-walk as walk-lts
 use Rattle.prefix.proofs.advanced.Reads as advanced-reads
 use Rattle.rules.proofs.some_asleep.Reads as some-asleep-reads
-use Rattle.walker.proofs.bounds.first_thread.Reads as first-thread-reads
-use Rattle.walker.proofs.bounds.stays_tight.Reads as stays-tight-reads
+use Rattle.pages.proofs.first_byte.Reads as first-byte-reads
+use Rattle.pages.proofs.stays_tight.Reads as stays-tight-reads
 use Rattle.walker.proofs.ending.at_end.Reads as at-end-reads
 use Rattle.walker.proofs.walking.is_tried.Reads as is-tried-reads
 use Rattle.walker.proofs.walking.+visit+walk.{statement}
@@ -53,7 +54,7 @@ abbrev visit-callees : ℕ → visit-lts.Claims
 visit-callees t = (advanced-reads.Asked, advanced-reads.Learnt, some-asleep-reads.Asked, some-asleep-reads.Learnt, stays-tight-reads.Asked, stays-tight-reads.Learnt, walk-below t, walk.Post)
 
 abbrev walk-callees : ℕ → walk-lts.Claims
-walk-callees t = (at-end-reads.Asked, at-end-reads.Learnt, first-thread-reads.Asked, first-thread-reads.Learnt, is-tried-reads.Asked, is-tried-reads.Learnt, visit-below t, visit.Post)
+walk-callees t = (at-end-reads.Asked, at-end-reads.Learnt, first-byte-reads.Asked, first-byte-reads.Learnt, is-tried-reads.Asked, is-tried-reads.Learnt, visit-below t, visit.Post)
 
 -- ---- visit
 visit-advanced-requires : (t : ℕ) → visit-lts.Need-advanced-requires (visit-callees t) (visit-at t) visit.Post
@@ -78,7 +79,7 @@ visit-returns t c =
     let pre = entry .pre in
     let a = entry .args in (
       pre .1 .2,
-      λ threads groups p v at. adds-none p (a .a .room) _ (a .out .now) (a .a .rows)
+      λ threads groups p v at. adds-none 24 (failing p) (a .a .room) _ (a .out .now) (a .a .rows)
           (visit-asleep (a .code .now) (a .lengths .now) (a .class .now) threads groups (a .x) p v at (a .a .failures) (boundAt (a .a .tight) (a .bound .now) (a .x .steps)) (a .t) (pre .1 .4 threads groups p v at)
           (sym (c .before .some-asleep .ensures (a .class .now) threads groups p (v ++ (a .t ∷ [])) (c .before .before .advanced .ensures (a .class .now) threads groups p v at)) ∙ c .if1 .taken)),
     )
@@ -106,7 +107,7 @@ visit-returns-2 t c =
       walked .ensures .0,
       λ threads groups p v at.
           let next = advanced .ensures (a .class .now) threads groups p v at in
-          adds-same p (a .a .room) _ _ (a .out .now) _ (a .a .rows) _
+          adds-same 24 (failing p) (a .a .room) _ _ (a .out .now) _ (a .a .rows) _
           (visit-on (a .code .now) (a .lengths .now) (a .class .now) threads groups (a .x) p v at (a .a .failures) (boundAt (a .a .tight) (a .bound .now) (a .x .steps)) (a .t) (pre .1 .4 threads groups p v at) (advanced .result) next
           (sym (c .before .before .before .before .before .before .some-asleep .ensures (a .class .now) threads groups p (v ++ (a .t ∷ [])) next) ∙ c .before .before .before .before .before .if1 .left)
           (still .result) (a .bound .now) (still .ensures))
@@ -127,7 +128,7 @@ walk-returns t c =
     let pre = entry .pre in
     let a = entry .args in (
       pre .1 .2,
-      λ threads groups p v at. rw (c .if2 .taken) (adds-none p (a .a .room) _ (a .out .now) (a .a .rows)
+      λ threads groups p v at. rw (c .if2 .taken) (adds-none 24 (failing p) (a .a .room) _ (a .out .now) (a .a .rows)
           (bound-met (a .a .failures) p (a .t5 .steps) v (a .bound .now) (reached-ended (a .code .now) (a .lengths .now) (a .class .now) threads groups (a .t5) p v at (c .before .if1 .taken)))),
     )
 
@@ -146,7 +147,7 @@ walk-returns-2 t c =
     let at-end = c .before .before .at-end in (
       at-end .ensures .0,
       λ threads groups p v at.
-          rw (c .before .before .before .before .if2 .left) (adds-same p (a .a .room) _ _ (a .out .now) _ (a .a .rows) _ (bound-apart (a .a .failures) p (a .t5 .steps) v (a .bound .now))
+          rw (c .before .before .before .before .if2 .left) (adds-same 24 (failing p) (a .a .room) _ _ (a .out .now) _ (a .a .rows) _ (bound-apart (a .a .failures) p (a .t5 .steps) v (a .bound .now))
           (at-end .ensures .1 (a .code .now) (a .lengths .now) (a .class .now) threads groups p v at (reached-ended (a .code .now) (a .lengths .now) (a .class .now) threads groups (a .t5) p v at (c .before .before .before .before .before .if1 .taken)))),
     )
 
@@ -156,7 +157,7 @@ walk-returns-3 t c =
     let pre = entry .pre in
     let a = entry .args in (
       pre .1 .2,
-      λ threads groups p v at. adds-none p (a .a .room) _ (a .out .now) (a .a .rows)
+      λ threads groups p v at. adds-none 24 (failing p) (a .a .room) _ (a .out .now) (a .a .rows)
           (behind-stuck (a .a .failures) p (a .t5 .steps) v (boundAt (a .a .tight) (a .bound .now) (a .t5 .steps)) (reached-going (a .code .now) (a .lengths .now) (a .class .now) threads groups (a .t5) p v at (c .before .if1 .left)) (c .if3 .taken)),
     )
 
@@ -167,8 +168,8 @@ walk-loop-holds t c =
     let a = entry .args in (
       pre .1 .2,
       refl,
-      rest-start (a .code .now) (a .lengths .now) (a .class .now) (a .a .failures) (a .t5) (boundAt (a .a .tight) (a .bound .now) (a .t5 .steps)) (a .out .now) (a .a .room) (a .a .rows) (c .first-thread .result)
-          (λ threads groups p v at. reached-going (a .code .now) (a .lengths .now) (a .class .now) threads groups (a .t5) p v at (c .before .before .if1 .left)) (c .before .if3 .left) (c .first-thread .ensures),
+      rest-start (a .code .now) (a .lengths .now) (a .class .now) (a .a .failures) (a .t5) (boundAt (a .a .tight) (a .bound .now) (a .t5 .steps)) (a .out .now) (a .a .room) (a .a .rows) (c .first-byte .result)
+          (λ threads groups p v at. reached-going (a .code .now) (a .lengths .now) (a .class .now) threads groups (a .t5) p v at (c .before .before .if1 .left)) (c .before .if3 .left) (c .first-byte .ensures),
     )
 
 walk-returns-4 : (t : ℕ) → walk-lts.Need-returns-4 (walk-callees t) (walk-at t) walk.Post walk-Inv-loop walk-μ-loop
