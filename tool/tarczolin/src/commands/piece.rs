@@ -4,7 +4,7 @@ use super::opt::Opt;
 use crate::ask::Counts;
 use crate::error::Error;
 use crate::jobs::{self, List, Part};
-use crate::progress::Progress;
+use crate::progress::{self, Progress};
 use crate::schedule::Schedule;
 use std::io;
 
@@ -37,8 +37,9 @@ impl Piece {
         Ok(Piece { after: arguments.schedule("--after")?, until: arguments.schedule("--until")?, jobs })
     }
 
-    pub fn is_whole(&self) -> bool {
-        self.after.is_none() && self.until.is_none()
+    /// Is it the whole list by one job, with nothing told on the way? Then one call of the library answers it.
+    pub fn is_one_call(&self) -> bool {
+        self.after.is_none() && self.until.is_none() && self.jobs == 1 && !progress::is_on()
     }
 
     /// The list, no more of it than the piece, whose bounds have no other threads than the program.

@@ -8,7 +8,6 @@ use crate::end::End;
 use crate::error::Error;
 use crate::execution::Execution;
 use crate::jobs::List;
-use crate::progress::waiting;
 use crate::schedule::Schedule;
 use crate::show::{columns, By};
 use std::io;
@@ -21,12 +20,13 @@ pub fn run(arguments: &Arguments) -> Result<End, Error> {
 fn violation(question: &Question, piece: &Piece, show: bool) -> Result<End, Error> {
     let source = question.source()?;
     let list = List::of(&source, false).expect("the file is accepted");
-    let found = match piece.jobs {
-        1 => waiting(|| ask::violation(&source.file)).expect("the file is accepted"),
-        jobs => match in_pieces(&list, jobs) {
+    let found = if piece.is_one_call() {
+        ask::violation(&source.file).expect("the file is accepted")
+    } else {
+        match by_rows(&list, piece.jobs) {
             Ok(found) => found,
             Err(end) => return Ok(end),
-        },
+        }
     };
     let Some(schedule) = found else { return question.answer("none", [("violation", None::<String>.into())], End::Answered) };
     let field = ("violation", schedule.to_string().into());
@@ -39,14 +39,14 @@ fn violation(question: &Question, piece: &Piece, show: bool) -> Result<End, Erro
     question.answer_text(columns(&execution, By::Time), fields, End::Violation)
 }
 
-/// The first one that fails, by pieces: their parts come in order, so the first part that has one has the first of all.
-fn in_pieces(list: &List, jobs: usize) -> Result<Option<Schedule>, End> {
+/// The first one that fails, by rows: their parts come in order, so the first part that has one has the first of all.
+fn by_rows(list: &List, jobs: usize) -> Result<Option<Schedule>, End> {
     let found = piece::walk(list, jobs, |part| match part.first_failing {
         Some(_) => Err(io::Error::other("found")),
         None => Ok(()),
     });
     if found.cut && found.first_failing.is_none() {
-        piece::tell_cut(&found);
+        piece::tell_interrupted(found.counts, found.last.map(|last| format!("list --after {last}")));
         return Err(End::Refused);
     }
     Ok(found.first_failing)
