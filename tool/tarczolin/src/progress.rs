@@ -1,5 +1,5 @@
 //! Progress on standard error: listed so far, failing so far, how many a second, and the share of the range that is done. On a
-//! terminal one line that changes; else a line every few seconds.
+//! terminal one line that changes; else a line every few seconds; none where `TARCZOLIN_PROGRESS` is `off`.
 use crate::ask::Counts;
 use std::io::{stderr, stdout, IsTerminal, Write};
 use std::sync::mpsc::{channel, RecvTimeoutError};
@@ -12,7 +12,8 @@ const SAID: Duration = Duration::from_secs(3);
 pub struct Progress {
     began: Instant,
     told: Instant,
-    every: Duration,
+    /// How often it is told; none where it is off.
+    every: Option<Duration>,
     terminal: bool,
     /// Standard output goes to a terminal too: its lines need the place.
     lines: bool,
@@ -21,16 +22,28 @@ pub struct Progress {
 
 impl Default for Progress {
     fn default() -> Progress {
-        let (now, terminal) = (Instant::now(), stderr().is_terminal());
-        let every = if terminal { DRAWN } else { every() };
-        Progress { began: now, told: now, every, terminal, lines: stdout().is_terminal(), shown: false }
+        let now = Instant::now();
+        Progress {
+            began: now,
+            told: now,
+            every: every(),
+            terminal: stderr().is_terminal(),
+            lines: stdout().is_terminal(),
+            shown: false,
+        }
     }
 }
 
-/// How often a line is written where there is no terminal; `TARCZOLIN_PROGRESS` gives another number of milliseconds.
-fn every() -> Duration {
-    let given = std::env::var("TARCZOLIN_PROGRESS").ok().and_then(|text| text.parse().ok());
-    given.map_or(SAID, Duration::from_millis)
+/// How often progress is told: `TARCZOLIN_PROGRESS` gives a number of milliseconds for where there is no terminal, or is off.
+pub fn every() -> Option<Duration> {
+    let given = std::env::var("TARCZOLIN_PROGRESS").ok();
+    if given.as_deref() == Some("off") {
+        return None;
+    }
+    if stderr().is_terminal() {
+        return Some(DRAWN);
+    }
+    Some(given.and_then(|text| text.parse().ok()).map_or(SAID, Duration::from_millis))
 }
 
 /// The line of progress; the share stands there where it is known.
@@ -43,7 +56,7 @@ fn line(counts: Counts, seconds: f64, share: Option<f64>) -> String {
 impl Progress {
     /// Tells how far the list is, now and then; the share is asked for only then.
     pub fn tell(&mut self, counts: Counts, share: impl FnOnce() -> Option<f64>) {
-        if self.told.elapsed() >= self.every {
+        if self.every.is_some_and(|every| self.told.elapsed() >= every) {
             let line = line(counts, self.began.elapsed().as_secs_f64(), share());
             self.write(&line);
         }
@@ -80,18 +93,19 @@ impl Progress {
 /// Waits for a single call that tells nothing on its way, and says now and then that it goes on.
 pub fn waiting<T: Send>(call: impl FnOnce() -> T + Send) -> T {
     let mut progress = Progress::default();
+    let Some(every) = progress.every else { return call() };
     std::thread::scope(|scope| {
         let (done, wait) = channel();
         scope.spawn(move || done.send(call()));
         loop {
-            match wait.recv_timeout(progress.every) {
+            match wait.recv_timeout(every) {
                 Ok(answer) => {
                     progress.hide();
                     return answer;
                 }
                 Err(RecvTimeoutError::Timeout) => {
                     let seconds = progress.began.elapsed().as_secs();
-                    progress.write(&format!("one call of the library for {seconds} s; --jobs 2 and more tell how far it is"));
+                    progress.write(&format!("one call of the library for {seconds} s"));
                 }
                 Err(RecvTimeoutError::Disconnected) => panic!("the call of the library has failed"),
             }

@@ -2,10 +2,14 @@
 mod common;
 
 use common::{run_with, tool};
+use std::collections::BTreeMap;
 use std::io::Write;
 use std::process::{Command, Stdio};
 use std::time::Duration;
-use tarczolin_tests::files::lines;
+use tarczolin_tests::files::{lines, text};
+use tarczolin_tests::random::program::{frames, SMALL};
+use tarczolin_tests::random::Random;
+use tarczolin_tests::share;
 
 /// Eight stores beside two threads of eight loads: more than a hundred million are listed.
 fn long() -> Vec<u8> {
@@ -15,8 +19,13 @@ fn long() -> Vec<u8> {
 
 /// What a command had told when it was interrupted after a while.
 fn interrupted(words: &[&str]) -> (Option<i32>, String, String) {
+    interrupted_with("50", words)
+}
+
+/// The same with another progress than a line every 50 milliseconds.
+fn interrupted_with(progress: &str, words: &[&str]) -> (Option<i32>, String, String) {
     let mut child = tool(words)
-        .env("TARCZOLIN_PROGRESS", "50")
+        .env("TARCZOLIN_PROGRESS", progress)
         .stdin(Stdio::piped())
         .stdout(Stdio::piped())
         .stderr(Stdio::piped())
@@ -100,10 +109,55 @@ fn interrupted_count_and_outcomes() {
     assert!(status == Some(2) && err.contains("interrupted: "), "{err}");
 }
 
-/// A single call of the library tells that it goes on, and Ctrl-C ends it.
+/// By one job too `count` and `violation` tell how far they are, and Ctrl-C tells the counts so far.
+#[test]
+fn progress_of_one_job() {
+    for (words, further) in [(["count", "-"], "; go on with --after 0"), (["violation", "-"], "; go on with list --after 0")] {
+        let (status, out, err) = interrupted(&words);
+        assert_eq!(status, Some(2), "{err}");
+        assert!(err.lines().filter(|line| line.ends_with(" % of the range")).count() > 3, "{words:?}: {err}");
+        let last = err.lines().last().unwrap();
+        assert!(last.contains(" listed, 0 failing so far") && last.contains(further), "{words:?}: {err}");
+        let counted = last.split("interrupted: ").nth(1).unwrap().split(" so far").next().unwrap();
+        assert_eq!(out, if words[0] == "count" { format!("{counted}\n") } else { String::new() });
+    }
+}
+
+/// With progress off they are one call of the library, which tells nothing and ends by the signal.
 #[test]
 fn one_long_call() {
-    let (status, out, err) = interrupted(&["count", "-"]);
-    assert!(status.is_none() || out.ends_with("failing\n"), "ended by the signal, or done before it");
-    assert!(err.contains("one call of the library for") || status.is_some(), "{err}");
+    for command in ["count", "violation"] {
+        assert_eq!(interrupted_with("off", &[command, "-"]), (None, String::new(), String::new()), "{command}");
+    }
+    let (status, _, err) = interrupted_with("off", &["list", "-"]);
+    assert!(status == Some(2) && err.lines().count() == 1 && err.contains("interrupted: "), "{err}");
+}
+
+/// What a command answers with progress so often, or off.
+fn answered(progress: &str, words: &[&str], file: &[u8]) -> (Option<i32>, Vec<u8>) {
+    let mut told = tool(words);
+    told.env("TARCZOLIN_PROGRESS", progress).stdin(Stdio::piped()).stdout(Stdio::piped()).stderr(Stdio::null());
+    let mut child = told.spawn().unwrap();
+    // a command that does not read its input closes it
+    let _ = child.stdin.take().unwrap().write_all(file);
+    let output = child.wait_with_output().unwrap();
+    (output.status.code(), output.stdout)
+}
+
+/// The rows, counted and looked through, give what the single calls give.
+#[test]
+fn rows_answer_as_the_single_calls_do() {
+    let mut random = Random::new(63);
+    let mut seen = BTreeMap::new();
+    let failing = lines(&format!("01 {} 01 {} 23000000000001", "10000000000001 ".repeat(7), "110000 ".repeat(7)));
+    let some = [failing, lines(""), lines("01 23000000000001"), lines("01 110400"), lines("01 110000")];
+    let drawn = (0..share::of(60)).map(|_| text(&frames(&mut random, SMALL)));
+    for file in some.into_iter().chain(drawn) {
+        for words in [&["count", "-"][..], &["count", "-", "--json"], &["violation", "-"], &["violation", "-", "--show"]] {
+            let single = answered("off", words, &file);
+            assert_eq!(answered("1", words, &file), single, "{words:?}: {}", file.escape_ascii());
+            *seen.entry(single.0).or_insert(0) += 1;
+        }
+    }
+    assert!(!share::whole() || seen.len() == 3, "answered, a violation, refused: {seen:?}");
 }

@@ -8,7 +8,6 @@ use crate::end::End;
 use crate::error::Error;
 use crate::jobs::List;
 use crate::json::{list as json_list, object, Json};
-use crate::progress::waiting;
 use std::collections::BTreeMap;
 
 pub const CLASSES: Opt = Opt {
@@ -23,14 +22,19 @@ pub fn run(arguments: &Arguments) -> Result<End, Error> {
     each("count", arguments, |question| counted(question, &piece, classes))
 }
 
-/// The whole list by one job is one call of the library; else the rows of the pieces are counted.
+/// The whole list by one job is one call of the library; else its rows are counted.
 fn counted(question: &Question, piece: &Piece, classes: bool) -> Result<End, Error> {
     let source = question.source()?;
-    if piece.is_whole() && piece.jobs == 1 && !classes {
-        let counts = waiting(|| ask::count(&source.file)).expect("the file is accepted");
-        return told(question, counts, None, false);
-    }
     let list = piece.list(List::of(&source, classes).expect("the file is accepted"))?;
+    if piece.is_one_call() && !classes {
+        return match piece::answered(&source.file, &list, ask::count) {
+            Ok(counts) => told(question, counts.expect("the file is accepted"), None, false),
+            Err(found) => {
+                piece::tell_cut(&found);
+                told(question, found.counts, None, true)
+            }
+        };
+    }
     let mut sizes = Sizes::default();
     let found = piece::walk(&list, piece.jobs, |part| {
         part.listed.iter().for_each(|listed| sizes.add(&source.file, &listed.schedule));

@@ -19,5 +19,6 @@ pub fn page(commands: &[&Command]) -> String {
         }
         write!(text, ".br\nExample: {}\n", escaped(command.example)).expect("text grows");
     }
-    text + ".SH EXIT STATUS\n0 answered; 1 a violation was found, an outcome matches, NEW is not covered, or the judge says no; 2 refused, or bad usage.\n"
+    text + ".SH ENVIRONMENT\nTARCZOLIN_PROGRESS: off for no lines of progress, or how often there is one, in milliseconds.\n\
+    .SH EXIT STATUS\n0 answered; 1 a violation was found, an outcome matches, NEW is not covered, or the judge says no; 2 refused, or bad usage.\n"
 }

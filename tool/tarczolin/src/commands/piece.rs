@@ -4,9 +4,10 @@ use super::opt::Opt;
 use crate::ask::Counts;
 use crate::error::Error;
 use crate::jobs::{self, List, Part};
-use crate::progress::Progress;
+use crate::progress::{self, Progress};
 use crate::schedule::Schedule;
 use std::io;
+use std::sync::mpsc::channel;
 
 /// At most so many jobs.
 pub const JOBS: u64 = 256;
@@ -37,8 +38,9 @@ impl Piece {
         Ok(Piece { after: arguments.schedule("--after")?, until: arguments.schedule("--until")?, jobs })
     }
 
-    pub fn is_whole(&self) -> bool {
-        self.after.is_none() && self.until.is_none()
+    /// Is it the whole list by one job? Then one call of the library answers it.
+    pub fn is_one_call(&self) -> bool {
+        self.after.is_none() && self.until.is_none() && self.jobs == 1
     }
 
     /// The list, no more of it than the piece, whose bounds have no other threads than the program.
@@ -73,6 +75,30 @@ pub fn walk(list: &List, jobs: usize, mut each: impl FnMut(&Part) -> io::Result<
     progress.hide();
     found.written = done.err();
     found
+}
+
+/// The answer of one call of the library on the file of a list. Where it takes long the rows of the list are walked beside it, only to tell
+/// how far that is; what was walked is given back where Ctrl-C came before the answer.
+pub fn answered<T: Send + 'static>(file: &[u8], list: &List, call: impl FnOnce(&[u8]) -> T + Send + 'static) -> Result<T, Found> {
+    let Some(every) = progress::every() else { return Ok(call(file)) };
+    let (done, wait) = channel();
+    let file = file.to_vec();
+    std::thread::spawn(move || done.send(call(&file)));
+    let mut answer = wait.recv_timeout(every).ok();
+    if answer.is_none() {
+        let found = walk(list, 1, |_| {
+            answer = wait.try_recv().ok();
+            if answer.is_some() {
+                Err(io::Error::other("answered"))
+            } else {
+                Ok(())
+            }
+        });
+        if found.cut && answer.is_none() {
+            return Err(found);
+        }
+    }
+    Ok(answer.unwrap_or_else(|| wait.recv().expect("the call of the library answers")))
 }
 
 /// Says how far a walk came that Ctrl-C cut short, and from where it can go on.

@@ -1,6 +1,6 @@
 //! violation: the first listed schedule that fails.
 use super::arguments::Arguments;
-use super::piece::{self, Piece};
+use super::piece::{self, Found, Piece};
 use super::record;
 use super::reply::{each, Question};
 use crate::ask;
@@ -8,7 +8,6 @@ use crate::end::End;
 use crate::error::Error;
 use crate::execution::Execution;
 use crate::jobs::List;
-use crate::progress::waiting;
 use crate::schedule::Schedule;
 use crate::show::{columns, By};
 use std::io;
@@ -21,12 +20,17 @@ pub fn run(arguments: &Arguments) -> Result<End, Error> {
 fn violation(question: &Question, piece: &Piece, show: bool) -> Result<End, Error> {
     let source = question.source()?;
     let list = List::of(&source, false).expect("the file is accepted");
-    let found = match piece.jobs {
-        1 => waiting(|| ask::violation(&source.file)).expect("the file is accepted"),
-        jobs => match in_pieces(&list, jobs) {
-            Ok(found) => found,
-            Err(end) => return Ok(end),
-        },
+    let found = if piece.is_one_call() {
+        piece::answered(&source.file, &list, ask::violation).map(|found| found.expect("the file is accepted"))
+    } else {
+        by_rows(&list, piece.jobs)
+    };
+    let found = match found {
+        Ok(found) => found,
+        Err(cut) => {
+            piece::tell_interrupted(cut.counts, cut.last.map(|last| format!("list --after {last}")));
+            return Ok(End::Refused);
+        }
     };
     let Some(schedule) = found else { return question.answer("none", [("violation", None::<String>.into())], End::Answered) };
     let field = ("violation", schedule.to_string().into());
@@ -39,15 +43,14 @@ fn violation(question: &Question, piece: &Piece, show: bool) -> Result<End, Erro
     question.answer_text(columns(&execution, By::Time), fields, End::Violation)
 }
 
-/// The first one that fails, by pieces: their parts come in order, so the first part that has one has the first of all.
-fn in_pieces(list: &List, jobs: usize) -> Result<Option<Schedule>, End> {
+/// The first one that fails, by rows: their parts come in order, so the first part that has one has the first of all.
+fn by_rows(list: &List, jobs: usize) -> Result<Option<Schedule>, Found> {
     let found = piece::walk(list, jobs, |part| match part.first_failing {
         Some(_) => Err(io::Error::other("found")),
         None => Ok(()),
     });
     if found.cut && found.first_failing.is_none() {
-        piece::tell_cut(&found);
-        return Err(End::Refused);
+        return Err(found);
     }
     Ok(found.first_failing)
 }
