@@ -7,6 +7,7 @@ use mathlib.Core.List.{List, [], _∷_}
 use lib.Dec.{eqb}
 use lib.ListN.{getD}
 use Rattle.program.specs.Program.{Program, initial}
+use Rattle.program.specs.WellFormed.{allAccesses}
 use Rattle.sc.specs.State.{Event, initialWrite}
 use Rattle.sc.specs.Graph.{Graph}
 use Rattle.consistent.specs.Consistent.{rowOf, Values, locationOf, outOf}
@@ -33,3 +34,7 @@ nextRound p g v e = leftBy p v (sourceIn (rowOf g (e .0)) (e .1)) (locationOf p 
 unfoldable pub values : Program → Graph → ℕ → Values
 values p g zero e = 0
 values p g (suc n) e = nextRound p g (values p g n) e
+
+-- the values of the last round: a full schedule has at most as many steps as the program has accesses, and so many rounds are enough
+abbrev pub finalValues : Program → Graph → Values
+finalValues p g = values p g (allAccesses (p .threads))

@@ -15,7 +15,7 @@ ghost use Rattle.program.specs.Program.{Program, initial};
 ghost use Rattle.sc.specs.Graph.{Graph};
 ghost use Rattle.machine.specs.Held.{Loaded};
 ghost use Rattle.consistent.specs.Consistent.{locationOf};
-ghost use Rattle.consistent.proofs.RoundValues.{values};
+ghost use Rattle.consistent.proofs.RoundValues.{finalValues};
 ghost use Rattle.consistent.specs.Reading.{parsed, readGraph};
 ghost use Rattle.graph_reader.specs.Held.{Tabled};
 ghost use Rattle.rounds.specs.HeldRounds.{RoundHeld, sourced};
@@ -159,7 +159,7 @@ pub fn places(
     requires { ⌜ ((p : Program) × Loaded (now code) (now lengths) threads p × (starting ≡ initial p)) ⌝ }
     ensures { λ r. ⌜ ((p : Program) (text counts : List ℕ) (g : Graph) → Loaded (now (code .entry)) (now (lengths .entry)) threads p
         → starting ≡ initial p → readGraph threads text ≡ parsed g → Tabled pairs counts g → (t i : ℕ) → t < threads → i < 16
-        → getD r (t * 16 + i) 0 ≡ locationOf p (values p g 24) (t, i)) ⌝ }
+        → getD r (t * 16 + i) 0 ≡ locationOf p (finalValues p g) (t, i)) ⌝ }
 {
     let mut vs = [0u32; 96];
     let mut k = 0usize;
