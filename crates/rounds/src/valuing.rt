@@ -1,9 +1,9 @@
 // The rounds: every thread by itself on the values known so far, then each read gets what its source left, or what memory starts with.
 use crate::by_itself::met;
 use accesses::ThreadState;
+use accesses::accesses_below;
 use lines::wide;
 use machine::started;
-use program::STEPS;
 use rows::Code;
 ghost use mathlib.Core.Path.{_≡_};
 ghost use mathlib.Core.Bool.{true, cond};
@@ -18,7 +18,7 @@ ghost use Rattle.consistent.specs.Consistent.{locationOf};
 ghost use Rattle.consistent.proofs.RoundValues.{finalValues};
 ghost use Rattle.consistent.specs.Reading.{parsed, readGraph};
 ghost use Rattle.graph_reader.specs.Held.{Tabled};
-ghost use Rattle.rounds.specs.HeldRounds.{RoundHeld, sourced};
+ghost use Rattle.rounds.specs.HeldRounds.{Opened, RoundHeld, sourced};
 
 // Of each access, sixteen a thread: where it goes and what it leaves there.
 pub struct Round {
@@ -47,25 +47,25 @@ fn onward(n: usize, thread: ThreadState, k: usize) -> usize
     k / 16 * 16 + 16
 }
 
-// Every thread by itself on these values.
+// Every thread by itself on these values, from where it opens.
 fn in_round(
     code: &Code,
     lengths: &[usize; 6],
     threads: usize,
-    starting: [u32; 8],
+    opened: [ThreadState; 6],
     values: &[u32; 96],
 ) -> Round
-    requires { ⌜ ((p : Program) × Loaded (now code) (now lengths) threads p × (starting ≡ initial p)) ⌝ }
-    ensures { λ r. ⌜ ((p : Program) → Loaded (now (code .entry)) (now (lengths .entry)) threads p → starting ≡ initial p
+    requires { ⌜ ((p : Program) × Loaded (now code) (now lengths) threads p × Opened (now code) (now lengths) p opened) ⌝ }
+    ensures { λ r. ⌜ ((p : Program) → Loaded (now (code .entry)) (now (lengths .entry)) threads p
+        → Opened (now (code .entry)) (now (lengths .entry)) p opened
         → RoundHeld threads p (now (values .entry)) (r .places) (r .left)) ⌝ }
 {
-    let start = started(code, lengths, threads, starting);
     let mut places = [0u8; 96];
     let mut left = [0u32; 96];
-    let mut thread = start.threads[0];
+    let mut thread = opened[0];
     let mut k = 0;
     while k < 16 * threads {
-        let n = standing(start.threads[k / 16], thread, k);
+        let n = standing(opened[k / 16], thread, k);
         let r = met(code, lengths, n, (k / 16) as u8, values[k]);
         places[k] = r.place;
         left[k] = r.left;
@@ -148,7 +148,8 @@ fn same_values(a: &[u32; 96], b: &[u32; 96], threads: usize) -> bool
     true
 }
 
-// Where each access goes on the values of the last round. Values that a round leaves as they are stay so, and no further round is made.
+// Where each access goes on the values of the last round. As many rounds as the program has accesses are enough; values that a round
+// leaves as they are stay so, and no further round is made.
 pub fn places(
     code: &Code,
     lengths: &[usize; 6],
@@ -161,10 +162,13 @@ pub fn places(
         → starting ≡ initial p → readGraph threads text ≡ parsed g → Tabled pairs counts g → (t i : ℕ) → t < threads → i < 16
         → getD r (t * 16 + i) 0 ≡ locationOf p (finalValues p g) (t, i)) ⌝ }
 {
+    let start = started(code, lengths, threads, starting);
+    let opened = start.threads;
+    let rounds = accesses_below(code, lengths, threads);
     let mut vs = [0u32; 96];
-    let mut k = 0usize;
-    while k < STEPS {
-        let r = in_round(code, lengths, threads, starting, &vs);
+    let mut k = 0;
+    while k < rounds {
+        let r = in_round(code, lengths, threads, opened, &vs);
         let left = r.left;
         let goes = r.places;
         let ws = next_values(&pairs, &left, &goes, starting, threads);
@@ -174,6 +178,6 @@ pub fn places(
         vs = ws;
         k += 1;
     }
-    let r = in_round(code, lengths, threads, starting, &vs);
+    let r = in_round(code, lengths, threads, opened, &vs);
     r.places
 }
