@@ -10,7 +10,7 @@ ghost use mathlib.Core.Bool.{true, cond};
 ghost use Prim.Native.Nat.{ℕ, _+_, _*_, _/_, _%_, _<_, _≤_};
 ghost use mathlib.Core.List.{List};
 ghost use lib.Dec.{eqb, ltb};
-ghost use lib.ListN.{getD};
+ghost use lib.ListN.{length, getD};
 ghost use Rattle.program.specs.Program.{Program, initial};
 ghost use Rattle.sc.specs.Graph.{Graph};
 ghost use Rattle.machine.specs.Held.{Loaded};
@@ -79,9 +79,9 @@ fn in_round(
 }
 
 // What memory starts with at the location to which access k goes.
-fn at_first(starting: [u32; 8], places: &[u8; 96], k: usize) -> u32
-    requires { ⌜ k < 96 ⌝ }
-    ensures { λ r. ⌜ r ≡ getD starting (getD (now (places .entry)) k 0) 0 ⌝ }
+fn at_first(starting: &[u32; 8], places: &[u8; 96], k: usize) -> u32
+    requires { ⌜ (k < 96) × (length (now starting) ≡ 8) ⌝ }
+    ensures { λ r. ⌜ r ≡ getD (now (starting .entry)) (getD (now (places .entry)) k 0) 0 ⌝ }
 {
     let l = wide(places[k]);
     if 8 <= l {
@@ -95,11 +95,11 @@ fn found(
     pairs: &[u8; 576],
     left: &[u32; 96],
     places: &[u8; 96],
-    starting: [u32; 8],
+    starting: &[u32; 8],
     k: usize,
 ) -> u32
-    requires { ⌜ k < 96 ⌝ }
-    ensures { λ r. ⌜ r ≡ sourced (now (pairs .entry)) (now (left .entry)) (now (places .entry)) starting k ⌝ }
+    requires { ⌜ (k < 96) × (length (now starting) ≡ 8) ⌝ }
+    ensures { λ r. ⌜ r ≡ sourced (now (pairs .entry)) (now (left .entry)) (now (places .entry)) (now (starting .entry)) k ⌝ }
 {
     let u = wide(pairs[k * 2]);
     let j = wide(pairs[k * 2 + 1]);
@@ -117,12 +117,12 @@ fn next_values(
     pairs: &[u8; 576],
     left: &[u32; 96],
     places: &[u8; 96],
-    starting: [u32; 8],
+    starting: &[u32; 8],
     threads: usize,
 ) -> [u32; 96]
-    requires { ⌜ threads ≤ 6 ⌝ }
+    requires { ⌜ (threads ≤ 6) × (length (now starting) ≡ 8) ⌝ }
     ensures { λ r. ⌜ ((k : ℕ) → k < 16 * threads
-        → getD r k 0 ≡ sourced (now (pairs .entry)) (now (left .entry)) (now (places .entry)) starting k) ⌝ }
+        → getD r k 0 ≡ sourced (now (pairs .entry)) (now (left .entry)) (now (places .entry)) (now (starting .entry)) k) ⌝ }
 {
     let mut vs = [0u32; 96];
     let mut k = 0;
@@ -171,7 +171,7 @@ pub fn places(
         let r = in_round(code, lengths, threads, opened, &vs);
         let left = r.left;
         let goes = r.places;
-        let ws = next_values(&pairs, &left, &goes, starting, threads);
+        let ws = next_values(&pairs, &left, &goes, &starting, threads);
         if same_values(&ws, &vs, threads) {
             return goes;
         }

@@ -4,6 +4,7 @@ use Prim.Native.Nat.{ℕ, _≤_, _-_}
 use mathlib.Core.Path.{_≡_}
 use native.Mathlib.Omega.{arith}
 use mathlib.Core.List.{List}
+use lib.ListN.{length}
 use Rattle.program.specs.Program.{Program, initial}
 use Rattle.sc.specs.State.{Event}
 use Rattle.sc.specs.Graph.{Graph}
@@ -51,37 +52,38 @@ in-round-requires c κs =
 
 next-values-requires : tie.Need-next-values-requires Inv-loop μ-loop
 next-values-requires c κs =
-    let entry = c .before .before .before .before .before .before .before .before .before .before .before .before in
+    let entry = c .before .before .before .before .before .before .before .before .before .before .before .before .before in
     let args = entry .args in
-    six-held (args .code .now) (args .lengths .now) (args .threads) (entry .pre .0) (entry .pre .1)
+    let eight : length (args .t4) ≡ 8 = search needs in
+    (six-held (args .code .now) (args .lengths .now) (args .threads) (entry .pre .0) (entry .pre .1), eight)
 
 same-values-requires : tie.Need-same-values-requires Inv-loop μ-loop
 same-values-requires c κs =
-    let entry = c .before .before .before .before .before .before .before .before .before .before .before .before .before .before .before in
+    let entry = c .before .before .before .before .before .before .before .before .before .before .before .before .before .before .before .before in
     let args = entry .args in
     six-held (args .code .now) (args .lengths .now) (args .threads) (entry .pre .0) (entry .pre .1)
 
 returns : tie.Need-returns Inv-loop μ-loop
 returns c =
-    let args = c .before .before .before .before .before .before .before .before .before .before .before .before .before .before .before .before .before .args in
-    let started = c .before .before .before .before .before .before .before .before .before .before .before .before .before .before .before .before .started in
-    let accesses-below = c .before .before .before .before .before .before .before .before .before .before .before .before .before .before .accesses-below in
-    let loop = c .before .before .before .before .before .before .before .before .before .before .before .before .before .loop in
-    let loop-test = c .before .before .before .before .before .before .before .before .before .before .before .before .loop-test in
-    let in-round = c .before .before .before .before .before .before .before .before .before .before .in-round in
+    let args = c .before .before .before .before .before .before .before .before .before .before .before .before .before .before .before .before .before .before .args in
+    let started = c .before .before .before .before .before .before .before .before .before .before .before .before .before .before .before .before .before .started in
+    let accesses-below = c .before .before .before .before .before .before .before .before .before .before .before .before .before .before .before .accesses-below in
+    let loop = c .before .before .before .before .before .before .before .before .before .before .before .before .before .before .loop in
+    let loop-test = c .before .before .before .before .before .before .before .before .before .before .before .before .before .loop-test in
+    let in-round = c .before .before .before .before .before .before .before .before .before .before .before .in-round in
     let next-values = c .before .before .before .before .next-values in
     let same-values = c .before .same-values in
-    λ p text counts g loaded m e T. places-stay (args .threads) (six-held (args .code .now) (args .lengths .now) (args .threads) p loaded) p (loop .vs) (in-round .result .places) (in-round .result .left) (in-round .ensures p loaded (opened-so (args .code .now) (args .lengths .now) p (started .result) (started .ensures .1 p loaded m))) (args .t5) counts (args .starting) g (read-readable (args .threads) text g e) T m (loop .k) (loop .inv .1 p text counts g loaded m e T) (omega (arith, loop-test .taken, accesses-below .ensures .0, accesses-held (args .code .now) (args .lengths .now) (args .threads) p loaded)) (next-values .result) (next-values .ensures) (same-values .ensures (c .if1 .taken))
+    λ p text counts g loaded m e T. places-stay (args .threads) (six-held (args .code .now) (args .lengths .now) (args .threads) p loaded) p (loop .vs) (in-round .result .places) (in-round .result .left) (in-round .ensures p loaded (opened-so (args .code .now) (args .lengths .now) p (started .result) (started .ensures .1 p loaded m))) (args .t5) counts (args .t4) g (read-readable (args .threads) text g e) T m (loop .k) (loop .inv .1 p text counts g loaded m e T) (omega (arith, loop-test .taken, accesses-below .ensures .0, accesses-held (args .code .now) (args .lengths .now) (args .threads) p loaded)) (next-values .result) (next-values .ensures) (same-values .ensures (c .if1 .taken))
 
 loop-again : tie.Need-loop-again Inv-loop μ-loop
 loop-again c =
-    let args = c .before .before .before .before .before .before .before .before .before .before .before .before .before .before .before .before .before .args in
-    let started = c .before .before .before .before .before .before .before .before .before .before .before .before .before .before .before .before .started in
-    let loop = c .before .before .before .before .before .before .before .before .before .before .before .before .before .loop in
-    let loop-test = c .before .before .before .before .before .before .before .before .before .before .before .before .loop-test in
-    let in-round = c .before .before .before .before .before .before .before .before .before .before .in-round in
+    let args = c .before .before .before .before .before .before .before .before .before .before .before .before .before .before .before .before .before .before .args in
+    let started = c .before .before .before .before .before .before .before .before .before .before .before .before .before .before .before .before .before .started in
+    let loop = c .before .before .before .before .before .before .before .before .before .before .before .before .before .before .loop in
+    let loop-test = c .before .before .before .before .before .before .before .before .before .before .before .before .before .loop-test in
+    let in-round = c .before .before .before .before .before .before .before .before .before .before .before .in-round in
     let next-values = c .before .before .before .before .next-values in
-    (omega (arith, loop-test .taken), λ p text counts g loaded m e T x h. values-more (args .threads) (six-held (args .code .now) (args .lengths .now) (args .threads) p loaded) p (loop .vs) (in-round .result .places) (in-round .result .left) (in-round .ensures p loaded (opened-so (args .code .now) (args .lengths .now) p (started .result) (started .ensures .1 p loaded m))) (args .t5) counts (args .starting) g (read-readable (args .threads) text g e) T m (loop .k) (loop .inv .1 p text counts g loaded m e T) (next-values .result) (next-values .ensures) x h)
+    (omega (arith, loop-test .taken), λ p text counts g loaded m e T x h. values-more (args .threads) (six-held (args .code .now) (args .lengths .now) (args .threads) p loaded) p (loop .vs) (in-round .result .places) (in-round .result .left) (in-round .ensures p loaded (opened-so (args .code .now) (args .lengths .now) p (started .result) (started .ensures .1 p loaded m))) (args .t5) counts (args .t4) g (read-readable (args .threads) text g e) T m (loop .k) (loop .inv .1 p text counts g loaded m e T) (next-values .result) (next-values .ensures) x h)
 
 in-round-requires-2 : tie.Need-in-round-requires-2 Inv-loop μ-loop
 in-round-requires-2 c κs =
@@ -99,7 +101,7 @@ returns-2 c =
     let loop = c .before .before .before .before .loop in
     let loop-test = c .before .before .before .loop-test in
     let in-round2 = c .before .in-round2 in
-    λ p text counts g loaded m e T. places-are (args .threads) (six-held (args .code .now) (args .lengths .now) (args .threads) p loaded) p (loop .vs) (in-round2 .result .places) (in-round2 .result .left) (in-round2 .ensures p loaded (opened-so (args .code .now) (args .lengths .now) p (started .result) (started .ensures .1 p loaded m))) (args .t5) counts (args .starting) g (read-readable (args .threads) text g e) T m (loop .k) (loop .inv .1 p text counts g loaded m e T) (omega (arith, loop .inv .0, loop-test .left, accesses-below .ensures .0, accesses-held (args .code .now) (args .lengths .now) (args .threads) p loaded))
+    λ p text counts g loaded m e T. places-are (args .threads) (six-held (args .code .now) (args .lengths .now) (args .threads) p loaded) p (loop .vs) (in-round2 .result .places) (in-round2 .result .left) (in-round2 .ensures p loaded (opened-so (args .code .now) (args .lengths .now) p (started .result) (started .ensures .1 p loaded m))) (args .t5) counts (args .t4) g (read-readable (args .threads) text g e) T m (loop .k) (loop .inv .1 p text counts g loaded m e T) (omega (arith, loop .inv .0, loop-test .left, accesses-below .ensures .0, accesses-held (args .code .now) (args .lengths .now) (args .threads) p loaded))
 
 pub places-spec : {M : Type 1} → statement M
 places-spec = tie.close (tie.spec Inv-loop μ-loop started-requires accesses-below-requires loop-holds in-round-requires next-values-requires same-values-requires returns (λ c. search needs) (λ c. search needs) loop-again in-round-requires-2 returns-2)
