@@ -1,5 +1,5 @@
 -- The judge answers yes exactly to consistent graphs, and with the least schedule.
-use Prim.Native.Nat.{ℕ, _≤_}
+use Prim.Native.Nat.{ℕ, _-_, _≤_}
 use mathlib.Core.Path.{_≡_, refl, sym, ap, subst, _∙_}
 use mathlib.Core.Logic.{_↔_}
 use mathlib.Core.Bool.{Bool, true, false, _&&_, true≢false}
@@ -21,13 +21,15 @@ use Rattle.sc.specs.State.{State, step, enabled, SC, start}
 use Rattle.sc.specs.Graph.{Graph, graphOf, graph, endOf, Full}
 use Rattle.sc.proofs.Lawful.{lawful, names-ascend, at-most-24, start-size}
 use Rattle.sc.proofs.Regular.{Regular, regular-step, regular-start}
+use Rattle.sc.proofs.Start.{start-history}
 use Rattle.consistent.specs.Consistent.{locationOf, Consistent}
 use Rattle.consistent.specs.Least.{MadeBy, LeastFor}
-use Rattle.consistent.proofs.RoundValues.{finalValues}
+use Rattle.consistent.proofs.RoundValues.{values, finalValues}
 use Rattle.consistent.proofs.Walk.{fits, walk, sameGraph, judge}
 use Rattle.consistent.proofs.Tests.{both-and, same-graph-is, is-same-graph}
+use Rattle.consistent.proofs.Alone.{reads-event}
 use Rattle.consistent.proofs.Rounds.{run-canonical}
-use Rattle.consistent.proofs.OnRun.{on-start}
+use Rattle.consistent.proofs.OnRun.{on-start, on-end, all-done, placed}
 use Rattle.consistent.proofs.ConsistentIff.{run-makes, consistent-iff}
 use Rattle.consistent.proofs.Fitting.{fits-is}
 use Rattle.consistent.proofs.Commuting.{fits-commute, fits-stays}
@@ -63,10 +65,15 @@ module _ (p : Program) (wf : WellFormed p) (g : Graph) where
 
   made-fitting : (s : Schedule) → MadeBy p g s → Fitting SC ready Goal (start p) s
   made-fitting s m =
-      let n = allAccesses (p .threads) in
+      let N = allAccesses (p .threads) in
       let h = at-most-accesses s (m .0) in
       let C = run-canonical p wf g s m in
-      on-fitting p wf g C n (run-makes p wf g s n m h) s (start p) (on-start p wf g C n s m h)
+      let M = run-makes p wf g s N m h in
+      let o = on-start p wf g C N s m h in
+      on-fitting p wf g C N M (N - 1) (omega arith)
+      (λ e q r. placed p wf g C N (N - 1) (omega arith) s (start p) o e (λ d. absurd (omega (arith, start-history p (e .0) .0, d)))
+      (all-done p wf g C N (run SC (start p) s) (on-end p wf g C N s (start p) o) e (reads-event p (values p g N) e (M .noted e q r))))
+      s (start p) o
 
   -- if some full schedule has the graph, the walk is the least one, and all end in the same state
   walk-least : (s : Schedule) → MadeBy p g s → MadeBy p g (walk p g) × (endOf p (walk p g) ≡ endOf p s) × ((r : Schedule) → MadeBy p g r → AtMost (walk p g) r)

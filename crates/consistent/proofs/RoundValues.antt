@@ -1,6 +1,6 @@
 -- How the judge finds the values of the reads. Round after round every thread runs by itself on the values known so far, and each read is
 -- given what its source then writes. Nothing promised rests on this: Rounds shows that it finds the values of every run with the graph.
-use Prim.Native.Nat.{ℕ, zero, suc}
+use Prim.Native.Nat.{ℕ, zero, suc, _-_}
 use mathlib.Core.Bool.{true, false}
 use mathlib.Core.Option.{Option, none, some}
 use mathlib.Core.List.{List, [], _∷_}
@@ -35,6 +35,7 @@ unfoldable pub values : Program → Graph → ℕ → Values
 values p g zero e = 0
 values p g (suc n) e = nextRound p g (values p g n) e
 
--- the values of the last round: a full schedule has at most as many steps as the program has accesses, and so many rounds are enough
+-- the values of the last round. A full schedule has at most as many steps as the program has accesses, each round finds the value of one step
+-- more, and where the last step goes does not depend on what it finds: a round fewer than there are accesses is enough
 abbrev pub finalValues : Program → Graph → Values
-finalValues p g = values p g (allAccesses (p .threads))
+finalValues p g = values p g (allAccesses (p .threads) - 1)
