@@ -148,7 +148,7 @@ fn same_values(a: &[u32; 96], b: &[u32; 96], threads: usize) -> bool
     true
 }
 
-// Where each access goes on the values of the last round. As many rounds as the program has accesses are enough; values that a round
+// Where each access goes on the values of the last round. A round fewer than the program has accesses is enough; values that a round
 // leaves as they are stay so, and no further round is made.
 pub fn places(
     code: &Code,
@@ -164,10 +164,10 @@ pub fn places(
 {
     let start = started(code, lengths, threads, starting);
     let opened = start.threads;
-    let rounds = accesses_below(code, lengths, threads);
+    let accesses = accesses_below(code, lengths, threads);
     let mut vs = [0u32; 96];
     let mut k = 0;
-    while k < rounds {
+    while k + 1 < accesses {
         let r = in_round(code, lengths, threads, opened, &vs);
         let left = r.left;
         let goes = r.places;

@@ -1,4 +1,4 @@
--- `places` makes as many rounds as the program has accesses, or fewer where one changes no value. The invariant: the table holds the values of the rounds made.
+-- `places` makes a round fewer than the program has accesses, or fewer still where one changes no value. The invariant: the table holds the values of the rounds made.
 use borrow.Author.Needs.{needs}
 use Prim.Native.Nat.{ℕ, _≤_, _-_}
 use mathlib.Core.Path.{_≡_}
@@ -22,12 +22,12 @@ use Rattle.rounds.proofs.valuing.places.Statement.{statement}
 use Rattle.rounds.proofs.valuing.places.Tie as tie
 
 abbrev Inv-loop : tie.InvT-loop
-Inv-loop code lengths threads starting pairs opened rounds vs₀ k₀ vs k =
-    (k ≤ rounds) × ((p : Program) (text counts : List ℕ) (g : Graph) → Loaded code lengths threads p → starting ≡ initial p → readGraph threads text ≡ parsed g → Tabled pairs counts g →
+Inv-loop code lengths threads starting pairs opened accesses vs₀ k₀ vs k =
+    (k ≤ accesses - 1) × ((p : Program) (text counts : List ℕ) (g : Graph) → Loaded code lengths threads p → starting ≡ initial p → readGraph threads text ≡ parsed g → Tabled pairs counts g →
     (e : Event) → Named threads e → valuesIn vs e ≡ values p g k e)
 
 abbrev μ-loop : tie.MeasureT-loop
-μ-loop code lengths threads starting pairs opened rounds vs₀ k₀ vs k = rounds - k
+μ-loop code lengths threads starting pairs opened accesses vs₀ k₀ vs k = accesses - k
 
 started-requires : tie.Need-started-requires Inv-loop μ-loop
 started-requires c κs = (c .pre .0, c .pre .1)
@@ -40,7 +40,13 @@ accesses-below-requires c κs =
     (six-held (args .code .now) (args .lengths .now) (args .threads) (pre .0) (pre .1), short-held (args .code .now) (args .lengths .now) (args .threads) (pre .0) (pre .1))
 
 loop-holds : tie.Need-loop-holds Inv-loop μ-loop
-loop-holds c = (search needs, λ p text counts g loaded m e T x h. values-start p g x)
+loop-holds c = (omega arith, λ p text counts g loaded m e T x h. values-start p g x)
+
+add-loop : tie.Need-add-loop Inv-loop μ-loop
+add-loop c =
+    let entry = c .before .before .before .before in
+    let args = entry .args in
+    omega (arith, c .loop .inv .0, c .before .accesses-below .ensures .1, six-held (args .code .now) (args .lengths .now) (args .threads) (entry .pre .0) (entry .pre .1))
 
 in-round-requires : tie.Need-in-round-requires Inv-loop μ-loop
 in-round-requires c κs =
@@ -104,4 +110,4 @@ returns-2 c =
     λ p text counts g loaded m e T. places-are (args .threads) (six-held (args .code .now) (args .lengths .now) (args .threads) p loaded) p (loop .vs) (in-round2 .result .places) (in-round2 .result .left) (in-round2 .ensures p loaded (opened-so (args .code .now) (args .lengths .now) p (started .result) (started .ensures .1 p loaded m))) (args .t5) counts (args .t4) g (read-readable (args .threads) text g e) T m (loop .k) (loop .inv .1 p text counts g loaded m e T) (omega (arith, loop .inv .0, loop-test .left, accesses-below .ensures .0, accesses-held (args .code .now) (args .lengths .now) (args .threads) p loaded))
 
 pub places-spec : {M : Type 1} → statement M
-places-spec = tie.close (tie.spec Inv-loop μ-loop started-requires accesses-below-requires loop-holds in-round-requires next-values-requires same-values-requires returns (λ c. search needs) (λ c. search needs) loop-again in-round-requires-2 returns-2)
+places-spec = tie.close (tie.spec Inv-loop μ-loop started-requires accesses-below-requires loop-holds add-loop in-round-requires next-values-requires same-values-requires returns (λ c. search needs) (λ c. search needs) loop-again in-round-requires-2 returns-2)
