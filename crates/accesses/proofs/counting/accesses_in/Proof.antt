@@ -18,9 +18,12 @@ Counted code t n count i = (count ≤ i) × (i ≤ n) × (count ≡ accesses (th
 
 more : (code : List ℕ) (t n count i : ℕ) → Counted code t n count i → i < n → (b : Bool) → b ≡ beginsWithAccess (instructionAt code (t * 16 + i) ∷ [])
     → (later : ℕ) → later ≡ count + one b → later ≤ count + 1 → Counted code t n later (i + 1)
-more code t n count i C h b e later q few = (omega (arith, few, C .0), omega (arith, h),
-    let next = counted-next code t i in
-    omega (arith, q, next, C .2, ap one e))
+more code t n count i C h b e later q few = (
+  omega (arith, few, C .0),
+  omega (arith, h),
+  let next = counted-next code t i in
+      omega (arith, q, next, C .2, ap one e),
+)
 
 abbrev Inv-loop : tie.InvT-loop
 Inv-loop code t n count₀ i₀ count i = Counted code t n count i
