@@ -1,7 +1,7 @@
 -- Accesses counted row after row, and thread after thread.
 use Prim.Native.Nat.{ℕ, zero, suc, _+_, _*_}
-use mathlib.Core.Path.{_≡_, refl, sym, ap, _∙_}
-use mathlib.Core.Bool.{Bool, true, false, cond}
+use mathlib.Core.Path.{_≡_, refl}
+use mathlib.Core.Bool.{Bool, cond}
 use mathlib.Core.List.{List, [], _∷_}
 use native.Mathlib.Omega.{arith}
 use lib.ListN.{getD}
@@ -37,31 +37,22 @@ last-thread f (suc n) = let ih = last-thread (λ i. f (suc i)) n in omega (arith
 
 module _ (code : List ℕ) where
   -- none of a thread's instructions
-  pub none-counted : (t : ℕ) → 0 ≡ accesses (threadCode code t 0)
+  pub counted-none : (t : ℕ) → accesses (threadCode code t 0) ≡ 0
   unfolding threadCode tabulate accesses
-  none-counted t = refl
+  counted-none t = refl
 
   -- one instruction more
-  pub more-counted : (t i count : ℕ) (b : Bool) → count ≡ accesses (threadCode code t i) → b ≡ beginsWithAccess (instructionAt code (t * 16 + i) ∷ [])
-      → count + one b ≡ accesses (threadCode code t (i + 1))
+  pub counted-next : (t i : ℕ) → accesses (threadCode code t (i + 1)) ≡ accesses (threadCode code t i) + one (beginsWithAccess (instructionAt code (t * 16 + i) ∷ []))
   unfolding threadCode
-  more-counted t i count b e q =
-      let l = last-counted (λ j. instructionAt code (t * 16 + j)) i in
-      let c = ap one q in
-      let n : i + 1 ≡ suc i = omega arith in
-      rw n (omega (arith, l, c, e))
+  counted-next t i = let n : i + 1 ≡ suc i = omega arith in rw n (last-counted (λ j. instructionAt code (t * 16 + j)) i)
 
   module _ (lengths : List ℕ) where
     -- no thread
-    pub none-below : 0 ≡ accessesBelow code lengths 0
+    pub below-none : accessesBelow code lengths 0 ≡ 0
     unfolding accessesBelow tabulate allAccesses
-    none-below = refl
+    below-none = refl
 
     -- one thread more
-    pub more-below : (t count k : ℕ) → count ≡ accessesBelow code lengths t → k ≡ accesses (threadCode code t (getD lengths t 0))
-        → count + k ≡ accessesBelow code lengths (t + 1)
+    pub below-next : (t : ℕ) → accessesBelow code lengths (t + 1) ≡ accessesBelow code lengths t + accesses (threadCode code t (getD lengths t 0))
     unfolding accessesBelow
-    more-below t count k e q =
-        let l = last-thread (λ u. threadCode code u (getD lengths u 0)) t in
-        let n : t + 1 ≡ suc t = omega arith in
-        rw n (omega (arith, l, q, e))
+    below-next t = let n : t + 1 ≡ suc t = omega arith in rw n (last-thread (λ u. threadCode code u (getD lengths u 0)) t)

@@ -15,16 +15,15 @@ ghost use Rattle.sc.specs.State.{State, place, enabled};
 ghost use Rattle.machine.specs.Held.{threadAt, Holds, ReadyThread, Ready, HoldsStep, HoldsMoved, whole};
 
 // What a step gives back: its thread's registers and memory whole, and the rest of its thread; its place, and whether it reads and writes
-// (1 or 0). The last writes are its caller's: one of them is read and stored where they lie. `done` and `failed` stand apart: where they
-// are neighbours they are read as one, which waits for the two stores.
+// (1 or 0). The last writes are its caller's: one of them is read and stored where they lie.
 pub struct After {
     pub registers: [u32; 4],
     pub at: usize,
     pub place: usize,
     pub memory: [u32; 8],
     pub done: u8,
-    pub location: u8,
     pub failed: bool,
+    pub location: u8,
     pub reads: u8,
     pub writes: u8,
 }

@@ -1,10 +1,10 @@
 -- `accesses_below` counts one thread after the other. The invariant: the accesses of the threads so far are counted.
 use borrow.Author.Needs.{needs}
 use Prim.Native.Nat.{ℕ, _+_, _-_, _*_, _≤_}
-use mathlib.Core.Path.{_≡_, ap, _∙_}
+use mathlib.Core.Path.{_≡_, sym, ap, _∙_}
 use native.Mathlib.Omega.{arith}
 use Rattle.accesses.specs.Counted.{accessesBelow}
-use Rattle.accesses.proofs.HeldCounting.{none-below, more-below}
+use Rattle.accesses.proofs.HeldCounting.{below-none, below-next}
 use Rattle.accesses.proofs.counting.accesses_below.Statement.{statement}
 use Rattle.accesses.proofs.counting.accesses_below.Tie as tie
 
@@ -15,7 +15,7 @@ abbrev μ-loop : tie.MeasureT-loop
 μ-loop code lengths n count₀ t₀ count t = n - t
 
 loop-holds : tie.Need-loop-holds Inv-loop μ-loop
-loop-holds c = (omega arith, omega arith, none-below (c .args .code .now) (c .args .lengths .now))
+loop-holds c = (omega arith, omega arith, sym (below-none (c .args .code .now) (c .args .lengths .now)))
 
 accesses-in-requires : tie.Need-accesses-in-requires Inv-loop μ-loop
 accesses-in-requires c κs =
@@ -28,7 +28,7 @@ loop-again c =
     let args = c .before .before .before .before .args in
     let loop = c .before .before .before .loop in
     let counted = c .accesses-in .ensures in
-    (search needs, omega (arith, loop .inv .1, counted .1), more-below (args .code .now) (args .lengths .now) (loop .t) (loop .count) (c .accesses-in .result) (loop .inv .2) (counted .0))
+    (search needs, omega (arith, loop .inv .1, counted .1), omega (arith, loop .inv .2, counted .0, below-next (args .code .now) (args .lengths .now) (loop .t)))
 
 returns : tie.Need-returns Inv-loop μ-loop
 returns c =

@@ -9,7 +9,7 @@ use native.Mathlib.Omega.{arith}
 use Rattle.program.specs.WellFormed.{accesses}
 use Rattle.rows.specs.Rows.{instructionAt, threadCode}
 use Rattle.sc.specs.Local.{beginsWithAccess}
-use Rattle.accesses.proofs.HeldCounting.{one, none-counted, more-counted}
+use Rattle.accesses.proofs.HeldCounting.{one, counted-none, counted-next}
 use Rattle.accesses.proofs.counting.accesses_in.Statement.{statement}
 use Rattle.accesses.proofs.counting.accesses_in.Tie as tie
 
@@ -18,7 +18,12 @@ Counted code t n count i = (count ≤ i) × (i ≤ n) × (count ≡ accesses (th
 
 more : (code : List ℕ) (t n count i : ℕ) → Counted code t n count i → i < n → (b : Bool) → b ≡ beginsWithAccess (instructionAt code (t * 16 + i) ∷ [])
     → (later : ℕ) → later ≡ count + one b → later ≤ count + 1 → Counted code t n later (i + 1)
-more code t n count i C h b e later q few = (omega (arith, few, C .0), omega (arith, h), q ∙ more-counted code t i count b (C .2) e)
+more code t n count i C h b e later q few = (
+  omega (arith, few, C .0),
+  omega (arith, h),
+  let next = counted-next code t i in
+      omega (arith, q, next, C .2, ap one e),
+)
 
 abbrev Inv-loop : tie.InvT-loop
 Inv-loop code t n count₀ i₀ count i = Counted code t n count i
@@ -27,7 +32,7 @@ abbrev μ-loop : tie.MeasureT-loop
 μ-loop code t n count₀ i₀ count i = n - i
 
 loop-holds : tie.Need-loop-holds Inv-loop μ-loop
-loop-holds c = (omega arith, omega arith, none-counted (c .args .code .now) (c .args .t))
+loop-holds c = (omega arith, omega arith, sym (counted-none (c .args .code .now) (c .args .t)))
 
 loop-again : tie.Need-loop-again Inv-loop μ-loop
 loop-again c =
