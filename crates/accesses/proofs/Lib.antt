@@ -6,3 +6,5 @@ pub mod HeldRows
 pub mod HeldSettling
 -- an access as the code does it
 pub mod HeldAccess
+-- accesses counted row after row
+pub mod HeldCounting

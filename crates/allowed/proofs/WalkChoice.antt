@@ -25,7 +25,7 @@ use Rattle.sc.proofs.Regular.{Regular, regular-run, regular-start}
 use Rattle.machine.proofs.HeldAsking.{ready-held}
 use Rattle.machine.proofs.HeldStart.{threads-held, short-held}
 use Rattle.consistent.specs.Consistent.{locationOf}
-use Rattle.consistent.proofs.RoundValues.{values}
+use Rattle.consistent.proofs.RoundValues.{finalValues}
 use Rattle.consistent.proofs.Walk.{fits}
 use Rattle.allowed.specs.HeldWalk.{Drawn, Ordering, Ranged, NoteOf, Walking, threadOr, nextOf}
 use Rattle.consistent.proofs.Readable.{Readable}
@@ -69,7 +69,7 @@ module _ (code lengths : List ℕ) (n : ℕ) (pairs table : List ℕ) (p : Progr
   threads-many : length (σ .threads) ≡ n
   threads-many = run-threads s (start p) ∙ start-threads p ∙ threads-held code lengths n p (W .given .loaded)
 
-  pub walk-drawn : Drawn pairs table n m g (locationOf p (values p g 24)) σ
+  pub walk-drawn : Drawn pairs table n m g (locationOf p (finalValues p g)) σ
   walk-drawn = record {
     rows = readable .rows;
     ordered = readable .ordered;
@@ -116,19 +116,19 @@ module _ (code lengths : List ℕ) (n : ℕ) (pairs table : List ℕ) (p : Progr
             omega (arith, o, ap (λ (u : ℕ). threadOf σ u .history .done) k ∙ idle-done)
 
   -- the answer
-  pub chosen-one : (t : ℕ) → t < 6 → ((u : ℕ) → u < t → fits g (locationOf p (values p g 24)) σ u ≡ false) → fits g (locationOf p (values p g 24)) σ t ≡ true → threadOr t ≡ nextOf p g s
-  chosen-one t h before e = rw (lt-ltb t 6 h) (sym (first-at (fits g (locationOf p (values p g 24)) σ) 6 0 t (λ u a b. before u b) (omega arith) h e))
+  pub chosen-one : (t : ℕ) → t < 6 → ((u : ℕ) → u < t → fits g (locationOf p (finalValues p g)) σ u ≡ false) → fits g (locationOf p (finalValues p g)) σ t ≡ true → threadOr t ≡ nextOf p g s
+  chosen-one t h before e = rw (lt-ltb t 6 h) (sym (first-at (fits g (locationOf p (finalValues p g)) σ) 6 0 t (λ u a b. before u b) (omega arith) h e))
 
-  pub chosen-none : (t : ℕ) → 6 ≤ t → ((u : ℕ) → u < t → fits g (locationOf p (values p g 24)) σ u ≡ false) → threadOr 6 ≡ nextOf p g s
-  chosen-none t h before = sym (first-none (fits g (locationOf p (values p g 24)) σ) 6 0 (λ u a b. before u (omega arith)))
+  pub chosen-none : (t : ℕ) → 6 ≤ t → ((u : ℕ) → u < t → fits g (locationOf p (finalValues p g)) σ u ≡ false) → threadOr 6 ≡ nextOf p g s
+  chosen-none t h before = sym (first-none (fits g (locationOf p (finalValues p g)) σ) 6 0 (λ u a b. before u (omega arith)))
 
-  pub passed-over : (t : ℕ) → ((u : ℕ) → u < t → fits g (locationOf p (values p g 24)) σ u ≡ false) → fits g (locationOf p (values p g 24)) σ t ≡ false
-      → (u : ℕ) → u < t + 1 → fits g (locationOf p (values p g 24)) σ u ≡ false
+  pub passed-over : (t : ℕ) → ((u : ℕ) → u < t → fits g (locationOf p (finalValues p g)) σ u ≡ false) → fits g (locationOf p (finalValues p g)) σ t ≡ false
+      → (u : ℕ) → u < t + 1 → fits g (locationOf p (finalValues p g)) σ u ≡ false
   passed-over t before e u h = go (ℕ-discrete u t)
     where
-      go : Dec (u ≡ t) → fits g (locationOf p (values p g 24)) σ u ≡ false
-      go (yes q) = ap (fits g (locationOf p (values p g 24)) σ) q ∙ e
+      go : Dec (u ≡ t) → fits g (locationOf p (finalValues p g)) σ u ≡ false
+      go (yes q) = ap (fits g (locationOf p (finalValues p g)) σ) q ∙ e
       go (no q) = before u (omega (arith, q))
 
-  pub ended-over : (t : ℕ) → enabled σ t ≡ false → fits g (locationOf p (values p g 24)) σ t ≡ false
-  ended-over t e = fits-enabled g (locationOf p (values p g 24)) σ t e
+  pub ended-over : (t : ℕ) → enabled σ t ≡ false → fits g (locationOf p (finalValues p g)) σ t ≡ false
+  ended-over t e = fits-enabled g (locationOf p (finalValues p g)) σ t e

@@ -16,7 +16,7 @@ use Rattle.sc.specs.Graph.{Graph}
 use Rattle.graph_writer.specs.Notes.{note, noteBytes}
 use Rattle.machine.specs.Held.{threadAt, Holds, Loaded}
 use Rattle.consistent.specs.Consistent.{rowOf, orderOf, Values, Descends, locationOf}
-use Rattle.consistent.proofs.RoundValues.{values}
+use Rattle.consistent.proofs.RoundValues.{finalValues}
 use Rattle.consistent.proofs.Walk.{fits}
 use Rattle.consistent.specs.Reading.{parsed, readGraph}
 use Rattle.graph_reader.specs.Held.{noLine, lineIn, Entry, Tabled}
@@ -72,7 +72,7 @@ pub record Given (code lengths : List ℕ) (n : ℕ) (pairs table : List ℕ) (p
   pub read : readGraph n text ≡ parsed g
   pub sizes : List ℕ
   pub tabled : Tabled pairs sizes g
-  pub places : (t i : ℕ) → t < n → i < 16 → getD table (t * 16 + i) 0 ≡ locationOf p (values p g 24) (t, i)
+  pub places : (t i : ℕ) → t < n → i < 16 → getD table (t * 16 + i) 0 ≡ locationOf p (finalValues p g) (t, i)
 
 -- the walk so far: the machine stands behind the schedule s
 pub record Walking (code lengths : List ℕ) (n : ℕ) (pairs table : List ℕ) (p : Program) (g : Graph) (m : Machine) (counts : List ℕ) (s : Schedule) : Type 0 where
@@ -87,4 +87,4 @@ threadOr t = cond (ltb t 6) (some t) none
 
 -- the least thread whose next access the graph allows
 abbrev pub nextOf : Program → Graph → Schedule → Option ℕ
-nextOf p g s = find (fits g (locationOf p (values p g 24)) (run SC (start p) s)) (range 0 6)
+nextOf p g s = find (fits g (locationOf p (finalValues p g)) (run SC (start p) s)) (range 0 6)

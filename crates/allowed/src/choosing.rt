@@ -13,7 +13,7 @@ ghost use Rattle.schedules.specs.System.{run};
 ghost use Rattle.sc.specs.State.{SC, start};
 ghost use Rattle.sc.specs.Graph.{Graph};
 ghost use Rattle.consistent.specs.Consistent.{locationOf};
-ghost use Rattle.consistent.proofs.RoundValues.{values};
+ghost use Rattle.consistent.proofs.RoundValues.{finalValues};
 ghost use Rattle.consistent.proofs.Walk.{fits};
 ghost use Rattle.allowed.specs.HeldWalk.{Walking, threadOr, nextOf};
 
@@ -32,7 +32,7 @@ fn is_allowed(
         × Walking (now code) (now lengths) threads pairs places p g m counts s) ⌝ }
     ensures { λ r. ⌜ ((p : Program) (g : Graph) (s : Schedule)
         → Walking (now (code .entry)) (now (lengths .entry)) threads pairs places p g m counts s
-        → r ≡ fits g (locationOf p (values p g 24)) (run SC (start p) s) t) ⌝ }
+        → r ≡ fits g (locationOf p (finalValues p g)) (run SC (start p) s) t) ⌝ }
 {
     if !enabled(lengths, m, t) {
         return false;

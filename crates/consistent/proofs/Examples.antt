@@ -7,7 +7,7 @@ use mathlib.Core.List.{List, [], _∷_, _++_}
 use lib.Dec.{eqb}
 use Rattle.program.specs.Program.{Program, zeros}
 use Rattle.program.specs.Frames.{test}
-use Rattle.program.specs.WellFormed.{accesses}
+use Rattle.program.specs.WellFormed.{accesses, allAccesses}
 use Rattle.program.specs.declared.instruction.Instruction.{Instruction}
 use Rattle.program.specs.declared.instruction.Operand.the-variants.{Constant, Register}
 use Rattle.program.specs.declared.instruction.Access.the-variants.{Store, Load, FetchAdd, CompareSwap}
@@ -28,7 +28,7 @@ use Rattle.consistent.proofs.Walk.{waits, noneWaits, nextWrite, readFit
 
 -- what a proof names on its `unfolding` line to compute with the judge
 unfoldable pub judging : Program → Graph → Option Schedule
-unfolding seen range any all find greedy alone sameEvent sameRead sourceIn orZero leftBy nextRound values waits noneWaits nextWrite readFits writeFits fits walk sameList sameGraph judge
+unfolding seen accesses allAccesses range any all find greedy alone sameEvent sameRead sourceIn orZero leftBy nextRound values waits noneWaits nextWrite readFits writeFits fits walk sameList sameGraph judge
 judging p g = judge p g
 
 -- threads of which none are declared alike, on a memory of zeros

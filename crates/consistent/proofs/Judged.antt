@@ -1,31 +1,35 @@
 -- The judge answers yes exactly to consistent graphs, and with the least schedule.
-use Prim.Native.Nat.{ℕ}
+use Prim.Native.Nat.{ℕ, _-_, _≤_}
 use mathlib.Core.Path.{_≡_, refl, sym, ap, subst, _∙_}
 use mathlib.Core.Logic.{_↔_}
 use mathlib.Core.Bool.{Bool, true, false, _&&_, true≢false}
 use mathlib.Core.Option.{Option, none, some, Option·none-ne-some}
 use mathlib.Core.List.{[], _∷_}
+use native.Mathlib.Omega.{arith}
+use lib.ListN.{length}
 use Rattle.program.specs.Program.{Program}
-use Rattle.program.specs.WellFormed.{WellFormed}
+use Rattle.program.specs.WellFormed.{WellFormed, allAccesses}
 use Rattle.program.proofs.Tests.{both}
 use Rattle.schedules.specs.Order.{Schedule}
 use Rattle.schedules.specs.System.{run, ended, Allowed, FullFrom}
 use Rattle.schedules.specs.Greedy.{Fitting}
 use Rattle.schedules.proofs.Order.{AtMost, at-most-not-less}
-use Rattle.schedules.proofs.Runs.{ended-none, full-allowed, allowed-full}
+use Rattle.schedules.proofs.Runs.{ended-none, full-allowed, allowed-full, full-length}
 use Rattle.schedules.proofs.Greedy.{GreedyLaws, greedy-least, commuting}
 use Rattle.schedules.proofs.GreedyAllowed.{greedy-allowed}
 use Rattle.sc.specs.State.{State, step, enabled, SC, start}
 use Rattle.sc.specs.Graph.{Graph, graphOf, graph, endOf, Full}
-use Rattle.sc.proofs.Lawful.{lawful, names-ascend, at-most-24}
+use Rattle.sc.proofs.Lawful.{lawful, names-ascend, at-most-24, start-size}
 use Rattle.sc.proofs.Regular.{Regular, regular-step, regular-start}
+use Rattle.sc.proofs.Start.{start-history}
 use Rattle.consistent.specs.Consistent.{locationOf, Consistent}
 use Rattle.consistent.specs.Least.{MadeBy, LeastFor}
-use Rattle.consistent.proofs.RoundValues.{values}
+use Rattle.consistent.proofs.RoundValues.{values, finalValues}
 use Rattle.consistent.proofs.Walk.{fits, walk, sameGraph, judge}
 use Rattle.consistent.proofs.Tests.{both-and, same-graph-is, is-same-graph}
+use Rattle.consistent.proofs.Alone.{reads-event}
 use Rattle.consistent.proofs.Rounds.{run-canonical}
-use Rattle.consistent.proofs.OnRun.{on-start}
+use Rattle.consistent.proofs.OnRun.{on-start, on-end, all-done, placed}
 use Rattle.consistent.proofs.ConsistentIff.{run-makes, consistent-iff}
 use Rattle.consistent.proofs.Fitting.{fits-is}
 use Rattle.consistent.proofs.Commuting.{fits-commute, fits-stays}
@@ -36,14 +40,14 @@ module _ (p : Program) (wf : WellFormed p) (g : Graph) where
   Goal σ = (ended SC σ ≡ true) × (graphOf σ ≡ g)
 
   abbrev ready : State → ℕ → Bool
-  ready = fits g (locationOf p (values p g 24))
+  ready = fits g (locationOf p (finalValues p g))
 
   fits-enabled : (σ : State) (t : ℕ) → ready σ t ≡ true → enabled σ t ≡ true
-  fits-enabled σ t e = fits-is g (locationOf p (values p g 24)) σ t e .live
+  fits-enabled σ t e = fits-is g (locationOf p (finalValues p g)) σ t e .live
 
   greedy-laws : GreedyLaws SC ready Goal Regular
   greedy-laws = commuting SC ready Goal Regular (λ σ t r e. regular-step σ t r (fits-enabled σ t e)) (λ σ t r o. final σ t (o .0) (ready σ t) refl)
-      (λ σ a b r n x y. fits-commute g (locationOf p (values p g 24)) σ a b n x y) (λ σ a b r n x y. fits-stays g (locationOf p (values p g 24)) σ a b n x y)
+      (λ σ a b r n x y. fits-commute g (locationOf p (finalValues p g)) σ a b n x y) (λ σ a b r n x y. fits-stays g (locationOf p (finalValues p g)) σ a b n x y)
       names-ascend (λ σ t r e. lawful .named σ t (fits-enabled σ t e))
     where
       final : (σ : State) (t : ℕ) → ended SC σ ≡ true → (b : Bool) → ready σ t ≡ b → ready σ t ≡ false
@@ -55,11 +59,21 @@ module _ (p : Program) (wf : WellFormed p) (g : Graph) where
   fitting-full [] σ o = o
   fitting-full (t ∷ s) σ o = let r = fitting-full s (step σ t) (o .1) in ((fits-enabled σ t (o .0), r .0), r .1)
 
+  -- a full schedule has at most as many steps as the program has accesses
+  at-most-accesses : (s : Schedule) → Full p s → length s ≤ allAccesses (p .threads)
+  at-most-accesses s f = omega (arith, full-length SC lawful (start p) s f, start-size p)
+
   made-fitting : (s : Schedule) → MadeBy p g s → Fitting SC ready Goal (start p) s
   made-fitting s m =
-      let h = at-most-24 p wf s (m .0) in
+      let N = allAccesses (p .threads) in
+      let h = at-most-accesses s (m .0) in
       let C = run-canonical p wf g s m in
-      on-fitting p wf g C 24 (run-makes p wf g s 24 m h) s (start p) (on-start p wf g C 24 s m h)
+      let M = run-makes p wf g s N m h in
+      let o = on-start p wf g C N s m h in
+      on-fitting p wf g C N M (N - 1) (omega arith)
+      (λ e q r. placed p wf g C N (N - 1) (omega arith) s (start p) o e (λ d. absurd (omega (arith, start-history p (e .0) .0, d)))
+      (all-done p wf g C N (run SC (start p) s) (on-end p wf g C N s (start p) o) e (reads-event p (values p g N) e (M .noted e q r))))
+      s (start p) o
 
   -- if some full schedule has the graph, the walk is the least one, and all end in the same state
   walk-least : (s : Schedule) → MadeBy p g s → MadeBy p g (walk p g) × (endOf p (walk p g) ≡ endOf p s) × ((r : Schedule) → MadeBy p g r → AtMost (walk p g) r)

@@ -2,7 +2,7 @@
 -- before its event.
 use Prim.Native.Nat.{ℕ, suc, _+_, _≤_}
 use mathlib.Core.Path.{_≡_, refl, sym, ap, subst, _∙_}
-use mathlib.Core.Logic.{⊎-elim}
+use mathlib.Core.Logic.{_⊎_, inl, inr, ⊎-elim}
 use mathlib.Core.List.{[], _∷_, List·Memᴰ, Memᴰ·append-left}
 use native.Mathlib.Omega.{arith}
 use native.Mathlib.Decide.{decLt}
@@ -66,6 +66,18 @@ module _ (p : Program) (wf : WellFormed p) (g : Graph) (C : Canonical p g) (N : 
   pub all-done : (σ : State) → On σ [] → (e : Event) → Event-of p v e → Done σ e
   all-done σ o e h = before-end p v (e .0) (threadOf σ (e .0) .history .done) (e .1)
       (ap pending (sym (records σ [] o .agrees .locals (e .0))) ∙ ended-idle σ (o .ends .regular) (o .ends .full) (e .0)) h
+
+  -- where an event goes is known one round before what it finds: a round fewer places the events of the run alike
+  pub placed : (n : ℕ) → N ≤ suc n → (z : Schedule) (σ : State) → On σ z → (e : Event) → (Done σ e → locationOf p (values p g n) e ≡ locationOf p v e)
+      → Done (run SC σ z) e → locationOf p (values p g n) e ≡ locationOf p v e
+  unfolding run
+  placed n h [] σ o e before d = before d
+  placed n h (t ∷ z) σ o e before d = placed n h z (step σ t) (on-step σ t z o) e (λ k. now (done-cases σ t (o .ends .full .0) e k)) d
+    where
+      now : Done σ e ⊎ (e ≡ upcoming σ t) → locationOf p (values p g n) e ≡ locationOf p v e
+      now (inl k) = before k
+      now (inr q) = subst (λ (x : Event). locationOf p (values p g n) x ≡ locationOf p v x) (sym q)
+          (location p (values p g n) σ (o .known n (omega (arith, o .enough, h)) .agrees) t ∙ sym (location p v σ (records σ (t ∷ z) o .agrees) t))
 
   -- so the graph is made on these values
   pub on-makes : (σ : State) → On σ [] → Makes p g v

@@ -1,12 +1,13 @@
 -- How the judge finds the values of the reads. Round after round every thread runs by itself on the values known so far, and each read is
 -- given what its source then writes. Nothing promised rests on this: Rounds shows that it finds the values of every run with the graph.
-use Prim.Native.Nat.{ℕ, zero, suc}
+use Prim.Native.Nat.{ℕ, zero, suc, _-_}
 use mathlib.Core.Bool.{true, false}
 use mathlib.Core.Option.{Option, none, some}
 use mathlib.Core.List.{List, [], _∷_}
 use lib.Dec.{eqb}
 use lib.ListN.{getD}
 use Rattle.program.specs.Program.{Program, initial}
+use Rattle.program.specs.WellFormed.{allAccesses}
 use Rattle.sc.specs.State.{Event, initialWrite}
 use Rattle.sc.specs.Graph.{Graph}
 use Rattle.consistent.specs.Consistent.{rowOf, Values, locationOf, outOf}
@@ -33,3 +34,8 @@ nextRound p g v e = leftBy p v (sourceIn (rowOf g (e .0)) (e .1)) (locationOf p 
 unfoldable pub values : Program → Graph → ℕ → Values
 values p g zero e = 0
 values p g (suc n) e = nextRound p g (values p g n) e
+
+-- the values of the last round. A full schedule has at most as many steps as the program has accesses, each round finds the value of one step
+-- more, and where the last step goes does not depend on what it finds: a round fewer than there are accesses is enough
+abbrev pub finalValues : Program → Graph → Values
+finalValues p g = values p g (allAccesses (p .threads) - 1)

@@ -1,10 +1,11 @@
 -- Each step of a run with this graph fits.
-use Prim.Native.Nat.{ℕ}
+use Prim.Native.Nat.{ℕ, suc, _≤_}
 use mathlib.Core.Path.{_≡_, refl, sym, ap, subst, _∙_}
 use mathlib.Core.Logic.{inl}
 use mathlib.Core.Bool.{true, false≢true}
 use mathlib.Core.Option.{Option, none, some}
 use mathlib.Core.List.{List, [], _∷_, _++_, append-assoc, reverse, reverse-append, reverse-cons, List·Memᴰ, List·Memᴰ·head}
+use native.Mathlib.Omega.{arith}
 use lib.ListN.{length, length-reverse}
 use lib.Seq.{getD-at}
 use Rattle.program.specs.Program.{Program}
@@ -19,13 +20,13 @@ use Rattle.sc.specs.Graph.{Graph, graphOf}
 use Rattle.sc.proofs.Change.{wrote-own}
 use Rattle.sc.proofs.Regular.{place-in}
 use Rattle.sc.proofs.Histories.{upcoming, Done}
-use Rattle.consistent.specs.Consistent.{orderOf, coherenceOf, Later, locationOf, Canonical, Makes, from-reads}
+use Rattle.consistent.specs.Consistent.{orderOf, coherenceOf, ReadsFrom, Later, locationOf, Canonical, Makes, from-reads}
 use Rattle.consistent.proofs.RoundValues.{values}
 use Rattle.consistent.proofs.Walk.{nextWrite, fits}
 use Rattle.consistent.proofs.Later.{later-right}
 use Rattle.consistent.proofs.Agreement.{location}
 use Rattle.consistent.proofs.Rounds.{order-suffix, step-source}
-use Rattle.consistent.proofs.OnRun.{On, on-step, records, on-ready}
+use Rattle.consistent.proofs.OnRun.{On, on-step, on-ready}
 use Rattle.consistent.proofs.Fitting.{IsNext, is-fits}
 
 -- the write whose turn it is stands in front of those that have come
@@ -41,9 +42,11 @@ unfolding latest
 latest-behind [] = List·Memᴰ·head refl
 latest-behind (e ∷ w) = List·Memᴰ·head refl
 
-module _ (p : Program) (wf : WellFormed p) (g : Graph) (C : Canonical p g) (N : ℕ) (M : Makes p g (values p g N)) where
+-- places by the values of round n, which are those of round N for the reads of the graph
+module _ (p : Program) (wf : WellFormed p) (g : Graph) (C : Canonical p g) (N : ℕ) (M : Makes p g (values p g N)) (n : ℕ) (near : N ≤ suc n)
+    (same : (e s : Event) → ReadsFrom g e s → locationOf p (values p g n) e ≡ locationOf p (values p g N) e) where
   abbrev pl : Event → ℕ
-  pl = locationOf p (values p g N)
+  pl = locationOf p (values p g n)
 
   module _ (σ : State) (t : ℕ) (z : Schedule) (o : On p wf g C N σ (t ∷ z)) where
     abbrev e : Event
@@ -53,7 +56,7 @@ module _ (p : Program) (wf : WellFormed p) (g : Graph) (C : Canonical p g) (N : 
     w = cellOf σ (place σ t) .writes
 
     at : pl e ≡ place σ t
-    at = location p (values p g N) σ (records p wf g C N σ (t ∷ z) o .agrees) t
+    at = location p (values p g n) σ (o .known n (omega (arith, o .enough, near)) .agrees) t
 
     -- a write stands in the graph in front of those that have come
     in-graph : (x : ℕ) → puts (threadOf σ t .local) (cellOf σ (place σ t) .value) ≡ some x → (front : List Event) × (orderOf g (place σ t) ≡ front ++ (e ∷ w))
@@ -74,9 +77,9 @@ module _ (p : Program) (wf : WellFormed p) (g : Graph) (C : Canonical p g) (N : 
     next-there (some x) q k =
         let r = in-graph x q in (
           next-write-is (orderOf g (place σ t)) (r .0) w e (r .1),
-          λ y s a i j n. on-ready p wf g C N M σ t z o y
-              (from-reads s a (subst (λ (l : ℕ). Later (coherenceOf g l) e s) (sym j)
-              (subst (Later (coherenceOf g (place σ t)) e) (sym i) (later-latest (r .0) (r .1)))) n),
+          λ y s a i j d. on-ready p wf g C N M σ t z o y
+              (from-reads s a (subst (λ (l : ℕ). Later (coherenceOf g l) e s) (sym (sym (same y s a) ∙ j))
+              (subst (Later (coherenceOf g (place σ t)) e) (sym i) (later-latest (r .0) (r .1)))) d),
         )
 
     pub on-fits : fits g pl σ t ≡ true

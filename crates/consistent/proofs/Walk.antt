@@ -17,7 +17,7 @@ use Rattle.sc.specs.State.{Event, initialWrite, Cell, State, threadOf, cellOf, 
 use Rattle.sc.specs.Graph.{Graph, graphOf, endOf}
 use Rattle.consistent.specs.Consistent.{rowOf, orderOf, locationOf}
 use Rattle.consistent.specs.Same.{sameEvent, sameRead, sameList}
-use Rattle.consistent.proofs.RoundValues.{values}
+use Rattle.consistent.proofs.RoundValues.{finalValues}
 
 -- the read (u, r .0) of source r .1 is another than e, takes from s at location l and is not yet done; `place` says where each read goes
 unfoldable pub waits : (Event → ℕ) → State → ℕ → Event → Event → ℕ → ℕ × Event → Bool
@@ -51,9 +51,9 @@ fits g place σ t =
     let e : Event = (t, h .history .done) in
     enabled σ t && (readFits g place e (h .local) c && writeFits g place σ e l c (puts (h .local) (c .value)))
 
--- a file has at most 24 accesses: 24 rounds and 24 steps are enough
+-- a file has at most 24 accesses: 24 steps are enough
 unfoldable pub walk : Program → Graph → Schedule
-walk p g = greedy SC (fits g (locationOf p (values p g 24))) 24 (start p)
+walk p g = greedy SC (fits g (locationOf p (finalValues p g))) 24 (start p)
 
 unfoldable pub sameGraph : Graph → Graph → Bool
 sameGraph g h = sameList (sameList sameRead) (g .reads) (h .reads) && sameList (sameList sameEvent) (g .writes) (h .writes)

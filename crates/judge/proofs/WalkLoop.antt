@@ -29,7 +29,7 @@ use Rattle.sc.proofs.Start.{start-writes, start-history}
 use Rattle.sc.proofs.Regular.{Regular}
 use Rattle.sc.proofs.Rows.{row-at, order-at}
 use Rattle.consistent.specs.Consistent.{locationOf}
-use Rattle.consistent.proofs.RoundValues.{values}
+use Rattle.consistent.proofs.RoundValues.{finalValues}
 use Rattle.consistent.proofs.Walk.{fits, walk}
 use Rattle.graph_reader.specs.Held.{noLine, lineIn, Entry, Tabled}
 use Rattle.allowed.specs.HeldWalk.{Ranged, Given, Walking, threadOr, nextOf}
@@ -72,7 +72,7 @@ pub record Progress (code lengths : List ℕ) (p : Program) (g : Graph) (m : Mac
   pub allowed : Allowed SC (start p) so-far
   pub holds : Holds code lengths m (run SC (start p) so-far)
   pub tabled : Tabled made counts (graphOf (run SC (start p) so-far))
-  pub rest : walk p g ≡ so-far ++ greedy SC (fits g (locationOf p (values p g 24))) (24 - k) (run SC (start p) so-far)
+  pub rest : walk p g ≡ so-far ++ greedy SC (fits g (locationOf p (finalValues p g))) (24 - k) (run SC (start p) so-far)
 
 -- before the first step
 pub walk-start : (code lengths : List ℕ) (p : Program) (g : Graph) (m : Machine) (schedule : List ℕ) → Holds code lengths m (start p)
@@ -121,17 +121,17 @@ module _ (code lengths : List ℕ) (n : ℕ) (pairs table : List ℕ) (p : Progr
 
   pub walk-whole : 24 ≤ k → ((l : ℕ) → getD counts l 0 ≤ 24) → Walked code lengths p g (record { schedule = schedule; steps = k; machine = m; pairs = made; counts = counts })
   unfolding greedy
-  walk-whole h = over (G .rest ∙ ap (λ (j : ℕ). s ++ greedy SC (fits g (locationOf p (values p g 24))) j (run SC (start p) s)) (let z : 24 - k ≡ 0 = omega arith in z) ∙ append-nil s)
+  walk-whole h = over (G .rest ∙ ap (λ (j : ℕ). s ++ greedy SC (fits g (locationOf p (finalValues p g))) j (run SC (start p) s)) (let z : 24 - k ≡ 0 = omega arith in z) ∙ append-nil s)
 
   module _ (t : ℕ) (choice : threadOr t ≡ nextOf p g (G .so-far)) (left : k < 24) where
     abbrev afterwards : Option ℕ → Schedule
     afterwards none = []
-    afterwards (some u) = u ∷ greedy SC (fits g (locationOf p (values p g 24))) (24 - (k + 1)) (step (run SC (start p) s) u)
+    afterwards (some u) = u ∷ greedy SC (fits g (locationOf p (finalValues p g))) (24 - (k + 1)) (step (run SC (start p) s) u)
 
-    go-on : greedy SC (fits g (locationOf p (values p g 24))) (24 - k) (run SC (start p) s)
+    go-on : greedy SC (fits g (locationOf p (finalValues p g))) (24 - k) (run SC (start p) s)
         ≡ afterwards (nextOf p g s)
     unfolding greedy
-    go-on = ap (λ (j : ℕ). greedy SC (fits g (locationOf p (values p g 24))) j (run SC (start p) s)) (let z : 24 - k ≡ suc (24 - (k + 1)) = omega arith in z)
+    go-on = ap (λ (j : ℕ). greedy SC (fits g (locationOf p (finalValues p g))) j (run SC (start p) s)) (let z : 24 - k ≡ suc (24 - (k + 1)) = omega arith in z)
 
     -- nobody fits
     pub walk-stops : t ≡ 6 → ((l : ℕ) → getD counts l 0 ≤ 24) → Walked code lengths p g (record { schedule = schedule; steps = k; machine = m; pairs = made; counts = counts })
@@ -146,7 +146,7 @@ module _ (code lengths : List ℕ) (n : ℕ) (pairs table : List ℕ) (p : Progr
       chosen-is = sym choice ∙ rw (lt-ltb t 6 (omega (arith, other)))
 
       pub walk-enabled : enabled (run SC (start p) (G .so-far)) t ≡ true
-      walk-enabled = fits-steps g (locationOf p (values p g 24)) (run SC (start p) s) t (first-fits (fits g (locationOf p (values p g 24)) (run SC (start p) s)) t chosen-is)
+      walk-enabled = fits-steps g (locationOf p (finalValues p g)) (run SC (start p) s) t (first-fits (fits g (locationOf p (finalValues p g)) (run SC (start p) s)) t chosen-is)
 
       module _ (r : Stepped) (S : HoldsStep code lengths (run SC (start p) (G .so-far)) t r) where
         pub walk-note : Ranged (r .note)
@@ -163,7 +163,7 @@ module _ (code lengths : List ℕ) (n : ℕ) (pairs table : List ℕ) (p : Progr
           holds = subst (Holds code lengths (r .machine)) (sym behind) (S .holds);
           tabled = subst (λ (x : State). Tabled made' counts' (graphOf x)) (sym behind) made-more;
           rest = G .rest ∙ ap (λ (x : Schedule). s ++ x) (go-on ∙ somebody) ∙ sym (append-assoc s (t ∷ []) _)
-              ∙ ap (λ (x : State). (s ++ (t ∷ [])) ++ greedy SC (fits g (locationOf p (values p g 24))) (24 - (k + 1)) x) (sym behind);
+              ∙ ap (λ (x : State). (s ++ (t ∷ [])) ++ greedy SC (fits g (locationOf p (finalValues p g))) (24 - (k + 1)) x) (sym behind);
         }
           where
             behind : run SC (start p) (s ++ (t ∷ [])) ≡ step (run SC (start p) s) t
@@ -174,7 +174,7 @@ module _ (code lengths : List ℕ) (n : ℕ) (pairs table : List ℕ) (p : Progr
             kept-more j h (no q) = getD-set-other schedule k j t 0 q ∙ G .kept j (omega (arith, q)) ∙ sym (getD-front s (t ∷ []) j (omega (arith, q, G .size)))
 
             somebody : afterwards (nextOf p g s)
-                ≡ (t ∷ []) ++ greedy SC (fits g (locationOf p (values p g 24))) (24 - (k + 1)) (step (run SC (start p) s) t)
+                ≡ (t ∷ []) ++ greedy SC (fits g (locationOf p (finalValues p g))) (24 - (k + 1)) (step (run SC (start p) s) t)
             somebody = ap afterwards chosen-is
 
             regular : Regular (run SC (start p) s)

@@ -9,7 +9,7 @@ use lib.ListN.{length, getD, set, drop, replicate, length-replicate, getD-replic
 use lib.Seq.{getD-set-same, getD-set-other}
 use Rattle.program.specs.declared.instruction.Instruction.{Instruction}
 use Rattle.program.specs.Program.{Program, codeOf, initial}
-use Rattle.program.specs.WellFormed.{WellFormed}
+use Rattle.program.specs.WellFormed.{WellFormed, allAccesses}
 use Rattle.decoder.specs.declared.file.Compiled.{Compiled}
 use Rattle.decoder.specs.Compiled.{programOf}
 use Rattle.rows.specs.Rows.{threadCode}
@@ -20,6 +20,7 @@ use Rattle.machine.specs.declared.state.LastWrite.{LastWrite}
 use Rattle.sc.specs.Local.{Local, settle, begin}
 use Rattle.sc.specs.State.{Thread, noThread, threadOf, latest, initialWrite, opened, start}
 use Rattle.accesses.specs.CarriedOut.{localOf}
+use Rattle.accesses.specs.Counted.{accessesBelow}
 use Rattle.machine.specs.Held.{idle, unwritten, eventOf, HoldsAt, Holds, Loaded}
 use Rattle.sc.proofs.Access.{begin-law}
 use Rattle.sc.proofs.Steps.{missing}
@@ -43,6 +44,11 @@ module _ (code lengths : List ℕ) (threads : ℕ) (p : Program) (loaded : Loade
   pub code-held : (t : ℕ) → t < threads → codeOf p t ≡ threadCode code t (getD lengths t 0)
   unfolding codeOf
   code-held t h = ap (λ (cs : List (List Instruction)). getD cs t []) (loaded .codes) ∙ getD-tabulate (λ t. threadCode code t (getD lengths t 0)) threads t [] h
+
+  -- the program's accesses are those of its rows
+  pub accesses-held : accessesBelow code lengths threads ≡ allAccesses (p .threads)
+  unfolding accessesBelow
+  accesses-held = ap allAccesses (sym (loaded .codes))
 
   -- at most sixteen instructions
   pub short-held : (t : ℕ) → t < threads → getD lengths t 0 ≤ 16

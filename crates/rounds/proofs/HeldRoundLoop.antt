@@ -18,14 +18,14 @@ use Rattle.machine.specs.declared.state.Machine.{Machine}
 use Rattle.program.specs.declared.instruction.Instruction.{Instruction}
 use Rattle.sc.specs.Local.{Local, placeOf, puts, next, firstPlace, firstPuts, firstNext}
 use Rattle.sc.specs.State.{State, threadOf, place, start}
-use Rattle.machine.specs.Held.{threadAt, Holds, Loaded}
+use Rattle.machine.specs.Held.{idle, threadAt, Holds, Loaded}
 use Rattle.sc.proofs.Access.{place-below}
 use Rattle.accesses.proofs.HeldSettling.{code-end}
 use Rattle.machine.proofs.HeldStart.{threads-held, code-held}
 use Rattle.rounds.specs.declared.by_itself.Lone.{Lone}
 use Rattle.consistent.specs.Consistent.{Values, alone, locationOf, outOf}
 use Rattle.consistent.proofs.RoundValues.{orZero}
-use Rattle.rounds.specs.HeldRounds.{MetAlone, valuesIn, RoundHeld}
+use Rattle.rounds.specs.HeldRounds.{Opened, MetAlone, valuesIn, RoundHeld}
 
 pub zeros : (n k : ℕ) → _≡_ {A = ℕ} (getD (replicate n 0) k 0) 0
 zeros zero k = refl
@@ -47,6 +47,10 @@ pub record Progress (code lengths : List ℕ) (p : Program) (vs : List ℕ) (thr
   pub at : (j : ℕ) → j < k → getD places j 0 ≡ locationOf p (valuesIn vs) (j / 16, j % 16)
   pub leaves : (j : ℕ) → j < k → getD left j 0 ≡ orZero (outOf p (valuesIn vs) (j / 16, j % 16))
   pub ahead : (j : ℕ) → k ≤ j → (getD places j 0 ≡ 0) × (getD left j 0 ≡ 0)
+
+-- the threads of a machine before the first step
+pub opened-so : (code lengths : List ℕ) (p : Program) (m : Machine) → Holds code lengths m (start p) → Opened code lengths p (m .threads)
+opened-so code lengths p m H = record { machine = m; all = refl; holds = H }
 
 -- thread t, which stands so on some machine, is about to do its access i
 pub record Standing (code lengths : List ℕ) (p : Program) (v : Values) (n : ThreadState) (t i : ℕ) : Type 0 where
@@ -70,17 +74,17 @@ module _ (code lengths : List ℕ) (threads : ℕ) (p : Program) (loaded : Loade
   pub standing-bounded : {v : Values} {n : ThreadState} {i : ℕ} (t : ℕ) → t < threads → Standing code lengths p v n t i → n .done ≤ n .at
   standing-bounded {v} {n} {i} t h S = subst (λ (k : ThreadState). k .done ≤ k .at) (S .here) (S .holds .threads t (omega (arith, six-held)) .bounded)
 
-  module _ (vs : List ℕ) (first : Machine) (thread : ThreadState) (k : ℕ) (places left : List ℕ) (F : Holds code lengths first (start p)) (G : Progress code lengths p vs thread k places left) where
-    pub iteration-standing : (n : ThreadState) → n ≡ cond (eqb (k % 16) 0) (threadAt first (k / 16)) thread → Standing code lengths p (valuesIn vs) n (k / 16) (k % 16)
+  module _ (vs : List ℕ) (opened : List ThreadState) (thread : ThreadState) (k : ℕ) (places left : List ℕ) (O : Opened code lengths p opened) (G : Progress code lengths p vs thread k places left) where
+    pub iteration-standing : (n : ThreadState) → n ≡ cond (eqb (k % 16) 0) (getD opened (k / 16) idle) thread → Standing code lengths p (valuesIn vs) n (k / 16) (k % 16)
     unfolding alone
     iteration-standing n e = go (ℕ-discrete (k % 16) 0)
       where
         go : Dec (k % 16 ≡ 0) → Standing code lengths p (valuesIn vs) n (k / 16) (k % 16)
         go (yes q) = record {
-          machine = first;
+          machine = O .machine;
           state = start p;
-          holds = F;
-          here = sym (e ∙ rw (eq-eqb (k % 16) 0 q));
+          holds = O .holds;
+          here = ap (λ (ts : List ThreadState). getD ts (k / 16) idle) (O .all) ∙ sym (e ∙ rw (eq-eqb (k % 16) 0 q));
           local = ap (alone p (valuesIn vs) (k / 16)) (sym q);
         }
         go (no q) = record {
@@ -189,10 +193,10 @@ onward-grows true k n e = omega (arith, e)
 onward-grows false k n e = omega (arith, e)
 
 -- the next access to be met: behind a thread's end that is the first of the next thread
-pub iterations-onward : (code lengths : List ℕ) (threads : ℕ) (p : Program) → Loaded code lengths threads p → (vs : List ℕ) (first : Machine) (thread : ThreadState) (k : ℕ) (places left : List ℕ) → Holds code lengths first (start p)
+pub iterations-onward : (code lengths : List ℕ) (threads : ℕ) (p : Program) → Loaded code lengths threads p → (vs : List ℕ) (opened : List ThreadState) (thread : ThreadState) (k : ℕ) (places left : List ℕ) → Opened code lengths p opened
     → Progress code lengths p vs thread (k + 1) places left → k < 96 → (n : ℕ) → n ≡ cond (ltb (thread .at) (getD lengths (k / 16) 0)) (k + 1) (k / 16 * 16 + 16)
     → Progress code lengths p vs thread n places left
-iterations-onward code lengths threads p loaded vs first thread k places left F G h n e = go (decLt (thread .at) (getD lengths (k / 16) 0)) (ℕ-discrete ((k + 1) % 16) 0)
+iterations-onward code lengths threads p loaded vs opened thread k places left O G h n e = go (decLt (thread .at) (getD lengths (k / 16) 0)) (ℕ-discrete ((k + 1) % 16) 0)
   where
     same : (j : ℕ) → n ≡ j → Progress code lengths p vs thread j places left → Progress code lengths p vs thread n places left
     same j q x = subst (λ (i : ℕ). Progress code lengths p vs thread i places left) (sym q) x
@@ -202,16 +206,16 @@ iterations-onward code lengths threads p loaded vs first thread k places left F 
     go (no a) (yes q) = same (k + 1) (e ∙ rw (le-ltb (thread .at) (getD lengths (k / 16) 0) (omega (arith, a))) (omega (arith, q))) G
     go (no a) (no q) =
         let z : (k + 1) / 16 ≡ k / 16 = omega (arith, q) in
-        iterations-over code lengths threads p loaded vs first thread (k + 1) places left F G q (omega (arith, h, q))
+        iterations-over code lengths threads p loaded vs opened thread (k + 1) places left O G q (omega (arith, h, q))
         (subst (λ (t : ℕ). getD lengths t 0 ≤ thread .at) (sym z) (omega (arith, a))) n
         (e ∙ rw (le-ltb (thread .at) (getD lengths (k / 16) 0) (omega (arith, a))) (ap (λ (t : ℕ). t * 16 + 16) (sym z)))
 
-pub iterations-start : (code lengths : List ℕ) (p : Program) (vs : List ℕ) (m : Machine) (thread : ThreadState) → Holds code lengths m (start p)
+pub iterations-start : (code lengths : List ℕ) (p : Program) (vs : List ℕ) (opened : List ThreadState) (thread : ThreadState) → Opened code lengths p opened
     → Progress code lengths p vs thread 0 (replicate 96 0) (replicate 96 0)
-iterations-start code lengths p vs m thread F = record {
-  machine = m;
+iterations-start code lengths p vs opened thread O = record {
+  machine = O .machine;
   state = start p;
-  holds = F;
+  holds = O .holds;
   here = λ q. absurd (q refl);
   local = λ q. absurd (q refl);
   at = λ j h. absurd (omega arith);

@@ -11,11 +11,12 @@ use native.Mathlib.Decide.{ℕ-discrete}
 use lib.ListN.{length, getD, set, replicate}
 use lib.Seq.{getD-set-same, getD-set-other}
 use Rattle.program.specs.Program.{Program, initial}
+use Rattle.program.specs.WellFormed.{allAccesses}
 use Rattle.sc.specs.State.{Event, initialWrite}
 use Rattle.sc.specs.Graph.{Graph}
 use Rattle.consistent.specs.Consistent.{rowOf, locationOf}
 use Rattle.consistent.specs.Same.{sameEvent}
-use Rattle.consistent.proofs.RoundValues.{sourceIn, leftBy, nextRound, values}
+use Rattle.consistent.proofs.RoundValues.{sourceIn, leftBy, nextRound, values, finalValues}
 use Rattle.graph_reader.specs.Held.{noLine, lineIn, Tabled}
 use Rattle.rounds.specs.HeldRounds.{valuesIn, RoundHeld, sourced}
 pub use Rattle.rounds.proofs.HeldRoundLoop.{zeros}
@@ -97,15 +98,15 @@ module _ (n : ℕ) (few : n ≤ 6) (p : Program) (vs places left : List ℕ) (R 
         ∙ round-same p (valuesIn vs) (values p g k) n same g readable e h ∙ sym (ap (λ (j : ℕ). values p g j e) (let z : k + 1 ≡ suc k = omega arith in z))
 
     -- where accesses go
-    pub places-are : (k : ℕ) → ((e : Event) → Named n e → valuesIn vs e ≡ values p g k e) → k ≡ 24 → (t i : ℕ) → t < n → i < 16
-        → getD places (t * 16 + i) 0 ≡ locationOf p (values p g 24) (t, i)
+    pub places-are : (k : ℕ) → ((e : Event) → Named n e → valuesIn vs e ≡ values p g k e) → k ≡ allAccesses (p .threads) - 1 → (t i : ℕ) → t < n → i < 16
+        → getD places (t * 16 + i) 0 ≡ locationOf p (finalValues p g) (t, i)
     places-are k same q t i a b = R .at t i a b ∙ location-same p (valuesIn vs) (values p g k) n same (t, i) (a, omega arith) ∙ ap (λ (j : ℕ). locationOf p (values p g j) (t, i)) q
 
     -- values that a round leaves as they are stay so, so that accesses go where they go on the last round's
-    pub places-stay : (k : ℕ) → ((e : Event) → Named n e → valuesIn vs e ≡ values p g k e) → k < 24 → (ws : List ℕ) → ((j : ℕ) → j < 16 * n → getD ws j 0 ≡ sourced pairs left places starting j)
-        → ((j : ℕ) → j < 16 * n → getD ws j 0 ≡ getD vs j 0) → (t i : ℕ) → t < n → i < 16 → getD places (t * 16 + i) 0 ≡ locationOf p (values p g 24) (t, i)
+    pub places-stay : (k : ℕ) → ((e : Event) → Named n e → valuesIn vs e ≡ values p g k e) → k < allAccesses (p .threads) - 1 → (ws : List ℕ) → ((j : ℕ) → j < 16 * n → getD ws j 0 ≡ sourced pairs left places starting j)
+        → ((j : ℕ) → j < 16 * n → getD ws j 0 ≡ getD vs j 0) → (t i : ℕ) → t < n → i < 16 → getD places (t * 16 + i) 0 ≡ locationOf p (finalValues p g) (t, i)
     places-stay k same b ws W unmoved t i h j =
-        R .at t i h j ∙ location-same p (valuesIn vs) (values p g 24) n (λ e a. same e a ∙ sym (values-stay p g n readable k still (24 - k) 24 (omega arith) e a)) (t, i) (h, omega arith)
+        R .at t i h j ∙ location-same p (valuesIn vs) (finalValues p g) n (λ e a. same e a ∙ sym (values-stay p g n readable k still (allAccesses (p .threads) - 1 - k) (allAccesses (p .threads) - 1) (omega (arith, b)) e a)) (t, i) (h, omega arith)
       where
         still : (e : Event) → Named n e → values p g (suc k) e ≡ values p g k e
         still e a =

@@ -7,13 +7,20 @@ use mathlib.Core.List.{List}
 use lib.Dec.{ltb}
 use lib.ListN.{getD}
 use Rattle.program.specs.Program.{Program}
+use Rattle.accesses.specs.declared.thread.ThreadState.{ThreadState}
 use Rattle.machine.specs.declared.state.Machine.{Machine}
 use Rattle.sc.specs.Local.{placeOf, puts, next}
-use Rattle.sc.specs.State.{State, threadOf}
+use Rattle.sc.specs.State.{State, threadOf, start}
 use Rattle.machine.specs.Held.{threadAt, Holds}
 use Rattle.rounds.specs.declared.by_itself.Lone.{Lone}
 use Rattle.consistent.specs.Consistent.{Values, locationOf, outOf}
 use Rattle.consistent.proofs.RoundValues.{orZero}
+
+-- these are the threads of some machine before the first step
+pub record Opened (code lengths : List ℕ) (p : Program) (threads : List ThreadState) : Type 0 where
+  pub machine : Machine
+  pub all : machine .threads ≡ threads
+  pub holds : Holds code lengths machine (start p)
 
 -- the next access of thread t, on finding x: the thread behind it, which stands so on some machine, where it goes and what it leaves there
 pub record MetAlone (code lengths : List ℕ) (σ : State) (t x : ℕ) (r : Lone) : Type 0 where

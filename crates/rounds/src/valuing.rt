@@ -1,24 +1,24 @@
 // The rounds: every thread by itself on the values known so far, then each read gets what its source left, or what memory starts with.
 use crate::by_itself::met;
 use accesses::ThreadState;
+use accesses::accesses_below;
 use lines::wide;
 use machine::started;
-use program::STEPS;
 use rows::Code;
 ghost use mathlib.Core.Path.{_≡_};
 ghost use mathlib.Core.Bool.{true, cond};
 ghost use Prim.Native.Nat.{ℕ, _+_, _*_, _/_, _%_, _<_, _≤_};
 ghost use mathlib.Core.List.{List};
 ghost use lib.Dec.{eqb, ltb};
-ghost use lib.ListN.{getD};
+ghost use lib.ListN.{length, getD};
 ghost use Rattle.program.specs.Program.{Program, initial};
 ghost use Rattle.sc.specs.Graph.{Graph};
 ghost use Rattle.machine.specs.Held.{Loaded};
 ghost use Rattle.consistent.specs.Consistent.{locationOf};
-ghost use Rattle.consistent.proofs.RoundValues.{values};
+ghost use Rattle.consistent.proofs.RoundValues.{finalValues};
 ghost use Rattle.consistent.specs.Reading.{parsed, readGraph};
 ghost use Rattle.graph_reader.specs.Held.{Tabled};
-ghost use Rattle.rounds.specs.HeldRounds.{RoundHeld, sourced};
+ghost use Rattle.rounds.specs.HeldRounds.{Opened, RoundHeld, sourced};
 
 // Of each access, sixteen a thread: where it goes and what it leaves there.
 pub struct Round {
@@ -47,25 +47,25 @@ fn onward(n: usize, thread: ThreadState, k: usize) -> usize
     k / 16 * 16 + 16
 }
 
-// Every thread by itself on these values.
+// Every thread by itself on these values, from where it opens.
 fn in_round(
     code: &Code,
     lengths: &[usize; 6],
     threads: usize,
-    starting: [u32; 8],
+    opened: [ThreadState; 6],
     values: &[u32; 96],
 ) -> Round
-    requires { ⌜ ((p : Program) × Loaded (now code) (now lengths) threads p × (starting ≡ initial p)) ⌝ }
-    ensures { λ r. ⌜ ((p : Program) → Loaded (now (code .entry)) (now (lengths .entry)) threads p → starting ≡ initial p
+    requires { ⌜ ((p : Program) × Loaded (now code) (now lengths) threads p × Opened (now code) (now lengths) p opened) ⌝ }
+    ensures { λ r. ⌜ ((p : Program) → Loaded (now (code .entry)) (now (lengths .entry)) threads p
+        → Opened (now (code .entry)) (now (lengths .entry)) p opened
         → RoundHeld threads p (now (values .entry)) (r .places) (r .left)) ⌝ }
 {
-    let start = started(code, lengths, threads, starting);
     let mut places = [0u8; 96];
     let mut left = [0u32; 96];
-    let mut thread = start.threads[0];
+    let mut thread = opened[0];
     let mut k = 0;
     while k < 16 * threads {
-        let n = standing(start.threads[k / 16], thread, k);
+        let n = standing(opened[k / 16], thread, k);
         let r = met(code, lengths, n, (k / 16) as u8, values[k]);
         places[k] = r.place;
         left[k] = r.left;
@@ -79,9 +79,9 @@ fn in_round(
 }
 
 // What memory starts with at the location to which access k goes.
-fn at_first(starting: [u32; 8], places: &[u8; 96], k: usize) -> u32
-    requires { ⌜ k < 96 ⌝ }
-    ensures { λ r. ⌜ r ≡ getD starting (getD (now (places .entry)) k 0) 0 ⌝ }
+fn at_first(starting: &[u32; 8], places: &[u8; 96], k: usize) -> u32
+    requires { ⌜ (k < 96) × (length (now starting) ≡ 8) ⌝ }
+    ensures { λ r. ⌜ r ≡ getD (now (starting .entry)) (getD (now (places .entry)) k 0) 0 ⌝ }
 {
     let l = wide(places[k]);
     if 8 <= l {
@@ -95,11 +95,11 @@ fn found(
     pairs: &[u8; 576],
     left: &[u32; 96],
     places: &[u8; 96],
-    starting: [u32; 8],
+    starting: &[u32; 8],
     k: usize,
 ) -> u32
-    requires { ⌜ k < 96 ⌝ }
-    ensures { λ r. ⌜ r ≡ sourced (now (pairs .entry)) (now (left .entry)) (now (places .entry)) starting k ⌝ }
+    requires { ⌜ (k < 96) × (length (now starting) ≡ 8) ⌝ }
+    ensures { λ r. ⌜ r ≡ sourced (now (pairs .entry)) (now (left .entry)) (now (places .entry)) (now (starting .entry)) k ⌝ }
 {
     let u = wide(pairs[k * 2]);
     let j = wide(pairs[k * 2 + 1]);
@@ -117,12 +117,12 @@ fn next_values(
     pairs: &[u8; 576],
     left: &[u32; 96],
     places: &[u8; 96],
-    starting: [u32; 8],
+    starting: &[u32; 8],
     threads: usize,
 ) -> [u32; 96]
-    requires { ⌜ threads ≤ 6 ⌝ }
+    requires { ⌜ (threads ≤ 6) × (length (now starting) ≡ 8) ⌝ }
     ensures { λ r. ⌜ ((k : ℕ) → k < 16 * threads
-        → getD r k 0 ≡ sourced (now (pairs .entry)) (now (left .entry)) (now (places .entry)) starting k) ⌝ }
+        → getD r k 0 ≡ sourced (now (pairs .entry)) (now (left .entry)) (now (places .entry)) (now (starting .entry)) k) ⌝ }
 {
     let mut vs = [0u32; 96];
     let mut k = 0;
@@ -148,7 +148,8 @@ fn same_values(a: &[u32; 96], b: &[u32; 96], threads: usize) -> bool
     true
 }
 
-// Where each access goes on the values of the last round. Values that a round leaves as they are stay so, and no further round is made.
+// Where each access goes on the values of the last round. A round fewer than the program has accesses is enough; values that a round
+// leaves as they are stay so, and no further round is made.
 pub fn places(
     code: &Code,
     lengths: &[usize; 6],
@@ -159,21 +160,24 @@ pub fn places(
     requires { ⌜ ((p : Program) × Loaded (now code) (now lengths) threads p × (starting ≡ initial p)) ⌝ }
     ensures { λ r. ⌜ ((p : Program) (text counts : List ℕ) (g : Graph) → Loaded (now (code .entry)) (now (lengths .entry)) threads p
         → starting ≡ initial p → readGraph threads text ≡ parsed g → Tabled pairs counts g → (t i : ℕ) → t < threads → i < 16
-        → getD r (t * 16 + i) 0 ≡ locationOf p (values p g 24) (t, i)) ⌝ }
+        → getD r (t * 16 + i) 0 ≡ locationOf p (finalValues p g) (t, i)) ⌝ }
 {
+    let start = started(code, lengths, threads, starting);
+    let opened = start.threads;
+    let accesses = accesses_below(code, lengths, threads);
     let mut vs = [0u32; 96];
-    let mut k = 0usize;
-    while k < STEPS {
-        let r = in_round(code, lengths, threads, starting, &vs);
+    let mut k = 0;
+    while k + 1 < accesses {
+        let r = in_round(code, lengths, threads, opened, &vs);
         let left = r.left;
         let goes = r.places;
-        let ws = next_values(&pairs, &left, &goes, starting, threads);
+        let ws = next_values(&pairs, &left, &goes, &starting, threads);
         if same_values(&ws, &vs, threads) {
             return goes;
         }
         vs = ws;
         k += 1;
     }
-    let r = in_round(code, lengths, threads, starting, &vs);
+    let r = in_round(code, lengths, threads, opened, &vs);
     r.places
 }

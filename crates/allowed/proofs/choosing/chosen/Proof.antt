@@ -10,7 +10,7 @@ use Rattle.schedules.specs.System.{run}
 use Rattle.sc.specs.State.{SC, start}
 use Rattle.sc.specs.Graph.{Graph}
 use Rattle.consistent.specs.Consistent.{locationOf}
-use Rattle.consistent.proofs.RoundValues.{values}
+use Rattle.consistent.proofs.RoundValues.{finalValues}
 use Rattle.consistent.proofs.Walk.{fits}
 use Rattle.allowed.specs.HeldWalk.{Walking}
 use Rattle.allowed.proofs.WalkChoice.{chosen-one, chosen-none, passed-over}
@@ -20,7 +20,7 @@ use Rattle.allowed.proofs.choosing.chosen.Tie as tie
 abbrev Inv-loop : tie.InvT-loop
 Inv-loop code lengths threads pairs places m counts t₀ t =
     (t ≤ 6) × ((p : Program) (g : Graph) (s : Schedule) → Walking code lengths threads pairs places p g m counts s →
-    (u : ℕ) → u < t → fits g (locationOf p (values p g 24)) (run SC (start p) s) u ≡ false)
+    (u : ℕ) → u < t → fits g (locationOf p (finalValues p g)) (run SC (start p) s) u ≡ false)
 
 abbrev μ-loop : tie.MeasureT-loop
 μ-loop code lengths threads pairs places m counts t₀ t = 6 - t

@@ -5,7 +5,7 @@ use borrow.Author.Tests.{not-true, not-false}
 use Rattle.schedules.specs.System.{run}
 use Rattle.sc.specs.State.{SC, start}
 use Rattle.consistent.specs.Consistent.{locationOf}
-use Rattle.consistent.proofs.RoundValues.{values}
+use Rattle.consistent.proofs.RoundValues.{finalValues}
 use Rattle.machine.proofs.HeldAsking.{enabled-by}
 use Rattle.allowed.proofs.WalkChoice.{walk-drawn, walk-ordering, walk-below, walk-ready, walk-near, walk-ranged, walk-unmarked, walk-six, ended-over}
 use Rattle.allowed.proofs.choosing.is_allowed.Statement.{statement}
@@ -41,7 +41,7 @@ returns-2 c =
     let enabled = c .before .before .before .before .enabled in
     let if1 = c .before .before .before .if1 in
     let step = c .before .before .step in
-    λ p g s W. c .allowed .ensures g (locationOf p (values p g 24)) (run SC (start p) s) (args .t) (walk-drawn (args .code .now) (args .lengths .now) (args .threads) (args .pairs) (args .places) p g (args .m) (args .counts) s W) (walk-ordering (args .code .now) (args .lengths .now) (args .threads) (args .pairs) (args .places) p g (args .m) (args .counts) s W) (sym (enabled .ensures ∙ enabled-by (W .holds) (args .t)) ∙ not-false _ (if1 .left)) (walk-below (args .code .now) (args .lengths .now) (args .threads) (args .pairs) (args .places) p g (args .m) (args .counts) s W (args .t) (sym (enabled .ensures ∙ enabled-by (W .holds) (args .t)) ∙ not-false _ (if1 .left))) (step .ensures (run SC (start p) s) (W .holds) (sym (enabled .ensures ∙ enabled-by (W .holds) (args .t)) ∙ not-false _ (if1 .left)) (walk-near (args .code .now) (args .lengths .now) (args .threads) (args .pairs) (args .places) p g (args .m) (args .counts) s W (args .t) (sym (enabled .ensures ∙ enabled-by (W .holds) (args .t)) ∙ not-false _ (if1 .left))) .noted) (walk-unmarked (args .code .now) (args .lengths .now) (args .threads) (args .pairs) (args .places) p g (args .m) (args .counts) s W (args .t) (sym (enabled .ensures ∙ enabled-by (W .holds) (args .t)) ∙ not-false _ (if1 .left)) _ (step .ensures (run SC (start p) s) (W .holds) (sym (enabled .ensures ∙ enabled-by (W .holds) (args .t)) ∙ not-false _ (if1 .left)) (walk-near (args .code .now) (args .lengths .now) (args .threads) (args .pairs) (args .places) p g (args .m) (args .counts) s W (args .t) (sym (enabled .ensures ∙ enabled-by (W .holds) (args .t)) ∙ not-false _ (if1 .left))) .noted))
+    λ p g s W. c .allowed .ensures g (locationOf p (finalValues p g)) (run SC (start p) s) (args .t) (walk-drawn (args .code .now) (args .lengths .now) (args .threads) (args .pairs) (args .places) p g (args .m) (args .counts) s W) (walk-ordering (args .code .now) (args .lengths .now) (args .threads) (args .pairs) (args .places) p g (args .m) (args .counts) s W) (sym (enabled .ensures ∙ enabled-by (W .holds) (args .t)) ∙ not-false _ (if1 .left)) (walk-below (args .code .now) (args .lengths .now) (args .threads) (args .pairs) (args .places) p g (args .m) (args .counts) s W (args .t) (sym (enabled .ensures ∙ enabled-by (W .holds) (args .t)) ∙ not-false _ (if1 .left))) (step .ensures (run SC (start p) s) (W .holds) (sym (enabled .ensures ∙ enabled-by (W .holds) (args .t)) ∙ not-false _ (if1 .left)) (walk-near (args .code .now) (args .lengths .now) (args .threads) (args .pairs) (args .places) p g (args .m) (args .counts) s W (args .t) (sym (enabled .ensures ∙ enabled-by (W .holds) (args .t)) ∙ not-false _ (if1 .left))) .noted) (walk-unmarked (args .code .now) (args .lengths .now) (args .threads) (args .pairs) (args .places) p g (args .m) (args .counts) s W (args .t) (sym (enabled .ensures ∙ enabled-by (W .holds) (args .t)) ∙ not-false _ (if1 .left)) _ (step .ensures (run SC (start p) s) (W .holds) (sym (enabled .ensures ∙ enabled-by (W .holds) (args .t)) ∙ not-false _ (if1 .left)) (walk-near (args .code .now) (args .lengths .now) (args .threads) (args .pairs) (args .places) p g (args .m) (args .counts) s W (args .t) (sym (enabled .ensures ∙ enabled-by (W .holds) (args .t)) ∙ not-false _ (if1 .left))) .noted))
 
 pub is-allowed-spec : {M : Type 1} → statement M
 is-allowed-spec = tie.close (tie.spec (λ c κs. search needs) returns step-requires allowed-requires returns-2)

@@ -24,7 +24,7 @@ loop-again c =
     let pre = c .before .before .before .pre in
     let loop = c .before .before .loop in
     let loop-test = c .before .loop-test in
-    (search needs, length-set (loop .vs) (loop .k) (c .found .result) ∙ loop .inv .1, filled (args .pairs .now) (args .left .now) (args .places .now) (args .starting) (loop .vs) (loop .k) (c .found .result) (loop .inv .1) (omega (arith, loop-test .taken, pre)) (loop .inv .2) (c .found .ensures))
+    (search needs, length-set (loop .vs) (loop .k) (c .found .result) ∙ loop .inv .1, filled (args .pairs .now) (args .left .now) (args .places .now) (args .starting .now) (loop .vs) (loop .k) (c .found .result) (loop .inv .1) (omega (arith, loop-test .taken, pre .0)) (loop .inv .2) (c .found .ensures))
 
 returns : tie.Need-returns Inv-loop μ-loop
 returns c = λ j h. c .before .loop .inv .2 j (omega (arith, c .before .loop .inv .0))
