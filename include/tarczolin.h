@@ -33,6 +33,10 @@
 #define TARCZOLIN_GRAPH 512
 #define TARCZOLIN_ROW 26
 
+/* The same under total store order: an output for a schedule, a row. */
+#define TARCZOLIN_TSO_SCHEDULE 48
+#define TARCZOLIN_TSO_ROW 50
+
 /* An answer word taken apart: its kind, a refusal's number, the length, number of rows, size of a class or place. */
 #define TARCZOLIN_KIND(word) ((unsigned)((uint64_t)(word) >> 56))
 #define TARCZOLIN_NUMBER(word) ((unsigned)((uint64_t)(word) >> 48) & 0xffu)
@@ -112,6 +116,23 @@ uint64_t tarczolin_covers(const uint8_t *first, size_t first_len, const uint8_t 
  * Refused, in this order: the program's (1 to 8, 40); 48, the set names a thread that is not there, at the lowest such number, 6 and
  * 7 too. The file is only read. The time grows with the number of plays. */
 uint64_t tarczolin_force(const uint8_t *file, size_t file_len, uint8_t set);
+
+/* The listing under total store order, by the x86-TSO machine of Owens, Sarkar and Sewell: each thread has a queue of pending stores. A
+ * step byte t does thread t's next access, the byte 0x10 + t moves its oldest pending store to memory, also after the thread has ended
+ * or failed. A store goes into the queue; a load takes the newest own pending store to its location, else memory; a fetch and add or a
+ * compare and swap, failed ones too, may step only when the thread's queue is empty, and acts on memory. Full means that all threads
+ * have ended and all queues are empty. Coherence is the order of reaching memory, and a load that took a pending store reads from that
+ * store. Each call answers as its namesake does for the other listing, save that: a file of more than 16 accesses is refused by 41 at
+ * place 0, right behind the program's own refusals (1 to 8, 40) and before 22; a schedule needs an output of 48 bytes; 20 also refuses a
+ * move from an empty queue and a fetch and add or compare and swap whose queue is not empty; rows have 50 bytes, with zeros behind the
+ * steps up to 48; both counts are modulo 2^64. */
+uint64_t tarczolin_tso_graph(const uint8_t *file, size_t file_len, const uint8_t *schedule, size_t schedule_len, uint8_t *out, size_t out_len);
+uint64_t tarczolin_tso_start(const uint8_t *file, size_t file_len, uint8_t *out, size_t out_len);
+uint64_t tarczolin_tso_continue(const uint8_t *file, size_t file_len, const uint8_t *schedule, size_t schedule_len, uint8_t *out, size_t out_len);
+uint64_t tarczolin_tso_violation(const uint8_t *file, size_t file_len, uint8_t *out, size_t out_len);
+uint64_t tarczolin_tso_count(const uint8_t *file, size_t file_len, uint64_t *listed, uint64_t *failing);
+uint64_t tarczolin_tso_rows(const uint8_t *file, size_t file_len, uint8_t *out, size_t out_len);
+uint64_t tarczolin_tso_rows_after(const uint8_t *file, size_t file_len, const uint8_t *schedule, size_t schedule_len, uint8_t *out, size_t out_len);
 
 #ifdef __cplusplus
 }

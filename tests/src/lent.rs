@@ -17,10 +17,10 @@ pub fn shown(found: &Found) -> (Answer, &[u8]) {
     }
 }
 
-/// The same for a call that gives rows: its answer carries their number.
-pub fn shown_rows(found: &Result<Vec<u8>, Refusal>) -> (Answer, &[u8]) {
+/// The same for a call that gives rows of so many bytes: its answer carries their number.
+pub fn shown_rows(found: &Result<Vec<u8>, Refusal>, row: usize) -> (Answer, &[u8]) {
     match found {
-        Ok(bytes) => (Answer::Answered((bytes.len() / ROW) as u64), bytes),
+        Ok(bytes) => (Answer::Answered((bytes.len() / row) as u64), bytes),
         Err(refusal) => (Answer::Refused(refusal.number, refusal.place), &[]),
     }
 }
@@ -35,15 +35,15 @@ pub fn held<const N: usize>(
     found: &Found,
     call: impl FnOnce([&[u8]; N], &mut [u8]) -> Answer,
 ) {
-    held_to(random, inputs, output, shown(found), call);
+    held_by(random, inputs, output, shown(found), call);
 }
 
 /// The rows behind a schedule, or from the first one on, held to the oracle's in the same way.
 pub fn held_rows(random: &mut Random, file: &[u8], behind: Option<&[u8]>, output: usize, found: &Result<Vec<u8>, Refusal>) {
     match behind {
-        None => held_to(random, [file], output, shown_rows(found), |[file], out| calls::rows(file, out)),
+        None => held_by(random, [file], output, shown_rows(found, ROW), |[file], out| calls::rows(file, out)),
         Some(last) => {
-            held_to(random, [file, last], output, shown_rows(found), |[file, last], out| calls::rows_after(file, last, out))
+            held_by(random, [file, last], output, shown_rows(found, ROW), |[file, last], out| calls::rows_after(file, last, out))
         }
     }
 }
@@ -57,10 +57,11 @@ pub fn held_covers(random: &mut Random, files: [&[u8]; 2], output: usize, found:
         Covers::Second(refusal) => (calls::Covers::SecondRefused(refusal.number, refusal.place), &[][..]),
         Covers::Output => (calls::Covers::Refused(22, 0), &[][..]),
     };
-    held_to(random, files, output, shown, |[first, second], out| calls::covers(first, second, out));
+    held_by(random, files, output, shown, |[first, second], out| calls::covers(first, second, out));
 }
 
-fn held_to<const N: usize, A: PartialEq + std::fmt::Debug>(
+/// The same with the answer, and the bytes in front of the output, given.
+pub fn held_by<const N: usize, A: PartialEq + std::fmt::Debug>(
     random: &mut Random,
     inputs: [&[u8]; N],
     output: usize,

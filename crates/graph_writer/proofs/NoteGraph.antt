@@ -122,7 +122,7 @@ stated-write l (x ∷ ns) e m = ⊎-elim
     (List·Memᴰ·append-cases (writeIn l x) m)
 
 -- ---- what a step adds
-reversed-read : (b : Bool) (i : ℕ) (e : Event) → addedRead b i e ≡ reverse (cond b ((i, e) ∷ []) [])
+pub reversed-read : (b : Bool) (i : ℕ) (e : Event) → addedRead b i e ≡ reverse (cond b ((i, e) ∷ []) [])
 unfolding addedRead
 reversed-read true i e = refl
 reversed-read false i e = refl
@@ -152,7 +152,7 @@ note-elsewhere : (σ : State) (t l : ℕ) → l ≢ place σ t → writeIn l (no
 unfolding writeIn note
 note-elsewhere σ t l ne = rw (ne-eqb (place σ t) l (λ e. ne (sym e)))
 
-given-none : (o : Option ℕ) → given o ≡ false → o ≡ none
+pub given-none : (o : Option ℕ) → given o ≡ false → o ≡ none
 unfolding given
 given-none none e = refl
 given-none (some v) e = absurd (true≢false e)
@@ -179,7 +179,7 @@ step-writes σ r t l = go (ℕ-discrete l (place σ t)) (writes σ t) refl
         ∙ ending [] (note-place σ t l q false e)
 
 -- ---- a run
-latest-first : {A : Type 0} (x y : List A) (z w v : List A) → z ≡ reverse y ++ w → w ≡ reverse x ++ v → z ≡ reverse (x ++ y) ++ v
+pub latest-first : {A : Type 0} (x y : List A) (z w v : List A) → z ≡ reverse y ++ w → w ≡ reverse x ++ v → z ≡ reverse (x ++ y) ++ v
 latest-first {A} x y z w v e f =
     e ∙ ap (λ (k : List A). reverse y ++ k) f
     ∙ sym (append-assoc (reverse y) (reverse x) v)
@@ -198,7 +198,7 @@ run-writes (t ∷ s) σ r a l = latest-first (writeIn l (note σ t)) (writesIn l
     (run-writes s (step σ t) (regular-step σ t r (a .0)) (a .1) l) (step-writes σ r t l)
 
 -- ---- from the start
-first-to-last : {A : Type 0} (x y z : List A) → z ≡ reverse x ++ y → y ≡ [] → reverse z ≡ x
+pub first-to-last : {A : Type 0} (x y z : List A) → z ≡ reverse x ++ y → y ≡ [] → reverse z ≡ x
 first-to-last {A} x y z e f = ap reverse (e ∙ ap (λ (k : List A). reverse x ++ k) f ∙ append-nil (reverse x)) ∙ reverse-reverse x
 
 pub thread-notes : (p : Program) (s : Schedule) → Allowed SC (start p) s → (u : ℕ) → reverse (threadOf (endOf p s) u .history .reads) ≡ readsIn u (notes (start p) s)
@@ -239,19 +239,21 @@ cells-frames W (ws ∷ rows) zero l h e = absurd (omega arith)
 cells-frames W (ws ∷ rows) (suc n) l h e = ap₂ (λ (a b : List (List ℕ)). a ++ b) (cell-frame l ws ∙ ap (orderFrame l) (e 0 l (omega arith)))
     (cells-frames W rows n (suc l) (omega arith) (λ k u q. e (suc k) u (omega arith)))
 
--- THE GRAPH OF A RUN HAS THE FRAMES OF ITS NOTES
-pub graph-frames : (p : Program) → WellFormed p → (s : Schedule) → Allowed SC (start p) s → frames (graph p s) ≡ noteFrames (notes (start p) s)
+-- the graph that led to a state has the frames of notes that state its reads and its writes
+pub state-frames : (σ : State) (ns : List Note) → length (σ .threads) ≤ 6 → length (σ .cells) ≡ 8 → ((u : ℕ) → reverse (threadOf σ u .history .reads) ≡ readsIn u ns)
+    → ((l : ℕ) → reverse (cellOf σ l .writes) ≡ writesIn l ns) → frames (graphOf σ) ≡ noteFrames ns
 unfolding frames noteFrames readFramesIn orderFramesIn
-graph-frames p w s a =
-    let g = graph-sizes (endOf p s) in
-    let t = g .0 ∙ run-threads s (start p) ∙ start-threads p in
-    let c = g .1 ∙ run-cells s (start p) ∙ start-cells p w in
+state-frames σ ns six eight reads orders =
+    let g = graph-sizes σ in
     let z : (k u : ℕ) → u ≡ 0 + k → k ≡ u = λ k u e. omega arith in
     ap₂ (λ (x y : List (List ℕ)). x ++ y)
-    (rows-frames (λ u. readsIn u (notes (start p) s)) (graphOf (endOf p s) .reads) 6 0 (omega (arith, w .six))
-    (λ k u e. ap reverse (row-at (endOf p s) k) ∙ thread-notes p s a k ∙ ap (λ (j : ℕ). readsIn j (notes (start p) s)) (z k u e)))
-    (cells-frames (λ l. writesIn l (notes (start p) s)) (graphOf (endOf p s) .writes) 8 0 c
-    (λ k u e. ap reverse (order-at (endOf p s) k) ∙ cell-notes p w s a k ∙ ap (λ (j : ℕ). writesIn j (notes (start p) s)) (z k u e)))
+    (rows-frames (λ u. readsIn u ns) (graphOf σ .reads) 6 0 (omega (arith, g .0)) (λ k u e. ap reverse (row-at σ k) ∙ reads k ∙ ap (λ (j : ℕ). readsIn j ns) (z k u e)))
+    (cells-frames (λ l. writesIn l ns) (graphOf σ .writes) 8 0 (g .1 ∙ eight) (λ k u e. ap reverse (order-at σ k) ∙ orders k ∙ ap (λ (j : ℕ). writesIn j ns) (z k u e)))
+
+-- THE GRAPH OF A RUN HAS THE FRAMES OF ITS NOTES
+pub graph-frames : (p : Program) → WellFormed p → (s : Schedule) → Allowed SC (start p) s → frames (graph p s) ≡ noteFrames (notes (start p) s)
+graph-frames p w s a =
+    state-frames (endOf p s) (notes (start p) s) (omega (arith, run-threads s (start p), start-threads p, w .six)) (run-cells s (start p) ∙ start-cells p w) (thread-notes p s a) (cell-notes p w s a)
 
 pub graph-text-notes : (p : Program) → WellFormed p → (s : Schedule) → Allowed SC (start p) s → graphText (graph p s) ≡ textOf (noteFrames (notes (start p) s))
 unfolding graphText

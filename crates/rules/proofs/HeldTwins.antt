@@ -1,10 +1,10 @@
--- R2 as the search holds it: where a prefix is reached, u is t's twin exactly when the two have one class and equal words.
-use Prim.Native.Nat.{ℕ, _+_, _<_}
-use mathlib.Core.Path.{_≡_, refl, sym, ap, ap₂, subst, _∙_}
+-- R2 as the search holds it: two threads have one class and equal words exactly when they are of one `02` line and have equal words, and
+-- where a prefix is reached, exactly when they are twins.
+use Prim.Native.Nat.{ℕ, _+_, _<_, _≤_}
+use mathlib.Core.Path.{_≡_, refl, sym, ap, _∙_}
 use mathlib.Core.Bool.{Bool, true, false, _&&_, true≢false}
 use mathlib.Core.List.{List}
 use native.Mathlib.Omega.{arith}
-use native.Mathlib.Decide.{ℕ-discrete}
 use lib.Dec.{eqb}
 use lib.ListN.{getD}
 use Rattle.program.specs.Program.{Program}
@@ -15,7 +15,8 @@ use Rattle.sc.specs.Graph.{endOf}
 use Rattle.list.specs.ListOf.{together}
 use Rattle.list.specs.Rules.{twin}
 use Rattle.survivors.specs.ReadWords.{twinByWord}
-use Rattle.survivors.proofs.TwinWords.{twin-by-word}
+use Rattle.survivors.proofs.TwinWords.{twins-by-word}
+use Rattle.prefix.specs.ClassGroups.{Lined}
 use Rattle.prefix.specs.Reached.{Reached}
 use Rattle.prefix.specs.declared.place.Place.{Place}
 use Rattle.prefix.proofs.ClassGroups.{together-known, alone-known}
@@ -28,32 +29,34 @@ none-below f n none = go (any f (range 0 n)) refl
     go true e = let r = any-yes f (range 0 n) e in let i = of-range 0 n (r .0) (r .1) .1 in absurd (true≢false (sym (r .2) ∙ none (r .0) (omega arith)))
     go false e = e
 
-module _ (code lengths class : List ℕ) (threads groups : ℕ) (x : Place) (p : Program) (v : Schedule) (r : Reached code lengths class threads groups x p v) (t : ℕ) (h : t < 6) where
-  -- R2, AS THE CODE TESTS IT
-  pub twin-held : (getD class t 0 ≡ 0 → ⊥) → (u : ℕ) → u < t →
-      (eqb (getD class u 0) (getD class t 0) && eqb (getD (x .words) u 0) (getD (x .words) t 0)) ≡ twin p (endOf p v) t u
-  unfolding twinByWord
-  twin-held some u i =
-      ap₂ (λ (a b : Bool). a && b)
-      (together-known class groups u t (r .lines .known) (omega arith) h some ∙ ap (λ (g : List (List ℕ)). together g u t) (sym (r .lines .same)))
-      (ap (λ (ws : List ℕ). eqb (getD ws u 0) (getD ws t 0)) (r .words))
-      ∙ twin-by-word p (r .loaded .wellFormed) v (r .allowed) u t (λ q. omega (arith, q)) (omega arith) h
+-- u is of t's `02` line and has its word
+abbrev pub sharing : Program → List ℕ → ℕ → ℕ → Bool
+sharing p words t u = together (p .groups) u t && eqb (getD words u 0) (getD words t 0)
 
-  -- one without a class has no twin
-  pub alone-held : getD class t 0 ≡ 0 → any (twin p (endOf p v) t) (range 0 t) ≡ false
-  unfolding twin
-  alone-held e = none-below (twin p (endOf p v) t) t (λ u i. let q = ap (λ (g : List (List ℕ)). together g u t) (r .lines .same) ∙ alone-known class groups u t e in rw q)
+module _ (class words : List ℕ) (groups : ℕ) (p : Program) (lines : Lined class groups p) (t : ℕ) (h : t < 6) (end : ℕ) (le : end ≤ t) where
+  -- one without a class is in no line
+  pub alone-held : getD class t 0 ≡ 0 → any (sharing p words t) (range 0 end) ≡ false
+  alone-held e = none-below (sharing p words t) end (λ u i. let q = ap (λ (g : List (List ℕ)). together g u t) (lines .same) ∙ alone-known class groups u t e in rw q)
 
-  -- what the code finds among those below t, whose number it has as own
-  module _ (own : ℕ) (e : own ≡ t) (some : getD class own 0 ≡ 0 → ⊥) where
+  -- what the code finds among those below `last`, t's number being own
+  module _ (own last : ℕ) (e : own ≡ t) (el : last ≡ end) (some : getD class own 0 ≡ 0 → ⊥) where
     abbrev test : ℕ → ℕ → Bool
-    test o u = eqb (getD class u 0) (getD class o 0) && eqb (getD (x .words) u 0) (getD (x .words) o 0)
+    test o u = eqb (getD class u 0) (getD class o 0) && eqb (getD words u 0) (getD words o 0)
 
-    tested : (u : ℕ) → u < own → test own u ≡ twin p (endOf p v) t u
-    tested u i = ap (λ (o : ℕ). test o u) e ∙ twin-held (λ q. some (ap (λ (o : ℕ). getD class o 0) e ∙ q)) u (omega arith)
+    tested : (u : ℕ) → u < last → test own u ≡ sharing p words t u
+    tested u i =
+        ap (λ (o : ℕ). test o u) e
+        ∙ ap (λ (a : Bool). a && eqb (getD words u 0) (getD words t 0))
+        (together-known class groups u t (lines .known) (omega arith) h (λ q. some (ap (λ (o : ℕ). getD class o 0) e ∙ q)) ∙ ap (λ (g : List (List ℕ)). together g u t) (sym (lines .same)))
 
-    pub twins-none : ((u : ℕ) → u < own → test own u ≡ false) → false ≡ any (twin p (endOf p v) t) (range 0 t)
-    twins-none none = sym (none-below (twin p (endOf p v) t) t (λ u i. let j : u < own = omega arith in sym (tested u j) ∙ none u j))
+    pub words-none : ((u : ℕ) → u < last → test own u ≡ false) → false ≡ any (sharing p words t) (range 0 end)
+    words-none none = sym (none-below (sharing p words t) end (λ u i. let j : u < last = omega arith in sym (tested u j) ∙ none u j))
 
-    pub twins-some : (u : ℕ) → u < own → test own u ≡ true → true ≡ any (twin p (endOf p v) t) (range 0 t)
-    twins-some u i q = sym (any-of (twin p (endOf p v) t) (range 0 t) u (in-range 0 t u (omega arith) (omega arith)) (sym (tested u i) ∙ q))
+    pub words-some : (u : ℕ) → u < last → test own u ≡ true → true ≡ any (sharing p words t) (range 0 end)
+    words-some u i q = sym (any-of (sharing p words t) (range 0 end) u (in-range 0 end u (omega arith) (omega arith)) (sym (tested u i) ∙ q))
+
+-- R2, AS THE CODE TESTS IT: where a prefix is reached, these are the twins
+pub twins-held : (code lengths class : List ℕ) (threads groups : ℕ) (x : Place) (p : Program) (v : Schedule) → Reached code lengths class threads groups x p v → (t : ℕ) → t < 6 →
+    any (sharing p (x .words) t) (range 0 t) ≡ any (twin p (endOf p v) t) (range 0 t)
+unfolding twinByWord
+twins-held code lengths class threads groups x p v r t h = ap (λ (ws : List ℕ). any (sharing p ws t) (range 0 t)) (r .words) ∙ twins-by-word p (r .loaded .wellFormed) v (r .allowed) t h

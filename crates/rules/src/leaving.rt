@@ -30,7 +30,7 @@ fn with_location(l: u8, set: u8) -> u8
 }
 
 // Whether the row holds an access that reads.
-fn is_reader(code: &Code, row: usize) -> bool
+pub fn is_reader(code: &Code, row: usize) -> bool
     requires { ⌜ row < 96 ⌝ }
     ensures { λ r. ⌜ r ≡ firstTakes (instructionAt (now (code .entry)) row ∷ []) ⌝ }
 {

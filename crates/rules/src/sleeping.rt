@@ -49,7 +49,14 @@ fn access_of(code: &Code, lengths: &[usize; 6], at: &[usize; 6], t: usize) -> Aw
 }
 
 // Whether something left to thread u could conflict with an access at l, which could write (w) or only reads.
-fn meets(left: &[u8; 192], lengths: &[usize; 6], at: &[usize; 6], u: usize, l: u8, w: bool) -> bool
+pub fn meets(
+    left: &[u8; 192],
+    lengths: &[usize; 6],
+    at: &[usize; 6],
+    u: usize,
+    l: u8,
+    w: bool,
+) -> bool
     requires { ⌜ (u < 6) × ShortAt (now lengths) (now at) ⌝ }
     ensures { λ r. ⌜ ((code : List ℕ) → Left code (now (lengths .entry)) (now (left .entry))
         → r ≡ meetsAt code (now (lengths .entry)) (now (at .entry)) u l w) ⌝ }

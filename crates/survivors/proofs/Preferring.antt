@@ -39,7 +39,7 @@ unfolding sameFlag
 flag-same true = refl
 flag-same false = refl
 
-local-same : (h k : Thread) → h ≡ k → sameLocal (h .local) (k .local) ≡ true
+pub local-same : (h k : Thread) → h ≡ k → sameLocal (h .local) (k .local) ≡ true
 unfolding sameLocal
 local-same h k e = subst (λ (x : Thread). sameLocal (h .local) (x .local) ≡ true) e
     (both-and (eq-eqb (length (h .local .rest)) (length (h .local .rest)) refl) (both-and (same-list eqb (λ x. eq-eqb x x refl) (h .local .registers)) (flag-same (h .local .failed))))
@@ -58,7 +58,7 @@ quiet-cell σ u q c m e i k =
 not-so : (b : Bool) → b ≡ false → not b ≡ true
 not-so b e = ap not e
 
-quiet-silent : (σ : State) (u : ℕ) → Quiet σ u → silent σ u ≡ true
+pub quiet-silent : (σ : State) (u : ℕ) → Quiet σ u → silent σ u ≡ true
 unfolding silent
 quiet-silent σ u q = all-of (λ (c : Cell). all (λ (e : Event). not (eqb (e .0) u)) (c .writes)) (σ .cells)
     (λ c m. all-of (λ (e : Event). not (eqb (e .0) u)) (c .writes) (λ e i. not-so (eqb (e .0) u) (ne-eqb (e .0) u (λ k. quiet-cell σ u q c m e i k))))

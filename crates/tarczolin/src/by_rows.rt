@@ -1,7 +1,7 @@
 // Many listed schedules at a time.
+use listing::RowsAnswer;
 use words::answered;
 use words::refused;
-use listing::RowsAnswer;
 ghost use mathlib.Core.Path.{_≡_};
 ghost use mathlib.Core.Option.{none, some};
 ghost use Rattle.program.specs.Decode.{decode};
@@ -10,7 +10,7 @@ ghost use Rattle.words.specs.Word.{wordOf};
 ghost use Rattle.tarczolin.specs.ByRows.{rowsReply};
 
 // The word of an answer.
-fn rows_word(a: RowsAnswer) -> u64
+pub fn rows_word(a: RowsAnswer) -> u64
     ensures { λ w. ⌜ w ≡ wordOf (rowsReply a) ⌝ }
 {
     match a {

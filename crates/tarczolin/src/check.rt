@@ -1,7 +1,7 @@
 // Whether a file is a program.
+use decoder::Verdict;
 use words::answered;
 use words::refused;
-use decoder::Verdict;
 ghost use mathlib.Core.Path.{_≡_};
 ghost use Rattle.program.specs.Decode.{decode};
 ghost use Rattle.words.specs.Word.{wordOf};

@@ -1,7 +1,7 @@
 // The graph of a schedule.
+use replay::GraphAnswer;
 use words::answered;
 use words::refused;
-use replay::GraphAnswer;
 ghost use mathlib.Core.Path.{_≡_};
 ghost use lib.ListN.{length};
 ghost use Rattle.sc.specs.GraphCall.{graphFile, graphOutput};

@@ -1,8 +1,8 @@
 // Whether a graph can happen.
+use judge::Outcome;
 use words::answered;
 use words::nothing;
 use words::refused;
-use judge::Outcome;
 ghost use mathlib.Core.Path.{_≡_};
 ghost use lib.ListN.{length};
 ghost use Rattle.consistent.specs.Answer.{Answer, Judgement, outputAfter};

@@ -13,6 +13,7 @@ mod tally;
 // Many listed schedules at a time: tarczolin_rows, tarczolin_rows_after.
 mod by_rows;
 
+pub use by_rows::rows_word;
 pub use by_rows::tarczolin_rows;
 pub use by_rows::tarczolin_rows_after;
 pub use check::tarczolin_check;
@@ -21,4 +22,5 @@ pub use judgement::tarczolin_judge;
 pub use listed::tarczolin_continue;
 pub use listed::tarczolin_start;
 pub use listed::tarczolin_violation;
+pub use listed::word_of;
 pub use tally::tarczolin_count;

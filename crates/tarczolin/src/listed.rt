@@ -1,15 +1,15 @@
 // Listed schedules: the first one, the next one, the first one that fails.
+use listing::ListAnswer;
 use words::answered;
 use words::nothing;
 use words::refused;
-use listing::ListAnswer;
 ghost use mathlib.Core.Path.{_≡_};
 ghost use Rattle.listing.specs.OnFile.{startFile, continueFile, violationFile};
 ghost use Rattle.words.specs.Word.{wordOf};
 ghost use Rattle.tarczolin.specs.Listed.{listed, violationReply, replyOf};
 
 // The word of an answer.
-fn word_of(a: ListAnswer) -> u64
+pub fn word_of(a: ListAnswer) -> u64
     ensures { λ w. ⌜ w ≡ wordOf (replyOf a) ⌝ }
 {
     match a {

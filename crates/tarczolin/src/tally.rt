@@ -1,7 +1,7 @@
 // How many schedules are listed, and how many of these fail.
+use listing::CountAnswer;
 use words::answered;
 use words::refused;
-use listing::CountAnswer;
 ghost use mathlib.Core.Path.{_≡_};
 ghost use Rattle.listing.specs.OnFile.{countFile};
 ghost use Rattle.words.specs.Word.{wordOf};

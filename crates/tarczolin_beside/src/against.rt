@@ -1,9 +1,9 @@
 // One program against another.
+use covering::CoversAnswer;
 use words::answered;
 use words::nothing;
 use words::refused;
 use words::second_refused;
-use covering::CoversAnswer;
 ghost use mathlib.Core.Path.{_≡_};
 ghost use lib.ListN.{length};
 ghost use Rattle.outcomes.specs.Answer.{Answer, Comparison, outputAfter};

@@ -1,7 +1,7 @@
 // How large the class of a schedule is.
+use classing::ClassAnswer;
 use words::answered;
 use words::refused;
-use classing::ClassAnswer;
 ghost use mathlib.Core.Path.{_≡_};
 ghost use Rattle.model.specs.ClassSize.{classFile};
 ghost use Rattle.sc_model.specs.Sequential.{sc};

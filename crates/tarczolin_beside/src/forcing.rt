@@ -1,9 +1,9 @@
 // Who can force the failure of an assertion.
+use force::ForceAnswer;
+use lines::wide;
 use words::answered;
 use words::nothing;
 use words::refused;
-use force::ForceAnswer;
-use lines::wide;
 ghost use mathlib.Core.Path.{_≡_};
 ghost use Rattle.game.specs.Forced.{Answer, Forced};
 ghost use Rattle.words.specs.Word.{wordOf};

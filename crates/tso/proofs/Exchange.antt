@@ -36,7 +36,7 @@ pub finds-moved : (π : ℕ → ℕ) → Permutation π → (t : ℕ) (h : Threa
 unfolding finds movedThread
 finds-moved π q t h c = found-moved π q t (newest (h .queue) (placeOf (h .local))) c
 
-behind-moved : (π : ℕ → ℕ) → Permutation π → (k : Kind) (t : ℕ) (h : Thread) (c : Cell) → threadBehind k (π t) (movedThread π h) (movedCell π c) ≡ movedThread π (threadBehind k t h c)
+pub behind-moved : (π : ℕ → ℕ) → Permutation π → (k : Kind) (t : ℕ) (h : Thread) (c : Cell) → threadBehind k (π t) (movedThread π h) (movedCell π c) ≡ movedThread π (threadBehind k t h c)
 unfolding threadBehind movedThread
 behind-moved π q access t h c =
     let f : finds (π t) (movedThread π h) (movedCell π c) ≡ movedFound π (finds t h c) = finds-moved π q t h c in

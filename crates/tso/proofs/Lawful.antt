@@ -34,7 +34,7 @@ queued-one b i l none = omega arith
 queued-one true i l (some v) = omega arith
 queued-one false i l (some v) = omega arith
 
-newer-fewer : (q : List Entry) (n : ℕ) → movable q n ≡ true → length (newer q) < length q
+pub newer-fewer : (q : List Entry) (n : ℕ) → movable q n ≡ true → length (newer q) < length q
 unfolding movable newer
 newer-fewer [] n e = absurd (false≢true e)
 newer-fewer (x ∷ q) n e = omega arith

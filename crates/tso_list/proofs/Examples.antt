@@ -21,7 +21,7 @@ use Rattle.tso_list.specs.Rules.{renamed, sameSource, sameEntry, standsA
 use Rattle.tso_list.specs.Search.{found}
 
 -- what a proof names on its `unfolding` line to compute with every definition of the search
-unfoldable finds : Program → List Schedule
+unfoldable pub finds : Program → List Schedule
 unfolding listed Late.late Model.leastBy Model.representative Model.found Model.wanted given accessMayWrite couldConflict couldMeet sameFlag sameLocal silent moving reading locking sourceIf beforeIf actionOf action who makes empties putsFirst readsFirst dependent movedByte movedAction renamed sameSource sameEntry standsAs twin fears wakes unwoken asleep givenUp found
 finds p = found false p none
 

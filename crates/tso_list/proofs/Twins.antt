@@ -57,7 +57,7 @@ same-entry e f q =
 
 -- the reads of t, by the test, are those of u with the two exchanged, where u read nothing of t
 module _ (u t : ℕ) (ne : u ≢ t) where
-  renamed-swapped : (x : ℕ) → x ≢ t → renamed u t x ≡ swapped u t x
+  pub renamed-swapped : (x : ℕ) → x ≢ t → renamed u t x ≡ swapped u t x
   unfolding renamed swapped
   renamed-swapped x n = go (eqb x u) refl
     where
@@ -99,11 +99,11 @@ module _ (π : ℕ → ℕ) where
       s
 
 -- a thread of which nothing is in memory
-abbrev Quiet : State → ℕ → Type 0
+abbrev pub Quiet : State → ℕ → Type 0
 Quiet σ u = Silent (withoutQueues σ) u
 
 -- a source of another thread's read is no write of it
-from-other : (σ : State) (u x : ℕ) (e : Event) → u < 6 → x ≢ u → Quiet σ u → From σ x e → e .0 ≢ u
+pub from-other : (σ : State) (u x : ℕ) (e : Event) → u < 6 → x ≢ u → Quiet σ u → From σ x e → e .0 ≢ u
 unfolding initialWrite
 from-other σ u x e h ne quiet (inl q) i = ne (sym q ∙ i)
 from-other σ u x e h ne quiet (inr (inl q)) i = omega (arith, ap (λ (y : Event). y .0) q)
@@ -126,8 +126,13 @@ byte-swapped u b h =
     let o = for-owner b in
     omega arith
 
+-- exchanging two threads twice leaves a thread as it is
+moved-twice : (u t : ℕ) → u ≢ t → (h : Thread) → movedThread (swapped u t) (movedThread (swapped u t) h) ≡ h
+unfolding movedThread
+moved-twice u t ne h = ap (λ (rs : List (ℕ × Event)). mkThread (swapped u t) (h .local) (h .history .done) rs (h .queue)) (reads-back (swapped u t) (swapped-twice u t ne) (h .history .reads))
+
 module _ (p : Program) (w : WellFormed p) (v : Schedule) (a : Allowed TSO (start p) v) (u t : ℕ) (ne : u ≢ t) (hu : u < 6) (ht : t < 6) (k : Together p u t)
-    (e : standsAs u t (threadOf (endOf p v) u) (threadOf (endOf p v) t) ≡ true) (quiet : Quiet (endOf p v) u) (quiet′ : Quiet (endOf p v) t) where
+    (quiet : Quiet (endOf p v) u) (quiet′ : Quiet (endOf p v) t) where
   abbrev σ : State
   σ = endOf p v
 
@@ -137,30 +142,18 @@ module _ (p : Program) (w : WellFormed p) (v : Schedule) (a : Allowed TSO (start
   abbrev g : Thread
   g = threadOf σ t
 
-  pub record Stand : Type 0 where
-    locals : h .local ≡ g .local
-    dones : h .history .done ≡ g .history .done
-    reads : g .history .reads ≡ movedReads (swapped u t) (h .history .reads)
-    queues : h .queue ≡ g .queue
-
-  stand : Stand
+  -- what the test says: t is u with the two exchanged in its sources
+  pub stands-moved : standsAs u t (threadOf (endOf p v) u) (threadOf (endOf p v) t) ≡ true → threadOf (endOf p v) t ≡ movedThread (swapped u t) (threadOf (endOf p v) u)
   unfolding standsAs
-  stand =
+  stands-moved e =
       let x = both (sameLocal (h .local) (g .local)) _ e in
       let y = both (eqb (h .history .done) (g .history .done)) _ (x .1) in
-      let z = both (sameList (sameSource u t) (h .history .reads) (g .history .reads)) _ (y .1) in record {
-        locals = same-local (h .local) (g .local) (λ n. suffix-equal (codeOf p t) _ _ (subst (Suffix _) (members p w u t k .2) (rest-code p v a u)) (rest-code p v a t) n) (x .0);
-        dones = eqb-true _ _ (y .0);
-        reads = same-reads u t ne (h .history .reads) (g .history .reads) (λ r m. from-other σ t u (r .1) ht ne quiet′ (sourced p w v a u r m)) (z .0);
-        queues = same-list-is sameEntry same-entry (h .queue) (g .queue) (z .1);
-      }
-
-  there : g ≡ movedThread (swapped u t) h
-  there = thread-moved (swapped u t) h g (stand .locals) (stand .dones) (stand .reads) (stand .queues)
-
-  back : h ≡ movedThread (swapped u t) g
-  back = thread-moved (swapped u t) g h (sym (stand .locals)) (sym (stand .dones))
-      (sym (reads-back (swapped u t) (swapped-twice u t ne) (h .history .reads)) ∙ ap (movedReads (swapped u t)) (sym (stand .reads))) (sym (stand .queues))
+      let z = both (sameList (sameSource u t) (h .history .reads) (g .history .reads)) _ (y .1) in
+      thread-moved (swapped u t) h g
+      (same-local (h .local) (g .local) (λ n. suffix-equal (codeOf p t) _ _ (subst (Suffix _) (members p w u t k .2) (rest-code p v a u)) (rest-code p v a t) n) (x .0))
+      (eqb-true _ _ (y .0))
+      (same-reads u t ne (h .history .reads) (g .history .reads) (λ r m. from-other σ t u (r .1) ht ne quiet′ (sourced p w v a u r m)) (z .0))
+      (same-list-is sameEntry same-entry (h .queue) (g .queue) (z .1))
 
   else : (x : ℕ) → x ≢ u → x ≢ t → threadOf σ x ≡ movedThread (swapped u t) (threadOf σ x)
   else x i j = thread-moved (swapped u t) (threadOf σ x) (threadOf σ x) refl refl
@@ -169,10 +162,10 @@ module _ (p : Program) (w : WellFormed p) (v : Schedule) (a : Allowed TSO (start
       event-fixed (swapped u t) (r .1) (swapped-else u t ne (r .1 .0) (from-other σ u x (r .1) hu i quiet f) (from-other σ t x (r .1) ht j quiet′ f))))) refl
 
   -- THE STATE STAYS when twins are exchanged
-  twins-state : Moves (swapped u t) σ σ
+  pub twins-state : threadOf (endOf p v) t ≡ movedThread (swapped u t) (threadOf (endOf p v) u) → Moves (swapped u t) (endOf p v) (endOf p v)
   unfolding withoutQueues
-  twins-state = record {
-    threads = swapped-cases u t ne (λ x y. threadOf σ y ≡ movedThread (swapped u t) (threadOf σ x)) there back else;
+  twins-state there = record {
+    threads = swapped-cases u t ne (λ x y. threadOf σ y ≡ movedThread (swapped u t) (threadOf σ x)) there (sym (moved-twice u t ne h) ∙ ap (movedThread (swapped u t)) (sym there)) else;
     cells = cells-fixed (swapped u t) (σ .cells) (λ c m f i. event-fixed (swapped u t) f (swapped-else u t ne (f .0) (quiet c m f i) (quiet′ c m f i)));
     within = λ y l. let s = run-threads v (start p) ∙ start-threads p in let b = within p w (swapped u t) (swapped-exchange p u t ne hu ht k) y (omega arith) in omega arith;
   }
@@ -194,5 +187,7 @@ twin-smaller p a v u b z l e f =
     let hu : u < 6 = omega (arith, m .0) in
     let ht : t < 6 = omega (arith, m .1) in
     let s = full-split TSO (start p) v (b ∷ z) f in
-    let fix = twins-state p w v (s .0) u t ne hu ht k (y .0) (silent-true (withoutQueues σ) u (q .0)) (silent-true (withoutQueues σ) t (q .1)) in
+    let su = silent-true (withoutQueues σ) u (q .0) in
+    let st = silent-true (withoutQueues σ) t (q .1) in
+    let fix = twins-state p w v (s .0) u t ne hu ht k su st (stands-moved p w v (s .0) u t ne hu ht k su st (y .0)) in
     Model.twin-smaller tso tso-laws p a v (swapped u t) (swapped-exchange p u t ne hu ht k) fix b z (byte-swapped u b l) f

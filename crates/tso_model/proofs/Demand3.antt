@@ -19,7 +19,7 @@ many-41 : (p : Program) → 16 < allAccesses (p .threads) → tooMany p ≡ some
 unfolding tooMany
 many-41 p h = let q = lt-ltb 16 (allAccesses (p .threads)) h in rw (q, tooMany)
 
-few-none : (p : Program) → allAccesses (p .threads) ≤ 16 → tooMany p ≡ none
+pub few-none : (p : Program) → allAccesses (p .threads) ≤ 16 → tooMany p ≡ none
 unfolding tooMany
 few-none p h = let q = le-ltb 16 (allAccesses (p .threads)) h in rw (q, tooMany)
 

@@ -13,7 +13,7 @@ pub struct Event {
 pub const INITIAL: Event = Event { t: 0xff, i: 0xff };
 
 /// A thread: registers, the place of its next instruction, whether an assertion failed, and how many accesses it did.
-#[derive(Clone, Copy, Debug, Default, PartialEq, Eq)]
+#[derive(Clone, Copy, Debug, Default, PartialEq, Eq, Hash)]
 pub struct Thread {
     pub registers: [u32; 4],
     pub next: usize,

@@ -4,6 +4,7 @@ pub mod graph;
 pub mod program;
 pub mod remarks;
 pub mod schedule;
+pub mod tso;
 
 /// A small generator of random numbers (splitmix64): the same seed gives the same numbers on every machine.
 pub struct Random(u64);

@@ -3,6 +3,8 @@
 //! (R2), or where it leaves threads asleep for good (R3). What is reached in full is listed: no test is left.
 mod place;
 mod state;
+pub mod store_order;
+pub mod tso;
 pub mod walk;
 
 use crate::oracle::decode::Program;

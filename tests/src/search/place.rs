@@ -123,6 +123,11 @@ impl Left {
         Left(all)
     }
 
+    /// What an instruction of a thread and those behind it may read, and write.
+    pub fn behind(&self, t: usize, k: usize) -> (u8, u8) {
+        self.0[t][k.min(16)]
+    }
+
     /// R3: are there late threads that nothing left to the others can wake?
     pub fn some_asleep(&self, program: &Program, place: &Place) -> bool {
         let mut asleep = place.late;

@@ -7,6 +7,7 @@ mod closed;
 mod covers;
 mod interrupt;
 mod raw;
+pub mod tso;
 
 pub use answer::Answer;
 pub use closed::standard_output_was_closed;

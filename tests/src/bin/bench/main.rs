@@ -9,9 +9,10 @@ mod judge;
 mod listing;
 mod search;
 mod step;
+mod store_order;
 mod timing;
 
-const PARTS: [(&str, fn()); 7] = [
+const PARTS: [(&str, fn()); 8] = [
     ("check", check::report),
     ("graph", graph::report),
     ("step", step::report),
@@ -19,6 +20,7 @@ const PARTS: [(&str, fn()); 7] = [
     ("search", search::report),
     ("listing", listing::report),
     ("growth", growth::report),
+    ("store_order", store_order::report),
 ];
 
 fn main() {

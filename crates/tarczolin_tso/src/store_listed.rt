@@ -1,0 +1,34 @@
+// Listed schedules under total store order: the first one, the next one, the first one that fails.
+use tarczolin::word_of;
+ghost use mathlib.Core.Path.{_≡_};
+ghost use Rattle.model.specs.OnFile.{startFile, continueFile, violationFile};
+ghost use Rattle.tso_model.specs.TotalStoreOrder.{tso};
+ghost use Rattle.words.specs.Word.{wordOf};
+ghost use Rattle.tarczolin.specs.Listed.{listed, violationReply};
+
+// Kind 1 with the least listed schedule in front of `out` and its length; kind 3 with number and place, and no byte of `out` changed.
+#[no_mangle]
+pub extern "C" fn tarczolin_tso_start(file: &[u8], out: &mut [u8]) -> u64
+    ensures answer { λ w. ⌜ w ≡ wordOf (listed (startFile tso (now (file .entry)) (now (out .entry)) .0)) ⌝ }
+    ensures output { λ w. ⌜ now (out .exit) ≡ startFile tso (now (file .entry)) (now (out .entry)) .1 ⌝ }
+{
+    word_of(tso_listing::start(file, out))
+}
+
+// The same for the least listed schedule after a full one; kind 2 where there is no more.
+#[no_mangle]
+pub extern "C" fn tarczolin_tso_continue(file: &[u8], schedule: &[u8], out: &mut [u8]) -> u64
+    ensures answer { λ w. ⌜ w ≡ wordOf (listed (continueFile tso (now (file .entry)) (now (schedule .entry)) (now (out .entry)) .0)) ⌝ }
+    ensures output { λ w. ⌜ now (out .exit) ≡ continueFile tso (now (file .entry)) (now (schedule .entry)) (now (out .entry)) .1 ⌝ }
+{
+    word_of(tso_listing::continue_from(file, schedule, out))
+}
+
+// The same for the first listed schedule that fails; kind 2 where none does.
+#[no_mangle]
+pub extern "C" fn tarczolin_tso_violation(file: &[u8], out: &mut [u8]) -> u64
+    ensures answer { λ w. ⌜ w ≡ wordOf (violationReply (violationFile tso (now (file .entry)) (now (out .entry)) .0)) ⌝ }
+    ensures output { λ w. ⌜ now (out .exit) ≡ violationFile tso (now (file .entry)) (now (out .entry)) .1 ⌝ }
+{
+    word_of(tso_listing::violation(file, out))
+}

@@ -1,0 +1,31 @@
+// Many listed schedules at a time under total store order, in rows of 50 bytes.
+use tarczolin::rows_word;
+ghost use mathlib.Core.Path.{_≡_};
+ghost use mathlib.Core.Option.{none, some};
+ghost use Rattle.program.specs.Decode.{decode};
+ghost use Rattle.model.specs.OnFile.{admit};
+ghost use Rattle.tso_model.specs.TotalStoreOrder.{tso};
+ghost use Rattle.tso_listing.specs.RowsCall.{rowsAnswerOf, rowsOutput};
+ghost use Rattle.words.specs.Word.{wordOf};
+ghost use Rattle.tarczolin.specs.ByRows.{rowsReply};
+
+// Kind 1 with the number of rows, which stand in front of `out`: the first listed schedules, as many as have room; kind 3 with number and
+// place.
+#[no_mangle]
+pub extern "C" fn tarczolin_tso_rows(file: &[u8], out: &mut [u8]) -> u64
+    ensures answer { λ w. ⌜ w ≡ wordOf (rowsReply (rowsAnswerOf (admit tso (decode (now (file .entry)))) none (now (out .entry)))) ⌝ }
+    ensures output { λ w. ⌜ now (out .exit) ≡ rowsOutput (admit tso (decode (now (file .entry)))) none (now (out .entry)) ⌝ }
+{
+    rows_word(tso_listing::first_rows(file, out))
+}
+
+// The same for the listed schedules after a given one, which need not be listed nor full.
+#[no_mangle]
+pub extern "C" fn tarczolin_tso_rows_after(file: &[u8], schedule: &[u8], out: &mut [u8]) -> u64
+    ensures answer { λ w. ⌜ w ≡ wordOf (rowsReply (rowsAnswerOf (admit tso (decode (now (file .entry)))) (some (now (schedule .entry)))
+        (now (out .entry)))) ⌝ }
+    ensures output { λ w. ⌜ now (out .exit) ≡ rowsOutput (admit tso (decode (now (file .entry)))) (some (now (schedule .entry)))
+        (now (out .entry)) ⌝ }
+{
+    rows_word(tso_listing::next_rows(file, schedule, out))
+}

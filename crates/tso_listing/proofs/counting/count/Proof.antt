@@ -1,0 +1,29 @@
+-- `count` admits the file first.
+use borrow.Author.Needs.{needs}
+use Rattle.program.specs.Decode.{decode}
+use Rattle.model.specs.OnFile.{admit}
+use Rattle.tso_model.specs.TotalStoreOrder.{tso}
+use Rattle.tso_listing.proofs.ListedProgram.{answer-refused, answer-accepted, answer-listed}
+use Rattle.tso_listing.proofs.CountCalled.{count-refused, count-answered}
+use Rattle.tso_listing.proofs.counting.count.Statement.{statement}
+use Rattle.tso_listing.proofs.counting.count.Tie as tie
+
+counts-requires : tie.Need-counts-requires
+counts-requires c κs =
+    let d = c .before .before .before .admitted in
+    answer-listed (d .result) (c .before .before .before .before .before .args .file .now) (d .ensures) (c .before .enum-told .given .1)
+
+returns : tie.Need-returns
+returns c =
+    let d = c .before .before .before .admitted in
+    let file = c .before .before .before .before .before .args .file .now in
+    count-refused file _ _ (answer-refused (d .result) (admit tso (decode file)) (d .ensures) _ _ (c .before .v .given .1))
+
+returns-2 : tie.Need-returns-2
+returns-2 c =
+    let d = c .before .before .before .before .admitted in
+    let file = c .before .before .before .before .before .before .args .file .now in
+    count-answered file _ (answer-accepted (d .result) (admit tso (decode file)) (d .ensures) (c .before .before .enum-told .given .1)) _ _ (c .counts .ensures)
+
+pub count-spec : {M : Type 1} → statement M
+count-spec = tie.close (tie.spec (λ c κs. search needs) (λ c. search needs) (λ c. search needs) counts-requires returns returns-2)

@@ -1,0 +1,64 @@
+// What a thread finds at a location: its newest pending store there, else what memory holds.
+use crate::state::Pending;
+use crate::state::QueuedMachine;
+use lines::wide;
+use machine::LastWrite;
+ghost use mathlib.Core.Path.{_≡_};
+ghost use Prim.Native.Nat.{_≤_, _-_, _<_};
+ghost use lib.ListN.{getD};
+ghost use Rattle.tso.specs.Queue.{newest};
+ghost use Rattle.machine.specs.Held.{lastAt};
+ghost use Rattle.tso_machine.specs.Held.{coreOf, queueOf, tailAt};
+ghost use Rattle.tso_machine.specs.Slots.{queueAt, entryIn};
+ghost use Rattle.tso_machine.specs.Looked.{lookOf};
+
+// A value, the write that it comes from, and whether that is a pending store of the thread's own.
+pub struct Sight {
+    pub value: u32,
+    pub source: LastWrite,
+    pub own: bool,
+}
+
+// The slot of the newest store to l from `head` up to `tail`; 16 where there is none.
+fn newest_slot(slots: [Pending; 16], head: usize, tail: usize, l: u8) -> usize
+    requires { ⌜ tail ≤ 16 ⌝ }
+    ensures { λ r. ⌜ newest (queueAt slots head (tail - head)) l ≡ entryIn slots r ⌝ }
+{
+    let mut k = tail;
+    while head < k {
+        k -= 1;
+        let e = slots[k];
+        if e.location == l {
+            return k;
+        }
+    }
+    16
+}
+
+// What thread t finds at l.
+pub(crate) fn look(m: QueuedMachine, t: u8, l: u8) -> Sight
+    requires { ⌜ (t < 6) × (tailAt m t ≤ 16) ⌝ }
+    ensures { λ r. ⌜ (l < 8 → r ≡ lookOf t (newest (queueOf m t) l) (getD (m .memory) l 0) (lastAt (coreOf m) l)) ⌝ }
+{
+    let u = wide(t);
+    let slots = m.slots;
+    let k = newest_slot(slots, wide(m.heads[u]), wide(m.tails[u]), l);
+    if k < 16 {
+        let s = slots[k];
+        return Sight {
+            value: s.value,
+            source: LastWrite {
+                thread: t,
+                number: s.number,
+            },
+            own: true,
+        };
+    }
+    let i = wide(l) % 8;
+    let w = m.last[i];
+    Sight {
+        value: m.memory[i],
+        source: w,
+        own: false,
+    }
+}

@@ -1,0 +1,35 @@
+-- The laws, in reading order.
+-- the definitions computed
+pub mod Examples
+-- the set that is carried is the walk back
+pub mod Back
+-- phases: accesses before the first move
+pub mod Phases
+-- twinned threads: they stand alike, and nothing of them is in memory
+pub mod Twinned
+-- the test of a twin is exact
+pub mod TwinTest
+-- R2 far is sound
+pub mod Far
+-- the far set is R2 far
+pub mod FarSet
+-- the next accesses of twinned threads
+pub mod NextAccess
+-- so they are twinned behind the accesses of a phase
+pub mod OnePhase
+-- what cycles of a permutation have
+pub mod Cycles
+-- so they are twinned to the end
+pub mod Pairs
+-- what the rules say of a survivor at each of its places
+pub mod SurvivorSide
+-- and what being listed says
+pub mod ListedSide
+-- threads that are twinned at the end
+pub mod Tied
+-- THE RULES ARE EXACT
+pub mod Exact
+-- so the search finds the same without its test at a full schedule
+pub mod Untested
+-- THE SEARCH FINDS THE LIST
+pub mod Search

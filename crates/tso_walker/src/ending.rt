@@ -1,0 +1,45 @@
+// What the search does at a full schedule.
+use crate::listed::ROW;
+use crate::listed::WIDTH;
+use pages::Aim;
+use pages::is_meant;
+use pages::put_row;
+use tso_machine::fails;
+use tso_prefix::Place;
+ghost use mathlib.Core.Path.{_≡_};
+ghost use mathlib.Core.Bool.{true};
+ghost use mathlib.Core.List.{List};
+ghost use mathlib.Core.Option.{none};
+ghost use Prim.Native.Nat.{ℕ, _*_, _≤_};
+ghost use lib.ListN.{length};
+ghost use Rattle.program.specs.Program.{Program};
+ghost use Rattle.schedules.specs.Order.{Schedule};
+ghost use Rattle.schedules.specs.System.{ended};
+ghost use Rattle.tso.specs.State.{TSO};
+ghost use Rattle.tso.specs.Graph.{endOf};
+ghost use Rattle.tso_survivors.specs.Search.{foundBehind, givenUp};
+ghost use Rattle.tso_prefix.specs.Reached.{Reached};
+ghost use Rattle.tso_walker.specs.Rows.{Adds};
+
+// Adds its row, if it is looked for and there is room; answers how many rows there are.
+pub(crate) fn at_end(x: Place, a: Aim, out: &mut [u8]) -> usize
+    requires { ⌜ (x .steps ≤ 32) × (a .rows ≤ a .room) × (a .room * 50 ≤ length (now out)) ⌝ }
+    ensures within { λ r. ⌜ r ≤ a .room ⌝ }
+    ensures added { λ r. ⌜ ((code lengths class : List ℕ) (threads groups : ℕ) (p : Program) (v : Schedule)
+        → Reached code lengths class threads groups x p v → ended TSO (endOf p v) ≡ true
+        → Adds p (a .room) (foundBehind givenUp (a .failures) p (x .steps) none v) (now (out .entry)) (a .rows) (now (out .exit)) r) ⌝ }
+{
+    let rows = a.rows;
+    if a.room <= rows {
+        return rows;
+    }
+    let m = x.machine;
+    let f = fails(m);
+    if !is_meant(a.failures, f) {
+        return rows;
+    }
+    let schedule = x.schedule;
+    let steps = x.steps;
+    put_row(&mut out[rows * ROW..], WIDTH, &schedule[..steps], f);
+    rows + 1
+}

@@ -1,0 +1,89 @@
+//! The listing under total store order, by the x86-TSO machine: the calls made safe.
+//!
+//! A step byte t does thread t's next access, 10 + t (hexadecimal) moves its oldest pending store to memory. A file of more than
+//! 16 accesses is refused by 41 at place 0, right behind the program's own refusals.
+use crate::Answer;
+
+/// A schedule needs an output of so many bytes.
+pub const SCHEDULE: usize = 48;
+/// A listed schedule as a row: the number of steps, 1 where it fails and else 0, the steps, zeros behind them.
+pub const ROW: usize = 2 + SCHEDULE;
+
+extern "C" {
+    fn tarczolin_tso_graph(
+        file: *const u8,
+        file_len: usize,
+        schedule: *const u8,
+        schedule_len: usize,
+        out: *mut u8,
+        out_len: usize,
+    ) -> u64;
+    fn tarczolin_tso_start(file: *const u8, file_len: usize, out: *mut u8, out_len: usize) -> u64;
+    fn tarczolin_tso_continue(
+        file: *const u8,
+        file_len: usize,
+        schedule: *const u8,
+        schedule_len: usize,
+        out: *mut u8,
+        out_len: usize,
+    ) -> u64;
+    fn tarczolin_tso_violation(file: *const u8, file_len: usize, out: *mut u8, out_len: usize) -> u64;
+    fn tarczolin_tso_count(file: *const u8, file_len: usize, listed: *mut u64, failing: *mut u64) -> u64;
+    fn tarczolin_tso_rows(file: *const u8, file_len: usize, out: *mut u8, out_len: usize) -> u64;
+    fn tarczolin_tso_rows_after(
+        file: *const u8,
+        file_len: usize,
+        schedule: *const u8,
+        schedule_len: usize,
+        out: *mut u8,
+        out_len: usize,
+    ) -> u64;
+}
+
+/// The text of the graph of a full schedule, in front of the output.
+pub fn graph(file: &[u8], schedule: &[u8], out: &mut [u8]) -> Answer {
+    // safe: the call reads only the bytes of the first two slices and writes only bytes of the third
+    Answer::of_word(unsafe {
+        tarczolin_tso_graph(file.as_ptr(), file.len(), schedule.as_ptr(), schedule.len(), out.as_mut_ptr(), out.len())
+    })
+}
+
+/// The least listed schedule, in front of the output.
+pub fn start(file: &[u8], out: &mut [u8]) -> Answer {
+    // safe: the call reads only the bytes of the first slice and writes only bytes of the second
+    Answer::of_word(unsafe { tarczolin_tso_start(file.as_ptr(), file.len(), out.as_mut_ptr(), out.len()) })
+}
+
+/// The least listed schedule after this full one, listed or not, in front of the output.
+pub fn continue_from(file: &[u8], schedule: &[u8], out: &mut [u8]) -> Answer {
+    // safe: the call reads only the bytes of the first two slices and writes only bytes of the third
+    Answer::of_word(unsafe {
+        tarczolin_tso_continue(file.as_ptr(), file.len(), schedule.as_ptr(), schedule.len(), out.as_mut_ptr(), out.len())
+    })
+}
+
+/// The first listed schedule that fails, in front of the output.
+pub fn violation(file: &[u8], out: &mut [u8]) -> Answer {
+    // safe: the call reads only the bytes of the first slice and writes only bytes of the second
+    Answer::of_word(unsafe { tarczolin_tso_violation(file.as_ptr(), file.len(), out.as_mut_ptr(), out.len()) })
+}
+
+/// How many schedules are listed, and how many of these fail, both modulo 2^64.
+pub fn count(file: &[u8], listed: &mut u64, failing: &mut u64) -> Answer {
+    // safe: the call reads only the bytes of the slice and writes only the two words
+    Answer::of_word(unsafe { tarczolin_tso_count(file.as_ptr(), file.len(), listed, failing) })
+}
+
+/// The first listed schedules as rows, as many as the output has room for; the answer carries the number of rows.
+pub fn rows(file: &[u8], out: &mut [u8]) -> Answer {
+    // safe: the call reads only the bytes of the first slice and writes only bytes of the second
+    Answer::of_word(unsafe { tarczolin_tso_rows(file.as_ptr(), file.len(), out.as_mut_ptr(), out.len()) })
+}
+
+/// The same for the listed schedules after this one, which need not be listed nor full.
+pub fn rows_after(file: &[u8], schedule: &[u8], out: &mut [u8]) -> Answer {
+    // safe: the call reads only the bytes of the first two slices and writes only bytes of the third
+    Answer::of_word(unsafe {
+        tarczolin_tso_rows_after(file.as_ptr(), file.len(), schedule.as_ptr(), schedule.len(), out.as_mut_ptr(), out.len())
+    })
+}
