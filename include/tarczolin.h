@@ -127,6 +127,7 @@ uint64_t tarczolin_force(const uint8_t *file, size_t file_len, uint8_t set);
  * move from an empty queue and a fetch and add or compare and swap whose queue is not empty; rows have 50 bytes, with zeros behind the
  * steps up to 48; both counts are modulo 2^64. */
 uint64_t tarczolin_tso_graph(const uint8_t *file, size_t file_len, const uint8_t *schedule, size_t schedule_len, uint8_t *out, size_t out_len);
+uint64_t tarczolin_tso_class(const uint8_t *file, size_t file_len, const uint8_t *schedule, size_t schedule_len);
 uint64_t tarczolin_tso_start(const uint8_t *file, size_t file_len, uint8_t *out, size_t out_len);
 uint64_t tarczolin_tso_continue(const uint8_t *file, size_t file_len, const uint8_t *schedule, size_t schedule_len, uint8_t *out, size_t out_len);
 uint64_t tarczolin_tso_violation(const uint8_t *file, size_t file_len, uint8_t *out, size_t out_len);

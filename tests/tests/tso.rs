@@ -51,10 +51,15 @@ fn held_count(random: &mut Random, file: &[u8], found: Result<(u64, u64), Refusa
     }
 }
 
-/// The graph of a schedule that may be damaged.
+/// The graph and the class of a schedule that may be damaged.
 fn held_schedule(random: &mut Random, file: &[u8], schedule: &[u8], output: usize) -> Found {
     let found = oracle::graph(file, schedule, output);
     held(random, [file, schedule], output, &found, |[file, schedule], out| tso::graph(file, schedule, out));
+    let class = match oracle::class(file, schedule) {
+        Ok(size) => Answer::Answered(size),
+        Err(r) => Answer::Refused(r.number, r.place),
+    };
+    assert_eq!(tso::class(file, schedule), class, "{} {schedule:02x?}", file.escape_ascii());
     found
 }
 
@@ -89,6 +94,7 @@ fn more_than_16_accesses() {
         held_rows(&mut random, &file, Some(&[]), output, &Err(refusal));
     }
     held_count(&mut random, &file, Err(refusal));
+    assert_eq!(tso::class(&file, &[9]), Answer::Refused(41, 0));
     // sixteen pass, and the program's own refusals come first
     assert_eq!(oracle::count(&lines(&format!("01 23000000000001 {} 01 {}", loads(14), loads(2)))), Ok((1, 1)));
     assert_eq!(tso::start(&lines(&format!("01 {} 110400", loads(15))), &mut []), Answer::Refused(4, 17));

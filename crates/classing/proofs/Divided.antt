@@ -7,7 +7,7 @@ use native.Mathlib.Decide.{decLt}
 use mathlib.Core.Path.{_≡_, refl, sym, ap, ap₂, subst, _∙_}
 use mathlib.Core.Logic.{_⊎_, inl, inr, ⊎-elim}
 use mathlib.Core.Bool.{Bool, true, false, not, _&&_, _||_, true≢false}
-use mathlib.Core.List.{List, [], _∷_, reverse, reverse-reverse, List·Memᴰ, List·Memᴰ·head, List·Memᴰ·tail, List·Memᴰ·not-nil}
+use mathlib.Core.List.{List, [], _∷_, reverse, reverse-reverse, List·Memᴰ, List·Memᴰ·not-nil}
 use lib.Dec.{eqb}
 use lib.ListN.{length, getD}
 use borrow.Author.Tests.{eqb-true, eq-eqb, not-true}
@@ -15,18 +15,18 @@ use Rattle.program.specs.Program.{Program}
 use Rattle.program.specs.WellFormed.{WellFormed, Group}
 use Rattle.program.proofs.Everywhere.{everywhere-at}
 use Rattle.program.proofs.Tests.{both, either, equal-tests}
-use Rattle.schedules.specs.Lists.{range, any, all, filter}
+use Rattle.schedules.specs.Lists.{range, any, filter}
 use Rattle.schedules.specs.Order.{Schedule}
 use Rattle.schedules.specs.System.{Allowed}
 use Rattle.schedules.specs.Permutations.{permutations, moved}
-use Rattle.schedules.proofs.Lists.{in-range, of-range, any-yes, any-of, all-at, all-of, in-filter, of-filter, filter-yes, filter-no}
+use Rattle.schedules.proofs.Lists.{in-range, of-range, any-yes, any-of, all-at, all-of, in-filter}
 use Rattle.schedules.proofs.Runs.{full-allowed}
 use Rattle.schedules.proofs.Group.{identity-member, identity-moved}
-use Rattle.model.specs.Exchange.{Permutation, Together, Exchange, together, permits, permitted}
+use Rattle.model.specs.Exchange.{Together, Exchange, permits, permitted}
 use Rattle.model.specs.ClassSize.{classSize, leaving}
 use Rattle.model.proofs.Permitted.{or-left, permitted-exchange}
 use Rattle.model.proofs.ClassSize.{class-times}
-use Rattle.sc.specs.State.{Event, SC, start, threadOf, cellOf}
+use Rattle.sc.specs.State.{SC, start}
 use Rattle.sc.specs.Graph.{Graph, graph, endOf, Full}
 use Rattle.sc.specs.Exchange.{Renames}
 use Rattle.sc.proofs.Rows.{row-at, order-at}
@@ -80,21 +80,10 @@ fails-to : (b : Bool) → (b ≡ true → ⊥) → b ≡ false
 fails-to true h = absurd (h refl)
 fails-to false h = refl
 
-module _ (p : Program) (w : WellFormed p) (s : Schedule) (f : Full p s) where
-  abbrev ns : List Note
-  ns = notes (start p) s
-
-  allowed : Allowed SC (start p) s
-  allowed = full-allowed SC (start p) s f .0
-
-  -- ---- the notes and the graph
-  note-writes : (l : ℕ) → writesIn l ns ≡ reverse (getD (graph p s .writes) l [])
-  note-writes l = sym (cell-notes p w s allowed l) ∙ ap reverse (sym (order-at (endOf p s) l))
-
-  note-reads : (t : ℕ) → readsIn t ns ≡ reverse (getD (graph p s .reads) t [])
-  note-reads t = sym (thread-notes p s allowed t) ∙ ap reverse (sym (row-at (endOf p s) t))
-
-  wrote-graph : (t : ℕ) → wroteIn ns t ≡ true → Wrote (graph p s) t
+-- a graph of a program, and notes that state its reads and its writes
+module _ (p : Program) (w : WellFormed p) (g : Graph) (ns : List Note) (note-writes : (l : ℕ) → writesIn l ns ≡ reverse (getD (g .writes) l []))
+    (note-reads : (t : ℕ) → readsIn t ns ≡ reverse (getD (g .reads) t [])) (graph-sourced : Sourced g) (rows : length (g .reads) ≡ length (p .threads)) where
+  wrote-graph : (t : ℕ) → wroteIn ns t ≡ true → Wrote g t
   unfolding wroteIn
   wrote-graph t e =
       let r = any-yes (writeBy t) ns e in
@@ -103,22 +92,22 @@ module _ (p : Program) (w : WellFormed p) (s : Schedule) (f : Full p s) where
       let m = write-stated ns n (r .1) (k .1) in (
         n .location,
         n .number,
-        subst (λ (u : ℕ). List·Memᴰ (u, n .number) (getD (graph p s .writes) (n .location) [])) (eqb-true (n .thread) t (k .0))
-            (reverse-in (getD (graph p s .writes) (n .location) []) (n .thread, n .number) (subst (List·Memᴰ (n .thread, n .number)) (note-writes (n .location)) m)),
+        subst (λ (u : ℕ). List·Memᴰ (u, n .number) (getD (g .writes) (n .location) [])) (eqb-true (n .thread) t (k .0))
+            (reverse-in (getD (g .writes) (n .location) []) (n .thread, n .number) (subst (List·Memᴰ (n .thread, n .number)) (note-writes (n .location)) m)),
       )
 
-  graph-wrote : (t : ℕ) → Wrote (graph p s) t → wroteIn ns t ≡ true
+  graph-wrote : (t : ℕ) → Wrote g t → wroteIn ns t ≡ true
   unfolding wroteIn
   graph-wrote t k =
-      let m : List·Memᴰ (t, k .1) (writesIn (k .0) ns) = subst (List·Memᴰ (t, k .1)) (sym (note-writes (k .0))) (in-reverse (getD (graph p s .writes) (k .0) []) (t, k .1) (k .2)) in
+      let m : List·Memᴰ (t, k .1) (writesIn (k .0) ns) = subst (List·Memᴰ (t, k .1)) (sym (note-writes (k .0))) (in-reverse (getD (g .writes) (k .0) []) (t, k .1) (k .2)) in
       let r = stated-write (k .0) ns (t, k .1) m in
       any-of (writeBy t) ns (r .0) (r .1) (both-and (eq-eqb (r .0 .thread) t (r .2)) (r .3))
 
-  unmoved-graph : (t u : ℕ) → unmovedIn ns t u ≡ true → Unmoved (graph p s) t u
+  unmoved-graph : (t u : ℕ) → unmovedIn ns t u ≡ true → Unmoved g t u
   unfolding unmovedIn
   unmoved-graph t u e = go (either (eqb t u) _ e)
     where
-      go : (eqb t u ≡ true) ⊎ ((not (wroteIn ns t) && (not (wroteIn ns u) && sameList sameRead (readsIn t ns) (readsIn u ns))) ≡ true) → Unmoved (graph p s) t u
+      go : (eqb t u ≡ true) ⊎ ((not (wroteIn ns t) && (not (wroteIn ns u) && sameList sameRead (readsIn t ns) (readsIn u ns))) ≡ true) → Unmoved g t u
       go (inl i) = inl (sym (eqb-true t u i))
       go (inr i) =
           let a = both (not (wroteIn ns t)) _ i in
@@ -127,10 +116,10 @@ module _ (p : Program) (w : WellFormed p) (s : Schedule) (f : Full p s) where
           inr (
             (λ k. true≢false (sym (graph-wrote t k) ∙ not-true (wroteIn ns t) (a .0))),
             (λ k. true≢false (sym (graph-wrote u k) ∙ not-true (wroteIn ns u) (b .0))),
-            sym (reverse-reverse (getD (graph p s .reads) u [])) ∙ ap reverse (sym (note-reads u) ∙ sym q ∙ note-reads t) ∙ reverse-reverse (getD (graph p s .reads) t []),
+            sym (reverse-reverse (getD (g .reads) u [])) ∙ ap reverse (sym (note-reads u) ∙ sym q ∙ note-reads t) ∙ reverse-reverse (getD (g .reads) t []),
           )
 
-  graph-unmoved : (t u : ℕ) → Unmoved (graph p s) t u → unmovedIn ns t u ≡ true
+  graph-unmoved : (t u : ℕ) → Unmoved g t u → unmovedIn ns t u ≡ true
   unfolding unmovedIn
   graph-unmoved t u (inl e) = rw (eq-eqb t u (sym e))
   graph-unmoved t u (inr k) =
@@ -145,12 +134,6 @@ module _ (p : Program) (w : WellFormed p) (s : Schedule) (f : Full p s) where
       go true a b r = refl
       go false a b r = rw (a, b, r)
 
-  -- each read's source is initial or a write
-  graph-sourced : Sourced (graph p s)
-  graph-sourced t r m =
-      let k = regular-run s (start p) (regular-start p w) allowed .sourced t r (subst (List·Memᴰ r) (row-at (endOf p s) t) m) in
-      ⊎-elim (λ i. inl i) (λ j. inr (j .0, subst (List·Memᴰ (r .1)) (sym (order-at (endOf p s) (j .0))) (j .1))) k
-
   -- ---- permutations
   permitted-is : filter (goesWhere (mayGo (p .groups))) permutations ≡ permitted p
   unfolding goesWhere mayGo permitted permits
@@ -160,7 +143,7 @@ module _ (p : Program) (w : WellFormed p) (s : Schedule) (f : Full p s) where
   Both t u = mayGo (p .groups) t u && unmovedIn ns t u
 
   abbrev Leaves : List ℕ → Bool
-  Leaves π = renames (moved π) (graph p s) (graph p s)
+  Leaves π = renames (moved π) g g
 
   -- a thread that does not exist stays
   missing-stays : (π : List ℕ) → Exchange p (moved π) → (t : ℕ) → length (p .threads) ≤ t → moved π t ≡ t
@@ -179,27 +162,47 @@ module _ (p : Program) (w : WellFormed p) (s : Schedule) (f : Full p s) where
           let at : (t : ℕ) → t < 6 → (mayGo (p .groups) t (moved π t) ≡ true) × (unmovedIn ns t (moved π t) ≡ true) = λ t h. both (mayGo (p .groups) t (moved π t)) _ (all-at (λ t. Both t (moved π t)) (range 0 6) t e (in-range 0 6 t (omega arith) h)) in
           let a : permits (p .groups) π ≡ true = all-of (λ t. mayGo (p .groups) t (moved π t)) (range 0 6) (λ t k. at t (of-range 0 6 t k .1) .0) in
           let x = exchange a in
-          both-and a (true-renames (moved π) (graph p s) (graph p s) (unmoved-fixed (moved π) (x .0) (graph p s) graph-sourced (λ t h. unmoved-graph t (moved π t) (at t h .1))))
+          both-and a (true-renames (moved π) g g (unmoved-fixed (moved π) (x .0) g graph-sourced (λ t h. unmoved-graph t (moved π t) (at t h .1))))
 
       from : (permits (p .groups) π && Leaves π) ≡ true → goesWhere Both π ≡ true
       from e =
           let k = both (permits (p .groups) π) _ e in
           let x = exchange (k .0) in
-          let r = renames-true (moved π) (graph p s) (graph p s) (k .1) in
+          let r = renames-true (moved π) g g (k .1) in
           all-of (λ t. Both t (moved π t)) (range 0 6) (λ t i. both-and (all-at (λ t. mayGo (p .groups) t (moved π t)) (range 0 6) t (k .0) i) (graph-unmoved t (moved π t) (stays x r t (decLt t (length (p .threads))))))
         where
-          stays : Exchange p (moved π) → Renames (moved π) (graph p s) (graph p s) → (t : ℕ) → Dec (t < length (p .threads)) → Unmoved (graph p s) t (moved π t)
-          stays x r t (yes h) = fixed-unmoved (moved π) (x .0) (graph p s) graph-sourced r t (omega (arith, h, graph-rows p s))
+          stays : Exchange p (moved π) → Renames (moved π) g g → (t : ℕ) → Dec (t < length (p .threads)) → Unmoved g t (moved π t)
+          stays x r t (yes h) = fixed-unmoved (moved π) (x .0) g graph-sourced r t (omega (arith, h, rows))
           stays x r t (no h) = inl (missing-stays π x t (omega (arith, h)))
 
-  leaving-is : filter (goesWhere Both) permutations ≡ leaving sc p s
-  unfolding leaving permitted
-  leaving-is = filter-agree (goesWhere Both) (λ π. permits (p .groups) π && Leaves π) permutations leaves-is ∙ filter-twice (permits (p .groups)) Leaves permutations
+  -- those that leave the graph the same
+  pub leaving-graph : filter (goesWhere Both) permutations ≡ filter (λ π. renames (moved π) g g) (permitted p)
+  unfolding permitted
+  leaving-graph = filter-agree (goesWhere Both) (λ π. permits (p .groups) π && Leaves π) permutations leaves-is ∙ filter-twice (permits (p .groups)) Leaves permutations
 
-  -- THE QUOTIENT
-  pub divided-size : quotient (p .groups) ns ≡ classSize sc p s
+  -- THE QUOTIENT, of any class whose size times those that leave the graph is the permitted ones
+  pub divided-graph : (size : ℕ) → size * length (filter (λ π. renames (moved π) g g) (permitted p)) ≡ length (permitted p) → quotient (p .groups) ns ≡ size
   unfolding quotient
+  divided-graph size e =
+      let some : 0 < length (filter (λ π. renames (moved π) g g) (permitted p)) = subst (λ (l : List (List ℕ)). 0 < length l) leaving-graph (some-leave (p .groups) ns) in
+      ap₂ (λ (a b : List (List ℕ)). length a / length b) permitted-is leaving-graph
+      ∙ div-eq-of-eq-mul-left some (sym e)
+
+-- ---- under sequential consistency
+module _ (p : Program) (w : WellFormed p) (s : Schedule) (f : Full p s) where
+  allowed : Allowed SC (start p) s
+  allowed = full-allowed SC (start p) s f .0
+
+  -- each read's source is initial or a write
+  run-sourced : Sourced (graph p s)
+  run-sourced t r m =
+      let k = regular-run s (start p) (regular-start p w) allowed .sourced t r (subst (List·Memᴰ r) (row-at (endOf p s) t) m) in
+      ⊎-elim (λ i. inl i) (λ j. inr (j .0, subst (List·Memᴰ (r .1)) (sym (order-at (endOf p s) (j .0))) (j .1))) k
+
+  pub divided-size : quotient (p .groups) (notes (start p) s) ≡ classSize sc p s
+  unfolding leaving
   divided-size =
-      let some : 0 < length (leaving sc p s) = subst (λ (l : List (List ℕ)). 0 < length l) leaving-is (some-leave (p .groups) ns) in
-      ap₂ (λ (a b : List (List ℕ)). length a / length b) permitted-is leaving-is
-      ∙ div-eq-of-eq-mul-left some (sym (class-times sc sc-laws p (w, refl) s f))
+      divided-graph p w (graph p s) (notes (start p) s)
+      (λ l. sym (cell-notes p w s allowed l) ∙ ap reverse (sym (order-at (endOf p s) l)))
+      (λ t. sym (thread-notes p s allowed t) ∙ ap reverse (sym (row-at (endOf p s) t)))
+      run-sourced (graph-rows p s) (classSize sc p s) (class-times sc sc-laws p (w, refl) s f)

@@ -25,7 +25,7 @@ pub enum ClassAnswer {
 }
 
 // How many permutations move threads within their `02` lines, divided by how many of these leave the graph of the notes the same.
-fn divided(class: [usize; 6], groups: usize, log: [u8; 192], steps: usize) -> usize
+pub fn quotient_of(class: [usize; 6], groups: usize, log: [u8; 192], steps: usize) -> usize
     requires { ⌜ steps ≤ 24 ⌝ }
     ensures { λ r. ⌜ r ≡ quotient (groupsOf class groups) (notesAt log steps) ⌝ }
 {
@@ -50,7 +50,7 @@ fn class_of(p: Compiled, schedule: &[u8]) -> ClassAnswer
         Verdict::Whole => {
             let class = p.class;
             let log = r.log;
-            ClassAnswer::Sized(divided(class, p.groups, log, r.steps))
+            ClassAnswer::Sized(quotient_of(class, p.groups, log, r.steps))
         }
     }
 }

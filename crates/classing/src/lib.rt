@@ -11,3 +11,4 @@ mod class_call;
 
 pub use class_call::ClassAnswer;
 pub use class_call::class_size;
+pub use class_call::quotient_of;

@@ -48,4 +48,5 @@ pub mod SameGraph
 pub mod Sequential
 -- for the rules of a search: where reads come from, and what is left of a code
 pub mod Sourced
+pub mod OwnSources
 pub mod Rests

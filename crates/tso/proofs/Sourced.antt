@@ -40,7 +40,7 @@ finds-from : (t : ℕ) (h : Thread) (c : Cell) → (finds t h c .source .0 ≡ t
 unfolding finds
 finds-from t h c = found-from t (newest (h .queue) (placeOf (h .local))) c
 
-added-in : (b : Bool) (i : ℕ) (e : Event) (r : ℕ × Event) → List·Memᴰ r (addedRead b i e) → r .1 ≡ e
+pub added-in : (b : Bool) (i : ℕ) (e : Event) (r : ℕ × Event) → List·Memᴰ r (addedRead b i e) → r .1 ≡ e
 unfolding addedRead
 added-in true i e r m = ⊎-elim (λ (q : r ≡ (i, e)). ap (λ (x : ℕ × Event). x .1) q) (λ (k : List·Memᴰ r []). absurd (List·Memᴰ·not-nil k)) (List·Memᴰ·cases-cons m)
 added-in false i e r m = absurd (List·Memᴰ·not-nil m)

@@ -18,6 +18,7 @@ extern "C" {
         out: *mut u8,
         out_len: usize,
     ) -> u64;
+    fn tarczolin_tso_class(file: *const u8, file_len: usize, schedule: *const u8, schedule_len: usize) -> u64;
     fn tarczolin_tso_start(file: *const u8, file_len: usize, out: *mut u8, out_len: usize) -> u64;
     fn tarczolin_tso_continue(
         file: *const u8,
@@ -46,6 +47,12 @@ pub fn graph(file: &[u8], schedule: &[u8], out: &mut [u8]) -> Answer {
     Answer::of_word(unsafe {
         tarczolin_tso_graph(file.as_ptr(), file.len(), schedule.as_ptr(), schedule.len(), out.as_mut_ptr(), out.len())
     })
+}
+
+/// How many different graphs are alike to that of this full schedule, listed or not, itself counted.
+pub fn class(file: &[u8], schedule: &[u8]) -> Answer {
+    // safe: the call only reads, and only the bytes of the two slices
+    Answer::of_word(unsafe { tarczolin_tso_class(file.as_ptr(), file.len(), schedule.as_ptr(), schedule.len()) })
 }
 
 /// The least listed schedule, in front of the output.

@@ -4,7 +4,7 @@ use super::listing::{self, list};
 use super::machine::run_full;
 use crate::oracle::calls::{Found, GRAPH};
 use crate::oracle::decode::{decode, Program};
-use crate::oracle::listing::{after, count as counts, start as first, violation as failing, Listed};
+use crate::oracle::listing::{after, class as images, count as counts, start as first, violation as failing, Listed};
 use crate::oracle::{refused, Refusal};
 
 /// Schedules need an output of so many bytes.
@@ -34,6 +34,13 @@ fn with_output(file: &[u8], output: usize, needed: usize) -> Result<Program, Ref
 pub fn graph(file: &[u8], schedule: &[u8], output: usize) -> Found {
     let program = with_output(file, output, GRAPH)?;
     run_full(&program, schedule).map(|machine| Some(machine.graph.text()))
+}
+
+/// How many different graphs are alike to that of a full schedule, itself counted. No output is lent.
+pub fn class(file: &[u8], schedule: &[u8]) -> Result<u64, Refusal> {
+    let program = accepted(file)?;
+    let machine = run_full(&program, schedule)?;
+    Ok(images(&program, &machine.graph).len() as u64)
 }
 
 pub fn start(file: &[u8], output: usize) -> Found {

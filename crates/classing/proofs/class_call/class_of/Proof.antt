@@ -19,8 +19,8 @@ replayed-requires c κs =
     let entry = c .before .before .before .before .before .before in
     (programOf (entry .args .p), loaded-compiled (entry .args .p) (entry .pre), starting-compiled (entry .args .p))
 
-divided-requires : tie.Need-divided-requires
-divided-requires c κs =
+quotient-of-requires : tie.Need-quotient-of-requires
+quotient-of-requires c κs =
     let entry = c .before .before .before .before .before .before .before .before .before .before .before in
     let p = entry .args .p in
     let run = c .before .before .before .before .replayed in
@@ -42,7 +42,7 @@ returns-2 c =
     let run = c .before .before .before .before .before .replayed in
     let ns = notesAt (run .result .log) (run .result .steps) in
     let size = class-sized (p .code) (p .lengths) (programOf p) (entry .args .schedule .now) (run .result) (run .ensures (programOf p) (loaded-compiled p (entry .pre)) (starting-compiled p)) (c .before .before .before .enum-told .given .1) (entry .pre) in
-    ap Sized (c .divided .ensures ∙ ap (λ (gs : List (List ℕ)). quotient gs ns) (sym (program-groups p))) ∙ ap classAnswerOf (sym size)
+    ap Sized (c .quotient-of .ensures ∙ ap (λ (gs : List (List ℕ)). quotient gs ns) (sym (program-groups p))) ∙ ap classAnswerOf (sym size)
 
 pub class-of-spec : {M : Type 1} → statement M
-class-of-spec = tie.close (tie.spec replayed-requires (λ c. search needs) (λ c. search needs) divided-requires returns returns-2)
+class-of-spec = tie.close (tie.spec replayed-requires (λ c. search needs) (λ c. search needs) quotient-of-requires returns returns-2)

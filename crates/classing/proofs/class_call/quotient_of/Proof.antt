@@ -1,4 +1,4 @@
--- `divided` counts the permitted permutations and those that leave the graph the same; the identity is one of both.
+-- `quotient_of` counts the permitted permutations and those that leave the graph the same; the identity is one of both.
 use borrow.Author.Needs.{needs}
 use mathlib.Core.Path.{_∙_}
 use native.Mathlib.Omega.{arith}
@@ -6,8 +6,8 @@ use Rattle.graph_writer.specs.NoteText.{notesAt}
 use Rattle.prefix.specs.ClassGroups.{groupsOf}
 use Rattle.classing.proofs.Divided.{some-leave}
 use Rattle.classing.proofs.ClassCalled.{leave-counted, counts-divided}
-use Rattle.classing.proofs.class_call.divided.Statement.{statement}
-use Rattle.classing.proofs.class_call.divided.Tie as tie
+use Rattle.classing.proofs.class_call.quotient_of.Statement.{statement}
+use Rattle.classing.proofs.class_call.quotient_of.Tie as tie
 
 div-result : tie.Need-div-result
 div-result c =
@@ -26,5 +26,5 @@ returns c =
     counts-divided (groupsOf (args .class) (args .groups)) (notesAt (args .t3) (args .steps)) (may .result) (left .result) (may .ensures) (left .ensures)
     (c .before .before .count .result) (c .count2 .result) (c .before .before .count .ensures .1) (c .count2 .ensures .1)
 
-pub divided-spec : {M : Type 1} → statement M
-divided-spec = tie.close (tie.spec (λ c κs. search needs) (λ c κs. search needs) (λ c κs. search needs) (λ c κs. search needs) (λ c κs. search needs) div-result returns)
+pub quotient-of-spec : {M : Type 1} → statement M
+quotient-of-spec = tie.close (tie.spec (λ c κs. search needs) (λ c κs. search needs) (λ c κs. search needs) (λ c κs. search needs) (λ c κs. search needs) div-result returns)
