@@ -1,6 +1,7 @@
 //! The library's calls with answers to keep: each lends an output that is long enough and takes the answer out of it.
+use crate::model::Model;
 use crate::schedule::Schedule;
-use tarczolin_sys::{self as library, Answer, Covers, GRAPH, ROW, SCHEDULE};
+use tarczolin_sys::{self as library, tso, Answer, Covers, GRAPH, SCHEDULE};
 
 /// A refusal: its number and its place.
 #[derive(Clone, Copy, Debug, PartialEq, Eq)]
@@ -25,6 +26,7 @@ pub struct Listed {
 
 /// Room for listed schedules, as the library writes them.
 pub struct Rows {
+    model: Model,
     bytes: Vec<u8>,
     written: usize,
 }
@@ -40,14 +42,24 @@ fn length(answer: Answer) -> Result<Option<usize>, Refusal> {
 
 /// The schedule that a call answers, or none.
 fn schedule(call: impl FnOnce(&mut [u8]) -> Answer) -> Result<Option<Schedule>, Refusal> {
-    let mut out = [0; SCHEDULE];
+    let mut out = [0; tso::SCHEDULE];
     let length = length(call(&mut out))?;
-    Ok(length.map(|length| Schedule::of_output(out, length)))
+    Ok(length.map(|length| Schedule::of_output(&out[..length])))
 }
 
 /// Is this an accepted program file?
 pub fn check(file: &[u8]) -> Result<(), Refusal> {
     length(library::check(file)).map(|_| ())
+}
+
+/// The same for the listing of this model, which may take fewer accesses.
+pub fn accepted(model: Model, file: &[u8]) -> Result<(), Refusal> {
+    check(file)?;
+    match (model, tso::start(file, &mut [])) {
+        // with no output at all 22 refuses what the file does not
+        (Model::Tso, Answer::Refused(number, place)) if number != 22 => Err(Refusal { number, place }),
+        _ => Ok(()),
+    }
 }
 
 impl Counts {
@@ -75,28 +87,29 @@ impl std::ops::AddAssign for Counts {
 }
 
 impl Listed {
-    fn of_row(row: &[u8; ROW]) -> Listed {
-        let [length, fails, steps @ ..] = *row;
-        Listed { schedule: Schedule::of_output(steps, length as usize), fails: fails == 1 }
+    fn of_row(row: &[u8]) -> Listed {
+        Listed { schedule: Schedule::of_output(&row[2..2 + row[0] as usize]), fails: row[1] == 1 }
     }
 }
 
 impl Rows {
     /// Room for so many.
-    pub fn new(room: usize) -> Rows {
-        Rows { bytes: vec![0; room * ROW], written: 0 }
+    pub fn new(model: Model, room: usize) -> Rows {
+        Rows { model, bytes: vec![0; room * model.row()], written: 0 }
     }
 
     pub fn room(&self) -> usize {
-        self.bytes.len() / ROW
+        self.bytes.len() / self.model.row()
     }
 
     /// Asks for the listed schedules from the first one on, or behind a schedule: as many as there is room for. Says whether
     /// there may be more.
     pub fn fill(&mut self, file: &[u8], behind: Option<&[u8]>) -> Result<bool, Refusal> {
-        let answer = match behind {
-            None => library::rows(file, &mut self.bytes),
-            Some(last) => library::rows_after(file, last, &mut self.bytes),
+        let answer = match (self.model, behind) {
+            (Model::Sc, None) => library::rows(file, &mut self.bytes),
+            (Model::Sc, Some(last)) => library::rows_after(file, last, &mut self.bytes),
+            (Model::Tso, None) => tso::rows(file, &mut self.bytes),
+            (Model::Tso, Some(last)) => tso::rows_after(file, last, &mut self.bytes),
         };
         self.written = length(answer)?.unwrap_or(0);
         Ok(self.written == self.room())
@@ -104,34 +117,47 @@ impl Rows {
 
     /// What the last call wrote, in order.
     pub fn listed(&self) -> impl DoubleEndedIterator<Item = Listed> + '_ {
-        let rows = self.bytes.chunks_exact(ROW).take(self.written);
-        rows.map(|row| Listed::of_row(row.try_into().expect("a row's length")))
+        self.bytes.chunks_exact(self.model.row()).take(self.written).map(Listed::of_row)
     }
 }
 
 /// The first listed schedule that fails, or none.
-pub fn violation(file: &[u8]) -> Result<Option<Schedule>, Refusal> {
-    schedule(|out| library::violation(file, out))
+pub fn violation(model: Model, file: &[u8]) -> Result<Option<Schedule>, Refusal> {
+    schedule(|out| match model {
+        Model::Sc => library::violation(file, out),
+        Model::Tso => tso::violation(file, out),
+    })
 }
 
 /// How many schedules are listed, and how many of these fail.
-pub fn count(file: &[u8]) -> Result<Counts, Refusal> {
+pub fn count(model: Model, file: &[u8]) -> Result<Counts, Refusal> {
     let mut counts = Counts::default();
-    length(library::count(file, &mut counts.listed, &mut counts.failing))?;
+    let Counts { listed, failing } = &mut counts;
+    length(match model {
+        Model::Sc => library::count(file, listed, failing),
+        Model::Tso => tso::count(file, listed, failing),
+    })?;
     Ok(counts)
 }
 
 /// The text of the graph of a full schedule.
-pub fn graph(file: &[u8], schedule: &[u8]) -> Result<Vec<u8>, Refusal> {
+pub fn graph(model: Model, file: &[u8], schedule: &[u8]) -> Result<Vec<u8>, Refusal> {
     let mut out = vec![0; GRAPH];
-    let length = length(library::graph(file, schedule, &mut out))?;
+    let length = length(match model {
+        Model::Sc => library::graph(file, schedule, &mut out),
+        Model::Tso => tso::graph(file, schedule, &mut out),
+    })?;
     out.truncate(length.unwrap_or(0));
     Ok(out)
 }
 
 /// How many executions a full schedule stands for: the different graphs alike to its own, itself counted.
-pub fn class(file: &[u8], schedule: &[u8]) -> Result<u64, Refusal> {
-    length(library::class(file, schedule)).map(|size| size.unwrap_or(0) as u64)
+pub fn class(model: Model, file: &[u8], schedule: &[u8]) -> Result<u64, Refusal> {
+    let answer = match model {
+        Model::Sc => library::class(file, schedule),
+        Model::Tso => tso::class(file, schedule),
+    };
+    length(answer).map(|size| size.unwrap_or(0) as u64)
 }
 
 /// The least schedule that makes this graph, or no.
@@ -145,7 +171,7 @@ pub fn covers(first: &[u8], second: &[u8]) -> Result<Option<Schedule>, Refusal> 
     let mut out = [0; SCHEDULE];
     match library::covers(first, second, &mut out) {
         Covers::Covered => Ok(None),
-        Covers::Lacking(length) => Ok(Some(Schedule::of_output(out, length as usize))),
+        Covers::Lacking(length) => Ok(Some(Schedule::of_output(&out[..length as usize]))),
         Covers::Refused(number, place) | Covers::SecondRefused(number, place) => Err(Refusal { number, place }),
     }
 }

@@ -1,6 +1,7 @@
 //! A graph for Graphviz: a column of nodes a thread, and the four orders as edges.
 use crate::execution::Execution;
 use crate::graph::{Event, Order};
+use crate::machine::{Done, Queue};
 use std::fmt::Write;
 
 fn node(event: Event) -> String {
@@ -21,19 +22,25 @@ fn style(order: Order) -> &'static str {
     }
 }
 
+/// The accesses; that a store reaches memory is no access of its own, and whether it was pending before is left out.
+fn accesses<'e>(execution: &'e Execution) -> impl Iterator<Item = Done> + use<'e> {
+    let accesses = execution.steps.iter().map(|step| step.done).filter(|done| done.queue != Queue::Out);
+    accesses.map(|done| Done { queue: Queue::Aside, ..done })
+}
+
 pub fn text(execution: &Execution) -> String {
     let names = &execution.program.names;
     let mut text = String::from("digraph execution {\n  node [shape=box, fontname=monospace];\n  initial [shape=plaintext];\n");
     for t in execution.program.numbers() {
         writeln!(text, "  subgraph cluster_{t} {{\n    label={};", quoted(&names.thread(t))).expect("text grows");
-        for done in execution.steps.iter().map(|step| &step.done).filter(|done| done.event.t == t) {
-            let label = format!("#{} {}", done.event.i, execution.access(done));
+        for done in accesses(execution).filter(|done| done.event.t == t) {
+            let label = format!("#{} {}", done.event.i, execution.access(&done));
             let failed = if done.failure.is_some() { ", color=red" } else { "" };
             writeln!(text, "    {} [label={}{failed}];", node(done.event), quoted(&label)).expect("text grows");
         }
         text += "  }\n";
     }
-    for done in execution.steps.iter().map(|step| &step.done).filter(|done| done.event.i > 0) {
+    for done in accesses(execution).filter(|done| done.event.i > 0) {
         let before = Event { i: done.event.i - 1, ..done.event };
         writeln!(text, "  {} -> {} [{}];", node(before), node(done.event), style(Order::Program)).expect("text grows");
     }

@@ -1,7 +1,7 @@
 //! One listed execution, ready to be shown: each step with its values and with the write that its read saw.
 use crate::ask::{self, Listed, Refusal};
 use crate::graph::{Event, Graph};
-use crate::machine::{Done, Failure, Machine};
+use crate::machine::{Done, Failure, Machine, Queue};
 use crate::program::{number, Comparison, Instruction, Operand, Program};
 use crate::schedule::Schedule;
 use std::collections::BTreeMap;
@@ -16,7 +16,8 @@ pub struct Step {
 #[derive(Clone, Copy, Debug, PartialEq, Eq)]
 pub enum Source {
     Initial,
-    Write(Event, &'static str),
+    /// A write, and whether it was pending still in the queue of the read's own thread.
+    Write(Event, &'static str, bool),
 }
 
 pub struct Execution<'a> {
@@ -47,20 +48,21 @@ impl<'a> Execution<'a> {
 
     /// Any full schedule. The values are replayed; the sources are those of the library's graph, and the replay must fit them.
     pub fn replayed(file: &[u8], program: &'a Program, schedule: &[u8]) -> Result<Execution<'a>, Refusal> {
-        let graph = Graph::of_text(&ask::graph(file, schedule)?);
-        let executions = ask::class(file, schedule)?;
+        let graph = Graph::of_text(&ask::graph(program.model, file, schedule)?);
+        let executions = ask::class(program.model, file, schedule)?;
         let starting = program.memory();
         let mut machine = Machine::new(program);
         let at_once = program.numbers().filter_map(|t| Some((t, machine.failure(t)?))).collect();
         let mut left: BTreeMap<Event, Done> = BTreeMap::new();
         let mut steps = Vec::new();
-        for &t in schedule {
-            let done = machine.step(t);
+        for &byte in schedule {
+            let done = machine.step(byte);
             let source = done.found.map(|found| {
                 let source = *graph.reads.get(&done.event).expect("each read stands in the library's graph");
                 let seen = source.map_or(Some(starting[done.location as usize]), |write| left[&write].left);
                 assert_eq!(seen, Some(found), "the replay and the library's graph fit");
-                source.map_or(Source::Initial, |w| Source::Write(w, left[&w].instruction.access().unwrap_or("")))
+                let write = |w: Event| Source::Write(w, left[&w].instruction.access().unwrap_or(""), left[&w].queue == Queue::In);
+                source.map_or(Source::Initial, write)
             });
             left.insert(done.event, done);
             steps.push(Step { done, source });
@@ -120,7 +122,11 @@ impl<'a> Execution<'a> {
             (Instruction::CompareSwap { r, .. }, None) => {
                 format!("cas {l} {first} {second} -> {} = {found}, no swap", register(r))
             }
-            _ => format!("store {l} = {first}"),
+            _ => match done.queue {
+                Queue::Aside => format!("store {l} = {first}"),
+                Queue::In => format!("store {l} = {first}, pending"),
+                Queue::Out => format!("store {l} = {first} reaches memory"),
+            },
         }
     }
 
@@ -129,7 +135,10 @@ impl<'a> Execution<'a> {
         let seen = match &step.source {
             None => return String::new(),
             Some(Source::Initial) => "initial".to_string(),
-            Some(Source::Write(event, name)) => format!("{} {name} #{}", self.program.names.thread(event.t), event.i),
+            Some(Source::Write(event, name, pending)) => {
+                let pending = if *pending { ", pending" } else { "" };
+                format!("{} {name} #{}{pending}", self.program.names.thread(event.t), event.i)
+            }
         };
         match (step.done.instruction, step.done.left) {
             (Instruction::FetchAdd { .. }, None) => format!("reads {seen}"),

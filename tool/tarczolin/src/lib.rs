@@ -17,6 +17,7 @@ pub mod jobs;
 pub mod json;
 pub mod litmus;
 pub mod machine;
+pub mod model;
 pub mod near;
 pub mod outcome;
 pub mod output;

@@ -1,7 +1,9 @@
 //! A run replayed step by step, for the values that are shown. Nothing here is proved; the schedules themselves, their order,
 //! their counts and whether they fail are the library's.
 use crate::graph::Event;
+use crate::model::{thread, Model, MOVE};
 use crate::program::{Comparison, Instruction, Operand, Program};
+use std::collections::VecDeque;
 use Instruction::*;
 
 /// An assertion that failed: its place in the thread's code, how it compares, the value of its register, and the operand's.
@@ -13,6 +15,17 @@ pub struct Failure {
     pub asserted: Operand,
     pub value: u32,
     pub wanted: u32,
+}
+
+/// How a step stands to its thread's queue of pending stores.
+#[derive(Clone, Copy, Debug, PartialEq, Eq)]
+pub enum Queue {
+    /// It acts on memory, or reads a pending store.
+    Aside,
+    /// A store goes into the queue.
+    In,
+    /// The oldest store in the queue reaches memory.
+    Out,
 }
 
 /// A step that was done: the access, with the values of its operands.
@@ -28,6 +41,7 @@ pub struct Done {
     pub operands: [u32; 2],
     /// The assertion behind it that failed.
     pub failure: Option<Failure>,
+    pub queue: Queue,
 }
 
 #[derive(Clone, Copy, Default)]
@@ -69,8 +83,8 @@ impl Thread {
         }
     }
 
-    /// Does the next access on this memory, and the instructions behind it.
-    fn access(&mut self, t: u8, code: &[Instruction], memory: &mut [u32; 8]) -> Done {
+    /// Does the next access, which finds what its location looks like, and the instructions behind it.
+    fn access(&mut self, t: u8, code: &[Instruction], look: impl FnOnce(u8) -> u32) -> Done {
         let instruction = code[self.next];
         let event = Event { t, i: self.accesses };
         // operands are read before a register changes
@@ -81,30 +95,44 @@ impl Thread {
             CompareSwap { r, l, e, v } => (l, Some(r), [self.value(e), self.value(v)]),
             _ => unreachable!("a settled thread stands at an access"),
         };
-        let old = memory[l as usize];
+        let old = look(l);
         let left = match instruction {
             Store { .. } => Some(operands[0]),
             FetchAdd { .. } => (operands[0] != 0).then_some(old.wrapping_add(operands[0])),
             CompareSwap { .. } => (old == operands[0]).then_some(operands[1]),
             _ => None,
         };
-        memory[l as usize] = left.unwrap_or(old);
         if let Some(r) = r {
             self.registers[r as usize] = old;
         }
         self.accesses += 1;
         self.next += 1;
         self.settle(code);
-        Done { event, instruction, location: l, found: r.map(|_| old), left, operands, failure: self.failure }
+        Done {
+            event,
+            instruction,
+            location: l,
+            found: r.map(|_| old),
+            left,
+            operands,
+            failure: self.failure,
+            queue: Queue::Aside,
+        }
     }
 }
 
-/// Threads and memory.
+/// A fetch and add or a compare and swap: under total store order it needs an empty queue.
+fn is_locked(instruction: &Instruction) -> bool {
+    matches!(instruction, FetchAdd { .. } | CompareSwap { .. })
+}
+
+/// Threads, memory, and each thread's pending stores, oldest first; under sequential consistency none is ever pending.
 #[derive(Clone)]
 pub struct Machine<'a> {
     program: &'a Program,
     threads: [Thread; 6],
     memory: [u32; 8],
+    queues: [VecDeque<Done>; 6],
 }
 
 impl<'a> Machine<'a> {
@@ -114,29 +142,57 @@ impl<'a> Machine<'a> {
         for (thread, code) in threads.iter_mut().zip(&program.threads) {
             thread.settle(code);
         }
-        Machine { program, threads, memory: program.memory() }
+        Machine { program, threads, memory: program.memory(), queues: Default::default() }
     }
 
-    /// The threads that have not ended, ascending.
+    /// The bytes that may be the next step, ascending: threads that have not ended, and queues that are not empty.
     pub fn going(&self) -> impl DoubleEndedIterator<Item = u8> + '_ {
-        let threads = self.program.threads.iter().zip(&self.threads).enumerate();
-        threads.filter(|(_, (code, thread))| !thread.ended(code)).map(|(t, _)| t as u8)
+        let moves = self.program.numbers().map(|t| MOVE + t);
+        self.program.numbers().chain(moves).filter(|byte| self.may(*byte))
     }
 
-    /// May this byte be the next step: does it name a thread that has not ended?
-    pub fn may(&self, t: u8) -> bool {
-        self.program.threads.get(t as usize).is_some_and(|code| !self.threads[t as usize].ended(code))
+    /// May this byte be the next step: does it name a thread that has not ended, whose queue is empty where its next access needs that,
+    /// or a queue that is not empty?
+    pub fn may(&self, byte: u8) -> bool {
+        if byte >= MOVE {
+            return self.queues.get((byte - MOVE) as usize).is_some_and(|queue| !queue.is_empty());
+        }
+        self.next(byte).is_some_and(|(_, instruction)| !self.pends(byte) || !is_locked(&instruction))
     }
 
-    /// The step of a thread that has not ended.
-    pub fn step(&mut self, t: u8) -> Done {
-        self.threads[t as usize].access(t, &self.program.threads[t as usize], &mut self.memory)
+    /// Has a thread pending stores?
+    pub fn pends(&self, t: u8) -> bool {
+        !self.queues[t as usize].is_empty()
+    }
+
+    /// The step of a byte that may be the next.
+    pub fn step(&mut self, byte: u8) -> Done {
+        let t = thread(byte);
+        let (memory, queue) = (&mut self.memory, &mut self.queues[t as usize]);
+        if byte >= MOVE {
+            let done = queue.pop_front().expect("the queue is not empty");
+            memory[done.location as usize] = done.left.expect("a store leaves a value");
+            return Done { queue: Queue::Out, failure: None, ..done };
+        }
+        let newest = |l: u8| queue.iter().rev().find(|pending| pending.location == l).and_then(|pending| pending.left);
+        let look = |l: u8| newest(l).unwrap_or(memory[l as usize]);
+        let mut done = self.threads[t as usize].access(t, &self.program.threads[t as usize], look);
+        match (self.program.model, done.instruction, done.left) {
+            (Model::Tso, Store { .. }, _) => {
+                done.queue = Queue::In;
+                queue.push_back(done);
+            }
+            (_, _, Some(left)) => memory[done.location as usize] = left,
+            _ => {}
+        }
+        done
     }
 
     /// The next access of a thread that has not ended.
     pub fn next(&self, t: u8) -> Option<(Event, Instruction)> {
-        let thread = self.threads.get(t as usize).filter(|_| self.may(t))?;
-        Some((Event { t, i: thread.accesses }, self.program.threads[t as usize][thread.next]))
+        let code = self.program.threads.get(t as usize)?;
+        let thread = &self.threads[t as usize];
+        (!thread.ended(code)).then(|| (Event { t, i: thread.accesses }, code[thread.next]))
     }
 
     /// The step of a thread that has not ended, whose read finds this value whatever memory holds.

@@ -1,20 +1,29 @@
-//! A schedule: a list of thread numbers, one a step, as the library answers it.
+//! A schedule: a list of step bytes, as the library answers it.
 use crate::hex;
 use std::fmt;
 use std::ops::Deref;
-use tarczolin_sys::SCHEDULE;
+use tarczolin_sys::tso::SCHEDULE;
 
-/// At most 24 steps. Two are compared as lists, first difference first.
-#[derive(Clone, Copy, Default)]
+/// At most 24 steps, under total store order 48. Two are compared as lists, first difference first.
+#[derive(Clone, Copy)]
 pub struct Schedule {
     steps: [u8; SCHEDULE],
     length: usize,
 }
 
+impl Default for Schedule {
+    /// No step.
+    fn default() -> Schedule {
+        Schedule { steps: [0; SCHEDULE], length: 0 }
+    }
+}
+
 impl Schedule {
-    /// The first so many bytes of an output.
-    pub fn of_output(steps: [u8; SCHEDULE], length: usize) -> Schedule {
-        Schedule { steps, length }
+    /// The bytes in front of an output.
+    pub fn of_output(front: &[u8]) -> Schedule {
+        let mut steps = [0; SCHEDULE];
+        steps[..front.len()].copy_from_slice(front);
+        Schedule { steps, length: front.len() }
     }
 
     /// One more step behind the others.

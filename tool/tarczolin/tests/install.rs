@@ -73,7 +73,9 @@ fn the_build_lines_of_the_readme() {
 #[test]
 fn the_header_fits() {
     let header = text("include/tarczolin.h");
-    for (name, value) in [("SCHEDULE", tarczolin_sys::SCHEDULE), ("GRAPH", tarczolin_sys::GRAPH), ("ROW", tarczolin_sys::ROW)] {
+    let tso = [("TSO_SCHEDULE", tarczolin_sys::tso::SCHEDULE), ("TSO_ROW", tarczolin_sys::tso::ROW)];
+    let sc = [("SCHEDULE", tarczolin_sys::SCHEDULE), ("GRAPH", tarczolin_sys::GRAPH), ("ROW", tarczolin_sys::ROW)];
+    for (name, value) in sc.into_iter().chain(tso) {
         assert!(header.contains(&format!("#define TARCZOLIN_{name} {value}\n")), "{name}");
     }
     assert!(header.contains(concat!("#define TARCZOLIN_VERSION \"", env!("CARGO_PKG_VERSION"), "\"")));

@@ -2,12 +2,13 @@
 use std::collections::BTreeMap;
 use tarczolin::ask;
 use tarczolin::error::Error;
-use tarczolin::program::Names;
+use tarczolin::model::Model;
+use tarczolin::program::Program;
 use tarczolin::refusal::{of_graph, of_program, of_schedule};
 use tarczolin_tests::files::text;
 use tarczolin_tests::oracle::decode::decode;
 use tarczolin_tests::random::program::{frames, ANY};
-use tarczolin_tests::random::{damage, graph, schedule, Random};
+use tarczolin_tests::random::{damage, graph, schedule, tso, Random};
 use tarczolin_tests::share;
 
 /// What is said where nothing better is known: never, by the library's own refusals.
@@ -36,8 +37,17 @@ fn every_refusal_has_its_sentence() {
         let file = text(&frames(&mut random, ANY));
         let program = decode(&file).unwrap();
         let steps = schedule::schedule(&mut random, &program, schedule::ALL[k % schedule::ALL.len()]);
-        if let Err(refused) = ask::graph(&file, &steps) {
-            hold(&mut seen, of_schedule("FILE", &file, &Names::default(), &steps, refused), refused.number, &steps);
+        if let Err(refused) = ask::graph(Model::Sc, &file, &steps) {
+            hold(&mut seen, of_schedule("FILE", &Program::of_accepted(&file), &steps, refused), refused.number, &steps);
+        }
+        let under = Program::of_accepted(&file).under(Model::Tso);
+        if let Err(refused) = ask::accepted(Model::Tso, &file) {
+            hold(&mut seen, of_program("FILE", &file, refused), refused.number, &file);
+        } else {
+            let steps = tso::schedule(&mut random, &program, schedule::ALL[k % schedule::ALL.len()]);
+            if let Err(refused) = ask::graph(Model::Tso, &file, &steps) {
+                hold(&mut seen, of_schedule("FILE", &under, &steps, refused), refused.number, &steps);
+            }
         }
         let (_, lines) = graph::text(&mut random, &program, graph::ALL[k % graph::ALL.len()]);
         if let Err(refused) = ask::judge(&file, &lines) {
@@ -45,5 +55,5 @@ fn every_refusal_has_its_sentence() {
         }
     }
     let numbers: Vec<u8> = seen.keys().copied().collect();
-    assert!(!share::whole() || numbers == [1, 2, 3, 4, 5, 6, 7, 8, 20, 21, 30, 31, 32, 33, 40], "{seen:?}");
+    assert!(!share::whole() || numbers == [1, 2, 3, 4, 5, 6, 7, 8, 20, 21, 30, 31, 32, 33, 40, 41], "{seen:?}");
 }

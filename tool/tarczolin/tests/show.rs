@@ -109,7 +109,7 @@ fn values_and_sources_are_the_oracles() {
             let source = graph.reads.get(event).map(|s| (*s != INITIAL).then_some(Event { t: s.t, i: s.i }));
             let shown = step.source.map(|s| match s {
                 Source::Initial => None,
-                Source::Write(event, _) => Some(event),
+                Source::Write(event, ..) => Some(event),
             });
             assert_eq!(shown, source);
         }

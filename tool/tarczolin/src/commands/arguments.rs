@@ -112,12 +112,12 @@ impl Arguments {
         number.ok_or_else(|| Error::usage(format!("{name} takes a number from 1 {range}, not {value}")))
     }
 
-    /// The value of an option that is a schedule of at most 24 steps.
-    pub fn schedule(&self, name: &str) -> Result<Option<Schedule>, Error> {
+    /// The value of an option that is a schedule of at most so many steps.
+    pub fn schedule(&self, name: &str, most: usize) -> Result<Option<Schedule>, Error> {
         let Some(value) = self.option(name) else { return Ok(None) };
         let steps = schedule(value.as_bytes())?;
-        if steps.len() > tarczolin_sys::SCHEDULE {
-            return Err(Error::usage(format!("{name} takes a schedule of at most {} steps", tarczolin_sys::SCHEDULE)));
+        if steps.len() > most {
+            return Err(Error::usage(format!("{name} takes a schedule of at most {most} steps")));
         }
         Ok(Some(steps.into_iter().collect()))
     }

@@ -24,10 +24,10 @@ pub fn run(arguments: &Arguments) -> Result<End, Error> {
 
 /// The whole list by one job is one call of the library; else its rows are counted.
 fn counted(question: &Question, piece: &Piece, classes: bool) -> Result<End, Error> {
-    let source = question.source()?;
-    let list = piece.list(List::of(&source, classes).expect("the file is accepted"))?;
+    let (source, model) = (question.source_under(piece.model)?, piece.model);
+    let list = piece.list(List::of(&source, model, classes).expect("the file is accepted"))?;
     if piece.is_one_call() && !classes {
-        return match piece::answered(&source.file, &list, ask::count) {
+        return match piece::answered(&source.file, &list, move |file| ask::count(model, file)) {
             Ok(counts) => told(question, counts.expect("the file is accepted"), None, false),
             Err(found) => {
                 piece::tell_cut(&found);
@@ -37,7 +37,7 @@ fn counted(question: &Question, piece: &Piece, classes: bool) -> Result<End, Err
     }
     let mut sizes = Sizes::default();
     let found = piece::walk(&list, piece.jobs, |part| {
-        part.listed.iter().for_each(|listed| sizes.add(&source.file, &listed.schedule));
+        part.listed.iter().for_each(|listed| sizes.add(&list, &listed.schedule));
         Ok(())
     });
     piece::tell_cut(&found);
@@ -49,8 +49,8 @@ fn counted(question: &Question, piece: &Piece, classes: bool) -> Result<End, Err
 struct Sizes(BTreeMap<u64, u64>);
 
 impl Sizes {
-    fn add(&mut self, file: &[u8], schedule: &[u8]) {
-        let size = ask::class(file, schedule).expect("a listed schedule of an accepted file is full");
+    fn add(&mut self, list: &List, schedule: &[u8]) {
+        let size = ask::class(list.program.model, list.file, schedule).expect("a listed schedule of an accepted file is full");
         *self.0.entry(size).or_default() += 1;
     }
 

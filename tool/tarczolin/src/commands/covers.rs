@@ -10,6 +10,7 @@ use crate::execution::Execution;
 use crate::input::Source;
 use crate::jobs::List;
 use crate::json::{list as json_list, object, Json};
+use crate::model::Model;
 use crate::outcome::Final;
 use crate::output;
 use crate::program::Names;
@@ -68,8 +69,8 @@ fn json((memory, fails): &Outcome, names: &Names, used: &BTreeSet<u8>) -> Json {
 }
 
 fn uncovered(question: &Question, first: &Source, newer: &Question, second: &Source, schedule: &Schedule) -> Result<End, Error> {
-    let old = List::of(first, true).expect("the file is accepted");
-    let new = List::of(second, false).expect("the file is accepted");
+    let old = List::of(first, Model::Sc, true).expect("the file is accepted");
+    let new = List::of(second, Model::Sc, false).expect("the file is accepted");
     let execution = Execution::replayed(&second.file, &new.program, schedule).expect("a listed schedule is full");
     let used: BTreeSet<u8> = old.program.locations().into_iter().chain(new.program.locations()).collect();
     let outcome = (execution.memory, execution.fails);

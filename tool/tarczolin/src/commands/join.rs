@@ -9,8 +9,8 @@ use crate::{hex, output};
 use std::fs::File;
 use std::io::{self, BufRead, BufReader, Read, Write};
 
-/// A line has at most so many characters: two bytes, 24 steps, the end of the line.
-const LONGEST: usize = 2 * (2 + tarczolin_sys::SCHEDULE) + 1;
+/// A line has at most so many characters: two bytes, 48 steps, the end of the line.
+const LONGEST: usize = 2 * (2 + tarczolin_sys::tso::SCHEDULE) + 1;
 
 pub fn run(arguments: &Arguments) -> Result<End, Error> {
     let mut out = output::standard();

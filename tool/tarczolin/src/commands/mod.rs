@@ -17,6 +17,7 @@ mod list;
 mod litmus;
 mod man;
 mod meant;
+mod models;
 mod opt;
 mod outcomes;
 mod own;

@@ -41,7 +41,8 @@ struct Outcomes {
 impl Outcomes {
     fn add(&mut self, list: &List, listed: &Listed) {
         let end = Final::of(&list.program, &listed.schedule);
-        let executions = ask::class(list.file, &listed.schedule).expect("a listed schedule of an accepted file is full");
+        let executions =
+            ask::class(list.program.model, list.file, &listed.schedule).expect("a listed schedule of an accepted file is full");
         let next = self.all.len();
         let place = *self.places.entry(end.clone()).or_insert(next);
         if place == next {
@@ -67,8 +68,8 @@ impl Outcomes {
 }
 
 fn outcomes(question: &Question, piece: &Piece, condition: Option<&str>) -> Result<End, Error> {
-    let source = question.source()?;
-    let list = piece.list(List::of(&source, true).expect("the file is accepted"))?;
+    let source = question.source_under(piece.model)?;
+    let list = piece.list(List::of(&source, piece.model, true).expect("the file is accepted"))?;
     let condition = condition.map(|text| Condition::of(text, &list.program)).transpose();
     let condition = condition.map_err(|message| Error::Condition { name: source.name.clone(), message })?;
     let mut all = Outcomes::default();

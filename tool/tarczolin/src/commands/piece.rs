@@ -1,9 +1,11 @@
 //! A piece of the list: what `--after`, `--until` and `--jobs` ask for, walked with progress and until Ctrl-C.
 use super::arguments::Arguments;
+use super::models::model;
 use super::opt::Opt;
 use crate::ask::Counts;
 use crate::error::Error;
 use crate::jobs::{self, List, Part};
+use crate::model::{thread, Model, MOVE};
 use crate::progress::{self, Progress};
 use crate::schedule::Schedule;
 use std::io;
@@ -17,6 +19,7 @@ pub const AFTER: Opt = Opt { name: "--after", value: Some("SCHEDULE"), about: "o
 pub const UNTIL: Opt = Opt { name: "--until", value: Some("SCHEDULE"), about: "only what is listed up to this schedule" };
 
 pub struct Piece {
+    pub model: Model,
     pub after: Option<Schedule>,
     pub until: Option<Schedule>,
     pub jobs: usize,
@@ -34,8 +37,9 @@ pub struct Found {
 
 impl Piece {
     pub fn of(arguments: &Arguments) -> Result<Piece, Error> {
-        let jobs = arguments.number("--jobs", JOBS)? as usize;
-        Ok(Piece { after: arguments.schedule("--after")?, until: arguments.schedule("--until")?, jobs })
+        let (model, jobs) = (model(arguments)?, arguments.number("--jobs", JOBS)? as usize);
+        let [after, until] = [AFTER, UNTIL].map(|option| arguments.schedule(option.name, model.steps()));
+        Ok(Piece { model, after: after?, until: until?, jobs })
     }
 
     /// Is it the whole list by one job? Then one call of the library answers it.
@@ -47,7 +51,9 @@ impl Piece {
     pub fn list<'a>(&self, list: List<'a>) -> Result<List<'a>, Error> {
         let threads = list.program.threads.len();
         for (option, bound) in [(AFTER, &self.after), (UNTIL, &self.until)] {
-            let other = bound.iter().flat_map(|bound| bound.iter()).find(|t| **t as usize >= threads);
+            let bytes = if self.model == Model::Sc { MOVE } else { 2 * MOVE };
+            let names = |byte: u8| byte < bytes && (thread(byte) as usize) < threads;
+            let other = bound.iter().flat_map(|bound| bound.iter()).find(|byte| !names(**byte));
             if let Some(t) = other {
                 return Err(Error::usage(format!("{}: there is no thread {t:02x}; the program has {threads}", option.name)));
             }

@@ -2,6 +2,7 @@
 use crate::execution::{Execution, Source, Step};
 use crate::graph::{Event, Graph};
 use crate::json::{list, object, Json};
+use crate::machine::Queue;
 
 fn event(event: Event) -> Json {
     object([("thread", event.t.into()), ("access", event.i.into())])
@@ -10,9 +11,14 @@ fn event(event: Event) -> Json {
 fn step(execution: &Execution, step: &Step) -> Json {
     let (names, done) = (&execution.program.names, &step.done);
     let source = match step.source {
-        Some(Source::Write(write, _)) => event(write),
+        Some(Source::Write(write, ..)) => event(write),
         Some(Source::Initial) => "initial".into(),
         None => Json::Null,
+    };
+    let queue = match done.queue {
+        Queue::Aside => Json::Null,
+        Queue::In => "in".into(),
+        Queue::Out => "out".into(),
     };
     let failure = done.failure.map(|failed| execution.failure(done.event.t, &failed));
     object([
@@ -24,6 +30,7 @@ fn step(execution: &Execution, step: &Step) -> Json {
         ("found", done.found.into()),
         ("left", done.left.into()),
         ("reads_from", source),
+        ("queue", queue),
         ("failure", failure.into()),
     ])
 }

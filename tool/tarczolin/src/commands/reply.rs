@@ -5,6 +5,7 @@ use crate::end::End;
 use crate::error::{called, Error};
 use crate::input::{self, Source};
 use crate::json::Json;
+use crate::model::Model;
 use crate::output;
 use crate::{ask, refusal};
 
@@ -28,8 +29,13 @@ impl<'a> Question<'a> {
 
     /// The program that it is about, if the library accepts it.
     pub fn source(&self) -> Result<Source, Error> {
+        self.source_under(Model::Sc)
+    }
+
+    /// The same for the listing of this model.
+    pub fn source_under(&self, model: Model) -> Result<Source, Error> {
         let source = input::program(self.file)?;
-        ask::check(&source.file).map_err(|r| refusal::of_program(&source.name, &source.file, r))?;
+        ask::accepted(model, &source.file).map_err(|r| refusal::of_program(&source.name, &source.file, r))?;
         Ok(source)
     }
 

@@ -1,5 +1,6 @@
 //! show: executions in two columns, as a page, or drawn. Totals and exit status are those of the whole list.
 use super::arguments::Arguments;
+use super::models::model;
 use super::pages::{self, Walked};
 use super::piece;
 use super::record;
@@ -9,6 +10,7 @@ use crate::end::End;
 use crate::error::{called, Error};
 use crate::execution::Execution;
 use crate::jobs::{self, List};
+use crate::model::Model;
 use crate::progress::Progress;
 use crate::show::{columns, By};
 use crate::{input, output, refusal};
@@ -16,6 +18,7 @@ use std::io::{self, Write};
 
 /// Which executions are shown, and how.
 pub struct Choice<'a> {
+    model: Model,
     from: u64,
     failing_only: bool,
     by: By,
@@ -36,6 +39,7 @@ fn one_of<T: Copy>(arguments: &Arguments, name: &str, words: &[(&str, T)], other
 impl<'a> Choice<'a> {
     fn of(arguments: &'a Arguments) -> Result<Choice<'a>, Error> {
         Ok(Choice {
+            model: model(arguments)?,
             from: arguments.number("--from", u64::MAX)?,
             failing_only: one_of(arguments, "--only", &[("failing", true)], false)?,
             by: one_of(arguments, "--by", &[("time", By::Time), ("thread", By::Thread)], By::Time)?,
@@ -75,8 +79,8 @@ fn overwrites_nothing(question: &Question, choice: &Choice) -> Result<(), Error>
 
 fn shown(question: &Question, choice: &Choice) -> Result<End, Error> {
     overwrites_nothing(question, choice)?;
-    let source = question.source()?;
-    let list = List::of(&source, false).expect("the file is accepted");
+    let source = question.source_under(choice.model)?;
+    let list = List::of(&source, choice.model, false).expect("the file is accepted");
     let walk = |each: &mut dyn FnMut(u64, &Listed) -> io::Result<()>| walk(&list, choice, each);
     match (choice.html, choice.svg) {
         (Some(page), _) => pages::page(&pages::of_list(&list, called(question.file), walk)?, page),
@@ -88,9 +92,9 @@ fn shown(question: &Question, choice: &Choice) -> Result<End, Error> {
 /// One execution by its schedule.
 fn one(question: &Question, choice: &Choice, schedule: &[u8]) -> Result<End, Error> {
     overwrites_nothing(question, choice)?;
-    let source = question.source()?;
-    let list = List::of(&source, false).expect("the file is accepted");
-    let refused = |r| refusal::of_schedule(&source.name, &source.file, &source.names, schedule, r);
+    let source = question.source_under(choice.model)?;
+    let list = List::of(&source, choice.model, false).expect("the file is accepted");
+    let refused = |r| refusal::of_schedule(&source.name, &list.program, schedule, r);
     let execution = Execution::replayed(&source.file, &list.program, schedule).map_err(refused)?;
     let found = End::of_failing(execution.fails as u64);
     match (choice.html, choice.svg) {

@@ -1,6 +1,7 @@
 //! The commands, each with its words, its options and an example.
 use super::command::Command;
 use super::count::CLASSES;
+use super::models::MODEL;
 use super::opt::Opt;
 use super::piece::{AFTER, JOBS_OPTION, UNTIL};
 use super::reply::JSON;
@@ -14,6 +15,7 @@ const WHERE: Opt = Opt {
 };
 const REMARKS: Opt = Opt { name: "--remarks", value: None, about: "with the text's names and remark lines, as remarks" };
 const SHOW_OPTIONS: &[Opt] = &[
+    MODEL,
     Opt { name: "--from", value: Some("K"), about: "from place K of the list on" },
     Opt { name: "--only", value: Some("failing"), about: "only those that fail" },
     Opt { name: "--by", value: Some("time|thread"), about: "the left column by time, or one thread after the other" },
@@ -27,7 +29,7 @@ pub const COMMANDS: [Command; 16] = [
         name: "list",
         words: "FILE..",
         about: "every listed schedule, a line each: 50, 01 if it fails else 00, the steps; last 51 and the two counts",
-        options: &[JOBS_OPTION, AFTER, UNTIL, JSON],
+        options: &[JOBS_OPTION, MODEL, AFTER, UNTIL, JSON],
         example: "tarczolin list examples/whole.hex --jobs 2",
         run: list::run,
     },
@@ -35,7 +37,7 @@ pub const COMMANDS: [Command; 16] = [
         name: "count",
         words: "FILE..",
         about: "how many schedules are listed, and how many of these fail",
-        options: &[CLASSES, JOBS_OPTION, AFTER, UNTIL, JSON],
+        options: &[CLASSES, JOBS_OPTION, MODEL, AFTER, UNTIL, JSON],
         example: "tarczolin count examples/*.hex",
         run: count::run,
     },
@@ -43,7 +45,7 @@ pub const COMMANDS: [Command; 16] = [
         name: "violation",
         words: "FILE..",
         about: "the first listed schedule that fails, or none",
-        options: &[SHOW, JOBS_OPTION, JSON],
+        options: &[SHOW, JOBS_OPTION, MODEL, JSON],
         example: "tarczolin violation --show examples/queue-broken.asm",
         run: violation::run,
     },
@@ -59,7 +61,7 @@ pub const COMMANDS: [Command; 16] = [
         name: "outcomes",
         words: "FILE..",
         about: "each different final memory, registers and failure, how many listed executions end so, and the first that does",
-        options: &[WHERE, JOBS_OPTION, JSON],
+        options: &[WHERE, JOBS_OPTION, MODEL, JSON],
         example: "tarczolin outcomes examples/queue-broken.asm --where 'consumer.item = 0 & tail = 3'",
         run: outcomes::run,
     },
@@ -92,6 +94,7 @@ pub const COMMANDS: [Command; 16] = [
         words: "FILE SCHEDULE",
         about: "the graph of a full schedule, as a text, for Graphviz, or drawn",
         options: &[
+            MODEL,
             Opt { name: "--dot", value: None, about: "for Graphviz" },
             Opt { name: "--svg", value: None, about: "drawn" },
             JSON,

@@ -18,10 +18,11 @@ pub fn run(arguments: &Arguments) -> Result<End, Error> {
 }
 
 fn violation(question: &Question, piece: &Piece, show: bool) -> Result<End, Error> {
-    let source = question.source()?;
-    let list = List::of(&source, false).expect("the file is accepted");
+    let (source, model) = (question.source_under(piece.model)?, piece.model);
+    let list = List::of(&source, model, false).expect("the file is accepted");
     let found = if piece.is_one_call() {
-        piece::answered(&source.file, &list, ask::violation).map(|found| found.expect("the file is accepted"))
+        let call = move |file: &[u8]| ask::violation(model, file);
+        piece::answered(&source.file, &list, call).map(|found| found.expect("the file is accepted"))
     } else {
         by_rows(&list, piece.jobs)
     };

@@ -5,6 +5,7 @@ use super::layout::{middle, Layout};
 use super::rows::{words, Row};
 use crate::execution::Execution;
 use crate::graph::{Event, Order};
+use crate::machine::Queue;
 use crate::program::{Names, Program};
 use std::fmt::Write;
 
@@ -75,7 +76,7 @@ fn program_order(execution: &Execution, layout: &Layout) -> String {
     let mut text = String::new();
     for step in &execution.steps {
         let Event { t, i } = step.done.event;
-        if i > 0 {
+        if i > 0 && step.done.queue != Queue::Out {
             let (x, from, to) = (layout.x(t), layout.y(Event { t, i: i - 1 }) + BOX, layout.y(Event { t, i }) - BOX);
             let line = format!("<path class=\"po\" d=\"M{x:.1} {from:.1}V{to:.1}\" marker-end=\"url(#po)\"/>");
             writeln!(text, "{line}").expect("text grows");
@@ -97,13 +98,14 @@ fn drawn_arrow(names: &Names, arrow: &Arrow, layout: &Layout) -> String {
 fn path(arrow: &Arrow, layout: &Layout) -> String {
     let (track, [out, into]) = (layout.track(arrow), drawn(arrow.order).2);
     let right = arrow.comes_from_the_right();
-    let (end, y2) = (layout.side(arrow.to.t, right), layout.y(arrow.to) + into);
+    let (leaves, reaches) = layout.ends(arrow);
+    let (end, y2) = (layout.side(arrow.to.t, right), reaches + into);
     let turn = track + if right { -CORNER } else { CORNER };
     let last = format!("V{:.1}Q{track:.1} {y2:.1} {turn:.1} {y2:.1}H{end:.1}", y2 - CORNER);
-    let Some(from) = arrow.from else { return format!("M{track:.1} {INITIAL}{last}") };
+    let (Some(from), Some(leaves)) = (arrow.from, leaves) else { return format!("M{track:.1} {INITIAL}{last}") };
     // from the side of the source that looks to the track: an arrow to its own thread leaves it on the right
     let start = layout.side(from.t, from.t <= arrow.to.t);
-    let (y1, near) = (layout.y(from) + out, if start < track { track - CORNER } else { track + CORNER });
+    let (y1, near) = (leaves + out, if start < track { track - CORNER } else { track + CORNER });
     format!("M{start:.1} {y1:.1}H{near:.1}Q{track:.1} {y1:.1} {track:.1} {:.1}{last}", y1 + CORNER)
 }
 

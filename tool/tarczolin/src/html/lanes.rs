@@ -49,13 +49,13 @@ impl Arrow {
 }
 
 impl Lanes {
-    /// The lanes of so many columns; rows are counted from 1, and the initial writes stand in row 0.
-    pub fn of(arrows: &[Arrow], columns: usize, row: impl Fn(Event) -> usize) -> Lanes {
+    /// The lanes of so many columns, by the rows that an arrow leaves and reaches, counted from 1; the initial writes stand in row 0.
+    pub fn of(arrows: &[Arrow], columns: usize, rows: impl Fn(&Arrow) -> (usize, usize)) -> Lanes {
         let mut spans: Vec<BTreeMap<Bundle, Span>> = vec![BTreeMap::new(); columns + 1];
         for arrow in arrows {
-            let (first, last) = (arrow.from.map_or(0, &row), row(arrow.to));
+            let (first, last) = rows(arrow);
             let span = spans[arrow.lane()].entry(arrow.bundle()).or_insert((first, last));
-            span.1 = span.1.max(last);
+            *span = (span.0.min(first), span.1.max(last));
         }
         Lanes { tracks: spans.into_iter().map(tracks).collect() }
     }
@@ -110,7 +110,7 @@ mod tests {
         ];
         let rows = [(event(0, 0), 1), (event(0, 1), 2), (event(1, 0), 3), (event(1, 1), 4), (event(1, 2), 5), (event(0, 3), 7)];
         let rows: BTreeMap<Event, usize> = rows.into_iter().chain([(event(1, 3), 6), (event(1, 4), 8)]).collect();
-        let lanes = Lanes::of(&arrows, 2, |event| rows[&event]);
+        let lanes = Lanes::of(&arrows, 2, |arrow| (arrow.from.map_or(0, |from| rows[&from]), rows[&arrow.to]));
         let places = arrows.map(|arrow| (lanes.place(&arrow) - BESIDE) / APART);
         assert_eq!(places, [1.0, 1.0, 2.0, 0.0, 0.0]);
         assert_eq!([0, 1, 2].map(|lane| lanes.width(lane)), [EMPTY, 2.0 * BESIDE + 2.0 * APART, EMPTY]);

@@ -1,7 +1,7 @@
 //! Where things stand in a drawing.
 use super::lanes::{Arrow, Lanes};
 use super::rows::{words, Row};
-use crate::graph::Event;
+use crate::graph::{Event, Order};
 use crate::program::{Names, Program};
 use std::collections::BTreeMap;
 
@@ -16,8 +16,7 @@ const FIT: f64 = 768.0;
 
 /// The boxes of a drawing: a column a thread, as wide as its longest words, and lanes for arrows beside them.
 pub struct Layout {
-    /// The middle of each event's row.
-    y: BTreeMap<Event, f64>,
+    places: Places,
     /// The middle of each thread's column, and half the width of its boxes.
     columns: Vec<(f64, f64)>,
     lanes: Lanes,
@@ -27,12 +26,52 @@ pub struct Layout {
     pub height: f64,
 }
 
+/// The row of each event, and the row in which its write reaches memory: the same save for a store that was pending.
+struct Places(BTreeMap<Event, [usize; 2]>);
+
+impl Places {
+    fn of(rows: &[Row]) -> Places {
+        let mut places: BTreeMap<Event, [usize; 2]> = BTreeMap::new();
+        for (k, row) in rows.iter().enumerate() {
+            match row.event() {
+                Some(event) if row.is_move() => places.entry(event).or_insert([k; 2])[1] = k,
+                Some(event) => drop(places.insert(event, [k; 2])),
+                None => {}
+            }
+        }
+        Places(places)
+    }
+
+    fn access(&self, event: Event) -> usize {
+        self.0[&event][0]
+    }
+
+    fn memory(&self, event: Event) -> usize {
+        self.0[&event][1]
+    }
+
+    /// The rows that an arrow leaves and reaches, the first none for the initial writes. Coherence is the order of reaching memory, and a
+    /// read from memory sees a write that has reached it; so every arrow points down.
+    fn rows(&self, arrow: &Arrow) -> (Option<usize>, usize) {
+        let Arrow { order, from, to } = *arrow;
+        let reached = if order == Order::ReadsFrom { self.access(to) } else { self.memory(to) };
+        let left = from.map(|from| match order {
+            Order::ReadsFrom if self.memory(from) < reached => self.memory(from),
+            Order::Coherence => self.memory(from),
+            _ => self.access(from),
+        });
+        (left, reached)
+    }
+}
+
 impl Layout {
     pub fn of(program: &Program, rows: &[Row], arrows: &[Arrow]) -> Layout {
-        let places = rows.iter().enumerate().filter_map(|(k, row)| Some((row.event()?, k)));
-        let places: BTreeMap<Event, usize> = places.collect();
+        let places = Places::of(rows);
         let threads = program.threads.len();
-        let lanes = Lanes::of(arrows, threads, |event| places[&event] + 1);
+        let lanes = Lanes::of(arrows, threads, |arrow| {
+            let (from, to) = places.rows(arrow);
+            (from.map_or(0, |row| row + 1), to + 1)
+        });
         let free = FIT - (0..=threads).map(|lane| lanes.width(lane)).sum::<f64>();
         let widths = shared(longest(&program.names, threads, rows), free);
         let (mut columns, mut edges, mut width) = (Vec::new(), Vec::new(), 0.0);
@@ -44,8 +83,7 @@ impl Layout {
         }
         edges.push(width);
         width += lanes.width(threads);
-        let y = places.into_iter().map(|(event, k)| (event, middle(k))).collect();
-        Layout { y, columns, lanes, edges, width, height: (HEAD + ROW * rows.len() + 6) as f64 }
+        Layout { places, columns, lanes, edges, width, height: (HEAD + ROW * rows.len() + 6) as f64 }
     }
 
     /// The middle of a thread's column.
@@ -63,8 +101,15 @@ impl Layout {
         self.x(t) + if right { self.half(t) } else { -self.half(t) }
     }
 
+    /// The middle of an event's row.
     pub fn y(&self, event: Event) -> f64 {
-        self.y[&event]
+        middle(self.places.access(event))
+    }
+
+    /// The middles of the rows that an arrow leaves and reaches, the first none for the initial writes.
+    pub fn ends(&self, arrow: &Arrow) -> (Option<f64>, f64) {
+        let (from, to) = self.places.rows(arrow);
+        (from.map(middle), middle(to))
     }
 
     /// Where an arrow runs down.

@@ -4,6 +4,7 @@ use super::pick::MOST;
 use super::{drawing, section};
 use crate::ask::Counts;
 use crate::execution::Execution;
+use crate::model::Model;
 use crate::program::Program;
 use std::fmt::Write;
 
@@ -66,6 +67,9 @@ impl Page<'_> {
         page += &filter(self.program);
         page += &code(self.program);
         page += LEGEND;
+        if self.program.model == Model::Tso {
+            page += PENDING;
+        }
         for execution in &self.executions {
             page += &section::section(execution);
         }
@@ -137,3 +141,7 @@ const LEGEND: &str = "\
 <span class=\"key co\">coherence, to the next write</span> \
 <span class=\"key fr\">from reads, to the first write behind the one seen</span><br>\
 Time runs down: a row is a step, and every arrow points down. <b>#2</b> is a thread's access number 2, counted from 0.</p>\n";
+
+const PENDING: &str = "\
+<p class=\"legend\">Under total store order a store is pending in its thread's queue until it reaches memory, in a row of its own; until then \
+only its own thread reads it. Coherence is the order of reaching memory.</p>\n";

@@ -1,7 +1,7 @@
 //! The rows of an execution, and the words of each in its box.
 use crate::execution::{Execution, Step};
 use crate::graph::Event;
-use crate::machine::{Done, Failure};
+use crate::machine::{Done, Failure, Queue};
 use crate::program::{number, Instruction, Names};
 
 /// A row: a step, or an assertion that failed.
@@ -24,6 +24,11 @@ impl Row<'_> {
             Row::Failure(..) => None,
             Row::Step(step) => Some(step.done.event),
         }
+    }
+
+    /// Is it a store that reaches memory, behind the row of the store itself?
+    pub fn is_move(&self) -> bool {
+        matches!(self, Row::Step(step) if step.done.queue == Queue::Out)
     }
 
     /// What it is about, for the page's filter: its thread, and the location of a step.
@@ -50,7 +55,12 @@ pub fn words(names: &Names, row: &Row) -> [String; 2] {
     match row {
         Row::Failure(t, failed) => ["✗ assert".to_string(), names.register(*t, failed.r)],
         Row::Step(Step { done, .. }) => {
-            [format!("#{} {}", done.event.i, done.instruction.access().unwrap_or("")), values(names, done)]
+            let name = match done.queue {
+                Queue::Aside => done.instruction.access().unwrap_or(""),
+                Queue::In => "store, pending",
+                Queue::Out => "to memory",
+            };
+            [format!("#{} {name}", done.event.i), values(names, done)]
         }
     }
 }

@@ -4,13 +4,15 @@ use super::escape::escaped;
 use super::layout::{HEAD, ROW};
 use super::rows::{rows, Row};
 use crate::execution::Execution;
+use crate::model::thread;
 use std::fmt::Write;
 
 pub fn section(execution: &Execution) -> String {
     let (class, verdict) = if execution.fails { ("fails", "fails") } else { ("holds", "does not fail") };
     let name = execution.name();
     let title = if execution.position.is_some() { format!("Execution {name}") } else { "Execution".to_string() };
-    let steps: Vec<String> = execution.schedule.iter().map(|t| format!("<span class=\"t{t}\">{t:02x}</span>")).collect();
+    let steps: Vec<String> =
+        execution.schedule.iter().map(|byte| format!("<span class=\"t{}\">{byte:02x}</span>", thread(*byte))).collect();
     let schedule = if steps.is_empty() { "no step".to_string() } else { steps.join(" ") };
     let standing = execution.standing().map_or(String::new(), |standing| format!(", {standing}"));
     let rows = rows(execution);

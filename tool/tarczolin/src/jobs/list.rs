@@ -1,6 +1,7 @@
 //! A program whose list is walked, and parts of it.
 use crate::ask::{self, Counts, Listed, Refusal, Rows};
 use crate::input::Source;
+use crate::model::Model;
 use crate::program::Program;
 use crate::schedule::Schedule;
 use std::time::{Duration, Instant};
@@ -59,11 +60,11 @@ impl Part {
 }
 
 impl<'a> List<'a> {
-    /// The whole list of an accepted file.
-    pub fn of(source: &'a Source, schedules: bool) -> Result<List<'a>, Refusal> {
+    /// The whole list of a file that is accepted under this model.
+    pub fn of(source: &'a Source, model: Model, schedules: bool) -> Result<List<'a>, Refusal> {
         let file = source.file.as_slice();
-        ask::check(file)?;
-        let program = Program::of_accepted(file).named(&source.names);
+        ask::accepted(model, file)?;
+        let program = Program::of_accepted(file).named(&source.names).under(model);
         Ok(List { file, program, schedules, after: None, until: None })
     }
 
@@ -76,7 +77,7 @@ impl<'a> List<'a> {
     /// Says the schedule at which it was stopped.
     pub fn walk(&self, behind: Option<Schedule>, mut each: impl FnMut(&Listed) -> bool) -> Option<Schedule> {
         let mut last = behind;
-        let mut rows = Rows::new(FEW);
+        let mut rows = Rows::new(self.program.model, FEW);
         loop {
             let more = rows.fill(self.file, last.as_deref()).expect("the file is accepted");
             if let Some(stopped) = rows.listed().find(&mut each) {
@@ -86,7 +87,7 @@ impl<'a> List<'a> {
                 return None;
             }
             last = rows.listed().next_back().map(|listed| listed.schedule);
-            rows = Rows::new(MANY.min(2 * rows.room()));
+            rows = Rows::new(self.program.model, MANY.min(2 * rows.room()));
         }
     }
 }

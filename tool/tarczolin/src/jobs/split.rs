@@ -19,7 +19,7 @@ impl Begun<'_> {
         next
     }
 
-    /// The greatest full schedule that begins like this: always a step of the last thread that goes on.
+    /// The greatest full schedule that begins like this: always the greatest byte that may step.
     fn greatest(mut self) -> Schedule {
         loop {
             let last = self.machine.going().next_back();

@@ -1,6 +1,7 @@
 //! Exchanges of threads that are declared alike. The list has one execution of each class under them, so a question about the end
 //! of an execution is asked of every exchanged one too.
 use super::end::Final;
+use crate::model::thread;
 use crate::program::Program;
 use crate::schedule::Schedule;
 
@@ -16,7 +17,7 @@ impl Exchange {
     }
 
     pub fn schedule(&self, schedule: &Schedule) -> Schedule {
-        schedule.iter().map(|t| self.to[*t as usize]).collect()
+        schedule.iter().map(|byte| byte - thread(*byte) + self.to[thread(*byte) as usize]).collect()
     }
 
     pub fn end(&self, end: &Final) -> Final {

@@ -4,6 +4,7 @@ mod instruction;
 mod limits;
 mod names;
 
+use crate::model::Model;
 use std::collections::BTreeSet;
 
 pub use frame::Frame;
@@ -19,6 +20,8 @@ pub struct Program {
     pub alike: Vec<Vec<u8>>,
     pub starts: Vec<(u8, u32)>,
     pub names: Names,
+    /// The memory model under which it is run.
+    pub model: Model,
 }
 
 impl Program {
@@ -39,6 +42,11 @@ impl Program {
     /// The same with names.
     pub fn named(self, names: &Names) -> Program {
         Program { names: names.clone(), ..self }
+    }
+
+    /// The same under another memory model.
+    pub fn under(self, model: Model) -> Program {
+        Program { model, ..self }
     }
 
     /// The threads' numbers.

@@ -7,7 +7,7 @@ mod schedule;
 
 use crate::ask::Refusal;
 use crate::error::{called, Error, Refused, Subject};
-use crate::program::Names;
+use crate::program::Program;
 use line::line_at;
 pub use program::sentence;
 
@@ -34,21 +34,19 @@ pub fn of_program(name: &str, file: &[u8], refusal: Refusal) -> Error {
 
 /// Is it the program's own refusal?
 fn of_the_program(refusal: Refusal) -> bool {
-    refusal.number < 20 || refusal.number == 40
+    refusal.number < 20 || [40, 41].contains(&refusal.number)
 }
 
-/// The message about a refused schedule, or about its refused program.
-pub fn of_schedule(name: &str, file: &[u8], names: &Names, schedule: &[u8], refusal: Refusal) -> Error {
-    if of_the_program(refusal) {
-        return of_program(name, file, refusal);
-    }
+/// The message about a refused schedule of an accepted program.
+pub fn of_schedule(name: &str, program: &Program, schedule: &[u8], refusal: Refusal) -> Error {
+    assert!(!of_the_program(refusal), "{name} is accepted");
     let steps: Vec<String> = schedule.iter().map(|t| format!("{t:02x}")).collect();
     let (before, behind) = steps.split_at((refusal.place as usize).min(steps.len()));
     let marked = match behind.split_first() {
         Some((wrong, rest)) => [before, &[format!("[{wrong}]")], rest].concat(),
         None => [before, &["[]".to_string()]].concat(),
     };
-    let sentence = schedule::sentence(file, names, schedule, refusal);
+    let sentence = schedule::sentence(program, schedule, refusal);
     Error::Refused(Refused { subject: Subject::Schedule, refusal, sentence, shown: marked.join(" ") })
 }
 

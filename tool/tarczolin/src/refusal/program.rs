@@ -51,6 +51,10 @@ pub fn sentence(file: &[u8], refusal: Refusal) -> String {
         7 => skip(file, refusal.place, &frame),
         8 => alike(&frame[1.min(frame.len())..], &before),
         40 => start(&frame, &before),
+        41 => {
+            let accesses = threads(&self::before(file, u64::MAX)).iter().flatten().filter(|i| i.location().is_some()).count();
+            format!("the file has {accesses} accesses; under total store order a program has at most 16")
+        }
         _ => "the file is refused".to_string(),
     }
 }

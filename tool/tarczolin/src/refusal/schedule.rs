@@ -1,24 +1,51 @@
 //! What is wrong with a schedule.
 use crate::ask::Refusal;
 use crate::machine::Machine;
-use crate::program::{Names, Program};
+use crate::model::{thread, Model, MOVE};
+use crate::program::Program;
 
 /// The sentence about a refusal of a schedule of an accepted program.
-pub fn sentence(file: &[u8], names: &Names, schedule: &[u8], refusal: Refusal) -> String {
-    let program = Program::of_accepted(file);
-    let mut machine = Machine::new(&program);
+pub fn sentence(program: &Program, schedule: &[u8], refusal: Refusal) -> String {
+    let mut machine = Machine::new(program);
     let place = (refusal.place as usize).min(schedule.len());
-    for &t in &schedule[..place] {
-        machine.step(t);
+    for &byte in &schedule[..place] {
+        machine.step(byte);
     }
-    let threads = program.threads.len();
-    let called = |t: u8| names.threads.get(t as usize).and_then(|n| n.name.clone()).unwrap_or_else(|| t.to_string());
     match (refusal.number, schedule.get(place)) {
-        (20, Some(&t)) if (t as usize) < threads => format!("thread {} has ended by then and has no further step", called(t)),
-        (20, Some(&t)) => format!("there is no thread {t}; the program has {threads}, numbered from 0"),
-        _ => {
-            let going: Vec<String> = machine.going().map(called).collect();
-            format!("the schedule ends too early: not ended yet are threads {}", going.join(", "))
-        }
+        (20, Some(&byte)) => no_step(program, &machine, byte),
+        _ => too_early(program, &machine),
     }
+}
+
+/// A thread's name, or its number.
+fn called(program: &Program, t: u8) -> String {
+    program.names.threads.get(t as usize).and_then(|names| names.name.clone()).unwrap_or_else(|| t.to_string())
+}
+
+/// Why a byte is no step there.
+fn no_step(program: &Program, machine: &Machine, byte: u8) -> String {
+    let threads = program.threads.len();
+    let t = thread(byte);
+    let moves = program.model == Model::Tso && byte / MOVE == 1;
+    if (!moves && byte >= MOVE) || t as usize >= threads {
+        let t = if moves { t } else { byte };
+        return format!("there is no thread {t}; the program has {threads}, numbered from 0");
+    }
+    let name = called(program, t);
+    match machine.next(t) {
+        _ if moves => format!("thread {name} has no pending store by then that could reach memory"),
+        Some(_) => format!("thread {name} has pending stores by then, and its next access needs an empty queue"),
+        None => format!("thread {name} has ended by then and has no further step"),
+    }
+}
+
+/// What is left to do behind the schedule.
+fn too_early(program: &Program, machine: &Machine) -> String {
+    let all =
+        |of: &dyn Fn(u8) -> bool| program.numbers().filter(|t| of(*t)).map(|t| called(program, t)).collect::<Vec<_>>().join(", ");
+    let (going, pending) = (all(&|t| machine.next(t).is_some()), all(&|t| machine.pends(t)));
+    let going = if going.is_empty() { String::new() } else { format!("not ended yet are threads {going}") };
+    let pending = if pending.is_empty() { String::new() } else { format!("stores are pending of threads {pending}") };
+    let both = [going, pending].into_iter().filter(|words| !words.is_empty()).collect::<Vec<_>>().join("; ");
+    format!("the schedule ends too early: {both}")
 }

@@ -1,0 +1,34 @@
+//! The memory model under which a program's executions are asked for.
+use tarczolin_sys::tso;
+
+#[derive(Clone, Copy, Debug, Default, PartialEq, Eq)]
+pub enum Model {
+    /// Sequential consistency: a step names a thread.
+    #[default]
+    Sc,
+    /// Total store order, by the x86-TSO machine: a step names a thread, or moves its oldest pending store to memory.
+    Tso,
+}
+
+/// Under total store order the byte of a step that moves a store of thread t to memory is this plus t.
+pub const MOVE: u8 = 0x10;
+
+/// The thread that a step byte is about.
+pub fn thread(byte: u8) -> u8 {
+    byte % MOVE
+}
+
+impl Model {
+    /// A schedule has at most so many steps, and an output for it so many bytes.
+    pub fn steps(self) -> usize {
+        match self {
+            Model::Sc => tarczolin_sys::SCHEDULE,
+            Model::Tso => tso::SCHEDULE,
+        }
+    }
+
+    /// A row has so many bytes.
+    pub fn row(self) -> usize {
+        2 + self.steps()
+    }
+}
