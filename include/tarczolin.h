@@ -2,10 +2,11 @@
  *
  * Every call answers one word:
  *
- *   bits 56 to 63   the kind: 1 answered; 2 no more, none, no, or covered; 3 refused; 4 of two files the second is refused; 5 idle
+ *   bits 56 to 63   the kind: 1 answered; 2 no more, none, no, or covered; 3 refused; 4 of two files the second is refused;
+ *                   5 nobody asks
  *   bits 48 to 55   a refusal's number, else 0
  *   bits  0 to 47   the length of an answer in bytes, 0 where there is none; of rows their number; of a class its size; of tarczolin_force a step;
- *                   or a refusal's place; of tarczolin_serve the length in bits 0 to 39 and the caller in bits 40 to 47. All of them fit these bits: of rows where the output is shorter than 26 * 2^48 bytes,
+ *                   or a refusal's place. All of them fit these bits: of rows where the output is shorter than 26 * 2^48 bytes,
  *                   of a graph text's refusal where the text is shorter than 2^48 bytes
  *
  * A call reads only the bytes that it is lent and keeps nothing for the next.
@@ -15,8 +16,7 @@
  * place. A remark without its 0a is refused as any line (2, 30).
  *
  * The buffers that one call is lent must not overlap: an output shares no byte with a file, a schedule or a graph text of the
- * same call, tarczolin_count's two words are different words, and neither the records of callers nor the two numbers beside them
- * lie in one another or in another buffer of the call. (What is only read may overlap, or be the same.) What is
+ * same call, and tarczolin_count's two words are different words. (What is only read may overlap, or be the same.) What is
  * said below holds for every call that keeps to this, whatever the bytes are.
  */
 #ifndef TARCZOLIN_H
@@ -39,16 +39,32 @@
 #define TARCZOLIN_NUMBER(word) ((unsigned)((uint64_t)(word) >> 48) & 0xffu)
 #define TARCZOLIN_VALUE(word) ((uint64_t)(word) & (((uint64_t)1 << 48) - 1))
 
-/* Of tarczolin_serve's word the caller, and the length of its schedule. */
-#define TARCZOLIN_CALLER(word) ((unsigned)((uint64_t)(word) >> 40) & 0xffu)
-#define TARCZOLIN_LENGTH(word) ((unsigned)((uint64_t)(word) & 0xffffffffffu))
-
 /* The kinds. */
 #define TARCZOLIN_ANSWERED 1u
 #define TARCZOLIN_NONE 2u
 #define TARCZOLIN_REFUSED 3u
 #define TARCZOLIN_SECOND_REFUSED 4u
 #define TARCZOLIN_IDLE 5u
+
+/* A word of tarczolin_serve: the caller in bits 40 to 47, the schedule's length in bits 0 to 39. */
+#define TARCZOLIN_CALLER(word) ((unsigned)((uint64_t)(word) >> 40) & 0xffu)
+#define TARCZOLIN_STEPS(word) ((uint64_t)(word) & (((uint64_t)1 << 40) - 1))
+
+/* How many callers there are, and the last caller served before any serve. */
+#define TARCZOLIN_CALLERS 4
+#define TARCZOLIN_NOBODY 3
+
+/* A caller's record, in memory of the host's: 4136 bytes, aligned to 8. All zeros is a fresh one, as closing leaves it. Any content is
+ * allowed: a record whose program would be refused, or whose place is neither the beginning, behind a full schedule nor the end, counts
+ * as closed and empty. */
+struct tarczolin_caller {
+    uint8_t file[TARCZOLIN_FILE];         /* at    0: the program file is its first `length` bytes */
+    size_t length;                        /* at 4096 */
+    uint8_t place;                        /* at 4104: 1 the beginning, 2 behind the first `steps` bytes of `schedule`, 3 the end */
+    uint8_t asking;                       /* at 4105: it asks where this is 1 */
+    uint8_t steps;                        /* at 4106 */
+    uint8_t schedule[TARCZOLIN_SCHEDULE]; /* at 4107 */
+};
 
 #ifdef __cplusplus
 extern "C" {
@@ -119,36 +135,25 @@ uint64_t tarczolin_covers(const uint8_t *first, size_t first_len, const uint8_t 
  * 7 too. The file is only read. The time grows with the number of plays. */
 uint64_t tarczolin_force(const uint8_t *file, size_t file_len, uint8_t set);
 
-/* Four users on one explorer. A host lends a list of four records, one for each caller from 0 to 3, the number of the caller served
- * last (3 before any serve) and the number of schedules handed to all (0 at first), which go into each call and come out of it. A
- * record may hold anything: every call goes by what it reads as. One whose program would be refused, or whose place is neither the
- * beginning, a full schedule nor the end, counts as closed and empty. A fresh record, as closing leaves it, is all zeros. */
-struct tarczolin_caller {
-  uint8_t file[TARCZOLIN_FILE];         /* the program file is its first `length` bytes */
-  size_t length;
-  uint8_t place;                        /* 1 the beginning, 2 behind the first `steps` bytes of `schedule`, 3 the end; else closed */
-  uint8_t asking;                       /* asks where it is 1 */
-  uint8_t steps;
-  uint8_t schedule[TARCZOLIN_SCHEDULE]; /* five bytes of no meaning follow, which calls may change */
-};
-
-/* Opens for a caller with a program file: it stands before the first schedule. ask: the caller asks for one schedule; asking twice is
- * asking once. close: the record is emptied. Done: kind 1 and the rest 0. Refused, with place 0 but for a file's, in this order: 22, the
- * list has not exactly four records; 42, the caller's number is above 3; 43, open for an open caller; 44, ask or close for a closed
- * one; then open's file (1 to 8, 40, with its place). A refusal changes nothing; else a number of the caller served last that is
- * above 3 is given back as 3. */
-uint64_t tarczolin_open(struct tarczolin_caller *callers, size_t callers_len, uint64_t *last, uint64_t *handed, size_t caller,
-                        const uint8_t *file, size_t file_len);
+/* Four callers, 0 to 3, on one explorer. Their records lie in a list that the host lends, whatever it holds; `last`, the caller served last,
+ * and `handed`, the number of schedules handed to all, modulo 2^64, go into each call and come out of it. The first list is four records
+ * of zeros, with `last` 3 and `handed` 0. Refused, in this order: 22 at place 0, a list that has not exactly four records, and for serve
+ * also an output of under 24 bytes; 42 at place 0, a caller above 3; 43 at place 0, open for an open caller; 44 at place 0, ask or close
+ * for a closed one; for open then the program's (1 to 8, 40). A refusal changes nothing, not the two numbers either; any other answer gives
+ * a `last` above 3 back as 3.
+ *
+ * Open with a program file: before the first schedule. Ask for one schedule; twice is once. Close: the record is emptied. Each answers
+ * kind 1, all else 0.
+ *
+ * Serve takes the next asking caller after the last one served, in turn, 0 after 3: a schedule, kind 1, which stands in front of the
+ * output, with its length in bits 0 to 39 and the caller in bits 40 to 47; or no more, kind 2, the caller likewise. Its asking ends, and
+ * `last` is that caller. Nobody asks: kind 5. In every list of these calls from the first list on, each handed what the one before gave
+ * back: whoever asked and does not close is served by the fourth serve at the latest, and from an opening to its closing a caller is given
+ * its program's list in order, each member once, and no more exactly when all have been given. */
+uint64_t tarczolin_open(struct tarczolin_caller *callers, size_t callers_len, uint64_t *last, uint64_t *handed, size_t caller, const uint8_t *file, size_t file_len);
 uint64_t tarczolin_ask(struct tarczolin_caller *callers, size_t callers_len, uint64_t *last, uint64_t *handed, size_t caller);
-uint64_t tarczolin_close(struct tarczolin_caller *callers, size_t callers_len, uint64_t *last, uint64_t *handed, size_t caller);
-
-/* Serves the next asking caller after the last one served, in turn, 0 after 3: its asking ends. A schedule: kind 1, its length in bits 0
- * to 39, the caller in bits 40 to 47; it stands in front of the output, the bytes behind it keep their value, and the number of all
- * grows by 1, modulo 2^64. No more: kind 2, the caller likewise; its place stays at the end. In both cases the caller is then the one
- * served last. Nobody asks: kind 5, the rest 0. Refused: 22 at place 0, the list has not exactly four records, or an output of under
- * 24 bytes. Whatever the others call, a caller that asked and does not close is served by the fourth serve at the latest that is not
- * refused, and from its opening on it gets its program's list in order, each member once. */
 uint64_t tarczolin_serve(struct tarczolin_caller *callers, size_t callers_len, uint64_t *last, uint64_t *handed, uint8_t *out, size_t out_len);
+uint64_t tarczolin_close(struct tarczolin_caller *callers, size_t callers_len, uint64_t *last, uint64_t *handed, size_t caller);
 
 #ifdef __cplusplus
 }

@@ -35,7 +35,7 @@ int main(void) {
   printf("asking %d\n", callers[2].asking);
   uint64_t word = tarczolin_serve(callers, 4, &last, &handed, out, sizeof out);
   tell("serve", word);
-  printf("%u %u %u, %d %d %d\n", TARCZOLIN_KIND(word), TARCZOLIN_CALLER(word), TARCZOLIN_LENGTH(word), callers[2].asking,
+  printf("%u %u %u, %d %d %d\n", TARCZOLIN_KIND(word), TARCZOLIN_CALLER(word), (unsigned)TARCZOLIN_STEPS(word), callers[2].asking,
          callers[2].steps, memcmp(callers[2].schedule, out, 2));
   tell("serve", tarczolin_serve(callers, 4, &last, &handed, out, sizeof out));
   tell("ask", tarczolin_ask(callers, 4, &last, &handed, 4));
