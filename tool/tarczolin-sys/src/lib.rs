@@ -9,7 +9,6 @@ mod covers;
 mod interrupt;
 mod raw;
 mod served;
-mod stand_in;
 pub mod users;
 
 pub use answer::Answer;
