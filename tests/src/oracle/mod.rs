@@ -7,6 +7,7 @@ pub mod graph;
 pub mod judge;
 pub mod listing;
 pub mod machine;
+pub mod users;
 
 /// A refusal: its number and its place.
 #[derive(Clone, Copy, Debug, PartialEq, Eq, PartialOrd, Ord, Hash)]
