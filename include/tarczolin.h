@@ -2,7 +2,8 @@
  *
  * Every call answers one word:
  *
- *   bits 56 to 63   the kind: 1 answered; 2 no more, none, no, or covered; 3 refused; 4 of two files the second is refused
+ *   bits 56 to 63   the kind: 1 answered; 2 no more, none, no, or covered; 3 refused; 4 of two files the second is refused;
+ *                   5 nobody asks
  *   bits 48 to 55   a refusal's number, else 0
  *   bits  0 to 47   the length of an answer in bytes, 0 where there is none; of rows their number; of a class its size; of tarczolin_force a step;
  *                   or a refusal's place. All of them fit these bits: of rows where the output is shorter than 26 * 2^48 bytes,
@@ -47,6 +48,27 @@
 #define TARCZOLIN_NONE 2u
 #define TARCZOLIN_REFUSED 3u
 #define TARCZOLIN_SECOND_REFUSED 4u
+#define TARCZOLIN_IDLE 5u
+
+/* A word of tarczolin_serve: the caller in bits 40 to 47, the schedule's length in bits 0 to 39. */
+#define TARCZOLIN_CALLER(word) ((unsigned)((uint64_t)(word) >> 40) & 0xffu)
+#define TARCZOLIN_STEPS(word) ((uint64_t)(word) & (((uint64_t)1 << 40) - 1))
+
+/* How many callers there are, and the last caller served before any serve. */
+#define TARCZOLIN_CALLERS 4
+#define TARCZOLIN_NOBODY 3
+
+/* A caller's record, in memory of the host's: 4136 bytes, aligned to 8. All zeros is a fresh one, as closing leaves it. Any content is
+ * allowed: a record whose program would be refused, or whose place is neither the beginning, behind a full schedule nor the end, counts
+ * as closed and empty. */
+struct tarczolin_caller {
+    uint8_t file[TARCZOLIN_FILE];         /* at    0: the program file is its first `length` bytes */
+    size_t length;                        /* at 4096 */
+    uint8_t place;                        /* at 4104: 1 the beginning, 2 behind the first `steps` bytes of `schedule`, 3 the end */
+    uint8_t asking;                       /* at 4105: it asks where this is 1 */
+    uint8_t steps;                        /* at 4106 */
+    uint8_t schedule[TARCZOLIN_SCHEDULE]; /* at 4107 */
+};
 
 #ifdef __cplusplus
 extern "C" {
@@ -134,6 +156,26 @@ uint64_t tarczolin_tso_violation(const uint8_t *file, size_t file_len, uint8_t *
 uint64_t tarczolin_tso_count(const uint8_t *file, size_t file_len, uint64_t *listed, uint64_t *failing);
 uint64_t tarczolin_tso_rows(const uint8_t *file, size_t file_len, uint8_t *out, size_t out_len);
 uint64_t tarczolin_tso_rows_after(const uint8_t *file, size_t file_len, const uint8_t *schedule, size_t schedule_len, uint8_t *out, size_t out_len);
+
+/* Four callers, 0 to 3, on one explorer. Their records lie in a list that the host lends, whatever it holds; `last`, the caller served last,
+ * and `handed`, the number of schedules handed to all, modulo 2^64, go into each call and come out of it. The first list is four records
+ * of zeros, with `last` 3 and `handed` 0. Refused, in this order: 22 at place 0, a list that has not exactly four records, and for serve
+ * also an output of under 24 bytes; 42 at place 0, a caller above 3; 43 at place 0, open for an open caller; 44 at place 0, ask or close
+ * for a closed one; for open then the program's (1 to 8, 40). A refusal changes nothing, not the two numbers either; any other answer gives
+ * a `last` above 3 back as 3.
+ *
+ * Open with a program file: before the first schedule. Ask for one schedule; twice is once. Close: the record is emptied. Each answers
+ * kind 1, all else 0.
+ *
+ * Serve takes the next asking caller after the last one served, in turn, 0 after 3: a schedule, kind 1, which stands in front of the
+ * output, with its length in bits 0 to 39 and the caller in bits 40 to 47; or no more, kind 2, the caller likewise. Its asking ends, and
+ * `last` is that caller. Nobody asks: kind 5. In every list of these calls from the first list on, each handed what the one before gave
+ * back: whoever asked and does not close is served by the fourth serve at the latest, and from an opening to its closing a caller is given
+ * its program's list in order, each member once, and no more exactly when all have been given. */
+uint64_t tarczolin_open(struct tarczolin_caller *callers, size_t callers_len, uint64_t *last, uint64_t *handed, size_t caller, const uint8_t *file, size_t file_len);
+uint64_t tarczolin_ask(struct tarczolin_caller *callers, size_t callers_len, uint64_t *last, uint64_t *handed, size_t caller);
+uint64_t tarczolin_serve(struct tarczolin_caller *callers, size_t callers_len, uint64_t *last, uint64_t *handed, uint8_t *out, size_t out_len);
+uint64_t tarczolin_close(struct tarczolin_caller *callers, size_t callers_len, uint64_t *last, uint64_t *handed, size_t caller);
 
 #ifdef __cplusplus
 }

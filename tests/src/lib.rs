@@ -8,3 +8,4 @@ pub mod papers;
 pub mod random;
 pub mod search;
 pub mod share;
+pub mod users;

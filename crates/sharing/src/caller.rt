@@ -3,6 +3,7 @@ use program::STEPS;
 
 // The program file is the first `length` bytes of `file`. The place is 1 at the beginning, 2 behind the first `steps` bytes of `schedule`,
 // 3 at the end, and anything else where the record is closed. It asks where `asking` is 1.
+#[repr(C)]
 pub struct Caller {
     pub file: [u8; 4096],
     pub length: usize,

@@ -8,6 +8,7 @@ pub mod judge;
 pub mod listing;
 pub mod machine;
 pub mod tso;
+pub mod users;
 
 /// A refusal: its number and its place.
 #[derive(Clone, Copy, Debug, PartialEq, Eq, PartialOrd, Ord, Hash)]

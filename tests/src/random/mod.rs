@@ -1,10 +1,11 @@
-//! Random inputs from a fixed seed: numbers, programs, schedules, graph texts, remarks, and damaged program files.
+//! Random inputs from a fixed seed: numbers, programs, schedules, graph texts, remarks, damaged program files, calls on records.
 pub mod damage;
 pub mod graph;
 pub mod program;
 pub mod remarks;
 pub mod schedule;
 pub mod tso;
+pub mod users;
 
 /// A small generator of random numbers (splitmix64): the same seed gives the same numbers on every machine.
 pub struct Random(u64);

@@ -3,16 +3,21 @@
 //! What each call answers, for all inputs, is said in `include/tarczolin.h` and proved; here each only gets slices in place
 //! of pointers and lengths. No call keeps anything for the next, so all may be made from many threads at once.
 mod answer;
+mod caller;
 mod closed;
 mod covers;
 mod interrupt;
 mod raw;
+mod served;
 pub mod tso;
+pub mod users;
 
 pub use answer::Answer;
+pub use caller::{Caller, FILE};
 pub use closed::standard_output_was_closed;
 pub use covers::Covers;
 pub use interrupt::{note_interrupts, was_interrupted};
+pub use served::Served;
 
 /// A schedule needs an output of so many bytes.
 pub const SCHEDULE: usize = 24;

@@ -27,4 +27,5 @@ pub mod progress;
 pub mod refusal;
 pub mod schedule;
 pub mod show;
+pub mod users;
 pub mod why;

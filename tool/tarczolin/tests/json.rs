@@ -35,7 +35,7 @@ fn every_command_fits_the_schema() {
     let (graph, piece) = (graph.display().to_string(), piece.display().to_string());
     let no = b"400001ffff\n400101ffff\n41000000\n41010100\n";
     let pair = "examples/store-load-pair.hex";
-    let cases: [(&[&str], &[u8], i32, usize); 30] = [
+    let cases: [(&[&str], &[u8], i32, usize); 31] = [
         (&["list", QUEUE], b"", 1, 7),
         (&["count", QUEUE], b"", 1, 1),
         (&["count", QUEUE, "--jobs", "2"], b"", 1, 1),
@@ -61,6 +61,7 @@ fn every_command_fits_the_schema() {
         (&["judge", pair, "-"], no, 1, 1),
         (&["cuts", QUEUE, "3"], b"", 0, 1),
         (&["join", &piece], b"", 1, 7),
+        (&["users"], b"open 0 examples/empty-thread.hex\nask 0\nserve\nask 0\nserve\nserve\nask 1\ncount\nx\n", 2, 9),
         (&["disasm", QUEUE], b"", 0, 1),
         (&["show", pair, "--model", "tso"], b"", 0, 5),
         (&["graph", pair, "000001011011", "--model", "tso"], b"", 0, 1),

@@ -27,6 +27,7 @@ mod record;
 mod reply;
 mod show;
 mod table;
+mod users;
 mod violation;
 
 use crate::end::End;

@@ -5,7 +5,7 @@ use super::models::MODEL;
 use super::opt::Opt;
 use super::piece::{AFTER, JOBS_OPTION, UNTIL};
 use super::reply::JSON;
-use super::{asm, check, count, covers, cuts, disasm, force, graph, join, judge, list, litmus, outcomes, show, violation};
+use super::{asm, check, count, covers, cuts, disasm, force, graph, join, judge, list, litmus, outcomes, show, users, violation};
 
 const SHOW: Opt = Opt { name: "--show", value: None, about: "the whole execution in two columns, not only its schedule" };
 const WHERE: Opt = Opt {
@@ -24,7 +24,7 @@ const SHOW_OPTIONS: &[Opt] = &[
     JSON,
 ];
 
-pub const COMMANDS: [Command; 16] = [
+pub const COMMANDS: [Command; 17] = [
     Command {
         name: "list",
         words: "FILE..",
@@ -125,6 +125,15 @@ pub const COMMANDS: [Command; 16] = [
         options: &[JSON],
         example: "tarczolin join piece-1 piece-2",
         run: join::run,
+    },
+    Command {
+        name: "users",
+        words: "",
+        about: "four callers share the explorer: a line open CALLER FILE, ask CALLER, serve, close CALLER or count on standard input is \
+                answered by a line; raw CALLER FIELD HEX damages a record",
+        options: &[JSON],
+        example: "tarczolin users < examples/two-people.users",
+        run: users::run,
     },
     Command {
         name: "asm",

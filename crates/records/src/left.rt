@@ -1,0 +1,92 @@
+// The records that calls leave: fresh, opened, asking, served.
+use crate::next::Next;
+use program::STEPS;
+use sharing::Caller;
+ghost use mathlib.Core.Path.{_≡_};
+ghost use mathlib.Core.Option.{Option};
+ghost use Prim.Native.Nat.{_≤_};
+ghost use lib.ListN.{length, take};
+ghost use Rattle.lines.specs.Over.{over};
+ghost use Rattle.schedules.specs.Order.{Schedule};
+ghost use Rattle.sharing.specs.Record.{fresh, opened, asked, served};
+ghost use Rattle.records.specs.Next.{nextOf};
+
+// A fresh record, as closing leaves it.
+pub fn fresh_record() -> Caller
+    ensures { λ r. ⌜ r ≡ fresh ⌝ }
+{
+    Caller {
+        file: [0u8; 4096],
+        length: 0,
+        place: 0,
+        asking: 0,
+        steps: 0,
+        schedule: [0u8; STEPS],
+    }
+}
+
+// Copies the first n of these bytes to the front of a buffer.
+pub fn put_front(out: &mut [u8], bytes: &[u8], n: usize)
+    requires { ⌜ (n ≤ length (now bytes)) × (n ≤ length (now out)) ⌝ }
+    ensures { λ r. ⌜ now (out .exit) ≡ over (take n (now (bytes .entry))) (now (out .entry)) ⌝ }
+{
+    let mut k = 0;
+    while k < n {
+        out[k] = bytes[k];
+        k += 1;
+    }
+}
+
+// Opened with this file, before the first schedule.
+pub fn opened_with(file: &[u8]) -> Caller
+    requires { ⌜ length (now file) ≤ 4096 ⌝ }
+    ensures { λ r. ⌜ r ≡ opened (now (file .entry)) ⌝ }
+{
+    let mut bytes = [0u8; 4096];
+    let n = file.len();
+    put_front(&mut bytes, file, n);
+    Caller {
+        file: bytes,
+        length: n,
+        place: 1,
+        asking: 0,
+        steps: 0,
+        schedule: [0u8; STEPS],
+    }
+}
+
+// The record, asking.
+pub fn asked(c: Caller) -> Caller
+    ensures { λ r. ⌜ r ≡ asked c ⌝ }
+{
+    let file = c.file;
+    let schedule = c.schedule;
+    Caller {
+        file: file,
+        length: c.length,
+        place: c.place,
+        asking: 1,
+        steps: c.steps,
+        schedule: schedule,
+    }
+}
+
+// The record behind what it was given: a schedule, or no more.
+pub fn served(c: Caller, next: Next) -> Caller
+    ensures { λ r. ⌜ ((o : Option Schedule) → next ≡ nextOf o → r ≡ served c o) ⌝ }
+{
+    let file = c.file;
+    let schedule = next.schedule;
+    let mut place = 3u8;
+    if next.found {
+        place = 2;
+    }
+    Caller {
+        file: file,
+        length: c.length,
+        place: place,
+        asking: 0,
+        steps: next.steps,
+        schedule: schedule,
+    }
+}

@@ -1,0 +1,2 @@
+-- the calls of four callers: their word in a walk, and read back
+pub mod UserWords

@@ -1,0 +1,3 @@
+-- What a reader of this crate must believe.
+-- what the calls of four callers say, and leave
+pub mod Users

@@ -1,0 +1,25 @@
+//! A caller's record, as `struct tarczolin_caller` of `include/tarczolin.h` has it.
+use crate::SCHEDULE;
+
+/// The longest accepted file.
+pub const FILE: usize = 4096;
+
+/// One of the four records that a host lends. Any content may stand there: each call goes by what a record reads as.
+#[repr(C)]
+#[derive(Clone, Copy, Debug, PartialEq, Eq)]
+pub struct Caller {
+    /// The program file is the first `length` bytes.
+    pub file: [u8; FILE],
+    pub length: usize,
+    /// 1 at the beginning, 2 behind the first `steps` bytes of `schedule`, 3 at the end; else the record is closed.
+    pub place: u8,
+    /// 1 where it asks.
+    pub asking: u8,
+    pub steps: u8,
+    pub schedule: [u8; SCHEDULE],
+}
+
+impl Caller {
+    /// A fresh record, as closing leaves it.
+    pub const FRESH: Caller = Caller { file: [0; FILE], length: 0, place: 0, asking: 0, steps: 0, schedule: [0; SCHEDULE] };
+}

@@ -1,0 +1,63 @@
+//! Four callers on one explorer: the calls on the records that a host lends, made safe.
+//!
+//! The caller served last and the number of schedules handed to all go into each call and come out of it.
+use crate::{Answer, Caller, Served};
+
+extern "C" {
+    fn tarczolin_open(
+        callers: *mut Caller,
+        callers_len: usize,
+        last: *mut u64,
+        handed: *mut u64,
+        caller: usize,
+        file: *const u8,
+        file_len: usize,
+    ) -> u64;
+    fn tarczolin_ask(callers: *mut Caller, callers_len: usize, last: *mut u64, handed: *mut u64, caller: usize) -> u64;
+    fn tarczolin_serve(
+        callers: *mut Caller,
+        callers_len: usize,
+        last: *mut u64,
+        handed: *mut u64,
+        out: *mut u8,
+        out_len: usize,
+    ) -> u64;
+    fn tarczolin_close(callers: *mut Caller, callers_len: usize, last: *mut u64, handed: *mut u64, caller: usize) -> u64;
+}
+
+/// What goes into each call and comes out of it.
+pub struct Shared<'a> {
+    pub callers: &'a mut [Caller],
+    pub last: &'a mut u64,
+    pub handed: &'a mut u64,
+}
+
+/// Opens for a caller with this file: it stands before the first schedule.
+pub fn open(shared: Shared, caller: usize, file: &[u8]) -> Answer {
+    let Shared { callers, last, handed } = shared;
+    // safe: the call reads only the bytes of the file and reads and writes only the records and the two numbers
+    Answer::of_word(unsafe {
+        tarczolin_open(callers.as_mut_ptr(), callers.len(), last, handed, caller, file.as_ptr(), file.len())
+    })
+}
+
+/// Asks for a caller: one of the next serves is for it.
+pub fn ask(shared: Shared, caller: usize) -> Answer {
+    let Shared { callers, last, handed } = shared;
+    // safe: the call reads and writes only the records and the two numbers
+    Answer::of_word(unsafe { tarczolin_ask(callers.as_mut_ptr(), callers.len(), last, handed, caller) })
+}
+
+/// Serves the next asking caller after the last one served: one listed schedule, in front of the output, or no more.
+pub fn serve(shared: Shared, out: &mut [u8]) -> Served {
+    let Shared { callers, last, handed } = shared;
+    // safe: the call reads and writes only the records, the two numbers and bytes of the output
+    Served::of_word(unsafe { tarczolin_serve(callers.as_mut_ptr(), callers.len(), last, handed, out.as_mut_ptr(), out.len()) })
+}
+
+/// Closes for a caller: its record is empty.
+pub fn close(shared: Shared, caller: usize) -> Answer {
+    let Shared { callers, last, handed } = shared;
+    // safe: the call reads and writes only the records and the two numbers
+    Answer::of_word(unsafe { tarczolin_close(callers.as_mut_ptr(), callers.len(), last, handed, caller) })
+}

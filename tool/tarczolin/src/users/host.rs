@@ -1,0 +1,68 @@
+//! A host: four records, the caller served last, and the number of schedules handed to all, lent to the library call by call.
+use super::call::Call;
+use super::field::{number, put, Field, Name};
+use super::said::Said;
+use crate::ask::Refusal;
+use crate::error::Error;
+use crate::input;
+use crate::schedule::Schedule;
+use tarczolin_sys::users::{self, Shared};
+use tarczolin_sys::{Answer, Caller, Served, SCHEDULE};
+
+pub struct Host {
+    callers: Box<[Caller; 4]>,
+    last: u64,
+    handed: u64,
+}
+
+impl Default for Host {
+    /// Four fresh records; before any serve the last caller is 3.
+    fn default() -> Host {
+        Host { callers: Box::new([Caller::FRESH; 4]), last: 3, handed: 0 }
+    }
+}
+
+/// What a call says that gives no schedule.
+fn done(answer: Answer) -> Said {
+    match answer {
+        Answer::Refused(number, place) => Said::Refused(Refusal { number, place }),
+        _ => Said::Ok,
+    }
+}
+
+impl Host {
+    fn lent(&mut self) -> Shared<'_> {
+        Shared { callers: self.callers.as_mut_slice(), last: &mut self.last, handed: &mut self.handed }
+    }
+
+    /// Carries a call out. A file that cannot be read, or a text form that is wrong, is an error; all else is answered.
+    pub fn call(&mut self, call: &Call) -> Result<Said, Error> {
+        Ok(match call {
+            Call::Open(caller, name) => done(users::open(self.lent(), *caller, &input::program(name)?.file)),
+            Call::Ask(caller) => done(users::ask(self.lent(), *caller)),
+            Call::Serve => self.serve(),
+            Call::Close(caller) => done(users::close(self.lent(), *caller)),
+            Call::Count => Said::Count(self.handed),
+            Call::Raw(field, bytes) => self.raw(*field, bytes),
+        })
+    }
+
+    fn serve(&mut self) -> Said {
+        let mut out = [0; SCHEDULE];
+        match users::serve(self.lent(), &mut out) {
+            Served::Schedule(caller, length) => Said::Schedule(caller, Schedule::of_output(&out[..length as usize])),
+            Served::NoMore(caller) => Said::NoMore(caller),
+            Served::Idle => Said::Idle,
+            Served::Refused(number, place) => Said::Refused(Refusal { number, place }),
+        }
+    }
+
+    fn raw(&mut self, field: Field, bytes: &[u8]) -> Said {
+        match (field.caller, field.name) {
+            (Some(caller), name) => put(&mut self.callers[caller], name, bytes),
+            (None, Name::Last) => self.last = number(bytes),
+            (None, _) => self.handed = number(bytes),
+        }
+        Said::Ok
+    }
+}
