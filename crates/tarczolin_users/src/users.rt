@@ -1,8 +1,8 @@
 // Four callers on one explorer.
-use words::answered;
-use words::refused;
 use service::Caller;
 use service::Reply;
+use words::answered;
+use words::refused;
 ghost use mathlib.Core.Path.{_≡_};
 ghost use Rattle.sharing.specs.Call.{open-for, ask-for, close-for};
 ghost use Rattle.service.specs.Reply.{shared};

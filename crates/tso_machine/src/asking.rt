@@ -16,7 +16,7 @@ ghost use Rattle.machine.specs.Asked.{failsBy};
 ghost use Rattle.tso_machine.specs.Held.{coreOf, headAt, tailAt, Holds};
 
 // Whether thread u, one of the six, has a pending store.
-pub fn pends(m: QueuedMachine, u: usize) -> bool
+pub(crate) fn pends(m: QueuedMachine, u: usize) -> bool
     requires { ⌜ u < 6 ⌝ }
     ensures { λ r. ⌜ r ≡ ltb (headAt m u) (tailAt m u) ⌝ }
 {

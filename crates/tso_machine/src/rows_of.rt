@@ -21,7 +21,7 @@ pub fn locks_at(code: &Code, row: usize) -> bool
 }
 
 // Where the access goes.
-pub fn location_at(code: &Code, row: usize) -> u8
+pub(crate) fn location_at(code: &Code, row: usize) -> u8
     requires { ⌜ row < 96 ⌝ }
     ensures { λ r. ⌜ (beginsWithAccess (instructionAt (now (code .entry)) row ∷ []) ≡ true
         → r ≡ firstPlace (instructionAt (now (code .entry)) row ∷ [])) ⌝ }

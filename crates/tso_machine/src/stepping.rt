@@ -45,7 +45,7 @@ fn accessed(m: QueuedMachine, number: u8, a: Met, puts: bool) -> Stepped
 }
 
 // Thread t's next access, where it may step: a locked one writes memory, a store waits at the queue's tail.
-pub fn access(code: &Code, lengths: &[usize; 6], m: QueuedMachine, t: u8) -> Stepped
+pub(crate) fn access(code: &Code, lengths: &[usize; 6], m: QueuedMachine, t: u8) -> Stepped
     requires { ⌜ (t < 16) × MayStep (now code) (now lengths) m t ⌝ }
     ensures { λ r. ⌜ ((σ : State) → Holds (now (code .entry)) (now (lengths .entry)) m σ → enabled σ t ≡ true
         → place σ access t < 8 → HoldsStep (now (code .entry)) (now (lengths .entry)) σ t r) ⌝ }
@@ -81,7 +81,7 @@ pub fn access(code: &Code, lengths: &[usize; 6], m: QueuedMachine, t: u8) -> Ste
 }
 
 // Thread t's oldest pending store goes to memory.
-pub fn moved(m: QueuedMachine, t: u8) -> Stepped
+pub(crate) fn moved(m: QueuedMachine, t: u8) -> Stepped
     requires { ⌜ (t < 6) × (headAt m t < 16) ⌝ }
     ensures { λ r. ⌜ ((code lengths : List ℕ) (σ : State) → Holds code lengths m σ → enabled σ (byteFor move t) ≡ true
         → HoldsStep code lengths σ (byteFor move t) r) ⌝ }
