@@ -2,7 +2,7 @@
 //! texts, parts of one buffer that overlap, outputs of any length. Whatever is asked, the call answers, its answer is one
 //! that it may give, and no byte changes that it may not change. What the answer must be, the other tests say.
 use std::time::{Duration, Instant};
-use tarczolin_tests::calls::{self, Answer, GRAPH, ROW, SCHEDULE};
+use tarczolin_tests::calls::{self, tso, Answer, GRAPH, ROW, SCHEDULE};
 use tarczolin_tests::files::text;
 use tarczolin_tests::lent;
 use tarczolin_tests::oracle::calls::Found;
@@ -68,7 +68,9 @@ fn may_stand(answer: Answer, output: usize, needed: usize, longest: usize, may_b
         Answer::Answered(length) => output >= needed && length as usize <= longest,
         Answer::None => output >= needed && may_be_none,
         Answer::Refused(22, place) => output < needed && place == 0,
-        Answer::Refused(number, _) => matches!(number, 1..=8 | 40) || (output >= needed && matches!(number, 20 | 21 | 30..=33)),
+        Answer::Refused(number, _) => {
+            matches!(number, 1..=8 | 40 | 41) || (output >= needed && matches!(number, 20 | 21 | 30..=33))
+        }
     }
 }
 
@@ -122,6 +124,27 @@ fn ask_all(random: &mut Random, file: &[u8], beside: &[u8]) {
         counts(random, file);
         rows(random, file, beside);
         against(random, file, beside);
+    }
+    ask_in_store_order(random, file, beside);
+}
+
+/// The same calls under total store order; 41 comes before the output.
+fn ask_in_store_order(random: &mut Random, file: &[u8], beside: &[u8]) {
+    let out = output(random, GRAPH);
+    held(random, [file, beside], out, [GRAPH, 400], false, |[f, s], out| tso::graph(f, s, out));
+    let class = tso::class(file, beside);
+    assert!(matches!(class, Answer::Answered(1..=720) | Answer::Refused(1..=8 | 40 | 41 | 20 | 21, _)), "{class:?}");
+    if quick(file) {
+        let out = output(random, tso::SCHEDULE);
+        held(random, [file], out, [tso::SCHEDULE, 32], false, |[f], out| tso::start(f, out));
+        held(random, [file, beside], out, [tso::SCHEDULE, 32], true, |[f, s], out| tso::continue_from(f, s, out));
+        held(random, [file], out, [tso::SCHEDULE, 32], true, |[f], out| tso::violation(f, out));
+        let (mut listed, mut failing) = (7, 9);
+        match tso::count(file, &mut listed, &mut failing) {
+            Answer::Answered(0) => assert!(failing <= listed && listed > 0),
+            Answer::Refused(1..=8 | 40 | 41, _) => assert_eq!((listed, failing), (7, 9)),
+            other => panic!("{other:?} is no answer of count"),
+        }
     }
 }
 
