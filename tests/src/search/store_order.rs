@@ -150,13 +150,13 @@ impl<'a> Search<'a> {
     /// The smallest twin of each thread, or ff.
     fn smaller_twins(&self, place: &Place) -> [u8; 6] {
         let mut twins = [0xff; 6];
-        for t in 1..self.program.threads.len() {
+        for (t, twin) in twins.iter_mut().enumerate() {
             let mut smaller = self.alike[t] & ((1 << t) - 1);
             while smaller != 0 {
                 let u = smaller.trailing_zeros() as usize;
                 smaller &= smaller - 1;
                 if place.words[u] == place.words[t] {
-                    twins[t] = u as u8;
+                    *twin = u as u8;
                     break;
                 }
             }
@@ -179,8 +179,8 @@ impl<'a> Search<'a> {
             }
         }
         let mut far = 0;
-        for t in 1..self.program.threads.len() {
-            let here = place.far >> t & 1 == 1 || (twins[t] != 0xff && 16 + (twins[t] as usize) < b);
+        for (t, twin) in twins.iter().enumerate() {
+            let here = place.far >> t & 1 == 1 || (*twin != 0xff && 16 + (*twin as usize) < b);
             if here && b != 16 + t && next.enabled >> (16 + t) & 1 == 1 && !self.waits(&next, step, 16 + t) {
                 far |= 1 << t;
             }
