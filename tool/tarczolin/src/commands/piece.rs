@@ -85,7 +85,11 @@ pub fn walk(list: &List, jobs: usize, mut each: impl FnMut(&Part) -> io::Result<
 
 /// The answer of one call of the library on the file of a list. Where it takes long the rows of the list are walked beside it, only to tell
 /// how far that is; what was walked is given back where Ctrl-C came before the answer.
-pub fn answered<T: Send + 'static>(file: &[u8], list: &List, call: impl FnOnce(&[u8]) -> T + Send + 'static) -> Result<T, Found> {
+pub fn answered<T: Send + 'static>(
+    file: &[u8],
+    list: &List,
+    call: impl FnOnce(&[u8]) -> T + Send + 'static,
+) -> Result<T, Box<Found>> {
     let Some(every) = progress::every() else { return Ok(call(file)) };
     let (done, wait) = channel();
     let file = file.to_vec();
@@ -101,7 +105,7 @@ pub fn answered<T: Send + 'static>(file: &[u8], list: &List, call: impl FnOnce(&
             }
         });
         if found.cut && answer.is_none() {
-            return Err(found);
+            return Err(Box::new(found));
         }
     }
     Ok(answer.unwrap_or_else(|| wait.recv().expect("the call of the library answers")))

@@ -45,13 +45,13 @@ fn violation(question: &Question, piece: &Piece, show: bool) -> Result<End, Erro
 }
 
 /// The first one that fails, by rows: their parts come in order, so the first part that has one has the first of all.
-fn by_rows(list: &List, jobs: usize) -> Result<Option<Schedule>, Found> {
+fn by_rows(list: &List, jobs: usize) -> Result<Option<Schedule>, Box<Found>> {
     let found = piece::walk(list, jobs, |part| match part.first_failing {
         Some(_) => Err(io::Error::other("found")),
         None => Ok(()),
     });
     if found.cut && found.first_failing.is_none() {
-        return Err(found);
+        return Err(Box::new(found));
     }
     Ok(found.first_failing)
 }
