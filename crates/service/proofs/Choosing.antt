@@ -94,10 +94,10 @@ module _ (cs : List Caller) (m : ℕ) where
   -- whoever is chosen is one of the four
   small : (k : ℕ) → nextAsking cs m ≡ some k → k < 4
   unfolding nextAsking inTurn
-  small k e = find-small _ (behind-last 1 ∷ behind-last 2 ∷ behind-last 3 ∷ behind-last 4 ∷ []) k (turned 1, (turned 2, (turned 3, (turned 4, tt)))) e
+  small k e = find-small _ (behind-last 1 ∷ behind-last 2 ∷ behind-last 3 ∷ behind-last 4 ∷ []) k (below-four 1, (below-four 2, (below-four 3, (below-four 4, tt)))) e
     where
-      turned : (d : ℕ) → behind-last d < 4
-      turned d = mod-lt (lastRead m + d) (lit< tt)
+      below-four : (d : ℕ) → behind-last d < 4
+      below-four d = mod-lt (lastRead m + d) (lit< tt)
 
   pub chosen-some : (k : ℕ) → k ≡ numberOf (nextAsking cs m) → k ≤ 3 → nextAsking cs m ≡ some k
   unfolding numberOf

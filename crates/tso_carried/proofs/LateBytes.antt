@@ -24,6 +24,7 @@ use Rattle.tso_model.proofs.Laws.{tso-laws}
 use Rattle.tso_list.specs.Rules.{late, taken}
 use Rattle.tso_survivors.specs.Back.{Place, placed, byteAt, dependentAt, takenAt, back}
 use Rattle.tso_survivors.specs.Far.{starts, far}
+use Rattle.tso_survivors.proofs.Back.{back-next, back-same}
 use Rattle.tso_carried.specs.Deeds.{deed, waits}
 use Rattle.tso_carried.specs.LateBytes.{lateAt, farAt, goesOn, lateNow, farNow}
 use Rattle.tso_carried.proofs.Deeds.{waits-exact}
@@ -34,38 +35,11 @@ going true w x y h = and-false x
 going false true x y h = and-false x ∙ sym (and-false y)
 going false false x y h = ap (λ (z : Bool). z && true) (h refl refl)
 
-or-turned : (a b c : Bool) → a ≡ c → (a || b) ≡ (b || c)
-or-turned true true c e = refl
-or-turned true false c e = e
-or-turned false true c e = refl
-or-turned false false c e = e
-
--- walking back one step further
-module _ {D : Type 0} (by : D → ℕ) (dep : D → D → Bool) (from : D → ℕ → Bool) where
-  pub back-next : (e : D) (before : List D) (d : D) →
-      back by dep from (e ∷ before) d ≡ ((from e (by d) || back by dep from before d) && (not (eqb (by e) (by d)) && not (dep e d)))
-  unfolding back
-  back-next e before d = go (eqb (by e) (by d)) refl (dep e d) refl (from e (by d)) refl
-    where
-      go : (x : Bool) → eqb (by e) (by d) ≡ x → (y : Bool) → dep e d ≡ y → (z : Bool) → from e (by d) ≡ z →
-          back by dep from (e ∷ before) d ≡ ((from e (by d) || back by dep from before d) && (not (eqb (by e) (by d)) && not (dep e d)))
-      go true i y j z k = rw (i, back) (sym (and-false (from e (by d) || back by dep from before d)))
-      go false i true j z k = rw (i, j, back) (sym (and-false (from e (by d) || back by dep from before d)))
-      go false i false j true k = rw (i, j, k, back)
-      go false i false j false k = rw (i, j, k, back) (sym (and-true (back by dep from before d)))
-        where
-          and-true : (b : Bool) → (b && true) ≡ b
-          and-true true = refl
-          and-true false = refl
-
-  -- it goes by a step's byte and by what must stay before it
-  pub back-same : (before : List D) (c d : D) → by c ≡ by d → ((e : D) → dep e c ≡ dep e d) → back by dep from before c ≡ back by dep from before d
-  unfolding back
-  back-same [] c d i j = refl
-  back-same (e ∷ before) c d i j =
-      back-next e before c
-      ∙ ap₂ (λ (x y : Bool). x && y) (ap₂ (λ (x y : Bool). x || y) (ap (from e) i) (back-same before c d i j)) (ap₂ (λ (x y : Bool). not x && not y) (ap (eqb (by e)) i) (j e))
-      ∙ sym (back-next e before d)
+or-exchanged : (a b c : Bool) → a ≡ c → (a || b) ≡ (b || c)
+or-exchanged true true c e = refl
+or-exchanged true false c e = e
+or-exchanged false true c e = refl
+or-exchanged false false c e = e
 
 module _ (p : Program) (w : WellFormed p) (v : Schedule) (a : Allowed TSO (start p) v) (b : ℕ) (m : enabled (endOf p v) b ≡ true) where
   abbrev σ : State
@@ -93,7 +67,7 @@ module _ (p : Program) (w : WellFormed p) (v : Schedule) (a : Allowed TSO (start
   late-here c true n =
       sym (late-set-step tso (tso-laws .steps) σ (taken p v) (lateAt p v) b m (λ i k. ap (λ (x : Bool). x && late (taken p v) (action σ i)) k) c n)
       ∙ ap (λ (x : Bool). (lateAt p v c || ltb c b) && (not (eqb b c) && not x)) (waits-exact σ b c regular m)
-      ∙ going (eqb b c) (waits (deed σ b) (deed τ c)) (lateAt p v c || ltb c b) (ltb c b || lateAt p v c) (λ q d. or-turned (lateAt p v c) (ltb c b) (lateAt p v c) refl)
+      ∙ going (eqb b c) (waits (deed σ b) (deed τ c)) (lateAt p v c || ltb c b) (ltb c b || lateAt p v c) (λ q d. or-exchanged (lateAt p v c) (ltb c b) (lateAt p v c) refl)
       ∙ sym (ap (λ (x : Bool). x && (not (eqb b c) && ((ltb c b || lateAt p v c) && not (waits (deed σ b) (deed τ c))))) n)
 
   pub late-more : (c : ℕ) → lateAt p (v ++ (b ∷ [])) c ≡ lateNow (step (endOf p v) b) b (deed (endOf p v) b) (lateAt p v) c
@@ -112,6 +86,8 @@ module _ (p : Program) (w : WellFormed p) (v : Schedule) (a : Allowed TSO (start
   far-here c false n = sym (ap (λ (x : Bool). x && (not (eqb b c) && ((starts p here c || farAt p v c) && not (waits (deed σ b) (deed τ c))))) n)
   far-here c true n =
       back-next (byteAt tso) (dependentAt tso) (starts p) here (takenAt tso p v) (τ, c)
+      ∙ ap (λ (x : Bool). x && (not (eqb b c) && not (dependent (action σ b) (action τ c))))
+      (or-exchanged (back (byteAt tso) (dependentAt tso) (starts p) (takenAt tso p v) (τ, c)) (starts p here c) (back (byteAt tso) (dependentAt tso) (starts p) (takenAt tso p v) (τ, c)) refl)
       ∙ ap (λ (x : Bool). (starts p here c || back (byteAt tso) (dependentAt tso) (starts p) (takenAt tso p v) (τ, c)) && (not (eqb b c) && not x)) (waits-exact σ b c regular m)
       ∙ going (eqb b c) (waits (deed σ b) (deed τ c)) (starts p here c || back (byteAt tso) (dependentAt tso) (starts p) (takenAt tso p v) (τ, c)) (starts p here c || farAt p v c)
       (λ q d. let s = swap c q d n in ap (λ (x : Bool). starts p here c || x)

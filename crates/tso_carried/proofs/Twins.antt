@@ -56,11 +56,11 @@ Matched u t (o ∷ os) [] = ⊥
 Matched u t (o ∷ os) (x ∷ xs) = Matches u t o x × Matched u t os xs
 
 -- an event that digits tell apart
-abbrev Told : Event → Type 0
-Told e = (e ≡ initialWrite) ⊎ ((e .0 < 6) × (e .1 < 16))
+abbrev Codable : Event → Type 0
+Codable e = (e ≡ initialWrite) ⊎ ((e .0 < 6) × (e .1 < 16))
 
-abbrev AllTold : List (Option Event) → Type 0
-AllTold os = (e : Event) → List·Memᴰ (some e) os → Told e
+abbrev AllCodable : List (Option Event) → Type 0
+AllCodable os = (e : Event) → List·Memᴰ (some e) os → Codable e
 
 own-digit : (t : ℕ) (e : Event) → e .0 ≡ t → sourceDigit t e ≡ e .1 + 3
 unfolding sourceDigit
@@ -118,7 +118,7 @@ module _ (u t : ℕ) (hu : u < 6) (ht : t < 6) where
     foreign : e .0 ≢ x → e .0 < 6 → e .1 < 16 → sourceDigit x e ≡ e .0 * 16 + e .1 + 19 → Sort x e
     first : e ≡ initialWrite → sourceDigit x e ≡ 2 → Sort x e
 
-  sort : (x : ℕ) → x < 6 → (e : Event) → Told e → Sort x e
+  sort : (x : ℕ) → x < 6 → (e : Event) → Codable e → Sort x e
   sort x h e (inl q) = first q (initial-digit x e h q)
   sort x h e (inr q) = go (ℕ-discrete (e .0) x)
     where
@@ -126,7 +126,7 @@ module _ (u t : ℕ) (hu : u < 6) (ht : t < 6) where
       go (yes i) = own i (q .1) (own-digit x e i)
       go (no i) = foreign i (q .0) (q .1) (foreign-digit x e i (q .0))
 
-  source-matches : (e f : Event) → Told e → Told f → sourceDigit u e ≡ sourceDigit t f → Matches u t (some e) (some f)
+  source-matches : (e f : Event) → Codable e → Codable f → sourceDigit u e ≡ sourceDigit t f → Matches u t (some e) (some f)
   source-matches e f a b q = go (sort u hu e a) (sort t ht f b)
     where
       go : Sort u e → Sort t f → Matches u t (some e) (some f)
@@ -159,7 +159,7 @@ module _ (u t : ℕ) (hu : u < 6) (ht : t < 6) where
   store-digit = refl
 
   -- a store's digit is no source's
-  store-apart : (x : ℕ) → x < 6 → (e : Event) → Told e → digit x (some e) ≢ 1
+  store-apart : (x : ℕ) → x < 6 → (e : Event) → Codable e → digit x (some e) ≢ 1
   unfolding digit
   store-apart x h e a q = go (sort x h e a)
     where
@@ -168,7 +168,7 @@ module _ (u t : ℕ) (hu : u < 6) (ht : t < 6) where
       go (foreign i j o k) = omega (arith, k, q)
       go (first i k) = omega (arith, k, q)
 
-  digit-matches : (o x : Option Event) → ((e : Event) → o ≡ some e → Told e) → ((e : Event) → x ≡ some e → Told e) → digit u o ≡ digit t x → Matches u t o x
+  digit-matches : (o x : Option Event) → ((e : Event) → o ≡ some e → Codable e) → ((e : Event) → x ≡ some e → Codable e) → digit u o ≡ digit t x → Matches u t o x
   unfolding digit
   digit-matches none none a b q = tt
   digit-matches none (some f) a b q = absurd (store-apart t ht f (b f refl) (sym q))
@@ -176,7 +176,7 @@ module _ (u t : ℕ) (hu : u < 6) (ht : t < 6) where
   digit-matches (some e) (some f) a b q = source-matches e f (a e refl) (b f refl) q
 
   -- the same digits
-  digits-matched : (os xs : List (Option Event)) → AllTold os → AllTold xs → Small u os → Small t xs → digits u os ≡ digits t xs → Matched u t os xs
+  digits-matched : (os xs : List (Option Event)) → AllCodable os → AllCodable xs → Small u os → Small t xs → digits u os ≡ digits t xs → Matched u t os xs
   unfolding digits
   digits-matched [] [] a b s r q = tt
   digits-matched [] (x ∷ xs) a b s r q = absurd (omega (arith, q, digit-positive t x))
@@ -318,14 +318,14 @@ module _ (p : Program) (w : WellFormed p) (few : allAccesses (p .threads) ≤ 16
   abbrev sources : ℕ → List (Option Event)
   sources x = sourcesOf (threadOf (endOf p v) x .history .done) (threadOf (endOf p v) x .history .reads)
 
-  told : (x : ℕ) → x < 6 → AllTold (sourcesOf (threadOf (endOf p v) x .history .done) (threadOf (endOf p v) x .history .reads))
-  told x h e m = go (sources-from (hist x .done) (hist x .reads) (some e) m)
+  codable : (x : ℕ) → x < 6 → AllCodable (sourcesOf (threadOf (endOf p v) x .history .done) (threadOf (endOf p v) x .history .reads))
+  codable x h e m = go (sources-from (hist x .done) (hist x .reads) (some e) m)
     where
-      known : Old (endOf p v) e → Told e
+      known : Old (endOf p v) e → Codable e
       known (inl q) = inl q
       known (inr q) = inr (done-six p w few v a (e .0) (omega (arith, q)), omega (arith, q, done-16 p w few v a (e .0)))
 
-      go : (some e ≡ none) ⊎ ((r : ℕ × Event) × List·Memᴰ r (threadOf (endOf p v) x .history .reads) × (some e ≡ some (r .1))) → Told e
+      go : (some e ≡ none) ⊎ ((r : ℕ × Event) × List·Memᴰ r (threadOf (endOf p v) x .history .reads) × (some e ≡ some (r .1))) → Codable e
       go (inl q) = absurd (let z : _≡_ {A = ℕ} 0 1 = cc in omega arith)
       go (inr k) = let q : e ≡ k .0 .1 = (let z = k .2 in cc) in known (subst (Old (endOf p v)) (sym q) (kept p w v a .known x (k .0) (k .1)))
 
@@ -362,7 +362,7 @@ module _ (p : Program) (w : WellFormed p) (few : allAccesses (p .threads) ≤ 16
       ≡ digits t (sourcesOf (threadOf (endOf p v) t .history .done) (threadOf (endOf p v) t .history .reads)) → standsAs u t (threadOf (endOf p v) u) (threadOf (endOf p v) t) ≡ true
   unfolding standsAs
   alike line su st e =
-      let m = digits-matched u t hu ht (sources u) (sources t) (told u hu) (told t ht) (small p w few v a u hu) (small p w few v a t ht) e in
+      let m = digits-matched u t hu ht (sources u) (sources t) (codable u hu) (codable t ht) (small p w few v a u hu) (small p w few v a t ht) e in
       let d : hist u .done ≡ hist t .done = sym (sources-length (hist u .done) (hist u .reads)) ∙ matched-length u t hu ht (sources u) (sources t) m ∙ sources-length (hist t .done) (hist t .reads) in
       let L = led p w v a in
       let lu = L .1 u hu (silent-quiet σ u su) in

@@ -78,17 +78,17 @@ bit-anew σ b k s on t et es eo = bytes-same (enabled (step σ b)) k (λ u. cond
         ap (λ (x : Bool). cond x on (has s u)) (ne-eqb u t q) ∙ ap (λ (i : ℕ). has i u) es ∙ bytes-has (enabled σ) k u h
         ∙ sym (enabled-other σ b (byteFor k u) (λ z. q (sym (owner-for k u (omega (arith, h))) ∙ z ∙ sym et)))
 
-and-turned : (a b c d : Bool) → ((a && (b && c)) && d) ≡ (a && (b && (c && d)))
-and-turned true true c d = refl
-and-turned true false c d = refl
-and-turned false b c d = refl
+and-regrouped : (a b c d : Bool) → ((a && (b && c)) && d) ≡ (a && (b && (c && d)))
+and-regrouped true true c d = refl
+and-regrouped true false c d = refl
+and-regrouped false b c d = refl
 
 -- the ones chosen that need not wait: n says who may step, q who stepped, f who was or becomes so, w who waits
 pub chosen-free : (k : Kind) (n q f w : ℕ → Bool) (s : ℕ) → s ≡ setOf (λ u. n (byteFor k u) && (not (q (byteFor k u)) && f (byteFor k u))) 6 →
     setOf (λ u. has s u && not (w (byteFor k u))) 6 ≡ bytesOf (λ c. n c && (not (q c) && (f c && not (w c)))) k
 chosen-free k n q f w s e = bytes-same (λ c. n c && (not (q c) && (f c && not (w c)))) k (λ u. has s u && not (w (byteFor k u))) (λ u h.
     ap (λ (x : Bool). x && not (w (byteFor k u))) (ap (λ (i : ℕ). has i u) e ∙ set-has (λ u. n (byteFor k u) && (not (q (byteFor k u)) && f (byteFor k u))) 6 u h)
-    ∙ and-turned (n (byteFor k u)) (not (q (byteFor k u))) (f (byteFor k u)) (not (w (byteFor k u))))
+    ∙ and-regrouped (n (byteFor k u)) (not (q (byteFor k u))) (f (byteFor k u)) (not (w (byteFor k u))))
 
 -- and each of them may step
 pub chosen-may : (k : Kind) (n q f : ℕ → Bool) (s : ℕ) → s ≡ setOf (λ u. n (byteFor k u) && (not (q (byteFor k u)) && f (byteFor k u))) 6 → (u : ℕ) → u < 6 → has s u ≡ true → n (byteFor k u) ≡ true

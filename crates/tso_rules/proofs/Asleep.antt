@@ -197,9 +197,9 @@ any-six f g e = equal-tests (any f (range 0 6)) (any g (range 0 6))
     (λ q. let r = any-yes f (range 0 6) q in any-of g (range 0 6) (r .0) (r .1) (sym (e (r .0) (of-range 0 6 (r .0) (r .1) .1)) ∙ r .2))
     (λ q. let r = any-yes g (range 0 6) q in any-of f (range 0 6) (r .0) (r .1) (e (r .0) (of-range 0 6 (r .0) (r .1) .1) ∙ r .2))
 
-and-turned : (a b c : Bool) → ((a && b) && c) ≡ (a && (b && c))
-and-turned true b c = refl
-and-turned false b c = refl
+and-regrouped : (a b c : Bool) → ((a && b) && c) ≡ (a && (b && c))
+and-regrouped true b c = refl
+and-regrouped false b c = refl
 
 -- R3: some access, or else some move
 pub asleep-some : (p : Program) (v : Schedule) (lt ov : ℕ) → lt ≡ bytesOf (lateAt p v) access → ov ≡ bytesOf (lateAt p v) move →
@@ -208,9 +208,9 @@ unfolding asleep lateAt byteFor
 asleep-some p v lt ov el eo =
     ap₂ (λ (x y : Bool). x || y)
     (any-six (λ t. has lt t && unwoken (endOf p v) (byteFor access t)) (asleep p v (endOf p v)) (λ t h. ap (λ (b : Bool). b && unwoken (endOf p v) (byteFor access t)) (ap (λ (s : ℕ). has s t) el ∙ bytes-has (lateAt p v) access t h)
-    ∙ and-turned (enabled (endOf p v) t) (late (taken p v) (action (endOf p v) t)) (unwoken (endOf p v) t)))
+    ∙ and-regrouped (enabled (endOf p v) t) (late (taken p v) (action (endOf p v) t)) (unwoken (endOf p v) t)))
     (any-six (λ t. has ov t && unwoken (endOf p v) (byteFor move t)) (λ t. asleep p v (endOf p v) (t + 16)) (λ t h. ap (λ (b : Bool). b && unwoken (endOf p v) (byteFor move t)) (ap (λ (s : ℕ). has s t) eo ∙ bytes-has (lateAt p v) move t h)
-    ∙ and-turned (enabled (endOf p v) (t + 16)) (late (taken p v) (action (endOf p v) (t + 16))) (unwoken (endOf p v) (t + 16))))
+    ∙ and-regrouped (enabled (endOf p v) (t + 16)) (late (taken p v) (action (endOf p v) (t + 16))) (unwoken (endOf p v) (t + 16))))
     ∙ sym (twelve (asleep p v (endOf p v)))
 
 -- a late byte may step

@@ -21,31 +21,14 @@ use Rattle.tso.proofs.Bytes.{ByteCase, of-access, of-move, byte-case, kind-low,
 use Rattle.tso.proofs.Steps.{enabled-small}
 use Rattle.tso_model.specs.TotalStoreOrder.{tso}
 use Rattle.tso_list.specs.Rules.{late, taken, twin}
-use Rattle.tso_survivors.specs.Back.{Place, byteAt, dependentAt, takenAt, back}
-use Rattle.tso_survivors.specs.Far.{startsBy, starts, far}
+use Rattle.tso_survivors.specs.Far.{far}
+use Rattle.tso_survivors.proofs.FarSet.{far-access}
 use Rattle.tso_carried.specs.LateBytes.{bytesOf, lateAt, farAt}
-use Rattle.tso_carried.proofs.LateBytes.{back-next}
 use Rattle.tso_carried.proofs.Twins.{twin-by-word}
 use Rattle.tso_prefix.specs.Reached.{Reached}
 use Rattle.tso_prefix.specs.declared.place.Place as Held
 use Rattle.tso_prefix.proofs.Choices.{bytes-has}
 use Rattle.tso_rules.specs.Tried.{tried}
-
--- an access is never far
-start-access : (p : Program) (q : Place tso) (i : ℕ) → kindOf i ≡ access → starts p q i ≡ false
-unfolding starts startsBy
-start-access p q i k = ap (λ (j : Kind). startsBy p q j (owner i)) k
-
-back-none : (p : Program) (σ : State) (c : ℕ) → kindOf c ≡ access → (before : List (Place tso)) → back (byteAt tso) (dependentAt tso) (starts p) before (σ, c) ≡ false
-unfolding back byteAt
-back-none p σ c k [] = refl
-back-none p σ c k (q ∷ before) =
-    back-next (byteAt tso) (dependentAt tso) (starts p) q before (σ, c)
-    ∙ ap₂ (λ (x y : Bool). (x || y) && (not (eqb (byteAt tso q) c) && not (dependentAt tso q (σ, c)))) (start-access p q c k) (back-none p σ c k before)
-
-far-access : (p : Program) (v : Schedule) (σ : State) (c : ℕ) → kindOf c ≡ access → far p v σ c ≡ false
-unfolding far
-far-access p v σ c k = back-none p σ c k (takenAt tso p v)
 
 any-same : (f g : ℕ → Bool) (l : List ℕ) → ((u : ℕ) → List·Memᴰ u l → f u ≡ g u) → any f l ≡ any g l
 any-same f g l e = equal-tests (any f l) (any g l)
@@ -115,7 +98,7 @@ module _ (code lengths class : List ℕ) (threads groups : ℕ) (x : Held.Place)
 
   pub access-else : enabled (endOf p v) t ≡ true → lateAt p v t ≡ false → (ws : List ℕ) → x .words ≡ ws → (q : Bool) → q ≡ any (λ u. together (p .groups) u t && eqb (getD ws u 0) (getD ws t 0)) (range 0 t) → not q ≡ tried p v t
   unfolding byteFor
-  access-else m l ws ew q eq = tried-else p v t m l (far-access p v (endOf p v) t (kind-low t (omega (arith, h)))) q (by-twins t (owner-for access t (omega (arith, h))) ws ew q eq)
+  access-else m l ws ew q eq = tried-else p v t m l (far-access p v t (r .allowed) m (kind-low t (omega (arith, h)))) q (by-twins t (owner-for access t (omega (arith, h))) ws ew q eq)
 
   pub move-else : enabled (endOf p v) (t + 16) ≡ true → lateAt p v (t + 16) ≡ false → farAt p v (t + 16) ≡ false → (ws : List ℕ) → x .words ≡ ws → (q : Bool) → q ≡ any (λ u. together (p .groups) u t && eqb (getD ws u 0) (getD ws t 0)) (range 0 t) → not q ≡ tried p v (t + 16)
   unfolding byteFor farAt

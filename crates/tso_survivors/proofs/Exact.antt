@@ -117,8 +117,8 @@ module _ (p : Program) (a : Admitted tso p) where
     abbrev Bound : ℕ → ℕ → Type 0
     Bound = Tied p (a .0) w allowed
 
-    tied-turned : (c d : ℕ) → c < d → moved perm d < moved perm c → Line p c d → Bound (moved perm c) (moved perm d)
-    tied-turned c d h k l =
+    tied-inverted : (c d : ℕ) → c < d → moved perm d < moved perm c → Line p c d → Bound (moved perm c) (moved perm d)
+    tied-inverted c d h k l =
         let g = paired p (a .0) perm mem c d k l in
         let b = members p (a .0) (moved perm d) (moved perm c) g in
         let six = a .0 .six in
@@ -126,7 +126,7 @@ module _ (p : Program) (a : Admitted tso p) where
 
     tied-moved : (c : ℕ) → Bound (moved perm c) (moved perm (moved perm c))
     tied-moved = ties perm (in-permutations p (a .0) perm mem) (Line p) (λ c d. Bound (moved perm c) (moved perm d)) (λ c. inl refl) (line-sym p) (line-trans p (a .0)) (line-moved p (a .0) perm mem)
-        (λ c. inl refl) (λ c d. tied-sym p (a .0) w allowed (moved perm c) (moved perm d)) (λ c d e. tied-trans p (a .0) w allowed (moved perm c) (moved perm d) (moved perm e)) tied-turned
+        (λ c. inl refl) (λ c d. tied-sym p (a .0) w allowed (moved perm c) (moved perm d)) (λ c d e. tied-trans p (a .0) w allowed (moved perm c) (moved perm d) (moved perm e)) tied-inverted
 
     tied-all : (u : ℕ) → Bound u (moved perm u)
     tied-all u = subst (λ (i : ℕ). Bound i (moved perm i)) (x .0 .after-inverse u) (tied-moved (x .0 .inverse u))
