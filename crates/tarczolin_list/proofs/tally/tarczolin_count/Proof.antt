@@ -2,9 +2,9 @@
 use borrow.Author.Needs.{needs}
 use mathlib.Core.Path.{_∙_, ap, sym}
 use Rattle.words.specs.Word.{wordOf}
-use Rattle.tarczolin.proofs.Tallies.{tallied-counted, tallied-refused}
-use Rattle.tarczolin.proofs.tally.tarczolin_count.Statement.{statement}
-use Rattle.tarczolin.proofs.tally.tarczolin_count.Tie as tie
+use Rattle.tarczolin_list.proofs.Tallies.{tallied-counted, tallied-refused}
+use Rattle.tarczolin_list.proofs.tally.tarczolin_count.Statement.{statement}
+use Rattle.tarczolin_list.proofs.tally.tarczolin_count.Tie as tie
 
 returns : tie.Need-returns
 returns c =

@@ -3,9 +3,9 @@ use borrow.Author.Needs.{needs}
 use mathlib.Core.Path.{_∙_, ap}
 use Rattle.listing.specs.declared.row_calls.RowsAnswer.{RowsAnswer}
 use Rattle.words.specs.Word.{wordOf}
-use Rattle.tarczolin.specs.ByRows.{rowsReply}
-use Rattle.tarczolin.proofs.by_rows.tarczolin_rows.Statement.{statement}
-use Rattle.tarczolin.proofs.by_rows.tarczolin_rows.Tie as tie
+use Rattle.tarczolin_list.specs.ByRows.{rowsReply}
+use Rattle.tarczolin_list.proofs.by_rows.tarczolin_rows.Statement.{statement}
+use Rattle.tarczolin_list.proofs.by_rows.tarczolin_rows.Tie as tie
 
 returns : tie.Need-returns
 returns c =

@@ -3,9 +3,9 @@ use borrow.Author.Needs.{needs}
 use mathlib.Core.Path.{_∙_, ap, sym}
 use Rattle.listing.specs.declared.calling.ListAnswer.{ListAnswer}
 use Rattle.words.specs.Word.{wordOf}
-use Rattle.tarczolin.specs.Listed.{replyOf}
-use Rattle.tarczolin.proofs.listed.word_of.Statement.{statement}
-use Rattle.tarczolin.proofs.listed.word_of.Tie as tie
+use Rattle.tarczolin_list.specs.Listed.{replyOf}
+use Rattle.tarczolin_list.proofs.listed.word_of.Statement.{statement}
+use Rattle.tarczolin_list.proofs.listed.word_of.Tie as tie
 
 returns : tie.Need-returns
 unfolding replyOf

@@ -3,7 +3,7 @@ use mathlib.Core.Path.{_≡_, refl}
 use Rattle.schedules.specs.Calls.{Answer, found, nomore, refused}
 use Rattle.list.specs.Answers.{Violation, fails-first, none-fails, refused-by}
 use Rattle.listing.specs.AnswerOf.{listAnswerOf, violationAnswerOf}
-use Rattle.tarczolin.specs.Listed.{listed, violationReply, replyOf}
+use Rattle.tarczolin_list.specs.Listed.{listed, violationReply, replyOf}
 
 pub word-answer : (a : Answer) → replyOf (listAnswerOf a) ≡ listed a
 unfolding replyOf listAnswerOf listed

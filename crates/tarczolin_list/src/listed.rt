@@ -6,7 +6,7 @@ use words::refused;
 ghost use mathlib.Core.Path.{_≡_};
 ghost use Rattle.listing.specs.OnFile.{startFile, continueFile, violationFile};
 ghost use Rattle.words.specs.Word.{wordOf};
-ghost use Rattle.tarczolin.specs.Listed.{listed, violationReply, replyOf};
+ghost use Rattle.tarczolin_list.specs.Listed.{listed, violationReply, replyOf};
 
 // The word of an answer.
 pub fn word_of(a: ListAnswer) -> u64

@@ -5,7 +5,7 @@ use words::refused;
 ghost use mathlib.Core.Path.{_≡_};
 ghost use Rattle.listing.specs.OnFile.{countFile};
 ghost use Rattle.words.specs.Word.{wordOf};
-ghost use Rattle.tarczolin.specs.Tallied.{countReply, listedLater, failingLater};
+ghost use Rattle.tarczolin_list.specs.Tallied.{countReply, listedLater, failingLater};
 
 // Kind 1, with the two numbers in the words; kind 3 with number and place, and both words unchanged.
 #[no_mangle]

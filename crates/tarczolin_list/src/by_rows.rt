@@ -7,7 +7,7 @@ ghost use mathlib.Core.Option.{none, some};
 ghost use Rattle.program.specs.Decode.{decode};
 ghost use Rattle.listing.specs.RowsCall.{rowsAnswerOf, rowsOutput};
 ghost use Rattle.words.specs.Word.{wordOf};
-ghost use Rattle.tarczolin.specs.ByRows.{rowsReply};
+ghost use Rattle.tarczolin_list.specs.ByRows.{rowsReply};
 
 // The word of an answer.
 pub fn rows_word(a: RowsAnswer) -> u64

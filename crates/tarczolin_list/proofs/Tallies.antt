@@ -6,7 +6,7 @@ use Rattle.listing.specs.declared.counting.CountAnswer.the-variants.{Counted, R
 use Rattle.listing.specs.OnFile.{Count, counted, refused-count}
 use Rattle.listing.specs.CountWord.{countAnswerOf}
 use Rattle.words.specs.Word as word
-use Rattle.tarczolin.specs.Tallied.{countReply, listedLater, failingLater}
+use Rattle.tarczolin_list.specs.Tallied.{countReply, listedLater, failingLater}
 
 pub tallied-counted : (c : Count) (n f old older : ℕ) → countAnswerOf c ≡ Counted n f → (countReply c ≡ word.answered 0) × (listedLater c old ≡ n) × (failingLater c older ≡ f)
 unfolding countAnswerOf countReply listedLater failingLater

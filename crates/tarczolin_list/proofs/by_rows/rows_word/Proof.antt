@@ -3,9 +3,9 @@ use borrow.Author.Needs.{needs}
 use mathlib.Core.Path.{_∙_, ap, sym}
 use Rattle.listing.specs.declared.row_calls.RowsAnswer.{RowsAnswer}
 use Rattle.words.specs.Word.{wordOf}
-use Rattle.tarczolin.specs.ByRows.{rowsReply}
-use Rattle.tarczolin.proofs.by_rows.rows_word.Statement.{statement}
-use Rattle.tarczolin.proofs.by_rows.rows_word.Tie as tie
+use Rattle.tarczolin_list.specs.ByRows.{rowsReply}
+use Rattle.tarczolin_list.proofs.by_rows.rows_word.Statement.{statement}
+use Rattle.tarczolin_list.proofs.by_rows.rows_word.Tie as tie
 
 returns : tie.Need-returns
 unfolding rowsReply
