@@ -17,7 +17,7 @@ CARGO = cargo
 QUIET = --quiet --release --offline --locked
 LIBRARY = target/staticlib/libtarczolin.a
 # the crates whose functions C and Rust call: their archives become one
-EXPORTED = tarczolin tarczolin_beside tarczolin_tso tarczolin_users
+EXPORTED = tarczolin tarczolin_list tarczolin_beside tarczolin_tso tarczolin_users
 EXPLORER = target/bin/explorer
 SOURCES = crates.txt $(shell find crates -name '*.rt' -o -name '*.antt')
 VALGRIND = valgrind --quiet --error-exitcode=9 --leak-check=full --show-leak-kinds=definite --errors-for-leak-kinds=definite \

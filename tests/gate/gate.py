@@ -165,8 +165,8 @@ def edits(tally):
             tally.fail(f'must-fail {edit.parts[-3]}/{edit.stem}: {why}')
     for crate in sorted({edit.parts[-3] for edit in found}):
         number = sum(edit.parts[-3] == crate for edit in found)
-        if number % 2 == 1:  # they are tried in pairs, crate by crate
-            tally.note(f'{crate} has {number} edits: the last is tried alone, so one more costs no time')
+        if number % 2 == 1:  # rt tries them in pairs, through all crates in order, and the slower of a pair is waited for
+            tally.note(f'{crate} has {number} edits: every pair behind it may be of two crates; one more edit is cheaper than that')
 
 
 def reasons(tally):

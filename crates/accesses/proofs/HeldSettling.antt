@@ -13,8 +13,9 @@ use Rattle.rows.specs.Rows.{instructionAt, threadCode}
 use Rattle.rows.proofs.Tabulate.{length-tabulate, getD-tabulate}
 use Rattle.sc.specs.Local.{Local, Outcome, continues, stops, outcome, settle, beginsWithAccess}
 use Rattle.sc.proofs.Access.{settle-continues, settle-stops}
-use Rattle.accesses.specs.declared.local.Carried.{Carried}
-use Rattle.accesses.specs.CarriedOut.{carried, localOf}
+use Rattle.instructions.specs.declared.local.Carried.{Carried}
+use Rattle.instructions.specs.CarriedOut.{carried}
+use Rattle.accesses.specs.CarriedOut.{localOf}
 
 -- ---- one instruction
 settle-stands : (i : Instruction) (is : List Instruction) (rs : List ℕ) → beginsWithAccess (i ∷ []) ≡ true → settle 0 rs (i ∷ is) ≡ record { registers = rs; rest = i ∷ is; failed = false }

@@ -1,6 +1,6 @@
 -- The laws, in the order in which they rest on each other.
 -- How the machine's functions meet the definitions.
--- registers chosen one by one, and rows by their first byte
+-- rows by their first byte
 pub mod HeldRows
 -- settling, one instruction after the other
 pub mod HeldSettling

@@ -1,30 +1,16 @@
--- What one instruction does, as the code carries it out: to a thread by itself where it is no access, and else on what memory holds. For
--- the machine's own functions: nothing here is needed to read what a step is.
+-- What an access does on what memory holds, as the code carries it out, and how it holds a thread. For the machine's own functions: nothing
+-- here is needed to read what a step is.
 use Prim.Native.Nat.{ℕ}
-use mathlib.Core.Bool.{true, false, cond}
+use mathlib.Core.Bool.{cond}
 use mathlib.Core.Option.{Option, none, some}
 use mathlib.Core.List.{List}
 use lib.ListN.{getD, drop}
 use Rattle.program.specs.declared.instruction.Instruction.{Instruction}
 use Rattle.program.specs.declared.instruction.Instruction.the-variants.{Memory, Alone}
-use Rattle.accesses.specs.declared.local.Carried.{Carried}
 use Rattle.accesses.specs.declared.accessing.Access.{Access}
 use Rattle.accesses.specs.declared.thread.ThreadState.{ThreadState}
-use Rattle.sc.specs.Local.{Local, accessPlace, accessTakes, accessPuts, accessSets, Outcome, continues, stops}
+use Rattle.sc.specs.Local.{Local, accessPlace, accessTakes, accessPuts, accessSets}
 use Rattle.sc.specs.Actions.{given}
-
--- an instruction carried out, with these registers behind it, and so many skipped
-abbrev pub going : List ℕ → ℕ → Carried
-going rs k = record { failed = false; registers = rs; skip = k }
-
--- an assertion that fails
-abbrev pub failing : List ℕ → Carried
-failing rs = record { failed = true; registers = rs; skip = 0 }
-
--- how the code holds an outcome of an instruction that found these registers
-abbrev pub carried : List ℕ → Outcome → Carried
-carried rs (continues ss k) = going ss k
-carried rs stops = failing rs
 
 -- what the code's counter and registers say of a thread whose code this is
 abbrev pub localOf : List Instruction → ThreadState → Local

@@ -1,5 +1,5 @@
 // How many accesses the threads of a program have, counted in its rows.
-use crate::by_row::is_access;
+use instructions::is_access;
 use rows::Code;
 ghost use mathlib.Core.Path.{_≡_};
 ghost use Prim.Native.Nat.{ℕ, _*_, _<_, _≤_};

@@ -1,12 +1,8 @@
-// A thread by itself: operands, what an access and what any other instruction does, and settling.
+// What an access does, and a thread carried to its next one.
 
-// A thread by itself: operands, and what an instruction that is no access does.
-mod local;
 // What an access does.
 mod accessing;
-// How a register's value compares with an operand's.
-mod comparing;
-// What the instruction in a row does.
+// What the access in a row does.
 mod by_row;
 // A thread carried to its next access.
 mod settling;

@@ -1,7 +1,7 @@
 // A thread carried to its next access, or to its end.
-use crate::by_row::carried_out;
-use crate::by_row::is_access;
 use crate::thread::ThreadState;
+use instructions::carried_out;
+use instructions::is_access;
 use lines::wide;
 use rows::Code;
 ghost use mathlib.Core.Path.{_≡_};

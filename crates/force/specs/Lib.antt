@@ -3,5 +3,3 @@
 pub mod Answered
 -- the promise as a whole
 pub mod Forcing
--- how the arrays hold a play; for the crate's own functions
-pub mod Standing

@@ -1,12 +1,12 @@
 // Who can force the failure, asked of a program file and a set.
-use crate::first::least_winning;
-use crate::moving::friendly_move;
-use crate::sides::has_step;
-use crate::tails::is_silent;
-use crate::tails::tails_of;
 use decoder::Compiled;
 use listing::ListAnswer;
 use machine::started;
+use moves::friendly_move;
+use moves::has_step;
+use moves::is_silent;
+use moves::least_winning;
+use moves::tails_of;
 use prefix::is_in;
 use program::STEPS;
 ghost use mathlib.Core.Path.{_≡_};

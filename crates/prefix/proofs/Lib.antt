@@ -1,10 +1,7 @@
 -- The laws, in the order in which they rest on each other.
--- bits, and the cases of a word and a stamp
+-- bits, and the access in a row as far as others have to wait for it: laws of the crate carried, passed on
 pub mod Bits
--- the access in a row, as far as others have to wait for it
 pub mod RowAccess
--- R1 read off the machine behind a step
-pub mod LateNow
 -- threads of one class stand in one line
 pub mod ClassGroups
 -- the set of the threads that have not ended

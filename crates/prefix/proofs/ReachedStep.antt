@@ -40,7 +40,7 @@ use Rattle.survivors.proofs.TwinWords.{words-start, words-more}
 use Rattle.prefix.specs.ClassGroups.{Lined}
 use Rattle.prefix.specs.Reached.{machineOf, Reached}
 use Rattle.prefix.specs.declared.place.Place.{Place}
-use Rattle.prefix.proofs.Bits.{stamp-stored}
+use Rattle.carried.proofs.Bits.{stamp-stored}
 use Rattle.prefix.proofs.LiveSet.{set-at-least, live-more}
 
 -- a thread that has not ended has at most sixteen instructions

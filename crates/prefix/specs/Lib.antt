@@ -3,5 +3,3 @@
 pub mod ClassGroups
 -- a prefix of a run as the search holds it; for the code
 pub mod Reached
--- steps and accesses as the code knows them; for the code
-pub mod Steps

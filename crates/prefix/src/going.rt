@@ -1,14 +1,14 @@
 // The start of a search, and a step.
-use crate::lateness::Step;
-use crate::lateness::is_late_behind;
-use crate::lateness::late_bound;
 use crate::place::Place;
-use crate::reading::stamp_behind;
-use crate::reading::word_behind;
 use crate::running::live_behind;
 use crate::running::live_set;
-use crate::sets::addend;
-use crate::sets::power;
+use carried::Step;
+use carried::addend;
+use carried::is_late_behind;
+use carried::late_bound;
+use carried::power;
+use carried::stamp_behind;
+use carried::word_behind;
 use lines::wide;
 use machine::lean_step;
 use machine::started;

@@ -1,7 +1,7 @@
 // The threads that have not ended, a bit for each.
-use crate::sets::addend;
-use crate::sets::power;
 use accesses::ThreadState;
+use carried::addend;
+use carried::power;
 use lines::wide;
 ghost use mathlib.Core.Path.{_≡_};
 ghost use mathlib.Core.Bool.{cond};

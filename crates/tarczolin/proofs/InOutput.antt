@@ -1,5 +1,5 @@
--- A word of kind 1 tells how many bytes stand in front of the output: they are the schedule that is answered, or the graph's text, and the
--- bytes behind them keep their value. The judge's law stands in JudgeFits.
+-- A word of kind 1 tells how many bytes stand in front of the output: they are the graph's text, and the bytes behind them keep their value.
+-- The judge's law stands in JudgeFits.
 use Prim.Native.Nat.{ℕ}
 use mathlib.Core.Path.{_≡_, refl}
 use mathlib.Core.List.{List}
@@ -7,65 +7,20 @@ use native.Mathlib.Omega.{arith}
 use lib.ListN.{length}
 use Rattle.lines.proofs.Over.{take-over, drop-over, length-over}
 use Rattle.schedules.specs.Order.{Schedule}
-use Rattle.schedules.specs.Calls.{Answer, found, nomore}
-use Rattle.schedules.specs.Calls as Calls
 use Rattle.sc.specs.GraphCall.{GraphResult, texted, refusing, graphFile, graphOutput}
-use Rattle.list.specs.Answers.{Violation, fails-first, none-fails, refused-by}
-use Rattle.listing.specs.OnFile.{startFile, continueFile, violationFile}
 use Rattle.listing.specs.Demand3.{InFront}
-use Rattle.listing.proofs.Standing.{start-stands, continue-stands, violation-stands}
 use Rattle.words.specs.Word.{answered, wordOf, kindIn, restIn}
-use Rattle.tarczolin.specs.Graphed.{graphReply}
-use Rattle.tarczolin.specs.Listed.{listed, violationReply}
 use Rattle.words.proofs.Words.{kind-one}
-use Rattle.tarczolin.proofs.Fitting.{GraphWithin, graph-within, graph-fits, start-fits, continue-fits, violation-fits}
+use Rattle.tarczolin.specs.Graphed.{graphReply}
+use Rattle.tarczolin.proofs.Fitting.{GraphWithin, graph-within, graph-fits}
 
--- the word w says of this output what stands in front of it: a schedule, or a text
-abbrev pub Stands : ℕ → List ℕ → List ℕ → (Schedule → Type 0) → Type 0
-Stands w before behind Answered = kindIn w ≡ 1 → (s : Schedule) × Answered s × (length s ≡ restIn w) × InFront s before behind
-
-listed-found : (a : Answer) (n : ℕ) → listed a ≡ answered n → (s : Schedule) × (a ≡ found s) × (length s ≡ n)
-unfolding listed
-listed-found (found s) n e = (s, refl, cc)
-listed-found nomore n e = absurd (let z : _≡_ {A = ℕ} 0 1 = cc in omega arith)
-listed-found (Calls.refused i k) n e = absurd (let z : _≡_ {A = ℕ} 0 1 = cc in omega arith)
-
-violated-first : (v : Violation) (n : ℕ) → violationReply v ≡ answered n → (s : Schedule) × (v ≡ fails-first s) × (length s ≡ n)
-unfolding violationReply
-violated-first (fails-first s) n e = (s, refl, cc)
-violated-first none-fails n e = absurd (let z : _≡_ {A = ℕ} 0 1 = cc in omega arith)
-violated-first (refused-by i k) n e = absurd (let z : _≡_ {A = ℕ} 0 1 = cc in omega arith)
-
-module _ (file out : List ℕ) where
-  -- START
-  pub start-in-output : Stands (wordOf (listed (startFile file out .0))) out (startFile file out .1) (λ s. startFile file out .0 ≡ found s)
-  start-in-output e =
-      let k = kind-one (listed (startFile file out .0)) (start-fits file out) e in
-      let f = listed-found (startFile file out .0) _ k in
-      (f .0, f .1, f .2, start-stands file out (f .0) (f .1))
-
-  -- CONTINUE, from whatever schedule
-  pub continue-in-output : (r : Schedule) →
-      Stands (wordOf (listed (continueFile file r out .0))) out (continueFile file r out .1) (λ s. continueFile file r out .0 ≡ found s)
-  continue-in-output r e =
-      let k = kind-one (listed (continueFile file r out .0)) (continue-fits file r out) e in
-      let f = listed-found (continueFile file r out .0) _ k in
-      (f .0, f .1, f .2, continue-stands file out (f .0) r (f .1))
-
-  -- VIOLATION
-  pub violation-in-output : Stands (wordOf (violationReply (violationFile file out .0))) out (violationFile file out .1) (λ s. violationFile file out .0 ≡ fails-first s)
-  violation-in-output e =
-      let k = kind-one (violationReply (violationFile file out .0)) (violation-fits file out) e in
-      let f = violated-first (violationFile file out .0) _ k in
-      (f .0, f .1, f .2, violation-stands file out (f .0) (f .1))
-
-  -- THE GRAPH CALL: the text
-  pub graph-in-output : (r : Schedule) →
-      Stands (wordOf (graphReply (graphFile file r (length out)))) out (graphOutput (graphFile file r (length out)) out) (λ t. graphFile file r (length out) ≡ texted t)
-  unfolding graphReply graphOutput
-  graph-in-output r e =
-      go (graphFile file r (length out)) _ (graph-within file r (length out)) (kind-one (graphReply (graphFile file r (length out))) (graph-fits file r (length out)) e)
-    where
-      go : (g : GraphResult) (n : ℕ) → GraphWithin (length out) g → graphReply g ≡ answered n → (t : List ℕ) × (g ≡ texted t) × (length t ≡ n) × InFront t out (graphOutput g out)
-      go (texted t) n h q = (t, refl, cc, (take-over t out, drop-over t out, length-over t out (omega arith)))
-      go (refusing i k) n h q = absurd (let z : _≡_ {A = ℕ} 0 1 = cc in omega arith)
+pub graph-in-output : (file out : List ℕ) (r : Schedule) → kindIn (wordOf (graphReply (graphFile file r (length out)))) ≡ 1 →
+    (t : List ℕ) × (graphFile file r (length out) ≡ texted t) × (length t ≡ restIn (wordOf (graphReply (graphFile file r (length out)))))
+    × InFront t out (graphOutput (graphFile file r (length out)) out)
+unfolding graphReply graphOutput
+graph-in-output file out r e =
+    go (graphFile file r (length out)) _ (graph-within file r (length out)) (kind-one (graphReply (graphFile file r (length out))) (graph-fits file r (length out)) e)
+  where
+    go : (g : GraphResult) (n : ℕ) → GraphWithin (length out) g → graphReply g ≡ answered n → (t : List ℕ) × (g ≡ texted t) × (length t ≡ n) × InFront t out (graphOutput g out)
+    go (texted t) n h q = (t, refl, cc, (take-over t out, drop-over t out, length-over t out (omega arith)))
+    go (refusing i k) n h q = absurd (let z : _≡_ {A = ℕ} 0 1 = cc in omega arith)

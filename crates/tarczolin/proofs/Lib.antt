@@ -4,12 +4,8 @@ pub mod Checked
 pub mod Graphs
 -- What the judge's answer says.
 pub mod Judgements
--- What the listing's answers say.
-pub mod ReplyOf
--- What the listing's answer to count says.
-pub mod Tallies
 -- What each call says fits its word; the judge's by itself.
 pub mod Fitting
 pub mod JudgeFits
--- A word of kind 1 tells how many bytes of the output are the schedule.
+-- A word of kind 1 tells how many bytes of the output are the text.
 pub mod InOutput

@@ -5,9 +5,3 @@ pub mod Check
 pub mod Graphed
 -- what the judge says
 pub mod Judged
--- what start, continue and violation say
-pub mod Listed
--- what count says
-pub mod Tallied
--- what the calls by rows say
-pub mod ByRows

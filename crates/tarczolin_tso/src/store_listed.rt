@@ -1,10 +1,10 @@
 // Listed schedules under total store order: the first one, the next one, the first one that fails.
-use tarczolin::word_of;
+use tarczolin_list::word_of;
 ghost use mathlib.Core.Path.{_≡_};
 ghost use Rattle.model.specs.OnFile.{startFile, continueFile, violationFile};
 ghost use Rattle.tso_model.specs.TotalStoreOrder.{tso};
 ghost use Rattle.words.specs.Word.{wordOf};
-ghost use Rattle.tarczolin.specs.Listed.{listed, violationReply};
+ghost use Rattle.tarczolin_list.specs.Listed.{listed, violationReply};
 
 // Kind 1 with the least listed schedule in front of `out` and its length; kind 3 with number and place, and no byte of `out` changed.
 #[no_mangle]

@@ -1,5 +1,5 @@
 // Many listed schedules at a time under total store order, in rows of 50 bytes.
-use tarczolin::rows_word;
+use tarczolin_list::rows_word;
 ghost use mathlib.Core.Path.{_≡_};
 ghost use mathlib.Core.Option.{none, some};
 ghost use Rattle.program.specs.Decode.{decode};
@@ -7,7 +7,7 @@ ghost use Rattle.model.specs.OnFile.{admit};
 ghost use Rattle.tso_model.specs.TotalStoreOrder.{tso};
 ghost use Rattle.tso_listing.specs.RowsCall.{rowsAnswerOf, rowsOutput};
 ghost use Rattle.words.specs.Word.{wordOf};
-ghost use Rattle.tarczolin.specs.ByRows.{rowsReply};
+ghost use Rattle.tarczolin_list.specs.ByRows.{rowsReply};
 
 // Kind 1 with the number of rows, which stand in front of `out`: the first listed schedules, as many as have room; kind 3 with number and
 // place.

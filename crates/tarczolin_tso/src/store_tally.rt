@@ -6,7 +6,7 @@ ghost use mathlib.Core.Path.{_≡_};
 ghost use Rattle.model.specs.OnFile.{countFile};
 ghost use Rattle.tso_model.specs.TotalStoreOrder.{tso};
 ghost use Rattle.words.specs.Word.{wordOf};
-ghost use Rattle.tarczolin.specs.Tallied.{countReply, listedLater, failingLater};
+ghost use Rattle.tarczolin_list.specs.Tallied.{countReply, listedLater, failingLater};
 
 // Kind 1, with the two numbers in the words; kind 3 with number and place, and both words unchanged.
 #[no_mangle]

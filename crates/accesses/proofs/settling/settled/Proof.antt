@@ -2,7 +2,7 @@
 use borrow.Author.Needs.{needs}
 use mathlib.Core.Path.{_≡_, refl, sym, _∙_}
 use lib.ListN.{length}
-use Rattle.accesses.proofs.HeldRows.{same-four}
+use Rattle.instructions.proofs.HeldRegisters.{same-four}
 use Rattle.accesses.proofs.HeldSettling.{loop-ends, loop-stands}
 use Rattle.accesses.proofs.settling.settled.Statement.{statement}
 use Rattle.accesses.proofs.settling.settled.Tie as tie

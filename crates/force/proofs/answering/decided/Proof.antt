@@ -10,8 +10,8 @@ use Rattle.machine.proofs.HeldStart.{loaded-compiled, starting-compiled}
 use Rattle.game.specs.Forced.{hostile-can, friendly-can}
 use Rattle.game.proofs.Answers.{steps-forced, steps-lost, pass-won, pass-lost}
 use Rattle.force.specs.Answered.{answerOf}
-use Rattle.force.specs.Standing.{sideOf}
-use Rattle.force.proofs.Steps.{standing-start}
+use Rattle.moves.specs.Standing.{sideOf}
+use Rattle.moves.proofs.Steps.{standing-start}
 use Rattle.force.proofs.Forcing.{pass-friendly, pass-hostile}
 use Rattle.force.proofs.answering.decided.Statement.{statement}
 use Rattle.force.proofs.answering.decided.Tie as tie

@@ -16,7 +16,7 @@ use Rattle.machine.specs.declared.state.Machine.{Machine}
 use Rattle.survivors.specs.Sets.{setOf}
 use Rattle.survivors.specs.LateSet.{lateNow, lateBehind}
 use Rattle.survivors.proofs.Sets.{set-none}
-use Rattle.prefix.specs.Steps.{actionOf}
+use Rattle.carried.specs.Steps.{actionOf}
 use Rattle.prefix.proofs.LiveSet.{set-grown, bound-grown, set-cut}
 use Rattle.prefix.proofs.ReachedStep.{Short, reached-ready, reached-room, reached-bit, moved-by, next-short, reached-next, enabled-again, enabled-left}
 use Rattle.prefix.proofs.going.advanced.Statement.{statement}

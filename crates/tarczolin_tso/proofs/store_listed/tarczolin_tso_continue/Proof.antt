@@ -3,8 +3,8 @@ use borrow.Author.Needs.{needs}
 use mathlib.Core.Path.{_∙_, ap}
 use Rattle.listing.specs.declared.calling.ListAnswer.{ListAnswer}
 use Rattle.words.specs.Word.{wordOf}
-use Rattle.tarczolin.specs.Listed.{replyOf}
-use Rattle.tarczolin.proofs.ReplyOf.{word-answer}
+use Rattle.tarczolin_list.specs.Listed.{replyOf}
+use Rattle.tarczolin_list.proofs.ReplyOf.{word-answer}
 use Rattle.tarczolin_tso.proofs.store_listed.tarczolin_tso_continue.Statement.{statement}
 use Rattle.tarczolin_tso.proofs.store_listed.tarczolin_tso_continue.Tie as tie
 

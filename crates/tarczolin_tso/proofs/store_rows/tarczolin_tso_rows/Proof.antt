@@ -3,7 +3,7 @@ use borrow.Author.Needs.{needs}
 use mathlib.Core.Path.{_∙_, ap}
 use Rattle.listing.specs.declared.row_calls.RowsAnswer.{RowsAnswer}
 use Rattle.words.specs.Word.{wordOf}
-use Rattle.tarczolin.specs.ByRows.{rowsReply}
+use Rattle.tarczolin_list.specs.ByRows.{rowsReply}
 use Rattle.tarczolin_tso.proofs.store_rows.tarczolin_tso_rows.Statement.{statement}
 use Rattle.tarczolin_tso.proofs.store_rows.tarczolin_tso_rows.Tie as tie
 

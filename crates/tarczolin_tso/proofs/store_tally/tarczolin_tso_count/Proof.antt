@@ -2,7 +2,7 @@
 use borrow.Author.Needs.{needs}
 use mathlib.Core.Path.{_∙_, ap, sym}
 use Rattle.words.specs.Word.{wordOf}
-use Rattle.tarczolin.proofs.Tallies.{tallied-counted, tallied-refused}
+use Rattle.tarczolin_list.proofs.Tallies.{tallied-counted, tallied-refused}
 use Rattle.tarczolin_tso.proofs.store_tally.tarczolin_tso_count.Statement.{statement}
 use Rattle.tarczolin_tso.proofs.store_tally.tarczolin_tso_count.Tie as tie
 
