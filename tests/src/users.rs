@@ -1,7 +1,7 @@
 //! Calls on records held to the oracle: the answer, and every byte of the records, of the two numbers and of the output.
 use crate::calls::users::{self, Shared as Lent};
-use crate::calls::{Answer, Caller, Served, SCHEDULE};
-use crate::oracle::users::{Call, Lists, Record, Said, Shared};
+use crate::calls::{self, Answer, Caller, Served, SCHEDULE};
+use crate::oracle::users::{Call, Lists, Mark, Record, Said, Shared};
 use crate::oracle::Refusal;
 use crate::random::Random;
 
@@ -17,7 +17,16 @@ pub fn lent(record: &Record) -> Caller {
         asking: record.asking,
         steps: record.steps,
         schedule: record.schedule,
+        handed: record.handed,
+        size: record.size,
+        newest: record.newest,
+        marks: record.marks.map(lent_mark),
     }
+}
+
+fn lent_mark(mark: Mark) -> calls::Mark {
+    let Mark { name, length, place, steps, schedule } = mark;
+    calls::Mark { name, length, place, steps, schedule }
 }
 
 /// What a call that gives no schedule answers.
@@ -41,6 +50,9 @@ pub fn held(random: &mut Random, lists: &mut Lists, shared: &mut Shared, call: &
         Call::Open(caller, file) => done(users::open(given, *caller, file)),
         Call::Ask(caller) => done(users::ask(given, *caller)),
         Call::Close(caller) => done(users::close(given, *caller)),
+        Call::Set(caller, name) => done(users::set(given, *caller, name)),
+        Call::Return(caller, name) => done(users::return_to(given, *caller, name)),
+        Call::Forget(caller, name) => done(users::forget(given, *caller, name)),
         Call::Serve(_) => match users::serve(given, &mut out[..output]) {
             Served::Schedule(caller, length) => Ok(Said::Schedule(caller, out[..length as usize].to_vec())),
             Served::NoMore(caller) => Ok(Said::NoMore(caller)),

@@ -8,9 +8,11 @@ use tarczolin_tests::lent;
 use tarczolin_tests::oracle::calls::Found;
 use tarczolin_tests::oracle::covers::Covers;
 use tarczolin_tests::oracle::decode::decode;
+use tarczolin_tests::oracle::users::{Lists, Shared};
 use tarczolin_tests::oracle::Refusal;
 use tarczolin_tests::random::program::{frames, Size, ANY, SMALL};
-use tarczolin_tests::random::{damage, graph, schedule, Random};
+use tarczolin_tests::random::{damage, graph, schedule, users, Random};
+use tarczolin_tests::users::held as held_on_records;
 
 /// Small enough for a list that is walked in a moment.
 const QUICK: Size = Size { threads: 4, instructions: 5, accesses: 9, ..SMALL };
@@ -126,6 +128,7 @@ fn ask_all(random: &mut Random, file: &[u8], beside: &[u8]) {
         against(random, file, beside);
     }
     ask_in_store_order(random, file, beside);
+    ask_on_records(random, file);
 }
 
 /// The same calls under total store order; 41 comes before the output.
@@ -145,6 +148,20 @@ fn ask_in_store_order(random: &mut Random, file: &[u8], beside: &[u8]) {
             Answer::Refused(1..=8 | 40 | 41, _) => assert_eq!((listed, failing), (7, 9)),
             other => panic!("{other:?} is no answer of count"),
         }
+    }
+}
+
+/// The calls on four records, damaged between them, held to the oracle.
+fn ask_on_records(random: &mut Random, file: &[u8]) {
+    let mut files = vec![text(&frames(random, QUICK))];
+    if quick(file) {
+        files.push(file.to_vec());
+    }
+    let (mut lists, mut shared) = (Lists::default(), Shared::fresh());
+    for _ in 0..20 {
+        let call = users::call(random, &files);
+        held_on_records(random, &mut lists, &mut shared, &call).ok();
+        users::damage(random, &files, &mut shared);
     }
 }
 

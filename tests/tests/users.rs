@@ -2,8 +2,9 @@
 //! list of calls from four fresh records holds.
 use std::collections::BTreeMap;
 use tarczolin_tests::files::lines;
+use tarczolin_tests::oracle::decode::decode;
 use tarczolin_tests::oracle::listing::Listed;
-use tarczolin_tests::oracle::users::{Call, Lists, Record, Said, Shared};
+use tarczolin_tests::oracle::users::{Call, Lists, Mark, Record, Said, Seat, Shared, FREE};
 use tarczolin_tests::oracle::Refusal;
 use tarczolin_tests::random::users::{call, damage, files};
 use tarczolin_tests::random::Random;
@@ -184,6 +185,157 @@ fn damaged_records() {
     }
 }
 
+fn name(text: &str) -> Vec<u8> {
+    text.as_bytes().to_vec()
+}
+
+impl Held {
+    /// Asks and serves.
+    fn next(&mut self, caller: usize) -> Option<Vec<u8>> {
+        self.done(Call::Ask(caller));
+        match self.serve() {
+            Said::Schedule(_, schedule) => Some(schedule),
+            said => {
+                assert_eq!(said, Said::NoMore(caller as u8));
+                None
+            }
+        }
+    }
+}
+
+/// Set stores the last schedule handed, also after a return; return goes on behind it, and keeps the asking.
+#[test]
+fn marks_to_come_back_to() {
+    let mut host = Held::fresh();
+    host.done(Call::Open(1, lines(WHOLE)));
+    host.done(Call::Set(1, name("start")));
+    assert_eq!([host.next(1), host.next(1)], [Some(vec![0, 1, 2]), Some(vec![1, 0, 2])]);
+    host.done(Call::Return(1, name("start")));
+    // the last schedule handed, not the place returned to
+    host.done(Call::Set(1, name("x")));
+    assert_eq!(host.next(1), Some(vec![0, 1, 2]));
+    host.done(Call::Ask(1));
+    host.done(Call::Return(1, name("x")));
+    assert_eq!(host.serve(), Said::Schedule(1, vec![1, 2, 0]));
+    assert_eq!([host.next(1), host.next(1)], [None, None]);
+    // a used name is overwritten; no more hands nothing
+    host.done(Call::Set(1, name("start")));
+    host.done(Call::Return(1, name("start")));
+    assert_eq!(host.next(1), None);
+    host.done(Call::Forget(1, name("x")));
+    host.refused(Call::Return(1, name("x")), 46);
+    // closing and opening leave no mark
+    host.done(Call::Close(1));
+    host.done(Call::Open(1, lines(WHOLE)));
+    host.refused(Call::Return(1, name("start")), 46);
+    assert_eq!(host.next(1), Some(vec![0, 1, 2]));
+}
+
+/// 22, 42, 44, 45, then 46 or 47.
+#[test]
+fn refusals_of_marks_in_order() {
+    let mut host = Held::fresh();
+    for call in [Call::Set, Call::Return, Call::Forget] {
+        host.refused(call(4, name("")), 42);
+        host.refused(call(0, name("")), 44);
+    }
+    host.done(Call::Open(0, lines(WHOLE)));
+    for call in [Call::Set, Call::Return, Call::Forget] {
+        host.refused(call(0, name("")), 45);
+        host.refused(call(0, name("nine char")), 45);
+        host.refused(call(0, vec![b'a'; 257]), 45);
+    }
+    host.refused(Call::Return(0, name("a")), 46);
+    host.refused(Call::Forget(0, name("a")), 46);
+    for k in 0..8 {
+        host.done(Call::Set(0, vec![k]));
+    }
+    host.refused(Call::Set(0, name("ninth")), 47);
+    host.done(Call::Set(0, vec![7]));
+    host.refused(Call::Return(0, vec![7, 0]), 46);
+    host.done(Call::Forget(0, vec![3]));
+    host.done(Call::Set(0, name("ninth")));
+    assert_eq!(host.shared.records[0].marks[3].name, *b"ninth\0\0\0");
+    host.shared.records.pop();
+    host.refused(Call::Set(9, name("")), 22);
+}
+
+/// A mark of the name m behind this schedule.
+fn mark_behind(steps: &[u8]) -> Mark {
+    let mut mark = Mark { length: 1, place: 2, steps: steps.len() as u8, ..FREE };
+    mark.name[0] = b'm';
+    mark.schedule[..steps.len()].copy_from_slice(steps);
+    mark
+}
+
+/// A name of another length, a place that is neither the beginning nor a full schedule.
+#[test]
+fn marks_that_count_as_free() {
+    let full = mark_behind(&[0, 1, 2]);
+    let free = [
+        Mark { length: 0, ..full },
+        Mark { length: 9, ..full },
+        Mark { length: 255, ..full },
+        Mark { place: 0, ..full },
+        Mark { place: 3, ..full },
+        Mark { place: 255, ..full },
+        Mark { steps: 2, ..full },
+        Mark { steps: 25, ..full },
+        mark_behind(&[0, 1, 3]),
+    ];
+    for mark in free {
+        let mut host = Held::fresh();
+        host.done(Call::Open(0, lines(WHOLE)));
+        host.shared.records[0].marks[0] = mark;
+        host.refused(Call::Return(0, name("m")), 46);
+        host.refused(Call::Forget(0, name("m")), 46);
+        host.done(Call::Set(0, name("m")));
+        assert_eq!(host.shared.records[0].marks[0].place, 1, "the first free slot");
+    }
+}
+
+/// The earlier counts; set and forget empty the later, and leave as it lies what is free by its place.
+#[test]
+fn two_marks_of_one_name() {
+    let twice = || {
+        let mut host = Held::fresh();
+        host.done(Call::Open(0, lines(WHOLE)));
+        host.shared.records[0].marks[0] = Mark { place: 3, ..mark_behind(&[0, 1, 2]) };
+        host.shared.records[0].marks[2] = mark_behind(&[0, 1, 2]);
+        host.shared.records[0].marks[5] = mark_behind(&[1, 0, 2]);
+        host
+    };
+    let mut host = twice();
+    host.done(Call::Return(0, name("m")));
+    assert_eq!(host.next(0), Some(vec![1, 0, 2]));
+    for call in [Call::Set, Call::Forget] {
+        let (mut host, before) = (twice(), twice().shared.records[0].marks);
+        host.done(call(0, name("m")));
+        let marks = host.shared.records[0].marks;
+        assert_eq!((marks[0], marks[5]), (before[0], FREE));
+    }
+}
+
+/// Set then stores the beginning.
+#[test]
+fn a_last_schedule_that_is_not_full_counts_as_none() {
+    for damage in [
+        |r: &mut Record| r.size = 2,
+        |r: &mut Record| r.size = 25,
+        |r: &mut Record| r.handed = 2,
+        |r: &mut Record| r.newest[2] = 7,
+    ] {
+        let mut host = Held::fresh();
+        host.done(Call::Open(0, lines(WHOLE)));
+        assert_eq!(host.next(0), Some(vec![0, 1, 2]));
+        damage(&mut host.shared.records[0]);
+        host.done(Call::Set(0, name("m")));
+        assert_eq!(host.shared.records[0].marks[0].place, 1);
+        host.done(Call::Return(0, name("m")));
+        assert_eq!(host.next(0), Some(vec![0, 1, 2]));
+    }
+}
+
 /// What came out, for the counts of a test.
 fn kind(call: &Call, said: &Result<Said, Refusal>) -> String {
     let name = format!("{call:?}").split('(').next().unwrap_or_default().to_lowercase();
@@ -197,17 +349,34 @@ fn kind(call: &Call, said: &Result<Said, Refusal>) -> String {
     }
 }
 
+/// How the marks of an open record read.
+fn marks_read(record: &Record) -> Vec<&'static str> {
+    let Some(Seat { file, .. }) = record.seat() else { return Vec::new() };
+    let program = decode(&file).expect("an open record has a program");
+    let names = record.names(&program);
+    let read = |(mark, name): (&Mark, &Option<Vec<u8>>)| match (mark.length, mark.place) {
+        _ if name.is_some() => "counts",
+        _ if *mark == FREE => "empty",
+        (0 | 9.., _) => "a name of another length",
+        _ if mark.name(&program).is_some() => "later of one name",
+        (_, 2) => "not full",
+        _ => "no place of a mark",
+    };
+    record.marks.iter().zip(&names).map(read).collect()
+}
+
 /// Lists of thousands of calls, each handed what the one before gave back, with damaged records among them.
 #[test]
 fn random_lists_of_calls() {
     let mut seen: BTreeMap<String, usize> = BTreeMap::new();
-    let (lists, calls) = (share::of(40), 3_000);
+    let mut marks: BTreeMap<&'static str, usize> = BTreeMap::new();
+    let (lists, calls) = (share::of(80), 3_000);
     for seed in 0..lists {
         let mut random = Random::new(0x6800 + seed as u64);
         let files = files(&mut random);
         let (mut lists, mut shared) = (Lists::default(), Shared::fresh());
         for _ in 0..calls {
-            if seed % 2 == 0 && random.one_in(6) {
+            if seed % 2 == 0 && random.one_in(3) {
                 damage(&mut random, &files, &mut shared);
             }
             if random.one_in(60) {
@@ -219,66 +388,121 @@ fn random_lists_of_calls() {
                 assert_eq!(said, Err(Refusal { number: 22, place: 0 }));
             }
             let call = call(&mut random, &files);
+            if let Call::Set(k @ 0..=3, _) | Call::Return(k @ 0..=3, _) | Call::Forget(k @ 0..=3, _) = call {
+                marks_read(&shared.records[k]).into_iter().for_each(|read| *marks.entry(read).or_default() += 1);
+            }
             let said = held(&mut random, &mut lists, &mut shared, &call);
             *seen.entry(kind(&call, &said)).or_default() += 1;
         }
     }
-    println!("{lists} lists of {calls} calls: {seen:?}");
-    assert!(!share::whole() || (seen.len() == 14 && seen.values().all(|&n| n > 100)), "{seen:?}");
+    println!("{lists} lists of {calls} calls: {seen:?}; marks that a call on marks met: {marks:?}");
+    assert!(!share::whole() || (seen.len() == 29 && seen.values().all(|&n| n > 50)), "{seen:?}");
+    assert!(!share::whole() || (marks.len() == 6 && marks.values().all(|&n| n > 1_000)), "{marks:?}");
 }
 
-/// One caller's opening: what it was given, and the serves, refused ones not counted, since it asked.
+/// One caller's opening: what it was given since it opened or returned, behind which schedule, the serves, refused ones not counted,
+/// since it asked, the last schedule handed, and its marks: behind a schedule, or none for the beginning.
 #[derive(Default)]
 struct Opening {
     file: Vec<u8>,
     given: Vec<Option<Vec<u8>>>,
+    behind: Option<Vec<u8>>,
     waits: Option<usize>,
+    last: Option<Vec<u8>>,
+    marks: BTreeMap<Vec<u8>, Option<Vec<u8>>>,
+}
+
+impl Opening {
+    /// Asking twice is asking once.
+    fn asks(&mut self) {
+        self.waits = Some(self.waits.unwrap_or(0));
+    }
+
+    fn returns(&mut self, name: &[u8]) {
+        (self.behind, self.given) = (self.marks[name].clone(), Vec::new());
+    }
+
+    /// Served by the fourth serve at the latest, with the next member behind the mark, or no more where there is none.
+    fn served(&mut self, lists: &mut Lists, given: Option<Vec<u8>>) {
+        assert!(self.waits.take().expect("it asked") <= 4, "the fourth serve at the latest");
+        self.last = given.clone().or(self.last.take());
+        self.given.push(given);
+        let list = lists.of(&self.file);
+        let behind = |l: &&Listed| self.behind.as_ref().is_none_or(|mark| l.schedule > *mark);
+        let members = list.iter().filter(behind).map(|l| Some(l.schedule.clone())).chain(std::iter::repeat(None));
+        assert!(self.given.iter().cloned().eq(members.take(self.given.len())), "in order");
+    }
+}
+
+/// What became of one list of calls: the openings there are, and how often something came out.
+#[derive(Default)]
+struct Became {
+    openings: [Option<Opening>; 4],
+    handed: u64,
+    ended: usize,
+    returned: usize,
+}
+
+impl Became {
+    fn of(&mut self, caller: usize) -> &mut Opening {
+        self.openings[caller].as_mut().expect("open")
+    }
+
+    /// Behind a call that was not refused.
+    fn after(&mut self, lists: &mut Lists, call: Call, said: Said) {
+        match (call, said) {
+            (Call::Open(k, file), _) => self.openings[k] = Some(Opening { file, ..Opening::default() }),
+            (Call::Close(k), _) => self.openings[k] = None,
+            (Call::Ask(k), _) => self.of(k).asks(),
+            (Call::Set(k, name), _) => {
+                let last = self.of(k).last.clone();
+                self.of(k).marks.insert(name, last);
+            }
+            (Call::Forget(k, name), _) => drop(self.of(k).marks.remove(&name).expect("known")),
+            (Call::Return(k, name), _) => {
+                self.of(k).returns(&name);
+                self.returned += 1;
+            }
+            (Call::Serve(_), said) => self.after_serve(lists, said),
+        }
+        let waiting = self.openings.iter().flatten().all(|opening| opening.waits.is_none_or(|waits| waits < 4));
+        assert!(waiting, "somebody waits");
+    }
+
+    fn after_serve(&mut self, lists: &mut Lists, said: Said) {
+        self.openings.iter_mut().flatten().flat_map(|opening| &mut opening.waits).for_each(|waits| *waits += 1);
+        match said {
+            Said::Schedule(k, schedule) => {
+                self.handed += 1;
+                self.of(k as usize).served(lists, Some(schedule));
+            }
+            Said::NoMore(k) => {
+                self.ended += 1;
+                self.of(k as usize).served(lists, None);
+            }
+            Said::Idle | Said::Done => {}
+        }
+    }
 }
 
 /// From four fresh records: served by the fourth serve at the latest; the list in order, each member once, and no more exactly at the
-/// end; and the number of all.
+/// end, after a return what the list holds behind the mark; and the number of all.
 #[test]
 fn claims_of_every_list_of_calls() {
-    let (mut ended, mut handed) = (0, 0);
+    let (mut handed, mut ended, mut returned) = (0, 0, 0);
     for seed in 0..share::of(30) {
         let mut random = Random::new(0x6a00 + seed as u64);
         let files = files(&mut random);
-        let (mut lists, mut shared) = (Lists::default(), Shared::fresh());
-        let mut openings: [Option<Opening>; 4] = Default::default();
-        let mut all = 0;
+        let (mut lists, mut shared, mut became) = (Lists::default(), Shared::fresh(), Became::default());
         for _ in 0..2_000 {
             let call = call(&mut random, &files);
-            let said = held(&mut random, &mut lists, &mut shared, &call);
-            match (call, said) {
-                (_, Err(_)) => continue,
-                (Call::Open(k, file), _) => openings[k] = Some(Opening { file, ..Opening::default() }),
-                (Call::Close(k), _) => openings[k] = None,
-                (Call::Ask(k), _) => {
-                    let waits = &mut openings[k].as_mut().expect("open").waits;
-                    *waits = Some(waits.unwrap_or(0));
-                }
-                (Call::Serve(_), Ok(said)) => {
-                    openings.iter_mut().flatten().flat_map(|opening| &mut opening.waits).for_each(|waits| *waits += 1);
-                    let (k, given) = match said {
-                        Said::Schedule(k, schedule) => (k, Some(schedule)),
-                        Said::NoMore(k) => (k, None),
-                        _ => continue,
-                    };
-                    all += given.is_some() as u64;
-                    let opening = openings[k as usize].as_mut().expect("open");
-                    opening.given.push(given);
-                    assert!(opening.waits.take().expect("it asked") <= 4, "the fourth serve at the latest");
-                    let list = lists.of(&opening.file);
-                    let members = list.iter().map(|l: &Listed| Some(l.schedule.clone())).chain(std::iter::repeat(None));
-                    assert!(opening.given.iter().cloned().eq(members.take(opening.given.len())), "in order");
-                    ended += opening.given.last().is_some_and(Option::is_none) as usize;
-                }
+            if let Ok(said) = held(&mut random, &mut lists, &mut shared, &call) {
+                became.after(&mut lists, call, said);
             }
-            assert!(openings.iter().flatten().all(|opening| opening.waits.is_none_or(|waits| waits < 4)), "somebody waits");
-            assert_eq!(shared.handed, all);
+            assert_eq!(shared.handed, became.handed);
         }
-        handed += all;
+        (handed, ended, returned) = (handed + became.handed, ended + became.ended, returned + became.returned);
     }
-    println!("{handed} schedules handed, {ended} times no more");
-    assert!(!share::whole() || (handed > 4_000 && ended > 1_000));
+    println!("{handed} schedules handed, {ended} times no more, {returned} returns");
+    assert!(!share::whole() || (handed > 3_000 && ended > 1_000 && returned > 500));
 }

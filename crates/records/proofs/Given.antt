@@ -28,7 +28,7 @@ use Rattle.listing.specs.AnswerOf.{listAnswerOf}
 use Rattle.listing.specs.declared.calling.ListAnswer.the-variants.{Found, NoMore, Refused}
 use Rattle.sharing.specs.declared.caller.Caller.{Caller}
 use Rattle.sharing.specs.Seat.{Place, beginning, behind, end, toCome, Seat, closed, active}
-use Rattle.sharing.specs.Record.{fileRead, behindFull, placeOf, seated, reading, served}
+use Rattle.sharing.specs.Record.{fileRead, behindFull, placeOf, seated, reading, served, standing, handing}
 use Rattle.sharing.specs.Call.{forSeat}
 use Rattle.sharing.proofs.Fates.{come-full}
 use Rattle.sharing.proofs.Readings.{active-formed}
@@ -38,17 +38,42 @@ use Rattle.records.specs.Next.{nextOf, foundIn, Short}
 use Rattle.records.proofs.Opened.{read-long, read-file, read-refused, read-accepted}
 
 -- ---- a record behind what it was given
-pub served-found : (c : Caller) (n : Next) → n .found ≡ true → (o : Option Schedule) → n ≡ nextOf o
-    → record { file = c .file; length = c .length; place = 2; asking = 0; steps = n .steps; schedule = n .schedule } ≡ served c o
-unfolding nextOf served
-served-found c n f (some s) e = λ i. record { file = c .file; length = c .length; place = 2; asking = 0; steps = e i .steps; schedule = e i .schedule }
-served-found c n f none e = absurd (true≢false (sym f ∙ ap (λ (m : Next). m .found) e))
+module _ (c : Caller) (n : Next) where
+  -- behind a schedule, which is the last one handed
+  abbrev pub behindFound : Caller
+  behindFound = record {
+    file = c .file;
+    length = c .length;
+    place = 2;
+    asking = 0;
+    steps = n .steps;
+    schedule = n .schedule;
+    handed = 1;
+    size = n .steps;
+    newest = n .schedule;
+    marks = c .marks;
+  }
 
-pub served-none : (c : Caller) (n : Next) → n .found ≡ false → (o : Option Schedule) → n ≡ nextOf o
-    → record { file = c .file; length = c .length; place = 3; asking = 0; steps = n .steps; schedule = n .schedule } ≡ served c o
-unfolding nextOf served
-served-none c n f (some s) e = absurd (true≢false (sym (ap (λ (m : Next). m .found) e) ∙ f))
-served-none c n f none e = λ i. record { file = c .file; length = c .length; place = 3; asking = 0; steps = e i .steps; schedule = e i .schedule }
+  pub served-found : n .found ≡ true → (o : Option Schedule) → n ≡ nextOf o → behindFound ≡ served c o
+  unfolding nextOf served standing handing
+  served-found f (some s) e = λ i. record {
+    file = c .file;
+    length = c .length;
+    place = 2;
+    asking = 0;
+    steps = e i .steps;
+    schedule = e i .schedule;
+    handed = 1;
+    size = e i .steps;
+    newest = e i .schedule;
+    marks = c .marks;
+  }
+  served-found f none e = absurd (true≢false (sym f ∙ ap (λ (m : Next). m .found) e))
+
+  pub served-none : n .found ≡ false → (o : Option Schedule) → n ≡ nextOf o → standing c 3 (n .steps) (n .schedule) 0 ≡ served c o
+  unfolding nextOf served
+  served-none f (some s) e = absurd (true≢false (sym (ap (λ (m : Next). m .found) e) ∙ f))
+  served-none f none e = λ i. standing c 3 (e i .steps) (e i .schedule) 0
 
 -- ---- what a call of the listing gave
 pub by-found : (n : ℕ) (out : List ℕ) (x : Answer) → Found n ≡ listAnswerOf x → out ≡ content x (replicate 24 0) → Short x

@@ -2,14 +2,36 @@
 use crate::next::Next;
 use program::STEPS;
 use sharing::Caller;
+use sharing::Mark;
 ghost use mathlib.Core.Path.{_≡_};
 ghost use mathlib.Core.Option.{Option};
 ghost use Prim.Native.Nat.{_≤_};
-ghost use lib.ListN.{length, take};
+ghost use lib.ListN.{length, take, replicate};
 ghost use Rattle.lines.specs.Over.{over};
 ghost use Rattle.schedules.specs.Order.{Schedule};
-ghost use Rattle.sharing.specs.Record.{fresh, opened, asked, served};
+ghost use Rattle.sharing.specs.Record.{noMark, fresh, opened, asked, served};
 ghost use Rattle.records.specs.Next.{nextOf};
+
+// A mark that is free: nothing in it.
+pub fn no_mark() -> Mark
+    ensures { λ r. ⌜ r ≡ noMark ⌝ }
+{
+    Mark {
+        name: [0u8; 8],
+        length: 0,
+        place: 0,
+        steps: 0,
+        schedule: [0u8; STEPS],
+    }
+}
+
+// Eight of them.
+fn no_marks() -> [Mark; 8]
+    ensures { λ r. ⌜ r ≡ replicate 8 noMark ⌝ }
+{
+    let m = no_mark();
+    [m; 8]
+}
 
 // A fresh record, as closing leaves it.
 pub fn fresh_record() -> Caller
@@ -22,6 +44,10 @@ pub fn fresh_record() -> Caller
         asking: 0,
         steps: 0,
         schedule: [0u8; STEPS],
+        handed: 0,
+        size: 0,
+        newest: [0u8; STEPS],
+        marks: no_marks(),
     }
 }
 
@@ -52,6 +78,10 @@ pub fn opened_with(file: &[u8]) -> Caller
         asking: 0,
         steps: 0,
         schedule: [0u8; STEPS],
+        handed: 0,
+        size: 0,
+        newest: [0u8; STEPS],
+        marks: no_marks(),
     }
 }
 
@@ -59,34 +89,27 @@ pub fn opened_with(file: &[u8]) -> Caller
 pub fn asked(c: Caller) -> Caller
     ensures { λ r. ⌜ r ≡ asked c ⌝ }
 {
-    let file = c.file;
-    let schedule = c.schedule;
-    Caller {
-        file: file,
-        length: c.length,
-        place: c.place,
-        asking: 1,
-        steps: c.steps,
-        schedule: schedule,
-    }
+    let mut r = c;
+    r.asking = 1;
+    r
 }
 
 // The record behind what it was given: a schedule, or no more.
 pub fn served(c: Caller, next: Next) -> Caller
     ensures { λ r. ⌜ ((o : Option Schedule) → next ≡ nextOf o → r ≡ served c o) ⌝ }
 {
-    let file = c.file;
     let schedule = next.schedule;
-    let mut place = 3u8;
+    let mut r = c;
+    r.asking = 0;
+    r.steps = next.steps;
+    r.schedule = schedule;
     if next.found {
-        place = 2;
+        r.place = 2;
+        r.handed = 1;
+        r.size = next.steps;
+        r.newest = schedule;
+        return r;
     }
-    Caller {
-        file: file,
-        length: c.length,
-        place: place,
-        asking: 0,
-        steps: next.steps,
-        schedule: schedule,
-    }
+    r.place = 3;
+    r
 }

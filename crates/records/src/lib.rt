@@ -9,6 +9,7 @@ mod next;
 
 pub use left::asked;
 pub use left::fresh_record;
+pub use left::no_mark;
 pub use left::opened_with;
 pub use left::put_front;
 pub use left::served;
@@ -16,3 +17,4 @@ pub use next::Next;
 pub use next::next_of;
 pub use reads::asks;
 pub use reads::is_open;
+pub use reads::is_place;

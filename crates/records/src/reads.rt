@@ -30,7 +30,7 @@ fn is_full(p: Compiled, schedule: &[u8]) -> bool
 }
 
 // Whether it is a place in this program's list: the beginning, behind a full schedule, or the end.
-fn is_place(p: Compiled, place: u8, steps: u8, schedule: [u8; STEPS]) -> bool
+pub fn is_place(p: Compiled, place: u8, steps: u8, schedule: [u8; STEPS]) -> bool
     requires { ⌜ WellFormed (programOf p) ⌝ }
     ensures { λ r. ⌜ r ≡ isPlace (placeOf (programOf p) place steps schedule) ⌝ }
 {

@@ -1,18 +1,5 @@
--- The laws that the proofs of this crate cite.
--- what open, ask and close do, way by way of the code
-pub mod Doing
--- who is served next, way by way of the code
-pub mod Choosing
--- what a serve does, way by way of the code
-pub mod Giving
--- rules for the walks by hand, over a slice of structs, which the borrow checker does not cover:
--- a constant whose bound a proof shows
-pub mod Literal
--- a `&mut [T]` shown to a callee as `&[T]`, and back
-pub mod Shown
--- calls of `record_at`
-pub mod Looking
--- calls of `put_record`
-pub mod Putting
--- calls of `record_of`, `reply_of` and `place_of`
-pub mod Parts
+-- The laws that the proofs of this crate cite: walks by hand, over a slice of structs, which the borrow checker does not cover.
+-- a call for one caller, whatever core it asks
+pub mod PlainWalk
+-- a call for one caller with bytes, whatever core it asks
+pub mod BytesWalk

@@ -1,19 +1,22 @@
-// The four calls. The list must have exactly four records, whatever they hold; the last caller served and the number of schedules handed
+// The seven calls. The list must have exactly four records, whatever they hold; the last caller served and the number of schedules handed
 // to all go into each call and come out of it. A refusal changes nothing.
-use crate::answer::Reply;
-use crate::answer::place_of;
-use crate::answer::record_of;
-use crate::answer::reply_of;
-use crate::lent::put_record;
-use crate::lent::record_at;
-use crate::serving::serve_four;
-use crate::single::ask_one;
-use crate::single::close_one;
-use crate::single::open_one;
+use handling::Reply;
+use handling::ask_one;
+use handling::close_one;
+use handling::forget_one;
+use handling::open_one;
+use handling::place_of;
+use handling::put_record;
+use handling::record_at;
+use handling::record_of;
+use handling::reply_of;
+use handling::return_one;
+use handling::set_one;
+use serving::serve_four;
 use sharing::Caller;
 ghost use mathlib.Core.Path.{_≡_};
-ghost use Rattle.sharing.specs.Call.{open-for, ask-for, close-for};
-ghost use Rattle.service.specs.Reply.{shared, Does, Served};
+ghost use Rattle.sharing.specs.Call.{open-for, ask-for, close-for, set-mark, return-to, forget};
+ghost use Rattle.handling.specs.Reply.{shared, Does, Served};
 
 // Opens for caller k with a program file: before the first schedule.
 pub fn open(
@@ -76,6 +79,60 @@ pub fn serve(callers: &mut [Caller], last: &mut u64, handed: &mut u64, out: &mut
     let d = record_at(callers, 3);
     let o = serve_four(n, a, b, c, d, last, handed, out);
     let k = place_of(o);
+    let r = record_of(o);
+    put_record(callers, k, r);
+    reply_of(o)
+}
+
+// Caller k's last schedule handed since it opened, or the beginning if there is none, is stored under this name.
+pub fn set(callers: &mut [Caller], last: &mut u64, handed: &mut u64, k: usize, name: &[u8]) -> Reply
+    ensures { λ r. ⌜ Does (set-mark k (now (name .entry)))
+        (shared (now (callers .entry)) (now (last .entry)) (now (handed .entry))) r
+        (shared (now (callers .exit)) (now (last .exit)) (now (handed .exit))) ⌝ }
+{
+    let n = callers.len();
+    let c = record_at(callers, k);
+    let o = set_one(n, c, last, handed, k, name);
+    let r = record_of(o);
+    put_record(callers, k, r);
+    reply_of(o)
+}
+
+// Caller k stands where the mark of this name does, and its serves go on behind it.
+pub fn return_to(
+    callers: &mut [Caller],
+    last: &mut u64,
+    handed: &mut u64,
+    k: usize,
+    name: &[u8],
+) -> Reply
+    ensures { λ r. ⌜ Does (return-to k (now (name .entry)))
+        (shared (now (callers .entry)) (now (last .entry)) (now (handed .entry))) r
+        (shared (now (callers .exit)) (now (last .exit)) (now (handed .exit))) ⌝ }
+{
+    let n = callers.len();
+    let c = record_at(callers, k);
+    let o = return_one(n, c, last, handed, k, name);
+    let r = record_of(o);
+    put_record(callers, k, r);
+    reply_of(o)
+}
+
+// Caller k's mark of this name is freed.
+pub fn forget(
+    callers: &mut [Caller],
+    last: &mut u64,
+    handed: &mut u64,
+    k: usize,
+    name: &[u8],
+) -> Reply
+    ensures { λ r. ⌜ Does (forget k (now (name .entry)))
+        (shared (now (callers .entry)) (now (last .entry)) (now (handed .entry))) r
+        (shared (now (callers .exit)) (now (last .exit)) (now (handed .exit))) ⌝ }
+{
+    let n = callers.len();
+    let c = record_at(callers, k);
+    let o = forget_one(n, c, last, handed, k, name);
     let r = record_of(o);
     put_record(callers, k, r);
     reply_of(o)

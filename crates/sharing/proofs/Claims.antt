@@ -1,24 +1,31 @@
 -- WHAT HOLDS OF EVERY LIST OF CALLS from four fresh records.
 use Prim.Native.Nat.{ℕ, _+_, _<_, _≤_, _%_, _^_}
-use mathlib.Core.Path.{_≡_, refl, sym, ap, _∙_}
+use mathlib.Core.Path.{_≡_, refl, sym, ap, subst, _∙_}
 use mathlib.Core.Logic.{_⊎_, ⊎-elim}
 use mathlib.Core.Bool.{Bool, true, false}
+use mathlib.Core.Option.{none, some}
 use mathlib.Core.List.{List, [], _∷_}
 use native.Mathlib.Omega.{arith}
-use lib.ListN.{getD}
+use lib.ListN.{length, getD}
 use Rattle.program.specs.Program.{Program}
 use Rattle.program.specs.Decode.{accepted, decode}
 use Rattle.list.specs.ListOf.{listOf}
-use Rattle.sharing.specs.Seat.{Place, beginning, Seat, closed, active, toCome, isOpen}
-use Rattle.sharing.specs.Record.{reading, fresh, opened, asked}
-use Rattle.sharing.specs.Call.{Call, open-for, ask-for, close-for, Answer, done, refused, Shared, start, seatOf, lastRead, openAnswer, openOnly, answerTo, callersDone, callersAfter, lastAfter, after}
+use Rattle.sharing.specs.declared.caller.Caller.{Caller}
+use Rattle.sharing.specs.Seat.{Place, beginning, Seat, closed, active, toCome, isOpen, asks}
+use Rattle.sharing.specs.Record.{reading, noMark, fresh, opened, asked}
+use Rattle.sharing.specs.Marks.{nameFits}
+use Rattle.sharing.specs.Call.{Call, open-for, ask-for, close-for, return-to, forget, done, refused, Shared, start, seatOf, openAnswer, openOnly, answerTo, after}
 use Rattle.sharing.specs.Play.{answers, behindAll, schedulesIn}
+use Rattle.sharing.specs.Noted.{Noted, nothingNoted}
 use Rattle.sharing.specs.Claims.{Sharing}
-use Rattle.sharing.proofs.Rotation.{distance}
-use Rattle.sharing.proofs.Readings.{reading-fresh, reading-opened, reading-asked}
-use Rattle.sharing.proofs.Seats.{Four, Opens, open-either, only-either, seat-same, four-after}
+use Rattle.sharing.proofs.Readings.{reading-fresh, reading-opened, reading-asked, reading-returned}
+use Rattle.sharing.proofs.Seats.{Four, Opens, open-either, only-either, four-after}
+use Rattle.sharing.proofs.Touches.{recordOf, whose, ownDone, own-leaves}
+use Rattle.sharing.proofs.Fates.{return-leaves}
+use Rattle.sharing.proofs.Lent.{known-small}
 use Rattle.sharing.proofs.InOrder.{order-from}
 use Rattle.sharing.proofs.Fair.{fair-from, distance-small}
+use Rattle.sharing.proofs.Noted.{Agrees, agrees-opened, Open, noted-from, known-slot, unknown-refused}
 use Rattle.sharing.proofs.Handed.{handed-from}
 
 -- there are four records behind every list of calls
@@ -40,56 +47,91 @@ open-active (active p x a) e = (p, x, a, refl)
 -- behind an ask that is not refused the caller asks
 asked-seat : (σ : Shared) (k : ℕ) → Four (σ .callers) → answerTo (ask-for k) σ ≡ done →
     (k < 4) × ((p : Program) × (x : Place) × (seatOf (after (ask-for k) σ .callers) k ≡ active p x true))
-unfolding answerTo after callersAfter callersDone seatOf
+unfolding answerTo seatOf ownDone whose
 asked-seat σ k h e = ⊎-elim
     (λ (q : (openOnly (σ .callers) k ≡ done) × (k < 4) × (isOpen (seatOf (σ .callers) k) ≡ true)).
-    let o = open-active (seatOf (σ .callers) k) (q .2) in (
-      q .1,
-      (
-        o .0,
-        o .1,
-        ap (λ (z : Answer). seatOf (callersAfter (ask-for k) z (σ .callers)) k) e
-            ∙ seat-same (σ .callers) k (asked (getD (σ .callers) k fresh)) h (q .1) ∙ reading-asked (getD (σ .callers) k fresh) (o .0) (o .1) (o .2) (o .3),
-      ),
-    ))
+    let o = open-active (seatOf (σ .callers) k) (q .2) in
+    (q .1, (o .0, o .1, ap reading (own-leaves σ h k (q .1) (ask-for k) refl e) ∙ reading-asked (recordOf σ k) (o .0) (o .1) (o .2) (o .3))))
     (λ (q : (n : ℕ) × (m : ℕ) × (openOnly (σ .callers) k ≡ refused n m)). let z = sym e ∙ q .2 in absurd (let y : _≡_ {A = ℕ} 0 1 = cc in omega arith))
     (only-either (σ .callers) k h)
 
--- behind an opening the caller stands before the first schedule
-opened-seat : (σ : Shared) (k : ℕ) (f : List ℕ) (p : Program) → Four (σ .callers) → decode f ≡ accepted p → answerTo (open-for k f) σ ≡ done →
-    (k < 4) × (seatOf (after (open-for k f) σ .callers) k ≡ active p beginning false)
-unfolding answerTo after callersAfter callersDone
-opened-seat σ k f p h d e = ⊎-elim
-    (λ (q : (openAnswer (σ .callers) k f ≡ done) × Opens (σ .callers) k f). (
-      q .1 .small,
-      ap (λ (z : Answer). seatOf (callersAfter (open-for k f) z (σ .callers)) k) e
-          ∙ seat-same (σ .callers) k (opened f) h (q .1 .small) ∙ reading-opened f p d,
-    ))
+-- behind an opening the caller has this record, and stands before the first schedule
+opened-record : (σ : Shared) (k : ℕ) (f : List ℕ) → Four (σ .callers) → answerTo (open-for k f) σ ≡ done → (k < 4) × (recordOf (after (open-for k f) σ) k ≡ opened f)
+unfolding answerTo ownDone whose
+opened-record σ k f h e = ⊎-elim
+    (λ (q : (openAnswer (σ .callers) k f ≡ done) × Opens (σ .callers) k f). (q .1 .small, own-leaves σ h k (q .1 .small) (open-for k f) refl e))
     (λ (q : (n : ℕ) × (m : ℕ) × (openAnswer (σ .callers) k f ≡ refused n m)). let z = sym e ∙ q .2 in absurd (let y : _≡_ {A = ℕ} 0 1 = cc in omega arith))
     (open-either (σ .callers) k f h)
 
+opened-seat : (σ : Shared) (k : ℕ) (f : List ℕ) (p : Program) → Four (σ .callers) → decode f ≡ accepted p → answerTo (open-for k f) σ ≡ done →
+    (k < 4) × (seatOf (after (open-for k f) σ .callers) k ≡ active p beginning false)
+unfolding seatOf
+opened-seat σ k f p h d e = let q = opened-record σ k f h e in (q .0, ap reading (q .1) ∙ reading-opened f p d)
+
+-- so it is open with nothing noted
+opened-open : (σ : Shared) (k : ℕ) (f : List ℕ) (p : Program) (n : List ℕ) → Four (σ .callers) → decode f ≡ accepted p → (e : answerTo (open-for k f) σ ≡ done) → (small : k < 4) →
+    Open p n k small (after (open-for k f) σ) nothingNoted
+opened-open σ k f p n h d e small = record {
+  four = four-after (open-for k f) σ h;
+  place = beginning;
+  asking = false;
+  seat = opened-seat σ k f p h d e .1;
+  holds = subst (λ (r : Caller). Agrees p n r nothingNoted) (sym (opened-record σ k f h e .1)) (agrees-opened p n f);
+}
+
 -- behind a closing nobody is there
 closed-seat : (σ : Shared) (k : ℕ) → Four (σ .callers) → answerTo (close-for k) σ ≡ done → seatOf (after (close-for k) σ .callers) k ≡ closed
-unfolding answerTo after callersAfter callersDone
+unfolding answerTo seatOf ownDone whose
 closed-seat σ k h e = ⊎-elim
-    (λ (q : (openOnly (σ .callers) k ≡ done) × (k < 4) × (isOpen (seatOf (σ .callers) k) ≡ true)).
-    ap (λ (z : Answer). seatOf (callersAfter (close-for k) z (σ .callers)) k) e ∙ seat-same (σ .callers) k fresh h (q .1) ∙ reading-fresh)
+    (λ (q : (openOnly (σ .callers) k ≡ done) × (k < 4) × (isOpen (seatOf (σ .callers) k) ≡ true)). ap reading (own-leaves σ h k (q .1) (close-for k) refl e) ∙ reading-fresh)
     (λ (q : (n : ℕ) × (m : ℕ) × (openOnly (σ .callers) k ≡ refused n m)). let z = sym e ∙ q .2 in absurd (let y : _≡_ {A = ℕ} 0 1 = cc in omega arith))
     (only-either (σ .callers) k h)
 
+-- a return goes to the place that was noted, and keeps the asking
+returned-seat : (p : Program) (n : List ℕ) (k : ℕ) (small : k < 4) (σ : Shared) (μ : Noted) (o : Open p n k small σ μ) (x : Place) → μ .place ≡ some x →
+    (answerTo (return-to k n) σ ≡ done) × (seatOf (after (return-to k n) σ .callers) k ≡ active p x (asks (seatOf (σ .callers) k))) × (answerTo (forget k n) σ ≡ done)
+unfolding answerTo seatOf whose asks
+returned-seat p n k small σ μ o x e =
+    let s = known-slot p n k small σ μ o x e in (
+      s .0,
+      ap reading (own-leaves σ (o .four) k small (return-to k n) refl (s .0) ∙ return-leaves σ (o .four) k small p (o .place) (o .asking) (o .seat) n (s .1 .0) (s .1 .1))
+          ∙ reading-returned (recordOf σ k) p (o .place) (o .asking) (getD (recordOf σ k .marks) (s .1 .0) noMark) x (o .seat) (s .1 .2)
+          ∙ ap (λ (y : Seat). active p x (asks y)) (sym (o .seat)),
+      s .0,
+    )
+
+unknown-both : (p : Program) (n : List ℕ) (k : ℕ) (small : k < 4) (σ : Shared) (μ : Noted) (o : Open p n k small σ μ) → nameFits (length n) ≡ true → μ .place ≡ none →
+    (answerTo (return-to k n) σ ≡ refused 46 0) × (answerTo (forget k n) σ ≡ refused 46 0)
+unfolding answerTo
+unknown-both p n k small σ μ o f e = let r = unknown-refused p n k small σ μ o f e in (r, r)
+
 pub sharing : Sharing
-unfolding toCome start
+unfolding toCome start answerTo
 sharing = record {
   fourth-serve = λ before later k e st more r.
       let σ = behindAll before start in
       let h = four-all before start four-start in
       let q = asked-seat σ k h e in
-      fair-from k (q .0) (q .1 .0) (q .1 .1) later (after (ask-for k) σ) 3 (four-after (ask-for k) σ h) (q .1 .2) st (distance-small _ k) more r;
-  in-order = λ before later k f p d e st.
+      fair-from k (q .0) (q .1 .0) later (after (ask-for k) σ) 3 (q .1 .1) (four-after (ask-for k) σ h) (q .1 .2) st (distance-small _ k) more r;
+  in-order = λ before later k f p d e st nr.
       let σ = behindAll before start in
       let h = four-all before start four-start in
       let q = opened-seat σ k f p h d e in
-      order-from k (q .0) p later (after (open-for k f) σ) 0 beginning false (four-after (open-for k f) σ h) (q .1) refl st;
+      order-from k (q .0) p (listOf p) later (after (open-for k f) σ) 0 beginning false (four-after (open-for k f) σ h) (q .1) refl st nr;
+  behind-mark = λ before later k n p x a e s st nr.
+      let σ = behindAll before start in
+      let h = four-all before start four-start in
+      order-from k (known-small σ k n h e .0) p (toCome p x) later (after (return-to k n) σ) 0 x a (four-after (return-to k n) σ h) s refl st nr;
+  known = λ before later k f p n x d e st m.
+      let σ = behindAll before start in
+      let h = four-all before start four-start in
+      let small = opened-seat σ k f p h d e .0 in
+      returned-seat p n k small _ _ (noted-from p n k small later (after (open-for k f) σ) nothingNoted st (opened-open σ k f p n h d e small)) x m;
+  unknown = λ before later k f p n d e st i m.
+      let σ = behindAll before start in
+      let h = four-all before start four-start in
+      let small = opened-seat σ k f p h d e .0 in
+      unknown-both p n k small _ _ (noted-from p n k small later (after (open-for k f) σ) nothingNoted st (opened-open σ k f p n h d e small)) i m;
   closes = λ before k e. closed-seat (behindAll before start) k (four-all before start four-start) e;
   counted = λ calls. handed-from calls start (omega arith) ∙ ap (λ (n : ℕ). n % 2 ^ 64) (let m = schedulesIn (answers calls start) in let z : 0 + m ≡ m = omega arith in z);
 }

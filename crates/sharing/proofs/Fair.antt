@@ -13,10 +13,11 @@ use Rattle.schedules.specs.Lists.{find}
 use Rattle.schedules.specs.Order.{Schedule}
 use Rattle.sharing.specs.declared.caller.Caller.{Caller}
 use Rattle.sharing.specs.Seat.{Place, Seat, active, isOpen, asks}
-use Rattle.sharing.specs.Call.{Call, open-for, ask-for, serve, close-for, Answer, done, given, ended, idle, refused, Shared, seatOf, lastRead, inTurn, nextAsking, forSeat, handedTo, servedTo, openAnswer, openOnly, serveAnswer, answerTo, lastAfter, after}
+use Rattle.sharing.specs.Marks.{isSome, slotOf, slotFor}
+use Rattle.sharing.specs.Call.{Call, open-for, ask-for, serve, close-for, set-mark, return-to, forget, Answer, done, given, ended, idle, refused, Shared, seatOf, lastRead, inTurn, nextAsking, forSeat, handedTo, servedTo, openAnswer, openOnly, marksOnly, doneIf, marksOf, setAnswer, knownOnly, serveAnswer, answerTo, lastAfter, after}
 use Rattle.sharing.specs.Play.{answers, handsTo, received, isServe, serves, Stays}
 use Rattle.sharing.proofs.Rotation.{distance, next-nearer}
-use Rattle.sharing.proofs.Seats.{Four, Opens, open-either, only-either, serve-either, four-after}
+use Rattle.sharing.proofs.Seats.{Four, Opens, Marking, open-either, only-either, marks-either, serve-either, four-after}
 use Rattle.sharing.proofs.Fates.{Kept, Served, fate}
 use Rattle.sharing.proofs.InOrder.{stays-now, stays-on}
 
@@ -90,8 +91,14 @@ module _ (σ : Shared) (four : Four (σ .callers)) (k : ℕ) (small : k < 4) (p 
       go none h = inr (refl, near none h)
       go (some s) h = inr (refl, near (some s) h)
 
+  by-marks : (j : ℕ) (n : List ℕ) (g : Program → Bool) (w : ℕ) → Nearer (marksOnly (σ .callers) j n (λ y. doneIf (g y) w))
+  by-marks j n g w = ⊎-elim
+      (λ (e : (marksOnly (σ .callers) j n (λ y. doneIf (g y) w) ≡ done) × Marking (σ .callers) j n g). subst Nearer (sym (e .0)) by-done)
+      (λ (e : (v : ℕ) × (m : ℕ) × (marksOnly (σ .callers) j n (λ y. doneIf (g y) w) ≡ refused v m)). subst Nearer (sym (e .2)) (by-refused (e .0) (e .1)))
+      (marks-either (σ .callers) j n g w four)
+
   nearer : (c : Call) → handsTo k (answerTo c σ) ≡ [] → Nearer (answerTo c σ)
-  unfolding answerTo
+  unfolding answerTo setAnswer knownOnly
   nearer (open-for j f) h = ⊎-elim
       (λ (e : (openAnswer (σ .callers) j f ≡ done) × Opens (σ .callers) j f). subst Nearer (sym (e .0)) by-done)
       (λ (e : (n : ℕ) × (m : ℕ) × (openAnswer (σ .callers) j f ≡ refused n m)). subst Nearer (sym (e .2)) (by-refused (e .0) (e .1)))
@@ -99,23 +106,26 @@ module _ (σ : Shared) (four : Four (σ .callers)) (k : ℕ) (small : k < 4) (p 
   nearer (ask-for j) h = by-own j
   nearer (serve out) h = by-serve out h
   nearer (close-for j) h = by-own j
+  nearer (set-mark j n) h = by-marks j n (λ y. isSome (slotFor y n (marksOf (σ .callers) j))) 47
+  nearer (return-to j n) h = by-marks j n (λ y. isSome (slotOf y n (marksOf (σ .callers) j))) 46
+  nearer (forget j n) h = by-marks j n (λ y. isSome (slotOf y n (marksOf (σ .callers) j))) 46
 
 -- nothing in front and nothing behind: nothing at all
 nothing-both : {A : Type 0} (u v : List A) → (u ++ v) ≡ [] → (u ≡ []) × (v ≡ [])
 nothing-both [] v e = (refl, e)
 nothing-both (x ∷ u) v e = let y : _≡_ {A = ℕ} 0 1 = cc in absurd (omega arith)
 
-module _ (k : ℕ) (small : k < 4) (p : Program) (x : Place) where
+module _ (k : ℕ) (small : k < 4) (p : Program) where
   -- with so many callers between the last one served and k, one serve more is enough
-  pub fair-from : (cs : List Call) (σ : Shared) (n : ℕ) → Four (σ .callers) → seatOf (σ .callers) k ≡ active p x true → Stays k cs →
+  pub fair-from : (cs : List Call) (σ : Shared) (n : ℕ) (x : Place) → Four (σ .callers) → seatOf (σ .callers) k ≡ active p x true → Stays k cs →
       distance (lastRead (σ .last)) k ≤ n → suc n ≤ serves (answers cs σ) → received k (answers cs σ) ≡ [] → ⊥
   unfolding answers serves received after
-  fair-from [] σ n h seat st d e r = absurd (omega (arith, e))
-  fair-from (c ∷ cs) σ n h seat st d e r =
+  fair-from [] σ n x h seat st d e r = absurd (omega (arith, e))
+  fair-from (c ∷ cs) σ n x h seat st d e r =
       ⊎-elim
       (λ (kept : Kept σ h k small p x true seat c).
       go n d e (nearer σ h k small p x seat c (kept .nothing))
-      (λ m near more. fair-from cs (after c σ) m (four-after c σ h) (kept .stands ∙ ap (active p x) (kept .still refl)) (stays-on st) near more (parts .1)))
+      (λ m near more. fair-from cs (after c σ) m (kept .place) (four-after c σ h) (kept .stands ∙ ap (active p (kept .place)) (kept .still refl)) (stays-on st) near more (parts .1)))
       (λ (given : Served σ h k small p x true seat c). let z = sym (given .something) ∙ parts .0 in let y : _≡_ {A = ℕ} 0 1 = cc in absurd (omega arith))
       (fate σ h k small p x true seat c (stays-now st))
     where

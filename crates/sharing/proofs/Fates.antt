@@ -1,16 +1,16 @@
--- What a call does to an open caller that it does not close: it hands it nothing and leaves it where it stands, or it hands it the first of
--- what is yet to come of its list, and it then stands behind that.
+-- What a call does to an open caller that it does not close: it hands it nothing and leaves it where it stands, if it is not a return of its
+-- own, or it hands it the first of what is yet to come of its list, and it then stands behind that.
 use Prim.Native.Nat.{ℕ, _<_}
 use mathlib.Core.Path.{_≡_, refl, sym, ap, subst, _∙_}
 use mathlib.Core.Logic.{_≢_, _⊎_, inl, inr, ⊎-elim}
-use mathlib.Core.Bool.{Bool, true, false, cond, false≢true}
+use mathlib.Core.Bool.{Bool, true, false, cond, _&&_, false≢true}
 use mathlib.Core.Option.{Option, none, some}
 use mathlib.Core.List.{List, [], _∷_, tail, List·Memᴰ, List·Memᴰ·head}
 use native.Mathlib.Omega.{arith}
 use native.Mathlib.Decide.{ℕ-discrete}
 use borrow.Author.Tests.{eq-eqb, ne-eqb}
 use lib.Dec.{eqb}
-use lib.ListN.{getD, set}
+use lib.ListN.{length, getD, set}
 use Rattle.program.specs.Program.{Program}
 use Rattle.schedules.specs.Lists.{headOf, Ascends}
 use Rattle.schedules.specs.Order.{Schedule, less}
@@ -21,12 +21,15 @@ use Rattle.list.specs.ListOf.{listOf}
 use Rattle.list.proofs.TheList.{list-ascends, list-exact}
 use Rattle.sharing.specs.declared.caller.Caller.{Caller}
 use Rattle.sharing.specs.Seat.{Place, beginning, behind, end, Seat, closed, active, toCome, isOpen, asks}
-use Rattle.sharing.specs.Record.{reading, fresh, opened, asked, served}
+use Rattle.sharing.specs.Record.{reading, noMark, fresh, opened, asked, served, withMarks, returned}
+use Rattle.sharing.specs.Marks.{isSome, nameFits, markPlace, bears, slotOf, slotFor, lastHanded, newMark, emptied, markSet, markReturned, markForgotten}
 use Rattle.sharing.specs.Call as Calls
-use Rattle.sharing.specs.Call.{Call, open-for, ask-for, serve, close-for, Answer, done, given, ended, idle, refused, Shared, seatOf, nextAsking, forSeat, handedTo, servedTo, serveAnswer, openAnswer, openOnly, answerTo, callersDone, callersAfter}
-use Rattle.sharing.specs.Play.{handsTo}
-use Rattle.sharing.proofs.Readings.{reading-asked, reading-given, reading-ended}
-use Rattle.sharing.proofs.Seats.{Four, Opens, open-either, only-either, serve-either, seat-same, seat-other, after-refused}
+use Rattle.sharing.specs.Call.{Call, open-for, ask-for, serve, close-for, set-mark, return-to, forget, Answer, done, given, ended, idle, refused, Shared, seatOf, forSeat, handedTo, openAnswer, byProgram, doneIf, marksOf, setAnswer, knownOnly, answerTo}
+use Rattle.sharing.specs.Play.{handsTo, isDone, isReturn}
+use Rattle.sharing.proofs.Readings.{reading-asked, reading-given, reading-ended, reading-marks, reading-returned}
+use Rattle.sharing.proofs.Seats.{Four, Opens, open-either, marks-open}
+use Rattle.sharing.proofs.Touches.{recordOf, whose, ownDone, Apart, Own, Taken, touch}
+use Rattle.sharing.proofs.Marks.{is-some, bears-place, slot-of}
 
 -- ---- what is yet to come behind the first of it
 pub come-next : (p : Program) (x : Place) (s : Schedule) (l : List Schedule) → toCome p x ≡ s ∷ l → toCome p (behind s) ≡ l
@@ -43,12 +46,14 @@ come-full p (behind b) s l e = list-exact p s .0 (of-after (some b) (listOf p) s
 come-full p end s l e = absurd (let z : _≡_ {A = ℕ} 0 1 = cc in omega arith)
 
 module _ (σ : Shared) (four : Four (σ .callers)) (k : ℕ) (small : k < 4) (p : Program) (x : Place) (a : Bool) (seat : seatOf (σ .callers) k ≡ active p x a) where
-  -- left where it stands, and still asking if it asked
+  -- handed nothing, and still asking if it asked; left where it stands save by a return
   pub record Kept (c : Call) : Type 0 where
     pub nothing : handsTo k (answerTo c σ) ≡ []
+    pub place : Place
     pub asking : Bool
-    pub stands : seatOf (Calls.after c σ .callers) k ≡ active p x asking
+    pub stands : seatOf (Calls.after c σ .callers) k ≡ active p place asking
     pub still : a ≡ true → asking ≡ true
+    pub stays : (isReturn k c && isDone (answerTo c σ)) ≡ false → place ≡ x
 
   -- handed the first of what is yet to come, and behind that
   pub record Served (c : Call) : Type 0 where
@@ -57,112 +62,149 @@ module _ (σ : Shared) (four : Four (σ .callers)) (k : ℕ) (small : k < 4) (p 
     pub stands : seatOf (Calls.after c σ .callers) k ≡ active p place false
     pub rest : toCome p place ≡ tail (toCome p x)
 
-  is-open : isOpen (seatOf (σ .callers) k) ≡ true
-  unfolding isOpen
-  is-open = ap isOpen seat
+  -- its record reads as this
+  pub reads : reading (recordOf σ k) ≡ active p x a
+  unfolding seatOf
+  reads = seat
 
-  -- a refusal
-  kept-refused : (c : Call) (n m : ℕ) → answerTo c σ ≡ refused n m → Kept c
+  -- by its program
+  pub by-active : (f : Program → Caller) → byProgram (reading (recordOf σ k)) (recordOf σ k) f ≡ f p
+  unfolding byProgram
+  by-active f = ap (λ (s : Seat). byProgram s (recordOf σ k) f) reads
+
+  -- ---- its own calls that are done
+  -- it does not open again
+  pub not-opened : (f : List ℕ) → answerTo (open-for k f) σ ≡ done → ⊥
+  unfolding answerTo isOpen
+  not-opened f e = ⊎-elim
+      (λ (z : (openAnswer (σ .callers) k f ≡ done) × Opens (σ .callers) k f). false≢true (sym (z .1 .was) ∙ ap isOpen seat))
+      (λ (z : (n : ℕ) × (m : ℕ) × (openAnswer (σ .callers) k f ≡ refused n m)). let w = sym e ∙ z .2 in absurd (let y : _≡_ {A = ℕ} 0 1 = cc in omega arith))
+      (open-either (σ .callers) k f four)
+
+  -- what a call on marks that is done tells
+  passed : (b o : Bool) (w : ℕ) → cond b (doneIf o w) (refused 45 0) ≡ done → (b ≡ true) × (o ≡ true)
+  unfolding doneIf
+  passed true true w e = (refl, refl)
+  passed true false w e = absurd (let y : _≡_ {A = ℕ} 0 1 = cc in omega arith)
+  passed false o w e = absurd (let y : _≡_ {A = ℕ} 0 1 = cc in omega arith)
+
+  -- a set: the name fits, and there is a slot for it
+  pub set-done : (n : List ℕ) → answerTo (set-mark k n) σ ≡ done → (nameFits (length n) ≡ true) × ((i : ℕ) × (slotFor p n (recordOf σ k .marks) ≡ some i))
+  unfolding answerTo setAnswer marksOf
+  set-done n e =
+      let g : Program → Bool = λ y. isSome (slotFor y n (recordOf σ k .marks)) in
+      let z = passed (nameFits (length n)) (g p) 47 (sym (marks-open (σ .callers) k n g 47 p x a four small seat) ∙ e) in
+      (z .0, is-some (slotFor p n (recordOf σ k .marks)) (z .1))
+
+  -- a return or a forget: there is a mark of that name
+  pub known-done : (n : List ℕ) → knownOnly (σ .callers) k n ≡ done → (i : ℕ) × (slotOf p n (recordOf σ k .marks) ≡ some i)
+  unfolding knownOnly marksOf
+  known-done n e =
+      let g : Program → Bool = λ y. isSome (slotOf y n (recordOf σ k .marks)) in
+      let z = passed (nameFits (length n)) (g p) 46 (sym (marks-open (σ .callers) k n g 46 p x a four small seat) ∙ e) in
+      is-some (slotOf p n (recordOf σ k .marks)) (z .1)
+
+  -- the records that they leave
+  pub set-leaves : (n : List ℕ) (i : ℕ) → slotFor p n (recordOf σ k .marks) ≡ some i → ownDone (set-mark k n) (recordOf σ k)
+      ≡ withMarks (recordOf σ k) (set (emptied p n (recordOf σ k .marks)) i (newMark n (recordOf σ k) (lastHanded p (recordOf σ k))))
+  unfolding ownDone markSet
+  set-leaves n i e = by-active (λ y. markSet y n (recordOf σ k)) ∙ rw (e, markSet)
+
+  pub forget-leaves : (n : List ℕ) → ownDone (forget k n) (recordOf σ k) ≡ withMarks (recordOf σ k) (emptied p n (recordOf σ k .marks))
+  unfolding ownDone markForgotten
+  forget-leaves n = by-active (λ y. markForgotten y n (recordOf σ k))
+
+  pub return-leaves : (n : List ℕ) (i : ℕ) → slotOf p n (recordOf σ k .marks) ≡ some i → ownDone (return-to k n) (recordOf σ k) ≡ returned (recordOf σ k) (getD (recordOf σ k .marks) i noMark)
+  unfolding ownDone markReturned
+  return-leaves n i e = by-active (λ y. markReturned y n (recordOf σ k)) ∙ rw (e, markReturned)
+
+  -- the mark that a return goes to holds a place
+  pub slot-place : (n : List ℕ) (i : ℕ) → slotOf p n (recordOf σ k .marks) ≡ some i → (y : Place) × (markPlace p (getD (recordOf σ k .marks) i noMark) ≡ some y)
+  slot-place n i e = bears-place p n (getD (recordOf σ k .marks) i noMark) (slot-of p n (recordOf σ k .marks) i e .1)
+
+  -- ---- what it is handed and where it stands behind them
+  abbrev OwnHere : Call → Type 0
+  OwnHere c = Own σ four k small c
+
+  kept-by : (c : Call) (y : Caller) → handsTo k (answerTo c σ) ≡ [] → recordOf (Calls.after c σ) k ≡ y → reading y ≡ active p x a → Kept c
+  unfolding seatOf
+  kept-by c y h e q = record { nothing = h; place = x; asking = a; stands = ap reading e ∙ q; still = λ z. z; stays = λ z. refl }
+
+  done-nothing : (c : Call) → answerTo c σ ≡ done → handsTo k (answerTo c σ) ≡ []
   unfolding handsTo
-  kept-refused c n m e = record {
-    nothing = ap (handsTo k) e;
-    asking = a;
-    stands = ap (λ (τ : Shared). seatOf (τ .callers) k) (after-refused c σ n m e) ∙ seat;
-    still = λ q. q;
+  done-nothing c e = ap (handsTo k) e
+
+  kept-ask : OwnHere (ask-for k) → Kept (ask-for k)
+  unfolding seatOf ownDone
+  kept-ask o = record {
+    nothing = done-nothing (ask-for k) (o .answered);
+    place = x;
+    asking = true;
+    stands = ap reading (o .leaves) ∙ reading-asked (recordOf σ k) p x a reads;
+    still = λ z. refl;
+    stays = λ z. refl;
   }
 
-  -- another's record is put back
-  kept-other : (c : Call) (b : Answer) (j : ℕ) (y : Caller) → answerTo c σ ≡ b → handsTo k b ≡ [] → callersAfter c b (σ .callers) ≡ set (σ .callers) j y → k ≢ j → Kept c
-  unfolding Calls.after
-  kept-other c b j y e h s ne = record {
-    nothing = ap (handsTo k) e ∙ h;
-    asking = a;
-    stands = ap (λ (z : Answer). seatOf (callersAfter c z (σ .callers)) k) e ∙ ap (λ (l : List Caller). seatOf l k) s ∙ seat-other (σ .callers) j k y ne ∙ seat;
-    still = λ q. q;
-  }
+  kept-set : (n : List ℕ) → OwnHere (set-mark k n) → Kept (set-mark k n)
+  kept-set n o =
+      let s = set-done n (o .answered) .1 in
+      kept-by (set-mark k n) _ (done-nothing (set-mark k n) (o .answered)) (o .leaves ∙ set-leaves n (s .0) (s .1)) (reading-marks (recordOf σ k) _ ∙ reads)
 
-  fate-open : (j : ℕ) (f : List ℕ) → Kept (open-for j f)
-  unfolding handsTo callersAfter callersDone answerTo
-  fate-open j f = ⊎-elim
-      (λ (e : (openAnswer (σ .callers) j f ≡ done) × Opens (σ .callers) j f).
-      kept-other (open-for j f) done j (opened f) (e .0) refl refl (λ q. false≢true (sym (e .1 .was) ∙ subst (λ (m : ℕ). isOpen (seatOf (σ .callers) m) ≡ true) q is-open)))
-      (λ (e : (n : ℕ) × (m : ℕ) × (openAnswer (σ .callers) j f ≡ refused n m)). kept-refused (open-for j f) (e .0) (e .1) (e .2))
-      (open-either (σ .callers) j f four)
+  kept-forget : (n : List ℕ) → OwnHere (forget k n) → Kept (forget k n)
+  kept-forget n o = kept-by (forget k n) _ (done-nothing (forget k n) (o .answered)) (o .leaves ∙ forget-leaves n) (reading-marks (recordOf σ k) _ ∙ reads)
 
-  fate-close : (j : ℕ) → k ≢ j → Kept (close-for j)
-  unfolding handsTo callersAfter callersDone answerTo
-  fate-close j ne = ⊎-elim
-      (λ (e : (openOnly (σ .callers) j ≡ done) × (j < 4) × (isOpen (seatOf (σ .callers) j) ≡ true)). kept-other (close-for j) done j fresh (e .0) refl refl ne)
-      (λ (e : (n : ℕ) × (m : ℕ) × (openOnly (σ .callers) j ≡ refused n m)). kept-refused (close-for j) (e .0) (e .1) (e .2))
-      (only-either (σ .callers) j four)
-
-  fate-ask : (j : ℕ) → Kept (ask-for j)
-  unfolding handsTo callersAfter callersDone answerTo Calls.after seatOf
-  fate-ask j = ⊎-elim
-      (λ (e : (openOnly (σ .callers) j ≡ done) × (j < 4) × (isOpen (seatOf (σ .callers) j) ≡ true)). go e (ℕ-discrete k j))
-      (λ (e : (n : ℕ) × (m : ℕ) × (openOnly (σ .callers) j ≡ refused n m)). kept-refused (ask-for j) (e .0) (e .1) (e .2))
-      (only-either (σ .callers) j four)
-    where
-      go : (openOnly (σ .callers) j ≡ done) × (j < 4) × (isOpen (seatOf (σ .callers) j) ≡ true) → Dec (k ≡ j) → Kept (ask-for j)
-      go e (no ne) = kept-other (ask-for j) done j (asked (getD (σ .callers) j fresh)) (e .0) refl refl ne
-      go e (yes q) = record {
-        nothing = ap (handsTo k) (e .0);
-        asking = true;
-        stands = ap (λ (z : Answer). seatOf (callersAfter (ask-for j) z (σ .callers)) k) (e .0)
-            ∙ ap (λ (m : ℕ). seatOf (set (σ .callers) m (asked (getD (σ .callers) m fresh))) k) (sym q)
-            ∙ seat-same (σ .callers) k (asked (getD (σ .callers) k fresh)) four small ∙ reading-asked (getD (σ .callers) k fresh) p x a seat;
-        still = λ z. refl;
+  kept-return : (n : List ℕ) → OwnHere (return-to k n) → Kept (return-to k n)
+  unfolding seatOf answerTo isReturn isDone
+  kept-return n o =
+      let s = known-done n (o .answered) in
+      let y = slot-place n (s .0) (s .1) in record {
+        nothing = done-nothing (return-to k n) (o .answered);
+        place = y .0;
+        asking = a;
+        stands = ap reading (o .leaves ∙ return-leaves n (s .0) (s .1)) ∙ reading-returned (recordOf σ k) p x a (getD (recordOf σ k .marks) (s .0) noMark) (y .0) reads (y .1);
+        still = λ z. z;
+        stays = λ z. absurd (false≢true (sym z ∙ (let w : (eqb k k && isDone (answerTo (return-to k n) σ)) ≡ true = rw (eq-eqb k k refl, o .answered) in w)));
       }
 
-  -- a serve that takes m
-  fate-taken : (out : List ℕ) (m : ℕ) → answerTo (serve out) σ ≡ handedTo m (forSeat (seatOf (σ .callers) m)) → Dec (k ≡ m) → Kept (serve out) ⊎ Served (serve out)
-  unfolding handsTo callersAfter Calls.after forSeat handedTo seatOf headOf toCome
-  fate-taken out m e (no ne) = inl (go (forSeat (seatOf (σ .callers) m)) e)
+  kept-own : (c : Call) → (c ≡ close-for k → ⊥) → OwnHere c → Kept c
+  unfolding whose
+  kept-own (open-for j f) n o = let q : k ≡ j = (let w = o .mine in cc) in absurd (not-opened f (subst (λ (m : ℕ). answerTo (open-for m f) σ ≡ done) (sym q) (o .answered)))
+  kept-own (ask-for j) n o = let q : k ≡ j = (let w = o .mine in cc) in subst (λ (m : ℕ). OwnHere (ask-for m) → Kept (ask-for m)) q kept-ask o
+  kept-own (serve out) n o = absurd (let w = o .mine in let y : _≡_ {A = ℕ} 0 1 = cc in omega arith)
+  kept-own (close-for j) n o = let q : k ≡ j = (let w = o .mine in cc) in absurd (n (ap close-for (sym q)))
+  kept-own (set-mark j m) n o = let q : k ≡ j = (let w = o .mine in cc) in subst (λ (i : ℕ). OwnHere (set-mark i m) → Kept (set-mark i m)) q (kept-set m) o
+  kept-own (return-to j m) n o = let q : k ≡ j = (let w = o .mine in cc) in subst (λ (i : ℕ). OwnHere (return-to i m) → Kept (return-to i m)) q (kept-return m) o
+  kept-own (forget j m) n o = let q : k ≡ j = (let w = o .mine in cc) in subst (λ (i : ℕ). OwnHere (forget i m) → Kept (forget i m)) q (kept-forget m) o
+
+  -- a serve that takes it gives the first of what is yet to come
+  pub taken-is : (c : Call) → Taken σ four k small c →
+      (answerTo c σ ≡ handedTo k (headOf (toCome p x))) × (recordOf (Calls.after c σ) k ≡ served (recordOf σ k) (headOf (toCome p x)))
+  unfolding forSeat
+  taken-is c t = (t .answered ∙ ap (λ (s : Seat). handedTo k (forSeat s)) reads, t .leaves ∙ ap (λ (s : Seat). served (recordOf σ k) (forSeat s)) reads)
+
+  served-taken : (c : Call) → Taken σ four k small c → Served c
+  unfolding handsTo handedTo headOf toCome seatOf
+  served-taken c t = go (toCome p x) refl
     where
-      other : eqb m k ≡ false
-      other = ne-eqb m k (λ q. ne (sym q))
+      own : (answerTo c σ ≡ handedTo k (headOf (toCome p x))) × (recordOf (Calls.after c σ) k ≡ served (recordOf σ k) (headOf (toCome p x)))
+      own = taken-is c t
 
-      go : (o : Option Schedule) → answerTo (serve out) σ ≡ handedTo m o → Kept (serve out)
-      go none q = kept-other (serve out) (ended m) m (served (getD (σ .callers) m fresh) none) q (rw other) refl ne
-      go (some s) q = kept-other (serve out) (given m s) m (served (getD (σ .callers) m fresh) (some s)) q (rw other) refl ne
-  fate-taken out m e (yes q) = inr (go (toCome p x) refl)
-    where
-      own : answerTo (serve out) σ ≡ handedTo k (headOf (toCome p x))
-      own = e ∙ ap (λ (j : ℕ). handedTo j (forSeat (seatOf (σ .callers) j))) (sym q) ∙ ap (λ (y : Seat). handedTo k (forSeat y)) seat
-
-      back : (y : Caller) → seatOf (set (σ .callers) k y) k ≡ reading y
-      back y = seat-same (σ .callers) k y four small
-
-      go : (l : List Schedule) → toCome p x ≡ l → Served (serve out)
+      go : (l : List Schedule) → toCome p x ≡ l → Served c
       go [] n = record {
-        something = ap (handsTo k) (own ∙ ap (λ (z : List Schedule). handedTo k (headOf z)) n) ∙ rw (eq-eqb k k refl, n);
+        something = ap (handsTo k) (own .0 ∙ ap (λ (z : List Schedule). handedTo k (headOf z)) n) ∙ rw (eq-eqb k k refl, n);
         place = end;
-        stands = ap (λ (z : Answer). seatOf (callersAfter (serve out) z (σ .callers)) k) (own ∙ ap (λ (z : List Schedule). handedTo k (headOf z)) n)
-            ∙ back (served (getD (σ .callers) k fresh) none) ∙ reading-ended (getD (σ .callers) k fresh) p x a seat;
+        stands = ap reading (own .1 ∙ ap (λ (z : List Schedule). served (recordOf σ k) (headOf z)) n) ∙ reading-ended (recordOf σ k) p x a reads;
         rest = sym (ap tail n);
       }
       go (s ∷ l) n = record {
-        something = ap (handsTo k) (own ∙ ap (λ (z : List Schedule). handedTo k (headOf z)) n) ∙ rw (eq-eqb k k refl, n);
+        something = ap (handsTo k) (own .0 ∙ ap (λ (z : List Schedule). handedTo k (headOf z)) n) ∙ rw (eq-eqb k k refl, n);
         place = behind s;
-        stands = ap (λ (z : Answer). seatOf (callersAfter (serve out) z (σ .callers)) k) (own ∙ ap (λ (z : List Schedule). handedTo k (headOf z)) n)
-            ∙ back (served (getD (σ .callers) k fresh) (some s)) ∙ reading-given (getD (σ .callers) k fresh) p x a s seat (come-full p x s l n);
+        stands = ap reading (own .1 ∙ ap (λ (z : List Schedule). served (recordOf σ k) (headOf z)) n) ∙ reading-given (recordOf σ k) p x a s reads (come-full p x s l n);
         rest = come-next p x s l n ∙ sym (ap tail n);
       }
 
-  fate-serve : (out : List ℕ) → Kept (serve out) ⊎ Served (serve out)
-  unfolding answerTo servedTo handsTo callersAfter Calls.after
-  fate-serve out = ⊎-elim
-      (λ (e : serveAnswer (σ .callers) (σ .last) out ≡ refused 22 0). inl (kept-refused (serve out) 22 0 e))
-      (λ (e : serveAnswer (σ .callers) (σ .last) out ≡ servedTo (σ .callers) (nextAsking (σ .callers) (σ .last))). go (nextAsking (σ .callers) (σ .last)) e)
-      (serve-either (σ .callers) (σ .last) out four)
-    where
-      go : (o : Option ℕ) → serveAnswer (σ .callers) (σ .last) out ≡ servedTo (σ .callers) o → Kept (serve out) ⊎ Served (serve out)
-      go none e = inl (record { nothing = ap (handsTo k) e; asking = a; stands = ap (λ (z : Answer). seatOf (callersAfter (serve out) z (σ .callers)) k) e ∙ seat; still = λ q. q })
-      go (some m) e = fate-taken out m e (ℕ-discrete k m)
-
   -- ITS FATE under a call that does not close it
   pub fate : (c : Call) → (c ≡ close-for k → ⊥) → Kept c ⊎ Served c
-  fate (open-for j f) n = inl (fate-open j f)
-  fate (ask-for j) n = inl (fate-ask j)
-  fate (serve out) n = fate-serve out
-  fate (close-for j) n = inl (fate-close j (λ q. n (ap close-for (sym q))))
+  fate c n = ⊎-elim (λ (t : Apart σ four k small c). inl (kept-by c (recordOf σ k) (t .nothing) (t .leaves) reads))
+      (λ (t : OwnHere c ⊎ Taken σ four k small c). ⊎-elim (λ (o : OwnHere c). inl (kept-own c n o)) (λ (z : Taken σ four k small c). inr (served-taken c z)) t)
+      (touch σ four k small c)

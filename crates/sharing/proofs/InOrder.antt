@@ -1,8 +1,9 @@
--- IN ORDER: from one opening to its closing a caller is handed its program's list from the beginning, each member once, and no more from then on.
+-- IN ORDER: up to its next return or its closing a caller is handed what its list holds behind its place, each member once, and no more from
+-- then on.
 use Prim.Native.Nat.{ℕ, zero, suc, _<_}
 use mathlib.Core.Path.{_≡_, refl, sym, ap, subst, _∙_}
 use mathlib.Core.Logic.{_⊎_, inl, inr, ⊎-elim}
-use mathlib.Core.Bool.{Bool, false}
+use mathlib.Core.Bool.{Bool, true, false, cond, _&&_, false≢true}
 use mathlib.Core.Option.{Option}
 use mathlib.Core.List.{List, [], _∷_, _++_, map, tail, List·Memᴰ, List·Memᴰ·head, List·Memᴰ·tail}
 use native.Mathlib.Omega.{arith}
@@ -12,10 +13,9 @@ use Rattle.schedules.specs.Lists.{headOf, range}
 use Rattle.schedules.specs.Order.{Schedule}
 use Rattle.schedules.specs.Calls.{member}
 use Rattle.schedules.proofs.Calls.{head-drop}
-use Rattle.list.specs.ListOf.{listOf}
 use Rattle.sharing.specs.Seat.{Place, active, toCome}
 use Rattle.sharing.specs.Call.{Call, close-for, Shared, seatOf, answerTo, after}
-use Rattle.sharing.specs.Play.{answers, handsTo, received, Stays}
+use Rattle.sharing.specs.Play.{answers, handsTo, received, isDone, isReturn, returns, Stays}
 use Rattle.sharing.proofs.Seats.{Four, four-after}
 use Rattle.sharing.proofs.Fates.{Kept, Served, fate}
 
@@ -32,19 +32,24 @@ stays-now s e = s (List·Memᴰ·head (sym e))
 pub stays-on : {k : ℕ} {c : Call} {cs : List Call} → Stays k (c ∷ cs) → Stays k cs
 stays-on s m = s (List·Memᴰ·tail m)
 
-module _ (k : ℕ) (small : k < 4) (p : Program) where
-  -- behind n members
-  pub order-from : (cs : List Call) (σ : Shared) (n : ℕ) (x : Place) (a : Bool) → Four (σ .callers) → seatOf (σ .callers) k ≡ active p x a → toCome p x ≡ drop n (listOf p) → Stays k cs →
-      received k (answers cs σ) ≡ map (member (listOf p)) (range n (length (received k (answers cs σ))))
-  unfolding answers received range
-  order-from [] σ n x a h seat e st = refl
-  order-from (c ∷ cs) σ n x a h seat e st = ⊎-elim
-      (kept (λ b s. order-from cs (after c σ) n x b (four-after c σ h) s e (stays-on st)))
-      (given (λ y s q. order-from cs (after c σ) (suc n) y false (four-after c σ h) s q (stays-on st)))
+-- neither now nor later does it return to a mark
+returns-now : (b d : Bool) → cond b true d ≡ false → (b ≡ false) × (d ≡ false)
+returns-now true d e = absurd (false≢true (sym e))
+returns-now false d e = (refl, e)
+
+module _ (k : ℕ) (small : k < 4) (p : Program) (l : List Schedule) where
+  -- behind n members of l
+  pub order-from : (cs : List Call) (σ : Shared) (n : ℕ) (x : Place) (a : Bool) → Four (σ .callers) → seatOf (σ .callers) k ≡ active p x a → toCome p x ≡ drop n l →
+      Stays k cs → returns k cs σ ≡ false → received k (answers cs σ) ≡ map (member l) (range n (length (received k (answers cs σ))))
+  unfolding answers received range returns
+  order-from [] σ n x a h seat e st nr = refl
+  order-from (c ∷ cs) σ n x a h seat e st nr = ⊎-elim
+      (kept (λ y b s q. order-from cs (after c σ) n y b (four-after c σ h) s q (stays-on st) (parts .1)))
+      (given (λ y s q. order-from cs (after c σ) (suc n) y false (four-after c σ h) s q (stays-on st) (parts .1)))
       (fate σ h k small p x a seat c (stays-now st))
     where
-      l : List Schedule
-      l = listOf p
+      parts : ((isReturn k c && isDone (answerTo c σ)) ≡ false) × (returns k cs (after c σ) ≡ false)
+      parts = returns-now (isReturn k c && isDone (answerTo c σ)) (returns k cs (after c σ)) nr
 
       all : List (Option Schedule)
       all = handsTo k (answerTo c σ) ++ received k (answers cs (after c σ))
@@ -52,9 +57,10 @@ module _ (k : ℕ) (small : k < 4) (p : Program) where
       rest : List (Option Schedule)
       rest = received k (answers cs (after c σ))
 
-      kept : ((b : Bool) → seatOf (after c σ .callers) k ≡ active p x b → rest ≡ map (member l) (range n (length rest))) → Kept σ h k small p x a seat c → all ≡ map (member l) (range n (length all))
+      kept : ((y : Place) (b : Bool) → seatOf (after c σ .callers) k ≡ active p y b → toCome p y ≡ drop n l → rest ≡ map (member l) (range n (length rest))) →
+          Kept σ h k small p x a seat c → all ≡ map (member l) (range n (length all))
       kept ih r = subst (λ (u : List (Option Schedule)). (u ++ received k (answers cs (after c σ))) ≡ map (member l) (range n (length (u ++ received k (answers cs (after c σ)))))) (sym (r .nothing))
-          (ih (r .asking) (r .stands))
+          (ih (r .place) (r .asking) (r .stands) (ap (toCome p) (r .stays (parts .0)) ∙ e))
 
       given : ((y : Place) → seatOf (after c σ .callers) k ≡ active p y false → toCome p y ≡ drop (suc n) l → rest ≡ map (member l) (range (suc n) (length rest))) → Served σ h k small p x a seat c → all ≡ map (member l) (range n (length all))
       given ih r = subst (λ (u : List (Option Schedule)). (u ++ received k (answers cs (after c σ))) ≡ map (member l) (range n (length (u ++ received k (answers cs (after c σ))))))

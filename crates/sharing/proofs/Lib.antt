@@ -5,10 +5,21 @@ pub mod Rotation
 pub mod Readings
 -- what a call can answer, and what each caller's record reads as behind it
 pub mod Seats
+-- what a call does to a caller's record
+pub mod Touches
+-- which mark a name has behind a set and a forget
+pub mod Marks
+-- no mark is free exactly where eight names are known
+pub mod Ninth
 -- what a call does to an open caller that it does not close
 pub mod Fates
+-- the calls on marks, whatever the four records hold
+pub mod Lent
 -- the claims
 pub mod InOrder
 pub mod Fair
+pub mod Noted
 pub mod Handed
 pub mod Claims
+-- examples, computed
+pub mod Examples

@@ -21,8 +21,10 @@ use Rattle.sc.specs.Replay.{whole, replay}
 use Rattle.sc.proofs.Replay.{replay-whole}
 use Rattle.sc.proofs.Lawful.{at-most-24}
 use Rattle.sharing.specs.declared.caller.Caller.{Caller}
+use Rattle.sharing.specs.declared.caller.Mark.{Mark}
 use Rattle.sharing.specs.Seat.{Place, beginning, behind, end, Seat, closed, active}
-use Rattle.sharing.specs.Record.{fileRead, behindFull, placeOf, seated, seatBy, reading, fresh, opened, asked, served}
+use Rattle.sharing.specs.Record.{fileRead, behindFull, placeOf, seated, seatBy, reading, fresh, opened, asked, served, withMarks, returned, plain, standing, handing}
+use Rattle.sharing.specs.Marks.{nameFits, markPlace, lastHanded}
 
 -- a seat is not both closed and active
 pub not-both : {p : Program} {x : Place} {a : Bool} → closed ≡ active p x a → ⊥
@@ -34,14 +36,16 @@ unfolding seated
 seated-same q none n p x a e = absurd (not-both e)
 seated-same q (some y) n p x a e = (cc, cc, cc)
 
-pub active-file : (c : Caller) (p : Program) (x : Place) (a : Bool) → reading c ≡ active p x a → (fileRead c ≡ accepted p) × (placeOf p (c .place) (c .steps) (c .schedule) ≡ some x)
+pub active-file : (c : Caller) (p : Program) (x : Place) (a : Bool) → reading c ≡ active p x a →
+    (fileRead c ≡ accepted p) × (placeOf p (c .place) (c .steps) (c .schedule) ≡ some x) × (eqb (c .asking) 1 ≡ a)
 unfolding reading seatBy
 active-file c p x a e = go (fileRead c) refl e
   where
-    go : (d : Decoded) → fileRead c ≡ d → seatBy d c ≡ active p x a → (fileRead c ≡ accepted p) × (placeOf p (c .place) (c .steps) (c .schedule) ≡ some x)
+    go : (d : Decoded) → fileRead c ≡ d → seatBy d c ≡ active p x a →
+        (fileRead c ≡ accepted p) × (placeOf p (c .place) (c .steps) (c .schedule) ≡ some x) × (eqb (c .asking) 1 ≡ a)
     go (accepted q) m h =
         let k = seated-same q (placeOf q (c .place) (c .steps) (c .schedule)) (c .asking) p x a h in
-        (m ∙ ap accepted (k .0), subst (λ (y : Program). placeOf y (c .place) (c .steps) (c .schedule) ≡ some x) (k .0) (k .1))
+        (m ∙ ap accepted (k .0), subst (λ (y : Program). placeOf y (c .place) (c .steps) (c .schedule) ≡ some x) (k .0) (k .1), k .2)
     go (refused n k) m h = absurd (not-both h)
 
 -- so the program is well formed
@@ -60,7 +64,7 @@ by-place c p x e h = rw (e, h)
 
 -- ---- the records that calls leave
 pub reading-fresh : reading fresh ≡ closed
-unfolding reading fresh seatBy seated placeOf
+unfolding reading fresh plain seatBy seated placeOf
 reading-fresh = go (fileRead fresh)
   where
     go : (d : Decoded) → seatBy d fresh ≡ closed
@@ -68,20 +72,52 @@ reading-fresh = go (fileRead fresh)
     go (refused n k) = refl
 
 pub reading-opened : (f : List ℕ) (p : Program) → decode f ≡ accepted p → reading (opened f) ≡ active p beginning false
-unfolding opened placeOf fileRead
+unfolding opened plain placeOf fileRead
 reading-opened f p e = by-place (opened f) p beginning (rw (le-ltb 4096 (length f) (accepted-size f p e), take-over f (replicate 4096 0)) e) refl
 
 pub reading-asked : (c : Caller) (p : Program) (x : Place) (a : Bool) → reading c ≡ active p x a → reading (asked c) ≡ active p x true
-unfolding asked fileRead
+unfolding asked standing fileRead
 reading-asked c p x a e = let k = active-file c p x a e in by-place (asked c) p x (k .0) (k .1)
 
+-- a full schedule stands behind itself, in a record as calls leave it
+pub full-place : (c : Caller) (p : Program) (x : Place) (a : Bool) (s : Schedule) → reading c ≡ active p x a → Full p s →
+    placeOf p 2 (length s) (over s (replicate 24 0)) ≡ some (behind s)
+unfolding placeOf behindFull
+full-place c p x a s e f =
+    rw (le-ltb 24 (length s) (at-most-24 p (active-formed c p x a e) s f), take-over s (replicate 24 0), replay-whole p s (endOf p s) .1 (f, refl))
+
 pub reading-given : (c : Caller) (p : Program) (x : Place) (a : Bool) (s : Schedule) → reading c ≡ active p x a → Full p s → reading (served c (some s)) ≡ active p (behind s) false
-unfolding served fileRead placeOf behindFull
-reading-given c p x a s e f =
-    let k = active-file c p x a e in
-    by-place (served c (some s)) p (behind s) (k .0)
-    (rw (le-ltb 24 (length s) (at-most-24 p (active-formed c p x a e) s f), take-over s (replicate 24 0), replay-whole p s (endOf p s) .1 (f, refl)))
+unfolding served standing handing fileRead
+reading-given c p x a s e f = let k = active-file c p x a e in by-place (served c (some s)) p (behind s) (k .0) (full-place c p x a s e f)
+
+-- and it is the last one handed
+pub handed-given : (c : Caller) (p : Program) (x : Place) (a : Bool) (s : Schedule) → reading c ≡ active p x a → Full p s → lastHanded p (served c (some s)) ≡ some (behind s)
+unfolding served standing handing lastHanded
+handed-given c p x a s e f = full-place c p x a s e f
 
 pub reading-ended : (c : Caller) (p : Program) (x : Place) (a : Bool) → reading c ≡ active p x a → reading (served c none) ≡ active p end false
-unfolding served fileRead placeOf
+unfolding served standing fileRead placeOf
 reading-ended c p x a e = let k = active-file c p x a e in by-place (served c none) p end (k .0) refl
+
+-- marks change nothing in what it reads as
+pub reading-marks : (c : Caller) (ms : List Mark) → reading (withMarks c ms) ≡ reading c
+unfolding reading withMarks fileRead seatBy
+reading-marks c ms = go (fileRead c)
+  where
+    go : (d : Decoded) → seatBy d (withMarks c ms) ≡ seatBy d c
+    go (accepted p) = refl
+    go (refused n k) = refl
+
+-- returned to a mark that holds a place
+mark-place : (p : Program) (m : Mark) (y : Place) → markPlace p m ≡ some y → placeOf p (m .place) (m .steps) (m .schedule) ≡ some y
+unfolding markPlace
+mark-place p m y e = go (nameFits (m .length)) (eqb (m .place) 3) e
+  where
+    go : (b d : Bool) → cond b (cond d none (placeOf p (m .place) (m .steps) (m .schedule))) none ≡ some y → placeOf p (m .place) (m .steps) (m .schedule) ≡ some y
+    go true false q = q
+    go true true q = absurd (let z : _≡_ {A = ℕ} 0 1 = cc in omega arith)
+    go false d q = absurd (let z : _≡_ {A = ℕ} 0 1 = cc in omega arith)
+
+pub reading-returned : (c : Caller) (p : Program) (x : Place) (a : Bool) (m : Mark) (y : Place) → reading c ≡ active p x a → markPlace p m ≡ some y → reading (returned c m) ≡ active p y a
+unfolding returned standing fileRead
+reading-returned c p x a m y e h = let k = active-file c p x a e in by-place (returned c m) p y (k .0) (mark-place p m y h) ∙ ap (active p y) (k .2)

@@ -6,7 +6,7 @@ use mathlib.Core.Bool.{Bool, true, false, cond, not, false≢true}
 use mathlib.Core.Option.{Option, none, some}
 use mathlib.Core.List.{List, [], _∷_, tail, List·Memᴰ}
 use native.Mathlib.Omega.{arith}
-use borrow.Author.Tests.{eq-eqb, ltb-true, ltb-false}
+use borrow.Author.Tests.{eq-eqb, le-ltb, ltb-true, ltb-false}
 use lib.Dec.{eqb, ltb}
 use lib.ListN.{length, getD, set, length-set}
 use lib.Seq.{getD-set-same, getD-set-other}
@@ -19,7 +19,8 @@ use Rattle.schedules.specs.Calls.{short}
 use Rattle.sharing.specs.declared.caller.Caller.{Caller}
 use Rattle.sharing.specs.Seat.{Place, Seat, closed, active, isOpen, asks}
 use Rattle.sharing.specs.Record.{reading, fresh, opened, asked, served}
-use Rattle.sharing.specs.Call.{Call, open-for, ask-for, serve, close-for, Answer, done, given, ended, idle, refused, Shared, seatOf, checked, openedBy, openAnswer, openOnly, nextAsking, forSeat, handedTo, servedTo, serveAnswer, answerTo, callersDone, callersAfter, lastAfter, handedAfter, after}
+use Rattle.sharing.specs.Marks.{nameFits}
+use Rattle.sharing.specs.Call.{Call, open-for, ask-for, serve, close-for, set-mark, return-to, forget, Answer, done, given, ended, idle, refused, Shared, seatOf, checked, openedBy, openAnswer, openOnly, byProgram, marksOnly, doneIf, changed, nextAsking, forSeat, handedTo, servedTo, serveAnswer, answerTo, callersDone, callersAfter, lastAfter, handedAfter, after}
 
 -- four records, as every call leaves them
 abbrev pub Four : List Caller → Type 0
@@ -68,6 +69,50 @@ only-either cs k h = go (ltb 3 k) (isOpen (seatOf cs k)) refl refl
     go false true p q = inl (here ∙ rw (p, q), (let z = ltb-false 3 k p in omega (arith, z)), q)
     go false false p q = inr (44, 0, here ∙ rw (p, q))
 
+-- a call on marks is done for an open one, with a name that fits, where its program passes the test; or refused
+pub record Marking (cs : List Caller) (k : ℕ) (n : List ℕ) (g : Program → Bool) : Type 0 where
+  pub small : k < 4
+  pub program : Program
+  pub place : Place
+  pub asking : Bool
+  pub seat : seatOf cs k ≡ active program place asking
+  pub fits : nameFits (length n) ≡ true
+  pub passes : g program ≡ true
+
+-- for an open one it goes by its program
+pub marks-open : (cs : List Caller) (k : ℕ) (n : List ℕ) (g : Program → Bool) (w : ℕ) (p : Program) (x : Place) (a : Bool) → Four cs → k < 4 → seatOf cs k ≡ active p x a →
+    marksOnly cs k n (λ p. doneIf (g p) w) ≡ cond (nameFits (length n)) (doneIf (g p) w) (refused 45 0)
+unfolding marksOnly byProgram
+marks-open cs k n g w p x a h i e =
+    checked-four cs k (byProgram (seatOf cs k) (refused 44 0) (λ p. cond (nameFits (length n)) (doneIf (g p) w) (refused 45 0))) h
+    ∙ rw (le-ltb 3 k (omega (arith, i)), e, byProgram)
+
+pub marks-either : (cs : List Caller) (k : ℕ) (n : List ℕ) (g : Program → Bool) (w : ℕ) → Four cs →
+    ((marksOnly cs k n (λ p. doneIf (g p) w) ≡ done) × Marking cs k n g) ⊎ ((v : ℕ) × (m : ℕ) × (marksOnly cs k n (λ p. doneIf (g p) w) ≡ refused v m))
+unfolding marksOnly doneIf byProgram
+marks-either cs k n g w h = go (ltb 3 k) (seatOf cs k) (nameFits (length n)) refl refl refl
+  where
+    inside : Seat → Answer
+    inside s = byProgram s (refused 44 0) (λ p. cond (nameFits (length n)) (cond (g p) done (refused w 0)) (refused 45 0))
+
+    here : checked cs k (inside (seatOf cs k)) ≡ cond (ltb 3 k) (refused 42 0) (inside (seatOf cs k))
+    here = checked-four cs k (inside (seatOf cs k)) h
+
+    last : (p : Program) (x : Place) (a b : Bool) → ltb 3 k ≡ false → seatOf cs k ≡ active p x a → nameFits (length n) ≡ true → g p ≡ b →
+        ((checked cs k (inside (seatOf cs k)) ≡ done) × Marking cs k n g) ⊎ ((v : ℕ) × (m : ℕ) × (checked cs k (inside (seatOf cs k)) ≡ refused v m))
+    last p x a true u q r t = inl (
+      here ∙ rw (u, q, byProgram, r, t),
+      record { small = let z = ltb-false 3 k u in omega (arith, z); program = p; place = x; asking = a; seat = q; fits = r; passes = t },
+    )
+    last p x a false u q r t = inr (w, 0, here ∙ rw (u, q, byProgram, r, t))
+
+    go : (b : Bool) (s : Seat) (o : Bool) → ltb 3 k ≡ b → seatOf cs k ≡ s → nameFits (length n) ≡ o →
+        ((checked cs k (inside (seatOf cs k)) ≡ done) × Marking cs k n g) ⊎ ((v : ℕ) × (m : ℕ) × (checked cs k (inside (seatOf cs k)) ≡ refused v m))
+    go true s o u q r = inr (42, 0, here ∙ rw u)
+    go false closed o u q r = inr (44, 0, here ∙ rw (u, q, byProgram))
+    go false (active p x a) false u q r = inr (45, 0, here ∙ rw (u, q, byProgram, r))
+    go false (active p x a) true u q r = last p x a (g p) u q r refl
+
 -- a serve is refused, or takes whoever comes next in turn
 pub serve-either : (cs : List Caller) (n : ℕ) (out : List ℕ) → Four cs → (serveAnswer cs n out ≡ refused 22 0) ⊎ (serveAnswer cs n out ≡ servedTo cs (nextAsking cs n))
 unfolding serveAnswer
@@ -96,15 +141,18 @@ after-refused c σ n m e = rw e
 
 -- there are four records behind every call
 pub four-after : (c : Call) (σ : Shared) → Four (σ .callers) → Four (after c σ .callers)
-unfolding after callersAfter callersDone
+unfolding after callersAfter callersDone changed
 four-after c σ h = go c (answerTo c σ)
   where
     go : (c : Call) (a : Answer) → Four (callersAfter c a (σ .callers))
-    go (open-for k f) done = length-set (σ .callers) k (opened f) ∙ h
-    go (ask-for k) done = length-set (σ .callers) k (asked (getD (σ .callers) k fresh)) ∙ h
+    go (open-for k f) done = length-set (σ .callers) k _ ∙ h
+    go (ask-for k) done = length-set (σ .callers) k _ ∙ h
     go (serve out) done = h
-    go (close-for k) done = length-set (σ .callers) k fresh ∙ h
-    go c (given k s) = length-set (σ .callers) k (served (getD (σ .callers) k fresh) (some s)) ∙ h
-    go c (ended k) = length-set (σ .callers) k (served (getD (σ .callers) k fresh) none) ∙ h
+    go (close-for k) done = length-set (σ .callers) k _ ∙ h
+    go (set-mark k n) done = length-set (σ .callers) k _ ∙ h
+    go (return-to k n) done = length-set (σ .callers) k _ ∙ h
+    go (forget k n) done = length-set (σ .callers) k _ ∙ h
+    go c (given k s) = length-set (σ .callers) k _ ∙ h
+    go c (ended k) = length-set (σ .callers) k _ ∙ h
     go c idle = h
     go c (refused n k) = h

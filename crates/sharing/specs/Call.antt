@@ -1,4 +1,4 @@
--- The four calls. What a call answers goes by what the four records read as; what it leaves in the records, in the two numbers and in an
+-- The seven calls. What a call answers goes by what the four records read as; what it leaves in the records, in the two numbers and in an
 -- output goes by its answer. A refusal changes nothing.
 use Prim.Native.Nat.{ℕ, _+_, _%_, _^_}
 use mathlib.Core.Bool.{Bool, true, false, cond, not}
@@ -7,21 +7,27 @@ use mathlib.Core.List.{List, [], _∷_, map}
 use lib.Dec.{eqb, ltb}
 use lib.ListN.{length, getD, set}
 use Rattle.lines.specs.Over.{over}
+use Rattle.program.specs.Program.{Program}
 use Rattle.program.specs.Decode.{Decoded, accepted, decode}
 use Rattle.program.specs.Decode as File
 use Rattle.schedules.specs.Lists.{headOf, find}
 use Rattle.schedules.specs.Order.{Schedule}
 use Rattle.schedules.specs.Calls.{short}
 use Rattle.sharing.specs.declared.caller.Caller.{Caller}
+use Rattle.sharing.specs.declared.caller.Mark.{Mark}
 use Rattle.sharing.specs.Seat.{Seat, closed, active, toCome, isOpen, asks}
 use Rattle.sharing.specs.Record.{reading, fresh, opened, asked, served}
+use Rattle.sharing.specs.Marks.{isSome, nameFits, slotOf, slotFor, markSet, markForgotten, markReturned}
 
--- open for this caller with this file; ask; serve, with this output; close
+-- open for this caller with this file; ask; serve, with this output; close; set, return to and forget a mark of this name
 pub data Call : Type 0 where
   open-for : ℕ → List ℕ → Call
   ask-for : ℕ → Call
   serve : List ℕ → Call
   close-for : ℕ → Call
+  set-mark : ℕ → List ℕ → Call
+  return-to : ℕ → List ℕ → Call
+  forget : ℕ → List ℕ → Call
 
 -- done; a schedule for this caller, or no more for it; nobody asks; refused, by this number at this place
 pub data Answer : Type 0 where
@@ -62,6 +68,29 @@ openAnswer cs k f = checked cs k (cond (isOpen (seatOf cs k)) (refused 43 0) (op
 unfoldable pub openOnly : List Caller → ℕ → Answer
 openOnly cs k = checked cs k (cond (isOpen (seatOf cs k)) done (refused 44 0))
 
+-- by an open seat's program
+unfoldable pub byProgram : {A : Type 0} → Seat → A → (Program → A) → A
+byProgram closed z f = z
+byProgram (active p x a) z f = f p
+
+-- the calls on marks: 44 for a closed one, 45 for a name of another length, and then by its program
+unfoldable pub marksOnly : List Caller → ℕ → List ℕ → (Program → Answer) → Answer
+marksOnly cs k n f = checked cs k (byProgram (seatOf cs k) (refused 44 0) (λ p. cond (nameFits (length n)) (f p) (refused 45 0)))
+
+unfoldable pub doneIf : Bool → ℕ → Answer
+doneIf b n = cond b done (refused n 0)
+
+unfoldable pub marksOf : List Caller → ℕ → List Mark
+marksOf cs k = getD cs k fresh .marks
+
+-- 47 refuses to set a ninth name
+unfoldable pub setAnswer : List Caller → ℕ → List ℕ → Answer
+setAnswer cs k n = marksOnly cs k n (λ p. doneIf (isSome (slotFor p n (marksOf cs k))) 47)
+
+-- 46 refuses to return to an unknown name, or to forget it
+unfoldable pub knownOnly : List Caller → ℕ → List ℕ → Answer
+knownOnly cs k n = marksOnly cs k n (λ p. doneIf (isSome (slotOf p n (marksOf cs k))) 46)
+
 -- a number above 3 is read as 3
 unfoldable pub lastRead : ℕ → ℕ
 lastRead n = cond (ltb 3 n) 3 n
@@ -96,14 +125,24 @@ answerTo (open-for k f) σ = openAnswer (σ .callers) k f
 answerTo (ask-for k) σ = openOnly (σ .callers) k
 answerTo (serve out) σ = serveAnswer (σ .callers) (σ .last) out
 answerTo (close-for k) σ = openOnly (σ .callers) k
+answerTo (set-mark k n) σ = setAnswer (σ .callers) k n
+answerTo (return-to k n) σ = knownOnly (σ .callers) k n
+answerTo (forget k n) σ = knownOnly (σ .callers) k n
 
 -- ---- what is left behind an answer
+-- a caller's record with something done to it by its program
+unfoldable pub changed : List Caller → ℕ → (Program → Caller → Caller) → List Caller
+changed cs k f = set cs k (byProgram (seatOf cs k) (getD cs k fresh) (λ p. f p (getD cs k fresh)))
+
 -- the records behind a call that was done
 unfoldable pub callersDone : Call → List Caller → List Caller
 callersDone (open-for k f) cs = set cs k (opened f)
 callersDone (ask-for k) cs = set cs k (asked (getD cs k fresh))
 callersDone (serve out) cs = cs
 callersDone (close-for k) cs = set cs k fresh
+callersDone (set-mark k n) cs = changed cs k (λ p. markSet p n)
+callersDone (return-to k n) cs = changed cs k (λ p. markReturned p n)
+callersDone (forget k n) cs = changed cs k (λ p. markForgotten p n)
 
 unfoldable pub callersAfter : Call → Answer → List Caller → List Caller
 callersAfter c done cs = callersDone c cs

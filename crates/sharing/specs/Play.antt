@@ -1,12 +1,13 @@
 -- A list of calls, each handed what the one before gave back.
 use Prim.Native.Nat.{ℕ, suc}
 use mathlib.Core.Path.{_≡_}
-use mathlib.Core.Bool.{Bool, true, false, cond}
+use mathlib.Core.Bool.{Bool, true, false, cond, _&&_}
 use mathlib.Core.Option.{Option, none, some}
 use mathlib.Core.List.{List, [], _∷_, _++_, List·Memᴰ}
 use lib.Dec.{eqb}
 use Rattle.schedules.specs.Order.{Schedule}
-use Rattle.sharing.specs.Call.{Call, close-for, Answer, done, given, ended, idle, refused, Shared, answerTo, after}
+use Rattle.sharing.specs.Call.{Call, open-for, ask-for, serve, close-for, set-mark, return-to, forget}
+use Rattle.sharing.specs.Call.{Answer, done, given, ended, idle, refused, Shared, answerTo, after}
 
 -- what they answer, and what is left behind the last
 unfoldable pub answers : List Call → Shared → List Answer
@@ -55,3 +56,25 @@ schedulesIn (refused n k ∷ rs) = schedulesIn rs
 -- caller k does not close
 abbrev pub Stays : ℕ → List Call → Type 0
 Stays k cs = List·Memᴰ (close-for k) cs → ⊥
+
+-- whether this call is caller k's return to a mark, and is done
+unfoldable pub isDone : Answer → Bool
+isDone done = true
+isDone (given k s) = false
+isDone (ended k) = false
+isDone idle = false
+isDone (refused n k) = false
+
+unfoldable pub isReturn : ℕ → Call → Bool
+isReturn k (open-for j f) = false
+isReturn k (ask-for j) = false
+isReturn k (serve out) = false
+isReturn k (close-for j) = false
+isReturn k (set-mark j n) = false
+isReturn k (return-to j n) = eqb j k
+isReturn k (forget j n) = false
+
+-- whether caller k returns to a mark in these calls
+unfoldable pub returns : ℕ → List Call → Shared → Bool
+returns k [] σ = false
+returns k (c ∷ cs) σ = cond (isReturn k c && isDone (answerTo c σ)) true (returns k cs (after c σ))

@@ -13,6 +13,7 @@ use Rattle.schedules.specs.Order.{Schedule}
 use Rattle.sc.specs.Replay.{Replayed, whole, replay}
 use Rattle.sc.specs.Replay as Replay
 use Rattle.sharing.specs.declared.caller.Caller.{Caller}
+use Rattle.sharing.specs.declared.caller.Mark.{Mark}
 use Rattle.sharing.specs.Seat.{Place, beginning, behind, end, Seat, closed, active}
 
 -- ---- what a record reads as
@@ -44,19 +45,87 @@ unfoldable pub reading : Caller → Seat
 reading c = seatBy (fileRead c) c
 
 -- ---- the records that calls leave
+-- a mark that is free: nothing in it
+unfoldable pub noMark : Mark
+noMark = record { name = replicate 8 0; length = 0; place = 0; steps = 0; schedule = replicate 24 0 }
+
+-- a record with this file, at this place, with no mark and nothing handed
+unfoldable pub plain : List ℕ → ℕ → ℕ → Caller
+plain f n k = record {
+  file = f;
+  length = n;
+  place = k;
+  asking = 0;
+  steps = 0;
+  schedule = replicate 24 0;
+  handed = 0;
+  size = 0;
+  newest = replicate 24 0;
+  marks = replicate 8 noMark;
+}
+
+-- at this place, with so many steps of this schedule, and asking where this is 1; all else stays
+unfoldable pub standing : Caller → ℕ → ℕ → List ℕ → ℕ → Caller
+standing c n k s a = record {
+  file = c .file;
+  length = c .length;
+  place = n;
+  asking = a;
+  steps = k;
+  schedule = s;
+  handed = c .handed;
+  size = c .size;
+  newest = c .newest;
+  marks = c .marks;
+}
+
+-- with this schedule as the last one handed
+unfoldable pub handing : Caller → Schedule → Caller
+handing c s = record {
+  file = c .file;
+  length = c .length;
+  place = c .place;
+  asking = c .asking;
+  steps = c .steps;
+  schedule = c .schedule;
+  handed = 1;
+  size = length s;
+  newest = over s (replicate 24 0);
+  marks = c .marks;
+}
+
+-- with these marks
+unfoldable pub withMarks : Caller → List Mark → Caller
+withMarks c ms = record {
+  file = c .file;
+  length = c .length;
+  place = c .place;
+  asking = c .asking;
+  steps = c .steps;
+  schedule = c .schedule;
+  handed = c .handed;
+  size = c .size;
+  newest = c .newest;
+  marks = ms;
+}
+
 -- a fresh one, as closing leaves it: nothing in it
 unfoldable pub fresh : Caller
-fresh = record { file = replicate 4096 0; length = 0; place = 0; asking = 0; steps = 0; schedule = replicate 24 0 }
+fresh = plain (replicate 4096 0) 0 0
 
 -- opened with this file: before the first schedule
 unfoldable pub opened : List ℕ → Caller
-opened f = record { file = over f (replicate 4096 0); length = length f; place = 1; asking = 0; steps = 0; schedule = replicate 24 0 }
+opened f = plain (over f (replicate 4096 0)) (length f) 1
 
 -- one that asks
 unfoldable pub asked : Caller → Caller
-asked c = record { file = c .file; length = c .length; place = c .place; asking = 1; steps = c .steps; schedule = c .schedule }
+asked c = standing c (c .place) (c .steps) (c .schedule) 1
 
 -- served with this schedule, or with no more: its asking ends, and it stands behind what it was given
 unfoldable pub served : Caller → Option Schedule → Caller
-served c (some s) = record { file = c .file; length = c .length; place = 2; asking = 0; steps = length s; schedule = over s (replicate 24 0) }
-served c none = record { file = c .file; length = c .length; place = 3; asking = 0; steps = 0; schedule = replicate 24 0 }
+served c (some s) = handing (standing c 2 (length s) (over s (replicate 24 0)) 0) s
+served c none = standing c 3 0 (replicate 24 0) 0
+
+-- returned to this mark: its place is the mark's, and all else stays
+unfoldable pub returned : Caller → Mark → Caller
+returned c m = standing c (m .place) (m .steps) (m .schedule) (c .asking)

@@ -24,10 +24,10 @@ use denote.Triple.Spec.{tripleOf}
 use denote.Triple.Statement.{Contract, Triple}
 use denote.Triple.Call.{calls-at}
 use denote.Triple.Clauses.{ensured, lasts}
-use Rattle.service.specs.declared.answer.Reply.{Reply}
-use Rattle.service.specs.declared.answer.Reply.the-variants.{Given as Gave, Ended, Idle}
-use Rattle.service.proofs.answer.Reply as Y
-use Rattle.service.proofs.answer.Reply.Laws as Y′
+use Rattle.handling.specs.declared.answer.Reply.{Reply}
+use Rattle.handling.specs.declared.answer.Reply.the-variants.{Given as Gave, Ended, Idle}
+use Rattle.handling.proofs.answer.Reply as Y
+use Rattle.handling.proofs.answer.Reply.Laws as Y′
 use Rattle.words.specs.Word.{wordOf, kindIn}
 use Rattle.tarczolin_users.specs.Users.{userWord, callerIn, lengthIn}
 use Rattle.tarczolin_users.proofs.users.user_word as user-word

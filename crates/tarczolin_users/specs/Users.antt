@@ -3,8 +3,8 @@ use Prim.Native.Nat.{ℕ, _+_, _*_, _/_, _%_, _^_}
 use mathlib.Core.Path.{_≡_}
 use mathlib.Core.List.{List}
 use Rattle.sharing.specs.Call.{Call, serve, Shared, answerTo, after, outputAfter}
-use Rattle.service.specs.declared.answer.Reply.{Reply}
-use Rattle.service.specs.declared.answer.Reply.the-variants.{Done, Given, Ended, Idle, Refused}
+use Rattle.handling.specs.declared.answer.Reply.{Reply}
+use Rattle.handling.specs.declared.answer.Reply.the-variants.{Done, Given, Ended, Idle, Refused}
 use Rattle.service.specs.Reply.{replyOf}
 use Rattle.words.specs.Word.{answered, refused, wordOf}
 

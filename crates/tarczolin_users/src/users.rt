@@ -4,7 +4,7 @@ use service::Reply;
 use words::answered;
 use words::refused;
 ghost use mathlib.Core.Path.{_≡_};
-ghost use Rattle.sharing.specs.Call.{open-for, ask-for, close-for};
+ghost use Rattle.sharing.specs.Call.{open-for, ask-for, close-for, set-mark, return-to, forget};
 ghost use Rattle.service.specs.Reply.{shared};
 ghost use Rattle.tarczolin_users.specs.Users.{userWord, Says, ServeSays};
 
@@ -96,5 +96,57 @@ pub extern "C" fn tarczolin_close(
         (shared (now (callers .exit)) (now (last .exit)) (now (handed .exit))) ⌝ }
 {
     let r = service::close(callers, last, handed, caller);
+    user_word(r)
+}
+
+// Stores a caller's last schedule handed since it opened, or the beginning if there is none, under this name. Kind 1: done. Kind 3 with
+// number and place.
+#[no_mangle]
+pub extern "C" fn tarczolin_set(
+    callers: &mut [Caller],
+    last: &mut u64,
+    handed: &mut u64,
+    caller: usize,
+    name: &[u8],
+) -> u64
+    ensures { λ w. ⌜ Says (set-mark caller (now (name .entry)))
+        (shared (now (callers .entry)) (now (last .entry)) (now (handed .entry))) w
+        (shared (now (callers .exit)) (now (last .exit)) (now (handed .exit))) ⌝ }
+{
+    let r = service::set(callers, last, handed, caller, name);
+    user_word(r)
+}
+
+// A caller stands where the mark of this name does, and its serves go on behind it. Kind 1: done. Kind 3 with number and place.
+#[no_mangle]
+pub extern "C" fn tarczolin_return(
+    callers: &mut [Caller],
+    last: &mut u64,
+    handed: &mut u64,
+    caller: usize,
+    name: &[u8],
+) -> u64
+    ensures { λ w. ⌜ Says (return-to caller (now (name .entry)))
+        (shared (now (callers .entry)) (now (last .entry)) (now (handed .entry))) w
+        (shared (now (callers .exit)) (now (last .exit)) (now (handed .exit))) ⌝ }
+{
+    let r = service::return_to(callers, last, handed, caller, name);
+    user_word(r)
+}
+
+// A caller's mark of this name is freed. Kind 1: done. Kind 3 with number and place.
+#[no_mangle]
+pub extern "C" fn tarczolin_forget(
+    callers: &mut [Caller],
+    last: &mut u64,
+    handed: &mut u64,
+    caller: usize,
+    name: &[u8],
+) -> u64
+    ensures { λ w. ⌜ Says (forget caller (now (name .entry)))
+        (shared (now (callers .entry)) (now (last .entry)) (now (handed .entry))) w
+        (shared (now (callers .exit)) (now (last .exit)) (now (handed .exit))) ⌝ }
+{
+    let r = service::forget(callers, last, handed, caller, name);
     user_word(r)
 }

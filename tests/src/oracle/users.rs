@@ -1,4 +1,4 @@
-//! Four users on one explorer, by the words of document 02's request h: what each call answers and leaves, for any content of the
+//! Four users on one explorer, by the words of document 02's requests h and j: what each call answers and leaves, for any content of the
 //! records that a host lends.
 use super::decode::{decode, Program};
 use super::listing::{self, Listed};
@@ -16,6 +16,48 @@ pub struct Record {
     pub asking: u8,
     pub steps: u8,
     pub schedule: [u8; 24],
+    pub handed: u8,
+    pub size: u8,
+    pub newest: [u8; 24],
+    pub marks: [Mark; 8],
+}
+
+/// A mark as it lies there.
+#[derive(Clone, Copy, Debug, PartialEq, Eq)]
+pub struct Mark {
+    pub name: [u8; 8],
+    pub length: u8,
+    pub place: u8,
+    pub steps: u8,
+    pub schedule: [u8; 24],
+}
+
+/// One that is free: nothing in it.
+pub const FREE: Mark = Mark { name: [0; 8], length: 0, place: 0, steps: 0, schedule: [0; 24] };
+
+impl Mark {
+    /// The name, where the mark is not free by itself: its name has 1 to 8 bytes, and its place is the beginning or a full schedule.
+    pub fn name(&self, program: &Program) -> Option<&[u8]> {
+        let name = self.name.get(..self.length as usize).filter(|name| !name.is_empty())?;
+        let place = place(program, self.place, self.steps, &self.schedule)?;
+        (place != Place::End).then_some(name)
+    }
+}
+
+/// The name of each mark of a record that counts, none for those that count as free.
+pub type Names = Vec<Option<Vec<u8>>>;
+
+/// A place, if it is one: the beginning, behind a full schedule, or the end.
+fn place(program: &Program, number: u8, steps: u8, schedule: &[u8; 24]) -> Option<Place> {
+    match number {
+        1 => Some(Place::Beginning),
+        2 => {
+            let steps = schedule.get(..steps as usize)?;
+            run_full(program, steps).ok().map(|_| Place::Behind(steps.to_vec()))
+        }
+        3 => Some(Place::End),
+        _ => None,
+    }
 }
 
 /// A place in a program's list.
@@ -50,6 +92,9 @@ pub enum Call {
     Ask(usize),
     Serve(usize),
     Close(usize),
+    Set(usize, Vec<u8>),
+    Return(usize, Vec<u8>),
+    Forget(usize, Vec<u8>),
 }
 
 /// What goes into each call and comes out of it.
@@ -75,7 +120,9 @@ impl Lists {
 impl Record {
     /// A fresh one, as closing leaves it: nothing in it.
     pub fn fresh() -> Record {
-        Record { file: vec![0; 4096], length: 0, place: 0, asking: 0, steps: 0, schedule: [0; 24] }
+        let (place, asking, steps, schedule) = (0, 0, 0, [0; 24]);
+        let (handed, size, newest, marks) = (0, 0, [0; 24], [FREE; 8]);
+        Record { file: vec![0; 4096], length: 0, place, asking, steps, schedule, handed, size, newest, marks }
     }
 
     /// Opened with this accepted file: before the first schedule.
@@ -85,26 +132,13 @@ impl Record {
         record
     }
 
-    /// The place, if it is one: the beginning, behind a full schedule, or the end.
-    fn place(&self, program: &Program) -> Option<Place> {
-        match self.place {
-            1 => Some(Place::Beginning),
-            2 => {
-                let steps = self.schedule.get(..self.steps as usize)?;
-                run_full(program, steps).ok().map(|_| Place::Behind(steps.to_vec()))
-            }
-            3 => Some(Place::End),
-            _ => None,
-        }
-    }
-
     /// One whose program would be refused, or whose place is none, counts as closed and empty.
     pub fn seat(&self) -> Option<Seat> {
         if self.length > 4096 {
             return None;
         }
         let file = &self.file[..self.length as usize];
-        let place = self.place(&decode(file).ok()?)?;
+        let place = place(&decode(file).ok()?, self.place, self.steps, &self.schedule)?;
         Some(Seat { file: file.to_vec(), place, asks: self.asking == 1 })
     }
 
@@ -114,7 +148,34 @@ impl Record {
         if let Some(steps) = given {
             (self.place, self.steps) = (2, steps.len() as u8);
             self.schedule[..steps.len()].copy_from_slice(steps);
+            (self.handed, self.size, self.newest) = (1, self.steps, self.schedule);
         }
+    }
+
+    /// The name of each mark that counts; of two with one name the later counts as free.
+    pub fn names(&self, program: &Program) -> Names {
+        let mut names = Names::new();
+        for mark in &self.marks {
+            let name = mark.name(program).map(<[u8]>::to_vec).filter(|name| !names.contains(&Some(name.clone())));
+            names.push(name);
+        }
+        names
+    }
+
+    /// Every mark of this name is emptied, also one that counts as free since an earlier one has its name.
+    fn empty(&mut self, program: &Program, name: &[u8]) {
+        self.marks.iter_mut().filter(|mark| mark.name(program) == Some(name)).for_each(|mark| *mark = FREE);
+    }
+
+    /// The mark that set stores: the last schedule handed since it opened, or the beginning if there is none; one that isn't full
+    /// counts as none.
+    fn mark(&self, program: &Program, name: &[u8]) -> Mark {
+        let mut mark = Mark { length: name.len() as u8, place: 1, ..FREE };
+        mark.name[..name.len()].copy_from_slice(name);
+        if self.handed == 1 && place(program, 2, self.size, &self.newest).is_some() {
+            (mark.place, mark.steps, mark.schedule) = (2, self.size, self.newest);
+        }
+        mark
     }
 }
 
@@ -147,7 +208,7 @@ impl Shared {
         }
     }
 
-    /// 44, ask or close for a closed one.
+    /// 44, ask, close, set, return or forget for a closed one.
     fn open_only(&self, caller: usize) -> Result<&Record, Refusal> {
         match self.seat(caller)? {
             Some(_) => Ok(&self.records[caller]),
@@ -162,6 +223,9 @@ impl Shared {
             Call::Ask(caller) => self.ask(*caller),
             Call::Serve(output) => self.serve(lists, *output),
             Call::Close(caller) => self.close(*caller),
+            Call::Set(caller, name) => self.set(*caller, name),
+            Call::Return(caller, name) => self.return_to(*caller, name),
+            Call::Forget(caller, name) => self.forget(*caller, name),
         }?;
         self.last = match said {
             Said::Schedule(caller, _) | Said::NoMore(caller) => caller as u64,
@@ -218,6 +282,48 @@ impl Shared {
     fn close(&mut self, caller: usize) -> Result<Said, Refusal> {
         self.open_only(caller)?;
         self.records[caller] = Record::fresh();
+        Ok(Said::Done)
+    }
+
+    /// 44, then 45, a name of another length than 1 to 8; else the program, and the names that count.
+    fn named(&self, caller: usize, name: &[u8]) -> Result<(Program, Names), Refusal> {
+        let record = self.open_only(caller)?;
+        if name.is_empty() || name.len() > 8 {
+            return refused(45, 0);
+        }
+        let program = decode(&record.file[..record.length as usize]).expect("the record is open");
+        let names = record.names(&program);
+        Ok((program, names))
+    }
+
+    /// A used name is overwritten; else the first free mark takes it, or 47, a ninth name.
+    fn set(&mut self, caller: usize, name: &[u8]) -> Result<Said, Refusal> {
+        let (program, names) = self.named(caller, name)?;
+        let used = names.iter().position(|one| one.as_deref() == Some(name));
+        let Some(at) = used.or_else(|| names.iter().position(Option::is_none)) else { return refused(47, 0) };
+        let record = &mut self.records[caller];
+        record.empty(&program, name);
+        record.marks[at] = record.mark(&program, name);
+        Ok(Said::Done)
+    }
+
+    /// 46, an unknown name; else the place is the mark's. The asking, the count and the last schedule handed stay.
+    fn return_to(&mut self, caller: usize, name: &[u8]) -> Result<Said, Refusal> {
+        let (_, names) = self.named(caller, name)?;
+        let Some(at) = names.iter().position(|one| one.as_deref() == Some(name)) else { return refused(46, 0) };
+        let record = &mut self.records[caller];
+        let mark = record.marks[at];
+        (record.place, record.steps, record.schedule) = (mark.place, mark.steps, mark.schedule);
+        Ok(Said::Done)
+    }
+
+    /// 46, an unknown name; else it is free for use.
+    fn forget(&mut self, caller: usize, name: &[u8]) -> Result<Said, Refusal> {
+        let (program, names) = self.named(caller, name)?;
+        if !names.iter().any(|one| one.as_deref() == Some(name)) {
+            return refused(46, 0);
+        }
+        self.records[caller].empty(&program, name);
         Ok(Said::Done)
     }
 }

@@ -3,7 +3,7 @@ use super::program::{frames_parted, Size, SMALL};
 use super::{damage, schedule, Random};
 use crate::files::{lines, text};
 use crate::oracle::decode::decode;
-use crate::oracle::users::{Call, Record, Shared};
+use crate::oracle::users::{Call, Mark, Record, Shared, FREE};
 
 /// Lists short enough that a caller comes to their end.
 const SHORT: Size = Size { threads: 3, instructions: 3, accesses: 4, ..SMALL };
@@ -38,13 +38,25 @@ fn caller(random: &mut Random) -> usize {
     }
 }
 
+/// A name; few, so that they meet, and one in twelve of another length than 1 to 8.
+fn name(random: &mut Random) -> Vec<u8> {
+    match random.below(12) {
+        0 => vec![b'n'; random.pick(&[0, 9, 10, 256, 257])],
+        1 => vec![0; random.between(1, 8)],
+        _ => vec![b'a' + random.below(10) as u8; random.pick(&[1, 1, 1, 1, 1, 8])],
+    }
+}
+
 /// A call, most often one that is answered by a schedule.
 pub fn call(random: &mut Random, files: &[Vec<u8>]) -> Call {
-    match random.below(16) {
+    match random.below(22) {
         0..=1 => Call::Open(caller(random), files[random.below(files.len())].clone()),
         2..=7 => Call::Ask(caller(random)),
         8 if random.one_in(2) => Call::Close(caller(random)),
         9 => Call::Serve(random.below(60)),
+        10..=12 => Call::Set(caller(random), name(random)),
+        13..=14 => Call::Return(caller(random), name(random)),
+        15 => Call::Forget(caller(random), name(random)),
         _ => Call::Serve(random.between(24, 40)),
     }
 }
@@ -62,7 +74,7 @@ pub fn damage(random: &mut Random, files: &[Vec<u8>], shared: &mut Shared) {
 }
 
 fn damage_record(random: &mut Random, files: &[Vec<u8>], record: &mut Record) {
-    match random.below(11) {
+    match random.below(36) {
         0 => record.place = random.below(6) as u8,
         1 => record.place = random.byte(),
         2 => record.asking = random.below(4) as u8,
@@ -86,16 +98,81 @@ fn damage_record(random: &mut Random, files: &[Vec<u8>], record: &mut Record) {
             record.file[..length].copy_from_slice(&file[..length]);
             record.length = length as u64;
         }
-        _ => at_some_schedule(random, record),
+        10 => {
+            if let Some((steps, schedule)) = some_schedule(random, record) {
+                (record.place, record.steps, record.schedule) = (2, steps, schedule);
+            }
+        }
+        11..=14 => damage_newest(random, record),
+        _ => damage_marks(random, record),
     }
 }
 
-/// The place behind a schedule of its program: a full one, listed or not, or one that is none.
-fn at_some_schedule(random: &mut Random, record: &mut Record) {
-    let Some(Ok(program)) = record.file.get(..record.length as usize).map(decode) else { return };
+/// A schedule of the record's program as it would stand there: a full one, listed or not, or one that is none.
+fn some_schedule(random: &mut Random, record: &Record) -> Option<(u8, [u8; 24])> {
+    let program = decode(record.file.get(..record.length as usize)?).ok()?;
     let kind = if random.one_in(3) { random.pick(&schedule::ALL) } else { schedule::Kind::Full };
     let steps = schedule::schedule(random, &program, kind);
-    let shown = steps.len().min(24);
-    record.schedule[..shown].copy_from_slice(&steps[..shown]);
-    (record.place, record.steps) = (2, steps.len().min(255) as u8);
+    let (shown, mut schedule) = (steps.len().min(24), [0; 24]);
+    schedule[..shown].copy_from_slice(&steps[..shown]);
+    Some((steps.len().min(255) as u8, schedule))
+}
+
+/// Another schedule as the last one handed, or none.
+fn damage_newest(random: &mut Random, record: &mut Record) {
+    match random.below(5) {
+        0 => record.handed = random.pick(&[0, 1, 2, 255]),
+        1 => record.size = random.pick(&[0, 1, 24, 25, 255]),
+        2 => record.size = record.size.wrapping_add(random.pick(&[1, 255])),
+        3 => record.newest[random.below(4)] = random.below(4) as u8,
+        _ => {
+            if let Some((size, newest)) = some_schedule(random, record) {
+                (record.handed, record.size, record.newest) = (1, size, newest);
+            }
+        }
+    }
+}
+
+/// Marks of another length, place or name, behind schedules that are full or not, and two of one name.
+fn damage_marks(random: &mut Random, record: &mut Record) {
+    let used: Vec<usize> = (0..8).filter(|at| record.marks[*at].length != 0).collect();
+    if used.is_empty() || random.one_in(8) {
+        return eight_marks(random, record);
+    }
+    let (at, other) = (random.pick(&used), random.below(8));
+    let found = some_schedule(random, record);
+    let mark = &mut record.marks[at];
+    match random.below(9) {
+        0 => mark.length = random.pick(&[0, 2, 8, 9, 24, 255]),
+        1 => mark.place = random.pick(&[0, 1, 2, 3, 3, 4, 255]),
+        2 => mark.steps = random.pick(&[0, 1, 24, 25, 255]),
+        3 => mark.steps = mark.steps.wrapping_add(random.pick(&[1, 255])),
+        4 => mark.schedule[random.below(4)] = random.below(4) as u8,
+        5 => mark.name[random.below(8)] = random.byte(),
+        6 => {
+            let bytes =
+                mark.name.iter_mut().chain([&mut mark.length, &mut mark.place, &mut mark.steps]).chain(&mut mark.schedule);
+            bytes.for_each(|byte| *byte = random.byte());
+        }
+        _ => {
+            // the same name once more, before or behind it, at another place
+            record.marks[other] = record.marks[at];
+            if let Some((steps, schedule)) = found {
+                let mark = &mut record.marks[other];
+                (mark.place, mark.steps, mark.schedule) = (2, steps, schedule);
+            }
+        }
+    }
+}
+
+/// A mark in every slot, most under names of their own.
+fn eight_marks(random: &mut Random, record: &mut Record) {
+    for at in 0..8 {
+        let mut mark = Mark { length: 1, place: 1, ..FREE };
+        mark.name[0] = b'a' + if random.one_in(12) { random.below(10) as u8 } else { at as u8 };
+        if let (true, Some((steps, schedule))) = (random.one_in(2), some_schedule(random, record)) {
+            (mark.place, mark.steps, mark.schedule) = (2, steps, schedule);
+        }
+        record.marks[at] = mark;
+    }
 }

@@ -4,6 +4,23 @@ use crate::SCHEDULE;
 /// The longest accepted file.
 pub const FILE: usize = 4096;
 
+/// How many marks a record has, and how many bytes a name may have.
+pub const MARKS: usize = 8;
+pub const NAME: usize = 8;
+
+/// A mark to come back to.
+#[repr(C)]
+#[derive(Clone, Copy, Debug, PartialEq, Eq)]
+pub struct Mark {
+    /// The name is the first `length` bytes.
+    pub name: [u8; NAME],
+    pub length: u8,
+    /// 1 at the beginning, 2 behind the first `steps` bytes of `schedule`; else the mark is free.
+    pub place: u8,
+    pub steps: u8,
+    pub schedule: [u8; SCHEDULE],
+}
+
 /// One of the four records that a host lends. Any content may stand there: each call goes by what a record reads as.
 #[repr(C)]
 #[derive(Clone, Copy, Debug, PartialEq, Eq)]
@@ -17,9 +34,30 @@ pub struct Caller {
     pub asking: u8,
     pub steps: u8,
     pub schedule: [u8; SCHEDULE],
+    /// The last schedule handed to it since it opened is the first `size` bytes of `newest`, where this is 1.
+    pub handed: u8,
+    pub size: u8,
+    pub newest: [u8; SCHEDULE],
+    pub marks: [Mark; MARKS],
+}
+
+impl Mark {
+    /// A free one: nothing in it.
+    pub const FREE: Mark = Mark { name: [0; NAME], length: 0, place: 0, steps: 0, schedule: [0; SCHEDULE] };
 }
 
 impl Caller {
     /// A fresh record, as closing leaves it.
-    pub const FRESH: Caller = Caller { file: [0; FILE], length: 0, place: 0, asking: 0, steps: 0, schedule: [0; SCHEDULE] };
+    pub const FRESH: Caller = Caller {
+        file: [0; FILE],
+        length: 0,
+        place: 0,
+        asking: 0,
+        steps: 0,
+        schedule: [0; SCHEDULE],
+        handed: 0,
+        size: 0,
+        newest: [0; SCHEDULE],
+        marks: [Mark::FREE; MARKS],
+    };
 }

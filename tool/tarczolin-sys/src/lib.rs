@@ -13,7 +13,7 @@ pub mod tso;
 pub mod users;
 
 pub use answer::Answer;
-pub use caller::{Caller, FILE};
+pub use caller::{Caller, Mark, FILE, MARKS, NAME};
 pub use closed::standard_output_was_closed;
 pub use covers::Covers;
 pub use interrupt::{note_interrupts, was_interrupted};

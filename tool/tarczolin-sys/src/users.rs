@@ -23,6 +23,33 @@ extern "C" {
         out_len: usize,
     ) -> u64;
     fn tarczolin_close(callers: *mut Caller, callers_len: usize, last: *mut u64, handed: *mut u64, caller: usize) -> u64;
+    fn tarczolin_set(
+        callers: *mut Caller,
+        callers_len: usize,
+        last: *mut u64,
+        handed: *mut u64,
+        caller: usize,
+        name: *const u8,
+        name_len: usize,
+    ) -> u64;
+    fn tarczolin_return(
+        callers: *mut Caller,
+        callers_len: usize,
+        last: *mut u64,
+        handed: *mut u64,
+        caller: usize,
+        name: *const u8,
+        name_len: usize,
+    ) -> u64;
+    fn tarczolin_forget(
+        callers: *mut Caller,
+        callers_len: usize,
+        last: *mut u64,
+        handed: *mut u64,
+        caller: usize,
+        name: *const u8,
+        name_len: usize,
+    ) -> u64;
 }
 
 /// What goes into each call and comes out of it.
@@ -60,4 +87,31 @@ pub fn close(shared: Shared, caller: usize) -> Answer {
     let Shared { callers, last, handed } = shared;
     // safe: the call reads and writes only the records and the two numbers
     Answer::of_word(unsafe { tarczolin_close(callers.as_mut_ptr(), callers.len(), last, handed, caller) })
+}
+
+/// Sets a mark under this name: the last schedule handed to the caller, or the beginning if there is none.
+pub fn set(shared: Shared, caller: usize, name: &[u8]) -> Answer {
+    let Shared { callers, last, handed } = shared;
+    // safe: the call reads only the bytes of the name and reads and writes only the records and the two numbers
+    Answer::of_word(unsafe {
+        tarczolin_set(callers.as_mut_ptr(), callers.len(), last, handed, caller, name.as_ptr(), name.len())
+    })
+}
+
+/// Returns to the mark of this name: the caller's serves go on behind it.
+pub fn return_to(shared: Shared, caller: usize, name: &[u8]) -> Answer {
+    let Shared { callers, last, handed } = shared;
+    // safe: the call reads only the bytes of the name and reads and writes only the records and the two numbers
+    Answer::of_word(unsafe {
+        tarczolin_return(callers.as_mut_ptr(), callers.len(), last, handed, caller, name.as_ptr(), name.len())
+    })
+}
+
+/// Forgets the mark of this name.
+pub fn forget(shared: Shared, caller: usize, name: &[u8]) -> Answer {
+    let Shared { callers, last, handed } = shared;
+    // safe: the call reads only the bytes of the name and reads and writes only the records and the two numbers
+    Answer::of_word(unsafe {
+        tarczolin_forget(callers.as_mut_ptr(), callers.len(), last, handed, caller, name.as_ptr(), name.len())
+    })
 }

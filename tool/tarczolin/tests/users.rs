@@ -5,7 +5,7 @@ use common::{folder, run_with};
 use std::io::{BufRead, BufReader, Write};
 use std::mem::{offset_of, size_of};
 use std::process::{Command, Stdio};
-use tarczolin_sys::Caller;
+use tarczolin_sys::{Caller, Mark, MARKS};
 use tarczolin_tests::files::path;
 use tarczolin_tests::oracle::users::{Call, Lists, Said, Shared};
 use tarczolin_tests::random::users::{call, files};
@@ -52,6 +52,15 @@ fn refusals_and_errors() {
         "raw 0 plaice 00",
         "raw 9 place 00",
         "raw 0 place 0001",
+        "set",
+        "set 0 6",
+        "set x 61",
+        "return 0 6g",
+        "forget 0 61 62",
+        "raw 0 mark8.place 00",
+        "raw 0 mark.place 00",
+        "raw 0 mark0.plaice 00",
+        "raw 0 mark0.name 616263646566676869",
     ] {
         let (status, said) = answers(&format!("{wrong}\nserve\n"));
         assert_eq!((status, said.len(), said[1].as_str()), (2, 2, "idle"), "{wrong}");
@@ -107,6 +116,29 @@ fn line_by_line() {
     assert_eq!(child.wait().unwrap().code(), Some(2));
 }
 
+fn digits(bytes: &[u8]) -> String {
+    bytes.iter().map(|byte| format!("{byte:02x}")).collect()
+}
+
+/// Marks by lines: names are digits, two a byte.
+#[test]
+fn marks() {
+    let (status, said) = answers(
+        "open 0 examples/whole.hex\nset 0 61\nask 0\nserve\nset 0 62\nask 0\nserve\nreturn 0 61\nask 0\nserve\nreturn 0 62\nask 0\nserve\n\
+         forget 0 62\nreturn 0 62\nset 0\nset 1 61\nset 0 616263646566676869\nset 4 61\n",
+    );
+    let (first, second) = ("schedule 0 000102", "schedule 0 010002");
+    let front = ["ok", "ok", "ok", first, "ok", "ok", second, "ok", "ok", first, "ok", "ok", second];
+    let refused = ["ok", "refused 46 0", "refused 45 0", "refused 44 0", "refused 45 0", "refused 42 0"];
+    assert_eq!((status, said), (0, [&front[..], &refused].concat().iter().map(|s| s.to_string()).collect()));
+    let (_, said) = answers(
+        "open 0 examples/whole.hex\nset 0 61\nraw 0 mark0.place 03\nreturn 0 61\nraw 0 mark0.place 01\nreturn 0 61\nraw 0 mark0.length 09\nreturn 0 61\n\
+         raw 0 mark7.name 62\nraw 0 mark7.length 01\nraw 0 mark7.place 02\nraw 0 mark7.steps 03\nraw 0 mark7.schedule 010002\nreturn 0 62\nask 0\nserve\n",
+    );
+    let wanted = ["ok", "ok", "ok", "refused 46 0", "ok", "ok", "ok", "refused 46 0", "ok", "ok", "ok", "ok", "ok", "ok", "ok"];
+    assert_eq!(said, [&wanted[..], &["schedule 0 010200"]].concat());
+}
+
 /// Lists of thousands of calls through the command, beside the oracle.
 #[test]
 fn random_lists_of_lines() {
@@ -128,12 +160,13 @@ fn random_lists_of_lines() {
                 Call::Ask(k) => format!("ask {k}\n"),
                 Call::Serve(_) => "serve\n".to_string(),
                 Call::Close(k) => format!("close {k}\n"),
+                Call::Set(k, name) => format!("set {k} {}\n", digits(name)),
+                Call::Return(k, name) => format!("return {k} {}\n", digits(name)),
+                Call::Forget(k, name) => format!("forget {k} {}\n", digits(name)),
             };
             wanted.push(match shared.call(&mut lists, &call) {
                 Ok(Said::Done) => "ok".to_string(),
-                Ok(Said::Schedule(k, steps)) => {
-                    format!("schedule {k} {}", steps.iter().map(|t| format!("{t:02x}")).collect::<String>())
-                }
+                Ok(Said::Schedule(k, steps)) => format!("schedule {k} {}", digits(&steps)),
                 Ok(Said::NoMore(k)) => format!("no more {k}"),
                 Ok(Said::Idle) => "idle".to_string(),
                 Err(refusal) => format!("refused {} {}", refusal.number, refusal.place),
@@ -144,6 +177,44 @@ fn random_lists_of_lines() {
         assert!(status == 0 && said == wanted, "{differs:?}");
     }
 }
+
+/// The layout of a mark, as the C program prints it.
+fn marks_in_c() -> String {
+    let fields = [
+        ("name", offset_of!(Mark, name), 8),
+        ("length", offset_of!(Mark, length), 1),
+        ("place", offset_of!(Mark, place), 1),
+        ("steps", offset_of!(Mark, steps), 1),
+        ("schedule", offset_of!(Mark, schedule), 24),
+    ];
+    let layout: String = fields.iter().map(|(name, offset, size)| format!("mark {name} {offset} {size}\n")).collect();
+    format!("mark {}, {MARKS} of them\n{layout}", size_of::<Mark>())
+}
+
+/// What the C program tells of its calls: the word, the two numbers, the records that changed.
+const CALLS: &str = "\
+open 0100000000000000 last 3 handed 0 changed 2
+28 1 0
+ask 0100000000000000 last 3 handed 0 changed 2
+asking 1
+serve 0100020000000002 last 2 handed 1 changed 2
+1 2 2, 0 2 0
+serve 0500000000000000 last 2 handed 1 changed
+ask 032a000000000000 last 2 handed 1 changed
+ask 0316000000000000 last 2 handed 1 changed
+set 0100000000000000 last 2 handed 1 changed 2
+4 2 2, 0 0
+set 032d000000000000 last 2 handed 1 changed
+return 032e000000000000 last 2 handed 1 changed
+place 0000000000000000 last 2 handed 1 changed 2
+return 0100000000000000 last 2 handed 1 changed 2
+2 2
+forget 0100000000000000 last 2 handed 1 changed 2
+forget 032e000000000000 last 2 handed 1 changed
+eight 0000000000000000 last 2 handed 1 changed 2
+set 032f000000000000 last 2 handed 1 changed
+close 0100000000000000 last 2 handed 1 changed 2
+";
 
 /// The record of the header is that of the Rust wrapper, and the library's: a C program lends it and finds what it expects.
 #[test]
@@ -165,19 +236,12 @@ fn records_in_c() {
         ("asking", offset_of!(Caller, asking), 1),
         ("steps", offset_of!(Caller, steps), 1),
         ("schedule", offset_of!(Caller, schedule), 24),
+        ("handed", offset_of!(Caller, handed), 1),
+        ("size", offset_of!(Caller, size), 1),
+        ("newest", offset_of!(Caller, newest), 24),
+        ("marks", offset_of!(Caller, marks), 8 * size_of::<Mark>()),
     ];
+    assert_eq!((size_of::<Caller>(), offset_of!(Caller, marks), size_of::<Mark>()), (4440, 4157, 35), "as the header says");
     let layout: String = fields.iter().map(|(name, offset, size)| format!("{name} {offset} {size}\n")).collect();
-    let calls = "\
-open 0100000000000000 last 3 handed 0 changed 2
-28 1 0
-ask 0100000000000000 last 3 handed 0 changed 2
-asking 1
-serve 0100020000000002 last 2 handed 1 changed 2
-1 2 2, 0 2 0
-serve 0500000000000000 last 2 handed 1 changed
-ask 032a000000000000 last 2 handed 1 changed
-ask 0316000000000000 last 2 handed 1 changed
-close 0100000000000000 last 2 handed 1 changed 2
-";
-    assert_eq!(ran, format!("size {}\n{layout}{calls}", size_of::<Caller>()));
+    assert_eq!(ran, format!("size {}\n{layout}{}{CALLS}", size_of::<Caller>(), marks_in_c()));
 }

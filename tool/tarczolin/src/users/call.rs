@@ -10,6 +10,12 @@ pub enum Call {
     Ask(usize),
     Serve,
     Close(usize),
+    /// Set a mark of this name.
+    Set(usize, Vec<u8>),
+    /// Return to it.
+    Return(usize, Vec<u8>),
+    /// Forget it.
+    Forget(usize, Vec<u8>),
     /// How many schedules were handed to all.
     Count,
     /// Put these bytes into a field.
@@ -17,7 +23,9 @@ pub enum Call {
 }
 
 /// The lines that there are, for messages.
-const LINES: &str = "open CALLER FILE, ask CALLER, serve, close CALLER, count, raw CALLER FIELD HEX";
+const LINES: &str =
+    "open CALLER FILE, ask CALLER, serve, close CALLER, set CALLER NAME, return CALLER NAME, forget CALLER NAME, count, \
+                     raw CALLER FIELD HEX; a NAME is digits, two a byte";
 
 impl Call {
     /// What a line asks for; nothing where it is empty or a remark. Else what is wrong with it.
@@ -36,6 +44,9 @@ impl Call {
             ("ask", caller) => Call::Ask(number(caller)?),
             ("serve", "") => Call::Serve,
             ("close", caller) => Call::Close(number(caller)?),
+            ("set", rest) => named(rest, Call::Set)?,
+            ("return", rest) => named(rest, Call::Return)?,
+            ("forget", rest) => named(rest, Call::Forget)?,
             ("count", "") => Call::Count,
             ("raw", rest) => raw(rest)?,
             _ => return Err(format!("this is none of the lines {LINES}")),
@@ -55,6 +66,14 @@ fn split(text: &str) -> (&str, &str) {
 
 fn number(word: &str) -> Result<usize, String> {
     word.parse().map_err(|_| format!("a caller is a number, and {word:?} is none"))
+}
+
+/// `0 6162`: a caller and a name, which the library refuses where it has another length than 1 to 8 bytes.
+fn named(rest: &str, call: fn(usize, Vec<u8>) -> Call) -> Result<Call, String> {
+    let (caller, digits) = split(rest);
+    let name =
+        hex::bytes(digits.as_bytes()).ok_or_else(|| format!("a name takes two digits (0-9, a-f) a byte, not {digits:?}"))?;
+    Ok(call(number(caller)?, name))
 }
 
 /// `0 place 02`, `last 07`.
@@ -84,6 +103,8 @@ mod tests {
         assert_eq!(call(" open  0   a file.hex "), Some(Call::Open(0, "a file.hex".to_string())));
         assert_eq!(call("ask 256"), Some(Call::Ask(256)));
         assert_eq!([call(""), call("  "), call("# serve")], [None, None, None]);
+        assert_eq!(call("set 1 6d00"), Some(Call::Set(1, vec![0x6d, 0])));
+        assert_eq!(call("forget 1"), Some(Call::Forget(1, vec![])));
         assert_eq!(call("raw last 09"), Some(Call::Raw(Field::of_host("last").unwrap(), vec![9])));
         for wrong in [
             "open 0",
@@ -93,6 +114,10 @@ mod tests {
             "ask x",
             "serve 0",
             "close -1",
+            "set 1 6",
+            "return 1 zz",
+            "forget",
+            "raw 0 mark8.place 00",
             "count 0",
             "raw 4 place 01",
             "raw 0 places 01",

@@ -42,6 +42,9 @@ impl Host {
             Call::Ask(caller) => done(users::ask(self.lent(), *caller)),
             Call::Serve => self.serve(),
             Call::Close(caller) => done(users::close(self.lent(), *caller)),
+            Call::Set(caller, name) => done(users::set(self.lent(), *caller, name)),
+            Call::Return(caller, name) => done(users::return_to(self.lent(), *caller, name)),
+            Call::Forget(caller, name) => done(users::forget(self.lent(), *caller, name)),
             Call::Count => Said::Count(self.handed),
             Call::Raw(field, bytes) => self.raw(*field, bytes),
         })

@@ -42,38 +42,38 @@ use denote.Exit.{yes}
 use Rattle.sharing.specs.declared.caller.Caller.{Caller}
 use Rattle.sharing.specs.Record.{fresh}
 use Rattle.sharing.specs.Call.{serve}
-use Rattle.service.specs.declared.answer.Kept.{Kept}
-use Rattle.service.specs.declared.answer.Reply.{Reply}
-use Rattle.service.specs.Reply.{shared, Served}
-use Rattle.service.specs.Kept.{Four}
+use Rattle.handling.specs.declared.answer.Kept.{Kept}
+use Rattle.handling.specs.declared.answer.Reply.{Reply}
+use Rattle.handling.specs.Reply.{shared, Served}
+use Rattle.serving.specs.Kept.{Four}
 use Rattle.sharing.proofs.caller.Caller as T
 use Rattle.sharing.proofs.caller.Caller.Laws as T′
-use Rattle.service.proofs.answer.Kept as K′
-use Rattle.service.proofs.answer.Kept.Laws as K′′
-use Rattle.service.proofs.answer.Reply as Y
-use Rattle.service.proofs.answer.Reply.Laws as Y′
-use Rattle.service.proofs.Looking.{RecordAt, looks-at}
-use Rattle.service.proofs.Putting.{PutRecord, puts-at}
-use Rattle.service.proofs.Parts.{RecordOf, ReplyOf, PlaceOf, takes-record, takes-reply, takes-place}
-use Rattle.service.proofs.lent.record_at.Symbol as at-def
-use Rattle.service.proofs.lent.record_at.Symbol.{name as #service·lent·record-at}
-use Rattle.service.proofs.lent.record_at.Met as at-thm
-use Rattle.service.proofs.lent.put_record.Symbol as put-def
-use Rattle.service.proofs.lent.put_record.Symbol.{name as #service·lent·put-record}
-use Rattle.service.proofs.lent.put_record.Met as put-thm
-use Rattle.service.proofs.answer.record_of.Symbol as record-def
-use Rattle.service.proofs.answer.record_of.Symbol.{name as #service·answer·record-of}
-use Rattle.service.proofs.answer.record_of.Met as record-thm
-use Rattle.service.proofs.answer.reply_of.Symbol as reply-def
-use Rattle.service.proofs.answer.reply_of.Symbol.{name as #service·answer·reply-of}
-use Rattle.service.proofs.answer.reply_of.Met as reply-thm
-use Rattle.service.proofs.answer.place_of.Symbol as place-def
-use Rattle.service.proofs.answer.place_of.Symbol.{name as #service·answer·place-of}
-use Rattle.service.proofs.answer.place_of.Met as place-thm
-use Rattle.service.proofs.serving.serve_four as core
-use Rattle.service.proofs.serving.serve_four.Symbol as core-def
-use Rattle.service.proofs.serving.serve_four.Symbol.{name as #core}
-use Rattle.service.proofs.serving.serve_four.Met as core-thm
+use Rattle.handling.proofs.answer.Kept as K′
+use Rattle.handling.proofs.answer.Kept.Laws as K′′
+use Rattle.handling.proofs.answer.Reply as Y
+use Rattle.handling.proofs.answer.Reply.Laws as Y′
+use Rattle.handling.proofs.Looking.{RecordAt, looks-at}
+use Rattle.handling.proofs.Putting.{PutRecord, puts-at}
+use Rattle.handling.proofs.Parts.{RecordOf, ReplyOf, PlaceOf, takes-record, takes-reply, takes-place}
+use Rattle.handling.proofs.record_at.Symbol as at-def
+use Rattle.handling.proofs.record_at.Symbol.{name as #handling·record-at}
+use Rattle.handling.proofs.record_at.Met as at-thm
+use Rattle.handling.proofs.put_record.Symbol as put-def
+use Rattle.handling.proofs.put_record.Symbol.{name as #handling·put-record}
+use Rattle.handling.proofs.put_record.Met as put-thm
+use Rattle.handling.proofs.record_of.Symbol as record-def
+use Rattle.handling.proofs.record_of.Symbol.{name as #handling·record-of}
+use Rattle.handling.proofs.record_of.Met as record-thm
+use Rattle.handling.proofs.reply_of.Symbol as reply-def
+use Rattle.handling.proofs.reply_of.Symbol.{name as #handling·reply-of}
+use Rattle.handling.proofs.reply_of.Met as reply-thm
+use Rattle.handling.proofs.place_of.Symbol as place-def
+use Rattle.handling.proofs.place_of.Symbol.{name as #handling·place-of}
+use Rattle.handling.proofs.place_of.Met as place-thm
+use Rattle.serving.proofs.serve_four as core
+use Rattle.serving.proofs.serve_four.Symbol as core-def
+use Rattle.serving.proofs.serve_four.Symbol.{name as #core}
+use Rattle.serving.proofs.serve_four.Met as core-thm
 use Rattle.service.proofs.calls.serve.Key.{name as #serving}
 use Rattle.service.proofs.calls.serve as serving
 use Rattle.service.proofs.calls.serve.Statement as stated
@@ -151,12 +151,12 @@ module _ {M : Type 1} (𝓤 : URA M) (H : Heap 𝓤) (A : Atoms 𝓤) (W : Given
       suffices ! _ (ends-at 𝓤 H A serving.ended stayed (serving.clauses 𝓤 H A mem run) W (((κ₀, (κ₁, (κ₂, (κ₃, tt)))), (q₀, (q₁, (q₂, (q₃, tt)))), tt, a, vals), tt) v r (zs, (m₁, (m₂, (g, tt)))) (le, (tt, (tt, (lg, tt))))) $ says ! e $
       nothing ! $ move ! (4 ∷ 0 ∷ []) $ join ! $ move ! (3 ∷ 0 ∷ []) $ join ! $ move ! (2 ∷ 0 ∷ []) $ join ! $ move ! (1 ∷ 0 ∷ []) $ join ! $ frame ! $ move ! (3 ∷ []) $ nothing ! $ move ! (1 ∷ 0 ∷ []) $ fjoin ! $ move ! (3 ∷ 0 ∷ []) $ fjoin ! $ move ! (2 ∷ 0 ∷ []) $ fjoin ! $ move ! (1 ∷ 0 ∷ []) $ fjoin ! $ frame ! $ owned ! Y.the-row (Is Y.the-row) (EL.makes Y.the-type Y′.the-plain 𝓤 H A) r _ r-is $ done !
 
-  module _ (C : Calls 𝓤 H) (Λ : Loops 𝓤 H) (fm : FmC 𝓤 H (W .laws) C) (known-at : Triple 𝓤 (C #service·lent·record-at) (RecordAt 𝓤 H A mem run))
+  module _ (C : Calls 𝓤 H) (Λ : Loops 𝓤 H) (fm : FmC 𝓤 H (W .laws) C) (known-at : Triple 𝓤 (C #handling·record-at) (RecordAt 𝓤 H A mem run))
       (known-core : Triple 𝓤 (C #core) (Core 𝓤 H A mem run))
-      (known-record : Triple 𝓤 (C #service·answer·record-of) (RecordOf 𝓤 H A mem run))
-      (known-put : Triple 𝓤 (C #service·lent·put-record) (PutRecord 𝓤 H A mem run))
-      (known-reply : Triple 𝓤 (C #service·answer·reply-of) (ReplyOf 𝓤 H A mem run))
-      (known-place : Triple 𝓤 (C #service·answer·place-of) (PlaceOf 𝓤 H A mem run)) where
+      (known-record : Triple 𝓤 (C #handling·record-of) (RecordOf 𝓤 H A mem run))
+      (known-put : Triple 𝓤 (C #handling·put-record) (PutRecord 𝓤 H A mem run))
+      (known-reply : Triple 𝓤 (C #handling·reply-of) (ReplyOf 𝓤 H A mem run))
+      (known-place : Triple 𝓤 (C #handling·place-of) (PlaceOf 𝓤 H A mem run)) where
     walk : ent 𝓤 (onEntry 𝓤 H A serving.signature (κ₀, (κ₁, (κ₂, (κ₃, tt)))) (q₀, (q₁, (q₂, (q₃, tt)))) a vals) (WpFn 𝓤 H C Λ code.function (s₀ ∷ vptr b₁ o₁ ∷ vptr b₂ o₂ ∷ s₃ ∷ []) Post)
     walk =
         qed W ((‵ (flft κ₀ q₀) ⊛ ‵ (flft κ₁ q₁) ⊛ ‵ (flft κ₂ q₂) ⊛ ‵ (flft κ₃ q₃) ⊛ ‵ ftrue) ∷ ‵ (owns (MutSlice (named 0) κ₀ R ∷ MutRef (named 1) κ₁ u64 ∷ MutRef (named 2) κ₂ u64 ∷ MutSlice (named 3) κ₃ u8 ∷ []) a vals) ∷ []) ∵
@@ -274,7 +274,7 @@ module _ {M : Type 1} (𝓤 : URA M) (H : Heap 𝓤) (A : Atoms 𝓤) (W : Given
   goes : AllGo 𝓤 H A W 4 (serving.signature .params) (serving.ended .kept) stayed
   goes = (goes-gave-slice 𝓤 H A W 4 0 tt (plain (λ _. R)), (goes-gave-ref 𝓤 H A W 4 1 tt (plain (λ _. u64)), (goes-gave-ref 𝓤 H A W 4 2 tt (plain (λ _. u64)), (goes-gave-slice 𝓤 H A W 4 3 tt (plain (λ _. u8)), tt))))
 
-  meets : (𝓣 : Tables 𝓤 H) → Triple 𝓤 (𝓣 .C #service·lent·record-at) (RecordAt 𝓤 H A mem run) → Triple 𝓤 (𝓣 .C #core) (Core 𝓤 H A mem run) → Triple 𝓤 (𝓣 .C #service·answer·record-of) (RecordOf 𝓤 H A mem run) → Triple 𝓤 (𝓣 .C #service·lent·put-record) (PutRecord 𝓤 H A mem run) → Triple 𝓤 (𝓣 .C #service·answer·reply-of) (ReplyOf 𝓤 H A mem run) → Triple 𝓤 (𝓣 .C #service·answer·place-of) (PlaceOf 𝓤 H A mem run)
+  meets : (𝓣 : Tables 𝓤 H) → Triple 𝓤 (𝓣 .C #handling·record-at) (RecordAt 𝓤 H A mem run) → Triple 𝓤 (𝓣 .C #core) (Core 𝓤 H A mem run) → Triple 𝓤 (𝓣 .C #handling·record-of) (RecordOf 𝓤 H A mem run) → Triple 𝓤 (𝓣 .C #handling·put-record) (PutRecord 𝓤 H A mem run) → Triple 𝓤 (𝓣 .C #handling·reply-of) (ReplyOf 𝓤 H A mem run) → Triple 𝓤 (𝓣 .C #handling·place-of) (PlaceOf 𝓤 H A mem run)
       → Meets 𝓤 H A serving.signature (WpFn 𝓤 H (𝓣 .C) (𝓣 .Λ) code.function) (serving.spec 𝓤 H A mem run)
   meets 𝓣 k₁ k₂ k₃ k₄ k₅ k₆ =
       walk-meets 𝓤 H A serving.ended stayed W goes (serving.clauses 𝓤 H A mem run) (WpFn 𝓤 H (𝓣 .C) (𝓣 .Λ) code.function) (WpFn-mono 𝓤 H (W .laws) 𝓣 code.function)
@@ -289,9 +289,9 @@ serve-spec 𝓤 H 𝓜 𝓖 𝓡 =
     entered 𝓤 H (tripleOf 𝓤 H (𝓖 .A) serving.signature (serving.spec 𝓤 H (𝓖 .A) (𝓜 .mem) (𝓡 .run)))
     (tables 𝓤 H 𝓜 𝓡 code.env .C) (tables 𝓤 H 𝓜 𝓡 code.env .Λ) #serving code.function (code.unfolded 𝓤 H 𝓜 𝓡)
     (meets 𝓤 H (𝓖 .A) (givenOf 𝓤 H 𝓜 𝓖) (𝓜 .mem) (𝓡 .run) (tablesOf 𝓤 H 𝓜 (tables 𝓤 H 𝓜 𝓡 code.env))
-    (cited 𝓤 H (RecordAt 𝓤 H (𝓖 .A) (𝓜 .mem) (𝓡 .run)) 𝓜 𝓡 code.env #service·lent·record-at at-def.routine code.calls-service·lent·record-at (at-thm.met 𝓤 H 𝓜 𝓖 𝓡))
-    (cited 𝓤 H (Core 𝓤 H (𝓖 .A) (𝓜 .mem) (𝓡 .run)) 𝓜 𝓡 code.env #core core-def.routine code.calls-service·serving·serve-four (core-thm.met 𝓤 H 𝓜 𝓖 𝓡))
-    (cited 𝓤 H (RecordOf 𝓤 H (𝓖 .A) (𝓜 .mem) (𝓡 .run)) 𝓜 𝓡 code.env #service·answer·record-of record-def.routine code.calls-service·answer·record-of (record-thm.met 𝓤 H 𝓜 𝓖 𝓡))
-    (cited 𝓤 H (PutRecord 𝓤 H (𝓖 .A) (𝓜 .mem) (𝓡 .run)) 𝓜 𝓡 code.env #service·lent·put-record put-def.routine code.calls-service·lent·put-record (put-thm.met 𝓤 H 𝓜 𝓖 𝓡))
-    (cited 𝓤 H (ReplyOf 𝓤 H (𝓖 .A) (𝓜 .mem) (𝓡 .run)) 𝓜 𝓡 code.env #service·answer·reply-of reply-def.routine code.calls-service·answer·reply-of (reply-thm.met 𝓤 H 𝓜 𝓖 𝓡))
-    (cited 𝓤 H (PlaceOf 𝓤 H (𝓖 .A) (𝓜 .mem) (𝓡 .run)) 𝓜 𝓡 code.env #service·answer·place-of place-def.routine code.calls-service·answer·place-of (place-thm.met 𝓤 H 𝓜 𝓖 𝓡)))
+    (cited 𝓤 H (RecordAt 𝓤 H (𝓖 .A) (𝓜 .mem) (𝓡 .run)) 𝓜 𝓡 code.env #handling·record-at at-def.routine code.calls-handling·record-at (at-thm.met 𝓤 H 𝓜 𝓖 𝓡))
+    (cited 𝓤 H (Core 𝓤 H (𝓖 .A) (𝓜 .mem) (𝓡 .run)) 𝓜 𝓡 code.env #core core-def.routine code.calls-serving·serve-four (core-thm.met 𝓤 H 𝓜 𝓖 𝓡))
+    (cited 𝓤 H (RecordOf 𝓤 H (𝓖 .A) (𝓜 .mem) (𝓡 .run)) 𝓜 𝓡 code.env #handling·record-of record-def.routine code.calls-handling·record-of (record-thm.met 𝓤 H 𝓜 𝓖 𝓡))
+    (cited 𝓤 H (PutRecord 𝓤 H (𝓖 .A) (𝓜 .mem) (𝓡 .run)) 𝓜 𝓡 code.env #handling·put-record put-def.routine code.calls-handling·put-record (put-thm.met 𝓤 H 𝓜 𝓖 𝓡))
+    (cited 𝓤 H (ReplyOf 𝓤 H (𝓖 .A) (𝓜 .mem) (𝓡 .run)) 𝓜 𝓡 code.env #handling·reply-of reply-def.routine code.calls-handling·reply-of (reply-thm.met 𝓤 H 𝓜 𝓖 𝓡))
+    (cited 𝓤 H (PlaceOf 𝓤 H (𝓖 .A) (𝓜 .mem) (𝓡 .run)) 𝓜 𝓡 code.env #handling·place-of place-def.routine code.calls-handling·place-of (place-thm.met 𝓤 H 𝓜 𝓖 𝓡)))

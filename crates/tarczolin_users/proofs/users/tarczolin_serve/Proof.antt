@@ -39,10 +39,10 @@ use denote.Exit.{yes}
 use Rattle.sharing.specs.declared.caller.Caller.{Caller}
 use Rattle.sharing.specs.Call.{serve}
 use Rattle.sharing.proofs.caller.Caller as T
-use Rattle.service.specs.declared.answer.Reply.{Reply}
+use Rattle.handling.specs.declared.answer.Reply.{Reply}
 use Rattle.service.specs.Reply.{shared, Served}
-use Rattle.service.proofs.answer.Reply as Y
-use Rattle.service.proofs.answer.Reply.Laws as Y′
+use Rattle.handling.proofs.answer.Reply as Y
+use Rattle.handling.proofs.answer.Reply.Laws as Y′
 use Rattle.service.proofs.serve as callee
 use Rattle.service.proofs.serve.Symbol as callee-def
 use Rattle.service.proofs.serve.Symbol.{name as #callee}

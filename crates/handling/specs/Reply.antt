@@ -1,0 +1,30 @@
+-- What a call does, by the definitions of `sharing`: the answer as the code gives it, and the later content of all that is lent.
+use Prim.Native.Nat.{ℕ}
+use mathlib.Core.Path.{_≡_}
+use mathlib.Core.List.{List}
+use lib.ListN.{length}
+use Rattle.sharing.specs.declared.caller.Caller.{Caller}
+use Rattle.sharing.specs.Call.{Call, serve, Answer, done, given, ended, idle, refused, Shared, answerTo, after, outputAfter}
+use Rattle.handling.specs.declared.answer.Reply.{Reply}
+use Rattle.handling.specs.declared.answer.Reply.the-variants.{Done, Given, Ended, Idle, Refused}
+
+-- of a schedule its length, since the schedule itself stands in front of the output
+unfoldable pub replyOf : Answer → Reply
+replyOf done = Done
+replyOf (given k s) = Given k (length s)
+replyOf (ended k) = Ended k
+replyOf idle = Idle
+replyOf (refused n k) = Refused n k
+
+-- the records, the last caller served and the number of schedules handed to all
+abbrev pub shared : List Caller → ℕ → ℕ → Shared
+shared cs m h = record { callers = cs; last = m; handed = h }
+
+-- a call answers this and leaves this
+abbrev pub Does : Call → Shared → Reply → Shared → Type 0
+Does c σ r σ′ = (r ≡ replyOf (answerTo c σ)) × (σ′ ≡ after c σ)
+
+-- so does a serve, and it leaves this in its output
+abbrev pub Served : List ℕ → Shared → Reply → Shared → List ℕ → Type 0
+Served out σ r σ′ out′ =
+    (r ≡ replyOf (answerTo (serve out) σ)) × (σ′ ≡ after (serve out) σ) × (out′ ≡ outputAfter (answerTo (serve out) σ) out)

@@ -1,0 +1,93 @@
+// Set, return and forget on one record, which the list has at k, of a list of n records. 22, 42, 44 and 45 come before the marks.
+use crate::answer::Kept;
+use crate::single::put_back;
+use crate::single::settle;
+use crate::single::turned_away;
+use marking::first_refusal;
+use marking::forgotten;
+use marking::marked;
+use marking::program_of;
+use marking::returned_to;
+use marking::slot_for;
+use marking::slot_of;
+use sharing::Caller;
+ghost use mathlib.Core.Path.{_≡_};
+ghost use mathlib.Core.List.{List};
+ghost use lib.ListN.{length, getD, set};
+ghost use Rattle.sharing.specs.Record.{fresh};
+ghost use Rattle.sharing.specs.Call.{set-mark, return-to, forget};
+ghost use Rattle.handling.specs.Reply.{shared, Does};
+
+// Set: 47 where the name is a ninth.
+pub fn set_one(n: usize, c: Caller, last: &mut u64, handed: &mut u64, k: usize, name: &[u8]) -> Kept
+    ensures { λ r. ⌜ ((cs : List Caller) → length cs ≡ n → c ≡ getD cs k fresh → Does (set-mark k (now (name .entry)))
+        (shared cs (now (last .entry)) (now (handed .entry))) (r .reply)
+        (shared (set cs k (r .caller)) (now (last .exit)) (now (handed .exit)))) ⌝ }
+{
+    let w = first_refusal(n, c, k, name.len());
+    if w != 0 {
+        return turned_away(k, c, w);
+    }
+    let p = program_of(c);
+    let marks = c.marks;
+    let i = slot_for(p, name, marks);
+    if 7 < i {
+        return turned_away(k, c, 47);
+    }
+    settle(last);
+    put_back(k, marked(p, name, c, i))
+}
+
+// Return: 46 where the name is unknown. The record stands where the mark does, and asks where it asked.
+pub fn return_one(
+    n: usize,
+    c: Caller,
+    last: &mut u64,
+    handed: &mut u64,
+    k: usize,
+    name: &[u8],
+) -> Kept
+    ensures { λ r. ⌜ ((cs : List Caller) → length cs ≡ n → c ≡ getD cs k fresh → Does (return-to k (now (name .entry)))
+        (shared cs (now (last .entry)) (now (handed .entry))) (r .reply)
+        (shared (set cs k (r .caller)) (now (last .exit)) (now (handed .exit)))) ⌝ }
+{
+    let w = first_refusal(n, c, k, name.len());
+    if w != 0 {
+        return turned_away(k, c, w);
+    }
+    let p = program_of(c);
+    let marks = c.marks;
+    let i = slot_of(p, name, marks);
+    if 7 < i {
+        return turned_away(k, c, 46);
+    }
+    settle(last);
+    put_back(k, returned_to(c, i))
+}
+
+// Forget: 46 where the name is unknown.
+pub fn forget_one(
+    n: usize,
+    c: Caller,
+    last: &mut u64,
+    handed: &mut u64,
+    k: usize,
+    name: &[u8],
+) -> Kept
+    ensures { λ r. ⌜ ((cs : List Caller) → length cs ≡ n → c ≡ getD cs k fresh → Does (forget k (now (name .entry)))
+        (shared cs (now (last .entry)) (now (handed .entry))) (r .reply)
+        (shared (set cs k (r .caller)) (now (last .exit)) (now (handed .exit)))) ⌝ }
+{
+    let w = first_refusal(n, c, k, name.len());
+    if w != 0 {
+        return turned_away(k, c, w);
+    }
+    let p = program_of(c);
+    let marks = c.marks;
+    let i = slot_of(p, name, marks);
+    if 7 < i {
+        return turned_away(k, c, 46);
+    }
+    settle(last);
+    put_back(k, forgotten(p, name, c))
+}
