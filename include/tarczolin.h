@@ -73,20 +73,21 @@ struct tarczolin_mark {
     uint8_t schedule[TARCZOLIN_SCHEDULE]; /* at 11 */
 };
 
-/* A caller's record, in memory of the host's: 4440 bytes, aligned to 8. All zeros is a fresh one, as closing leaves it. Any content is
+/* A caller's record, in memory of the host's: 4448 bytes, aligned to 8. All zeros is a fresh one, as closing leaves it. Any content is
  * allowed: a record whose program would be refused, or whose place is neither the beginning, behind a full schedule nor the end, counts
  * as closed and empty. The last schedule handed to it since it opened stands in `newest`; one that is not full counts as none. */
 struct tarczolin_caller {
     uint8_t file[TARCZOLIN_FILE];         /* at    0: the program file is its first `length` bytes */
     size_t length;                        /* at 4096 */
-    uint8_t place;                        /* at 4104: 1 the beginning, 2 behind the first `steps` bytes of `schedule`, 3 the end */
-    uint8_t asking;                       /* at 4105: it asks where this is 1 */
-    uint8_t steps;                        /* at 4106 */
-    uint8_t schedule[TARCZOLIN_SCHEDULE]; /* at 4107 */
-    uint8_t handed;                       /* at 4131: where this is 1, the last schedule handed is the first `size` bytes of `newest` */
-    uint8_t size;                         /* at 4132 */
-    uint8_t newest[TARCZOLIN_SCHEDULE];   /* at 4133 */
-    struct tarczolin_mark marks[TARCZOLIN_MARKS]; /* at 4157 */
+    uint64_t count;                       /* at 4104: how many schedules were handed to it since it opened, modulo 2^64 */
+    uint8_t place;                        /* at 4112: 1 the beginning, 2 behind the first `steps` bytes of `schedule`, 3 the end */
+    uint8_t asking;                       /* at 4113: it asks where this is 1 */
+    uint8_t steps;                        /* at 4114 */
+    uint8_t schedule[TARCZOLIN_SCHEDULE]; /* at 4115 */
+    uint8_t handed;                       /* at 4139: where this is 1, the last schedule handed is the first `size` bytes of `newest` */
+    uint8_t size;                         /* at 4140 */
+    uint8_t newest[TARCZOLIN_SCHEDULE];   /* at 4141 */
+    struct tarczolin_mark marks[TARCZOLIN_MARKS]; /* at 4165 */
 };
 
 #ifdef __cplusplus
@@ -177,40 +178,41 @@ uint64_t tarczolin_tso_rows(const uint8_t *file, size_t file_len, uint8_t *out, 
 uint64_t tarczolin_tso_rows_after(const uint8_t *file, size_t file_len, const uint8_t *schedule, size_t schedule_len, uint8_t *out, size_t out_len);
 
 /* Four callers, 0 to 3, on one explorer. Their records lie in a list that the host lends, whatever it holds; `last`, the caller served last,
- * and `handed`, the number of schedules handed to all, modulo 2^64, go into each call and come out of it. The first list is four records
- * of zeros, with `last` 3 and `handed` 0. Refused, in this order: 22 at place 0, a list that has not exactly four records, and for serve
- * also an output of under 24 bytes; 42 at place 0, a caller above 3; 43 at place 0, open for an open caller; 44 at place 0, ask or close
- * for a closed one; for open then the program's (1 to 8, 40). A refusal changes nothing, not the two numbers either; any other answer gives
- * a `last` above 3 back as 3.
+ * goes into each call and comes out of it. The first list is four records of zeros, with `last` 3. Refused, in this order: 22 at place 0, a
+ * list that has not exactly four records, and for serve also an output of under 24 bytes; 42 at place 0, a caller above 3; 43 at place 0,
+ * open for an open caller; 44 at place 0, ask or close for a closed one; for open then the program's (1 to 8, 40). A refusal changes
+ * nothing, not `last` either; any other answer gives a `last` above 3 back as 3.
  *
  * Open with a program file: before the first schedule. Ask for one schedule; twice is once. Close: the record is emptied. Each answers
  * kind 1, all else 0.
  *
  * Serve takes the next asking caller after the last one served, in turn, 0 after 3: a schedule, kind 1, which stands in front of the
  * output, with its length in bits 0 to 39 and the caller in bits 40 to 47; or no more, kind 2, the caller likewise. Its asking ends, and
- * `last` is that caller. Nobody asks: kind 5. In every list of these calls from the first list on, each handed what the one before gave
- * back, those on marks included: whoever asked and does not close is served by the fourth serve at the latest, and from an opening to its
- * closing, or to its first return, a caller is given its program's list in order, each member once, and no more exactly when all have
- * been given. */
-uint64_t tarczolin_open(struct tarczolin_caller *callers, size_t callers_len, uint64_t *last, uint64_t *handed, size_t caller, const uint8_t *file, size_t file_len);
-uint64_t tarczolin_ask(struct tarczolin_caller *callers, size_t callers_len, uint64_t *last, uint64_t *handed, size_t caller);
-uint64_t tarczolin_serve(struct tarczolin_caller *callers, size_t callers_len, uint64_t *last, uint64_t *handed, uint8_t *out, size_t out_len);
-uint64_t tarczolin_close(struct tarczolin_caller *callers, size_t callers_len, uint64_t *last, uint64_t *handed, size_t caller);
+ * `last` is that caller; a schedule counts in that caller's record and in no other, no more in none. Nobody asks: kind 5. In every list of
+ * these calls from the first list on, each handed what the one before gave back, those on marks included: whoever asked and does not close
+ * is served by the fourth serve at the latest, and from an opening to its closing, or to its first return, a caller is given its program's
+ * list in order, each member once, and no more exactly when all have been given. A caller's `count` is the number of schedules handed to it
+ * since it opened, repeats after a return included, modulo 2^64. What the others open, ask, mark or close changes neither it nor the
+ * sequence that the caller receives: both go by its own calls and by the serves that take it. */
+uint64_t tarczolin_open(struct tarczolin_caller *callers, size_t callers_len, uint64_t *last, size_t caller, const uint8_t *file, size_t file_len);
+uint64_t tarczolin_ask(struct tarczolin_caller *callers, size_t callers_len, uint64_t *last, size_t caller);
+uint64_t tarczolin_serve(struct tarczolin_caller *callers, size_t callers_len, uint64_t *last, uint8_t *out, size_t out_len);
+uint64_t tarczolin_close(struct tarczolin_caller *callers, size_t callers_len, uint64_t *last, size_t caller);
 
 /* Marks to come back to, eight for each caller, each under a name of 1 to 8 bytes, which may be any. Each call answers kind 1, all else 0.
  *
  * Set stores the last schedule handed to the caller since it opened, also after a return, or the beginning if there is none; a used name is
  * overwritten, a new one takes the first free mark. Return sets the caller's place to the mark's, and its serves go on behind it: up to the
  * next return or the closing they give what the list holds behind that place, in order, each member once, and no more exactly when all
- * have been given. The asking and the last schedule handed stay as they are. Forget frees a name for use. Set and forget empty every other
- * mark of that name which is not free by its length or place. Opening and closing leave no mark.
+ * have been given. The asking, the count and the last schedule handed stay as they are. Forget frees a name for use. Set and forget empty
+ * every other mark of that name which is not free by its length or place. Opening and closing leave no mark.
  *
  * Refused, in this order: 22 and 42 as above; 44 at place 0, a closed caller; 45 at place 0, a name of another length; 46 at place 0, return
- * to or forget of an unknown name; 47 at place 0, set of a ninth name. A refusal changes nothing, not the two numbers either; any other
- * answer gives a `last` above 3 back as 3. */
-uint64_t tarczolin_set(struct tarczolin_caller *callers, size_t callers_len, uint64_t *last, uint64_t *handed, size_t caller, const uint8_t *name, size_t name_len);
-uint64_t tarczolin_return(struct tarczolin_caller *callers, size_t callers_len, uint64_t *last, uint64_t *handed, size_t caller, const uint8_t *name, size_t name_len);
-uint64_t tarczolin_forget(struct tarczolin_caller *callers, size_t callers_len, uint64_t *last, uint64_t *handed, size_t caller, const uint8_t *name, size_t name_len);
+ * to or forget of an unknown name; 47 at place 0, set of a ninth name. A refusal changes nothing, not `last` either; any other answer
+ * gives a `last` above 3 back as 3. */
+uint64_t tarczolin_set(struct tarczolin_caller *callers, size_t callers_len, uint64_t *last, size_t caller, const uint8_t *name, size_t name_len);
+uint64_t tarczolin_return(struct tarczolin_caller *callers, size_t callers_len, uint64_t *last, size_t caller, const uint8_t *name, size_t name_len);
+uint64_t tarczolin_forget(struct tarczolin_caller *callers, size_t callers_len, uint64_t *last, size_t caller, const uint8_t *name, size_t name_len);
 
 #ifdef __cplusplus
 }

@@ -1,4 +1,4 @@
-//! Calls on records held to the oracle: the answer, and every byte of the records, of the two numbers and of the output.
+//! Calls on records held to the oracle: the answer, and every byte of the records, of the last caller and of the output.
 use crate::calls::users::{self, Shared as Lent};
 use crate::calls::{self, Answer, Caller, Served, SCHEDULE};
 use crate::oracle::users::{Call, Lists, Mark, Record, Said, Shared};
@@ -13,6 +13,7 @@ pub fn lent(record: &Record) -> Caller {
     Caller {
         file: record.file.as_slice().try_into().expect("4,096 bytes"),
         length: record.length as usize,
+        count: record.count,
         place: record.place,
         asking: record.asking,
         steps: record.steps,
@@ -41,11 +42,11 @@ fn done(answer: Answer) -> Result<Said, Refusal> {
 /// Makes a call on copies of these records, and holds it to what the oracle says and leaves.
 pub fn held(random: &mut Random, lists: &mut Lists, shared: &mut Shared, call: &Call) -> Result<Said, Refusal> {
     let mut callers: Vec<Caller> = shared.records.iter().map(lent).collect();
-    let (mut last, mut handed) = (shared.last, shared.handed);
+    let mut last = shared.last;
     let output = if let Call::Serve(output) = call { *output } else { 0 };
     let mut out: Vec<u8> = (0..output + BEHIND).map(|_| random.byte()).collect();
     let mut wanted = out.clone();
-    let given = Lent { callers: &mut callers, last: &mut last, handed: &mut handed };
+    let given = Lent { callers: &mut callers, last: &mut last };
     let said = match call {
         Call::Open(caller, file) => done(users::open(given, *caller, file)),
         Call::Ask(caller) => done(users::ask(given, *caller)),
@@ -68,7 +69,7 @@ pub fn held(random: &mut Random, lists: &mut Lists, shared: &mut Shared, call: &
         wanted[..schedule.len()].copy_from_slice(schedule);
     }
     assert!(found.is_ok() || *shared == before, "a refusal changes nothing");
-    assert_eq!((last, handed), (shared.last, shared.handed), "the two numbers behind {call:?}");
+    assert_eq!(last, shared.last, "the last caller behind {call:?}");
     let later: Vec<Caller> = shared.records.iter().map(lent).collect();
     assert!(callers == later, "the records behind {call:?}");
     assert!(out == wanted, "the output behind {call:?}");

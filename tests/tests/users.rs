@@ -38,6 +38,10 @@ impl Held {
     fn serve(&mut self) -> Said {
         self.call(Call::Serve(24)).expect("an output of 24 bytes is enough")
     }
+
+    fn counts(&self) -> [u64; 4] {
+        [0, 1, 2, 3].map(|k| self.shared.records[k].count)
+    }
 }
 
 /// Document 01's whole case: 00 01 02, 01 00 02, 01 02 00.
@@ -65,7 +69,7 @@ fn two_people_share_it() {
         host.done(Call::Ask(0));
         assert_eq!(host.serve(), wanted.map_or(Said::NoMore(0), |steps| Said::Schedule(0, steps.to_vec())));
     }
-    assert_eq!(host.shared.handed, 4);
+    assert_eq!(host.counts(), [3, 0, 1, 0]);
     host.done(Call::Close(0));
     assert_eq!(host.shared.records[0], Record::fresh());
     host.done(Call::Open(0, lines(WHOLE)));
@@ -116,9 +120,9 @@ fn refusals_in_order() {
     }
 }
 
-/// A last caller above 3 is read as 3, and given back as 3 save by a refusal; the number of all wraps.
+/// A last caller above 3 is read as 3, and given back as 3 save by a refusal; a count wraps.
 #[test]
-fn the_two_numbers() {
+fn the_numbers() {
     let mut host = Held::fresh();
     host.done(Call::Open(0, lines("01")));
     host.done(Call::Open(3, lines("01")));
@@ -132,15 +136,48 @@ fn the_two_numbers() {
         host.refused(Call::Ask(2), 44);
         assert_eq!(host.shared.last, last);
     }
-    (host.shared.last, host.shared.handed) = (9, u64::MAX);
+    (host.shared.last, host.shared.records[0].count) = (9, u64::MAX);
     assert_eq!(host.serve(), Said::Schedule(0, vec![]));
-    assert_eq!((host.shared.last, host.shared.handed), (0, 0));
+    assert_eq!((host.shared.last, host.shared.records[0].count), (0, 0));
     host.shared.last = 200;
     assert_eq!(host.serve(), Said::Idle);
     assert_eq!(host.shared.last, 3);
 }
 
 type Damage = fn(&mut Record);
+
+/// A count for each caller: what it was handed since it opened, repeats after a return included; no more and refusals count nowhere.
+#[test]
+fn a_count_for_each_caller() {
+    let mut host = Held::fresh();
+    let given = |host: &mut Held, caller| {
+        host.done(Call::Ask(caller));
+        host.serve()
+    };
+    host.done(Call::Open(0, lines("01 110000")));
+    host.done(Call::Open(1, lines(WHOLE)));
+    host.done(Call::Set(0, b"x".to_vec()));
+    for round in 1..=3 {
+        assert_eq!(given(&mut host, 0), Said::Schedule(0, vec![0]));
+        assert_eq!(given(&mut host, 0), Said::NoMore(0));
+        host.done(Call::Return(0, b"x".to_vec()));
+        assert_eq!(host.counts(), [round, 0, 0, 0]);
+    }
+    host.done(Call::Ask(1));
+    assert_eq!(host.call(Call::Serve(23)), Err(Refusal { number: 22, place: 0 }));
+    host.done(Call::Set(1, b"y".to_vec()));
+    host.done(Call::Forget(1, b"y".to_vec()));
+    assert_eq!(host.counts(), [3, 0, 0, 0]);
+    assert_eq!(host.serve(), Said::Schedule(1, vec![0, 1, 2]));
+    assert_eq!(host.counts(), [3, 1, 0, 0]);
+    // closing empties it, and it begins at 0 with the next opening, whatever a closed record holds
+    host.done(Call::Close(0));
+    assert_eq!(host.counts(), [0, 1, 0, 0]);
+    host.shared.records[0].count = 5;
+    host.done(Call::Open(0, lines("01 110000")));
+    assert_eq!(given(&mut host, 0), Said::Schedule(0, vec![0]));
+    assert_eq!(host.counts(), [1, 1, 0, 0]);
+}
 
 /// Records whose program would be refused, or whose place is none, count as closed and empty.
 #[test]
@@ -401,7 +438,7 @@ fn random_lists_of_calls() {
 }
 
 /// One caller's opening: what it was given since it opened or returned, behind which schedule, the serves, refused ones not counted,
-/// since it asked, the last schedule handed, and its marks: behind a schedule, or none for the beginning.
+/// since it asked, the last schedule handed, how many were, and its marks: behind a schedule, or none for the beginning.
 #[derive(Default)]
 struct Opening {
     file: Vec<u8>,
@@ -409,6 +446,7 @@ struct Opening {
     behind: Option<Vec<u8>>,
     waits: Option<usize>,
     last: Option<Vec<u8>>,
+    received: u64,
     marks: BTreeMap<Vec<u8>, Option<Vec<u8>>>,
 }
 
@@ -425,6 +463,7 @@ impl Opening {
     /// Served by the fourth serve at the latest, with the next member behind the mark, or no more where there is none.
     fn served(&mut self, lists: &mut Lists, given: Option<Vec<u8>>) {
         assert!(self.waits.take().expect("it asked") <= 4, "the fourth serve at the latest");
+        self.received += given.is_some() as u64;
         self.last = given.clone().or(self.last.take());
         self.given.push(given);
         let list = lists.of(&self.file);
@@ -469,6 +508,13 @@ impl Became {
         assert!(waiting, "somebody waits");
     }
 
+    /// A caller's count is the number of schedules that it received since it opened; a closed record has none.
+    fn counted(&self, shared: &Shared) {
+        for (record, opening) in shared.records.iter().zip(&self.openings) {
+            assert_eq!(record.count, opening.as_ref().map_or(0, |opening| opening.received), "counted");
+        }
+    }
+
     fn after_serve(&mut self, lists: &mut Lists, said: Said) {
         self.openings.iter_mut().flatten().flat_map(|opening| &mut opening.waits).for_each(|waits| *waits += 1);
         match said {
@@ -486,7 +532,7 @@ impl Became {
 }
 
 /// From four fresh records: served by the fourth serve at the latest; the list in order, each member once, and no more exactly at the
-/// end, after a return what the list holds behind the mark; and the number of all.
+/// end, after a return what the list holds behind the mark; and its count is the number of schedules that it received since it opened.
 #[test]
 fn claims_of_every_list_of_calls() {
     let (mut handed, mut ended, mut returned) = (0, 0, 0);
@@ -499,10 +545,69 @@ fn claims_of_every_list_of_calls() {
             if let Ok(said) = held(&mut random, &mut lists, &mut shared, &call) {
                 became.after(&mut lists, call, said);
             }
-            assert_eq!(shared.handed, became.handed);
+            became.counted(&shared);
         }
         (handed, ended, returned) = (handed + became.handed, ended + became.ended, returned + became.returned);
     }
     println!("{handed} schedules handed, {ended} times no more, {returned} returns");
     assert!(!share::whole() || (handed > 3_000 && ended > 1_000 && returned > 500));
+}
+
+/// What a serve gave caller 1: a schedule, or no more; nothing where it did not take it.
+fn given_to_1(said: Result<Said, Refusal>) -> Option<Option<Vec<u8>>> {
+    match said {
+        Ok(Said::Schedule(1, schedule)) => Some(Some(schedule)),
+        Ok(Said::NoMore(1)) => Some(None),
+        _ => None,
+    }
+}
+
+/// Caller 1's own calls.
+fn is_own(call: &Call) -> bool {
+    matches!(call, Call::Open(1, _) | Call::Ask(1) | Call::Close(1) | Call::Set(1, _) | Call::Return(1, _) | Call::Forget(1, _))
+}
+
+/// A call of somebody else, no serve.
+fn of_others(random: &mut Random, files: &[Vec<u8>]) -> Call {
+    let calls = std::iter::repeat_with(|| call(random, files));
+    calls.into_iter().find(|call| !is_own(call) && !matches!(call, Call::Serve(_))).expect("there are some")
+}
+
+/// Two lists of calls that agree in caller 1's own calls and in the serves that take it, in the same order among themselves: what the
+/// others open, ask, mark or close changes neither its count nor the sequence that it receives.
+#[test]
+fn others_change_nothing() {
+    let mut compared = 0;
+    for seed in 0..share::of(60) {
+        let mut random = Random::new(0x6d00 + seed as u64);
+        let files = files(&mut random);
+        let (mut lists, mut left, mut right) = (Lists::default(), Shared::fresh(), Shared::fresh());
+        // caller 1's own calls, and nothing for a serve that takes it
+        let (mut concerns, mut received, mut again) = (Vec::new(), Vec::new(), Vec::new());
+        for _ in 0..600 {
+            let call = call(&mut random, &files);
+            if let Some(given) = given_to_1(held(&mut random, &mut lists, &mut left, &call)) {
+                concerns.push(None);
+                received.push(given);
+            }
+            concerns.extend(is_own(&call).then_some(Some(call)));
+        }
+        for concern in concerns {
+            for _ in 0..random.below(4) {
+                let other = of_others(&mut random, &files);
+                let _ = held(&mut random, &mut lists, &mut right, &other);
+            }
+            let Some(call) = concern else {
+                let mut serves = (0..4).map(|_| given_to_1(held(&mut random, &mut lists, &mut right, &Call::Serve(24))));
+                again.push(serves.find_map(|given| given).expect("the fourth serve at the latest"));
+                continue;
+            };
+            let _ = held(&mut random, &mut lists, &mut right, &call);
+        }
+        assert_eq!(received, again);
+        assert_eq!(left.records[1], right.records[1], "its count, and all else in its record");
+        compared += received.len();
+    }
+    println!("{compared} received in two lists each");
+    assert!(!share::whole() || compared > 500, "{compared}");
 }

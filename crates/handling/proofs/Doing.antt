@@ -12,7 +12,7 @@ use Rattle.program.specs.Decode as File
 use Rattle.sharing.specs.declared.caller.Caller.{Caller}
 use Rattle.sharing.specs.Seat.{isOpen}
 use Rattle.sharing.specs.Record.{reading, fresh, opened, asked}
-use Rattle.sharing.specs.Call.{Call, open-for, ask-for, close-for, Answer, done, refused, Shared, seatOf, checked, openedBy, openAnswer, openOnly, lastRead, answerTo, callersDone, callersAfter, lastAfter, handedAfter, after}
+use Rattle.sharing.specs.Call.{Call, open-for, ask-for, close-for, Answer, done, refused, Shared, seatOf, checked, openedBy, openAnswer, openOnly, lastRead, answerTo, callersDone, callersAfter, lastAfter, after}
 use Rattle.sharing.proofs.Seats.{after-refused}
 use Rattle.handling.specs.declared.answer.Kept.{Kept}
 use Rattle.handling.specs.declared.answer.Reply.the-variants.{Done, Refused}
@@ -28,24 +28,24 @@ unfolding lastRead
 read-small n l = rw (le-ltb 3 n l)
 
 -- ---- what is left behind an answer, where this record is put back at k
-module _ (call : Call) (cs : List Caller) (k m h : ℕ) (o : Kept) where
+module _ (call : Call) (cs : List Caller) (k m : ℕ) (o : Kept) where
   -- a refusal: the record is put back as it was
-  pub away : (r : Caller) (n p : ℕ) → r ≡ getD cs k fresh → o ≡ record { at = k; caller = r; reply = Refused n p } → answerTo call (shared cs m h) ≡ refused n p
-      → Does call (shared cs m h) (o .reply) (shared (set cs k (o .caller)) m h)
+  pub away : (r : Caller) (n p : ℕ) → r ≡ getD cs k fresh → o ≡ record { at = k; caller = r; reply = Refused n p } → answerTo call (shared cs m) ≡ refused n p
+      → Does call (shared cs m) (o .reply) (shared (set cs k (o .caller)) m)
   unfolding replyOf
   away r n p q e a = (
     ap (λ (x : Kept). x .reply) e ∙ sym (ap replyOf a),
-    ap (λ (x : Kept). shared (set cs k (x .caller)) m h) e ∙ ap (λ (x : Caller). shared (set cs k x) m h) q ∙ ap (λ (l : List Caller). shared l m h) (set-getD cs k fresh) ∙ sym (after-refused call (shared cs m h) n p a),
+    ap (λ (x : Kept). shared (set cs k (x .caller)) m) e ∙ ap (λ (x : Caller). shared (set cs k x) m) q ∙ ap (λ (l : List Caller). shared l m) (set-getD cs k fresh) ∙ sym (after-refused call (shared cs m) n p a),
   )
 
   -- done: this record is put back, and the last caller is as it is read
-  pub back : (x : Caller) (m′ : ℕ) → o ≡ record { at = k; caller = x; reply = Done } → m′ ≡ lastRead m → answerTo call (shared cs m h) ≡ done → set cs k x ≡ callersDone call cs
-      → Does call (shared cs m h) (o .reply) (shared (set cs k (o .caller)) m′ h)
-  unfolding replyOf after callersAfter lastAfter handedAfter
+  pub back : (x : Caller) (m′ : ℕ) → o ≡ record { at = k; caller = x; reply = Done } → m′ ≡ lastRead m → answerTo call (shared cs m) ≡ done → set cs k x ≡ callersDone call cs
+      → Does call (shared cs m) (o .reply) (shared (set cs k (o .caller)) m′)
+  unfolding replyOf after callersAfter lastAfter
   back x m′ e l a s = (
     ap (λ (y : Kept). y .reply) e ∙ sym (ap replyOf a),
-    ap (λ (y : Kept). shared (set cs k (y .caller)) m′ h) e ∙ (λ i. shared (s i) (l i) h)
-        ∙ ap (λ (y : Answer). record { callers = callersAfter call y cs; last = lastAfter y m; handed = handedAfter y h }) (sym a),
+    ap (λ (y : Kept). shared (set cs k (y .caller)) m′) e ∙ (λ i. shared (s i) (l i))
+        ∙ ap (λ (y : Answer). record { callers = callersAfter call y cs; last = lastAfter y m }) (sym a),
   )
 
 -- ---- the answers
@@ -110,17 +110,17 @@ module _ (cs : List Caller) (k : ℕ) where
     only-44 b = past e l _ ∙ ap (λ (x : Bool). cond x done (refused 44 0)) (seat r false q b)
 
 -- ---- the calls
-pub opens : (cs : List Caller) (k m h : ℕ) (f : List ℕ) (a : Answer) → openAnswer cs k f ≡ a → answerTo (open-for k f) (shared cs m h) ≡ a
+pub opens : (cs : List Caller) (k m : ℕ) (f : List ℕ) (a : Answer) → openAnswer cs k f ≡ a → answerTo (open-for k f) (shared cs m) ≡ a
 unfolding answerTo
-opens cs k m h f a e = e
+opens cs k m f a e = e
 
-pub asks-for : (cs : List Caller) (k m h : ℕ) (a : Answer) → openOnly cs k ≡ a → answerTo (ask-for k) (shared cs m h) ≡ a
+pub asks-for : (cs : List Caller) (k m : ℕ) (a : Answer) → openOnly cs k ≡ a → answerTo (ask-for k) (shared cs m) ≡ a
 unfolding answerTo
-asks-for cs k m h a e = e
+asks-for cs k m a e = e
 
-pub closes : (cs : List Caller) (k m h : ℕ) (a : Answer) → openOnly cs k ≡ a → answerTo (close-for k) (shared cs m h) ≡ a
+pub closes : (cs : List Caller) (k m : ℕ) (a : Answer) → openOnly cs k ≡ a → answerTo (close-for k) (shared cs m) ≡ a
 unfolding answerTo
-closes cs k m h a e = e
+closes cs k m a e = e
 
 pub opened-list : (cs : List Caller) (k : ℕ) (f : List ℕ) (x : Caller) → x ≡ opened f → set cs k x ≡ callersDone (open-for k f) cs
 unfolding callersDone

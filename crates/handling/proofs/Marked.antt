@@ -49,7 +49,7 @@ unfolding slotNumber
 missing none i e h b = refl
 missing (some j) i e h b = absurd (omega (arith, e, h, b j refl))
 
-module _ (cs : List Caller) (k m h : ℕ) (name : List ℕ) (r : Caller) (q : r ≡ getD cs k fresh) where
+module _ (cs : List Caller) (k m : ℕ) (name : List ℕ) (r : Caller) (q : r ≡ getD cs k fresh) where
   -- ---- refused before the marks
   module _ (n w : ℕ) (l : length cs ≡ n) (e : w ≡ refusalOf n k (isOpen (reading r)) (nameFits (length name))) (d : w ≡ 0 → ⊥) where
     first-refused : (f : Program → Answer) → marksOnly cs k name f ≡ refused w 0
@@ -66,15 +66,15 @@ module _ (cs : List Caller) (k m h : ℕ) (name : List ℕ) (r : Caller) (q : r 
         go true false (active p x a) false z = ap (λ (j : ℕ). refused j 0) (sym z)
         go true false (active p x a) true z = absurd (d z)
 
-    pub set-early : answerTo (set-mark k name) (shared cs m h) ≡ refused w 0
+    pub set-early : answerTo (set-mark k name) (shared cs m) ≡ refused w 0
     unfolding answerTo setAnswer
     set-early = first-refused _
 
-    pub return-early : answerTo (return-to k name) (shared cs m h) ≡ refused w 0
+    pub return-early : answerTo (return-to k name) (shared cs m) ≡ refused w 0
     unfolding answerTo knownOnly
     return-early = first-refused _
 
-    pub forget-early : answerTo (forget k name) (shared cs m h) ≡ refused w 0
+    pub forget-early : answerTo (forget k name) (shared cs m) ≡ refused w 0
     unfolding answerTo knownOnly
     forget-early = first-refused _
 
@@ -98,14 +98,14 @@ module _ (cs : List Caller) (k m h : ℕ) (name : List ℕ) (r : Caller) (q : r 
 
     -- ---- set
     module _ (i : ℕ) (s : i ≡ slotNumber (slotFor p name (r .marks))) where
-      pub set-47 : 7 < i → answerTo (set-mark k name) (shared cs m h) ≡ refused 47 0
+      pub set-47 : 7 < i → answerTo (set-mark k name) (shared cs m) ≡ refused 47 0
       unfolding answerTo setAnswer doneIf isSome
       set-47 z =
           let e = missing (slotFor p name (r .marks)) i s z (λ j y. slot-for p name (r .marks) j y .0) in
           marks-by (λ p. doneIf (isSome (slotFor p name (marksOf cs k))) 47)
           ∙ ap (λ (x : Option ℕ). doneIf (isSome x) 47) (ap (slotFor p name) (sym own-marks) ∙ e)
 
-      pub set-done : i ≤ 7 → answerTo (set-mark k name) (shared cs m h) ≡ done
+      pub set-done : i ≤ 7 → answerTo (set-mark k name) (shared cs m) ≡ done
       unfolding answerTo setAnswer doneIf isSome
       set-done z =
           marks-by (λ p. doneIf (isSome (slotFor p name (marksOf cs k))) 47)
@@ -134,11 +134,11 @@ module _ (cs : List Caller) (k m h : ℕ) (name : List ℕ) (r : Caller) (q : r 
           marks-by (λ p. doneIf (isSome (slotOf p name (marksOf cs k))) 46)
           ∙ ap (λ (x : Option ℕ). doneIf (isSome x) 46) (ap (slotOf p name) (sym own-marks) ∙ taken (slotOf p name (r .marks)) i s z)
 
-      pub return-46 : 7 < i → answerTo (return-to k name) (shared cs m h) ≡ refused 46 0
+      pub return-46 : 7 < i → answerTo (return-to k name) (shared cs m) ≡ refused 46 0
       unfolding answerTo
       return-46 z = unknown z
 
-      pub return-done : i ≤ 7 → answerTo (return-to k name) (shared cs m h) ≡ done
+      pub return-done : i ≤ 7 → answerTo (return-to k name) (shared cs m) ≡ done
       unfolding answerTo
       return-done z = known z
 
@@ -150,11 +150,11 @@ module _ (cs : List Caller) (k m h : ℕ) (name : List ℕ) (r : Caller) (q : r 
       unfolding callersDone
       return-list z x e = ap (set cs k) (e ∙ sym (return-record z)) ∙ changed-by (λ p. markReturned p name)
 
-      pub forget-46 : 7 < i → answerTo (forget k name) (shared cs m h) ≡ refused 46 0
+      pub forget-46 : 7 < i → answerTo (forget k name) (shared cs m) ≡ refused 46 0
       unfolding answerTo
       forget-46 z = unknown z
 
-      pub forget-done : i ≤ 7 → answerTo (forget k name) (shared cs m h) ≡ done
+      pub forget-done : i ≤ 7 → answerTo (forget k name) (shared cs m) ≡ done
       unfolding answerTo
       forget-done z = known z
 

@@ -16,9 +16,9 @@ replyOf (ended k) = Ended k
 replyOf idle = Idle
 replyOf (refused n k) = Refused n k
 
--- the records, the last caller served and the number of schedules handed to all
-abbrev pub shared : List Caller → ℕ → ℕ → Shared
-shared cs m h = record { callers = cs; last = m; handed = h }
+-- the records and the last caller served
+abbrev pub shared : List Caller → ℕ → Shared
+shared cs m = record { callers = cs; last = m }
 
 -- a call answers this and leaves this
 abbrev pub Does : Call → Shared → Reply → Shared → Type 0

@@ -19,10 +19,10 @@ ghost use Rattle.sharing.specs.Call.{set-mark, return-to, forget};
 ghost use Rattle.handling.specs.Reply.{shared, Does};
 
 // Set: 47 where the name is a ninth.
-pub fn set_one(n: usize, c: Caller, last: &mut u64, handed: &mut u64, k: usize, name: &[u8]) -> Kept
+pub fn set_one(n: usize, c: Caller, last: &mut u64, k: usize, name: &[u8]) -> Kept
     ensures { λ r. ⌜ ((cs : List Caller) → length cs ≡ n → c ≡ getD cs k fresh → Does (set-mark k (now (name .entry)))
-        (shared cs (now (last .entry)) (now (handed .entry))) (r .reply)
-        (shared (set cs k (r .caller)) (now (last .exit)) (now (handed .exit)))) ⌝ }
+        (shared cs (now (last .entry))) (r .reply)
+        (shared (set cs k (r .caller)) (now (last .exit)))) ⌝ }
 {
     let w = first_refusal(n, c, k, name.len());
     if w != 0 {
@@ -39,17 +39,10 @@ pub fn set_one(n: usize, c: Caller, last: &mut u64, handed: &mut u64, k: usize, 
 }
 
 // Return: 46 where the name is unknown. The record stands where the mark does, and asks where it asked.
-pub fn return_one(
-    n: usize,
-    c: Caller,
-    last: &mut u64,
-    handed: &mut u64,
-    k: usize,
-    name: &[u8],
-) -> Kept
+pub fn return_one(n: usize, c: Caller, last: &mut u64, k: usize, name: &[u8]) -> Kept
     ensures { λ r. ⌜ ((cs : List Caller) → length cs ≡ n → c ≡ getD cs k fresh → Does (return-to k (now (name .entry)))
-        (shared cs (now (last .entry)) (now (handed .entry))) (r .reply)
-        (shared (set cs k (r .caller)) (now (last .exit)) (now (handed .exit)))) ⌝ }
+        (shared cs (now (last .entry))) (r .reply)
+        (shared (set cs k (r .caller)) (now (last .exit)))) ⌝ }
 {
     let w = first_refusal(n, c, k, name.len());
     if w != 0 {
@@ -66,17 +59,10 @@ pub fn return_one(
 }
 
 // Forget: 46 where the name is unknown.
-pub fn forget_one(
-    n: usize,
-    c: Caller,
-    last: &mut u64,
-    handed: &mut u64,
-    k: usize,
-    name: &[u8],
-) -> Kept
+pub fn forget_one(n: usize, c: Caller, last: &mut u64, k: usize, name: &[u8]) -> Kept
     ensures { λ r. ⌜ ((cs : List Caller) → length cs ≡ n → c ≡ getD cs k fresh → Does (forget k (now (name .entry)))
-        (shared cs (now (last .entry)) (now (handed .entry))) (r .reply)
-        (shared (set cs k (r .caller)) (now (last .exit)) (now (handed .exit)))) ⌝ }
+        (shared cs (now (last .entry))) (r .reply)
+        (shared (set cs k (r .caller)) (now (last .exit)))) ⌝ }
 {
     let w = first_refusal(n, c, k, name.len());
     if w != 0 {

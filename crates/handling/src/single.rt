@@ -55,17 +55,10 @@ pub fn settle(last: &mut u64)
 }
 
 // Open: 22, 42 and 43 come before the file's refusals.
-pub fn open_one(
-    n: usize,
-    c: Caller,
-    last: &mut u64,
-    handed: &mut u64,
-    k: usize,
-    file: &[u8],
-) -> Kept
+pub fn open_one(n: usize, c: Caller, last: &mut u64, k: usize, file: &[u8]) -> Kept
     ensures { λ r. ⌜ ((cs : List Caller) → length cs ≡ n → c ≡ getD cs k fresh → Does (open-for k (now (file .entry)))
-        (shared cs (now (last .entry)) (now (handed .entry))) (r .reply)
-        (shared (set cs k (r .caller)) (now (last .exit)) (now (handed .exit)))) ⌝ }
+        (shared cs (now (last .entry))) (r .reply)
+        (shared (set cs k (r .caller)) (now (last .exit)))) ⌝ }
 {
     if n != 4 {
         return turned_away(k, c, 22);
@@ -92,10 +85,10 @@ pub fn open_one(
 }
 
 // Ask: twice is once.
-pub fn ask_one(n: usize, c: Caller, last: &mut u64, handed: &mut u64, k: usize) -> Kept
+pub fn ask_one(n: usize, c: Caller, last: &mut u64, k: usize) -> Kept
     ensures { λ r. ⌜ ((cs : List Caller) → length cs ≡ n → c ≡ getD cs k fresh → Does (ask-for k)
-        (shared cs (now (last .entry)) (now (handed .entry))) (r .reply)
-        (shared (set cs k (r .caller)) (now (last .exit)) (now (handed .exit)))) ⌝ }
+        (shared cs (now (last .entry))) (r .reply)
+        (shared (set cs k (r .caller)) (now (last .exit)))) ⌝ }
 {
     if n != 4 {
         return turned_away(k, c, 22);
@@ -111,10 +104,10 @@ pub fn ask_one(n: usize, c: Caller, last: &mut u64, handed: &mut u64, k: usize) 
 }
 
 // Close: the record is emptied.
-pub fn close_one(n: usize, c: Caller, last: &mut u64, handed: &mut u64, k: usize) -> Kept
+pub fn close_one(n: usize, c: Caller, last: &mut u64, k: usize) -> Kept
     ensures { λ r. ⌜ ((cs : List Caller) → length cs ≡ n → c ≡ getD cs k fresh → Does (close-for k)
-        (shared cs (now (last .entry)) (now (handed .entry))) (r .reply)
-        (shared (set cs k (r .caller)) (now (last .exit)) (now (handed .exit)))) ⌝ }
+        (shared cs (now (last .entry))) (r .reply)
+        (shared (set cs k (r .caller)) (now (last .exit)))) ⌝ }
 {
     if n != 4 {
         return turned_away(k, c, 22);

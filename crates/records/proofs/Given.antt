@@ -1,5 +1,5 @@
 -- What there is for a record, way by way of the code.
-use Prim.Native.Nat.{ℕ, _≤_, _<_, _%_}
+use Prim.Native.Nat.{ℕ, _≤_, _<_, _+_, _%_, _^_}
 use mathlib.Core.Path.{_≡_, refl, sym, ap, subst, _∙_}
 use mathlib.Core.Bool.{Bool, true, false, cond, true≢false}
 use mathlib.Core.Option.{Option, none, some}
@@ -28,7 +28,7 @@ use Rattle.listing.specs.AnswerOf.{listAnswerOf}
 use Rattle.listing.specs.declared.calling.ListAnswer.the-variants.{Found, NoMore, Refused}
 use Rattle.sharing.specs.declared.caller.Caller.{Caller}
 use Rattle.sharing.specs.Seat.{Place, beginning, behind, end, toCome, Seat, closed, active}
-use Rattle.sharing.specs.Record.{fileRead, behindFull, placeOf, seated, reading, served, standing, handing}
+use Rattle.sharing.specs.Record.{fileRead, behindFull, placeOf, seated, reading, served, standing, handing, counting}
 use Rattle.sharing.specs.Call.{forSeat}
 use Rattle.sharing.proofs.Fates.{come-full}
 use Rattle.sharing.proofs.Readings.{active-formed}
@@ -39,11 +39,12 @@ use Rattle.records.proofs.Opened.{read-long, read-file, read-refused, r
 
 -- ---- a record behind what it was given
 module _ (c : Caller) (n : Next) where
-  -- behind a schedule, which is the last one handed
-  abbrev pub behindFound : Caller
-  behindFound = record {
+  -- behind a schedule, which is the last one handed, with this count
+  abbrev pub behindFound : ℕ → Caller
+  behindFound m = record {
     file = c .file;
     length = c .length;
+    count = m;
     place = 2;
     asking = 0;
     steps = n .steps;
@@ -54,11 +55,12 @@ module _ (c : Caller) (n : Next) where
     marks = c .marks;
   }
 
-  pub served-found : n .found ≡ true → (o : Option Schedule) → n ≡ nextOf o → behindFound ≡ served c o
-  unfolding nextOf served standing handing
-  served-found f (some s) e = λ i. record {
+  pub served-found : (m : ℕ) → m ≡ (c .count + 1) % 2 ^ 64 → n .found ≡ true → (o : Option Schedule) → n ≡ nextOf o → behindFound m ≡ served c o
+  unfolding nextOf served standing handing counting
+  served-found m g f (some s) e = λ i. record {
     file = c .file;
     length = c .length;
+    count = g i;
     place = 2;
     asking = 0;
     steps = e i .steps;
@@ -68,7 +70,7 @@ module _ (c : Caller) (n : Next) where
     newest = e i .schedule;
     marks = c .marks;
   }
-  served-found f none e = absurd (true≢false (sym f ∙ ap (λ (m : Next). m .found) e))
+  served-found m g f none e = absurd (true≢false (sym f ∙ ap (λ (m : Next). m .found) e))
 
   pub served-none : n .found ≡ false → (o : Option Schedule) → n ≡ nextOf o → standing c 3 (n .steps) (n .schedule) 0 ≡ served c o
   unfolding nextOf served

@@ -3,6 +3,7 @@ use crate::next::Next;
 use program::STEPS;
 use sharing::Caller;
 use sharing::Mark;
+use std::num::wrapping_add_u64;
 ghost use mathlib.Core.Path.{_≡_};
 ghost use mathlib.Core.Option.{Option};
 ghost use Prim.Native.Nat.{_≤_};
@@ -40,6 +41,7 @@ pub fn fresh_record() -> Caller
     Caller {
         file: [0u8; 4096],
         length: 0,
+        count: 0,
         place: 0,
         asking: 0,
         steps: 0,
@@ -74,6 +76,7 @@ pub fn opened_with(file: &[u8]) -> Caller
     Caller {
         file: bytes,
         length: n,
+        count: 0,
         place: 1,
         asking: 0,
         steps: 0,
@@ -94,7 +97,7 @@ pub fn asked(c: Caller) -> Caller
     r
 }
 
-// The record behind what it was given: a schedule, or no more.
+// The record behind what it was given: a schedule, which counts, or no more.
 pub fn served(c: Caller, next: Next) -> Caller
     ensures { λ r. ⌜ ((o : Option Schedule) → next ≡ nextOf o → r ≡ served c o) ⌝ }
 {
@@ -103,11 +106,13 @@ pub fn served(c: Caller, next: Next) -> Caller
     r.asking = 0;
     r.steps = next.steps;
     r.schedule = schedule;
+    let more = wrapping_add_u64(c.count, 1);
     if next.found {
         r.place = 2;
         r.handed = 1;
         r.size = next.steps;
         r.newest = schedule;
+        r.count = more;
         return r;
     }
     r.place = 3;

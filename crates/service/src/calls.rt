@@ -1,5 +1,5 @@
-// The seven calls. The list must have exactly four records, whatever they hold; the last caller served and the number of schedules handed
-// to all go into each call and come out of it. A refusal changes nothing.
+// The seven calls. The list must have exactly four records, whatever they hold; the last caller served goes into each call and comes out
+// of it. A refusal changes nothing.
 use handling::Reply;
 use handling::ask_one;
 use handling::close_one;
@@ -19,65 +19,59 @@ ghost use Rattle.sharing.specs.Call.{open-for, ask-for, close-for, set-mark, re
 ghost use Rattle.handling.specs.Reply.{shared, Does, Served};
 
 // Opens for caller k with a program file: before the first schedule.
-pub fn open(
-    callers: &mut [Caller],
-    last: &mut u64,
-    handed: &mut u64,
-    k: usize,
-    file: &[u8],
-) -> Reply
+pub fn open(callers: &mut [Caller], last: &mut u64, k: usize, file: &[u8]) -> Reply
     ensures { λ r. ⌜ Does (open-for k (now (file .entry)))
-        (shared (now (callers .entry)) (now (last .entry)) (now (handed .entry))) r
-        (shared (now (callers .exit)) (now (last .exit)) (now (handed .exit))) ⌝ }
+        (shared (now (callers .entry)) (now (last .entry))) r
+        (shared (now (callers .exit)) (now (last .exit))) ⌝ }
 {
     let n = callers.len();
     let c = record_at(callers, k);
-    let o = open_one(n, c, last, handed, k, file);
+    let o = open_one(n, c, last, k, file);
     let r = record_of(o);
     put_record(callers, k, r);
     reply_of(o)
 }
 
 // Caller k asks for one schedule.
-pub fn ask(callers: &mut [Caller], last: &mut u64, handed: &mut u64, k: usize) -> Reply
+pub fn ask(callers: &mut [Caller], last: &mut u64, k: usize) -> Reply
     ensures { λ r. ⌜ Does (ask-for k)
-        (shared (now (callers .entry)) (now (last .entry)) (now (handed .entry))) r
-        (shared (now (callers .exit)) (now (last .exit)) (now (handed .exit))) ⌝ }
+        (shared (now (callers .entry)) (now (last .entry))) r
+        (shared (now (callers .exit)) (now (last .exit))) ⌝ }
 {
     let n = callers.len();
     let c = record_at(callers, k);
-    let o = ask_one(n, c, last, handed, k);
+    let o = ask_one(n, c, last, k);
     let r = record_of(o);
     put_record(callers, k, r);
     reply_of(o)
 }
 
 // Caller k leaves, and its record is emptied.
-pub fn close(callers: &mut [Caller], last: &mut u64, handed: &mut u64, k: usize) -> Reply
+pub fn close(callers: &mut [Caller], last: &mut u64, k: usize) -> Reply
     ensures { λ r. ⌜ Does (close-for k)
-        (shared (now (callers .entry)) (now (last .entry)) (now (handed .entry))) r
-        (shared (now (callers .exit)) (now (last .exit)) (now (handed .exit))) ⌝ }
+        (shared (now (callers .entry)) (now (last .entry))) r
+        (shared (now (callers .exit)) (now (last .exit))) ⌝ }
 {
     let n = callers.len();
     let c = record_at(callers, k);
-    let o = close_one(n, c, last, handed, k);
+    let o = close_one(n, c, last, k);
     let r = record_of(o);
     put_record(callers, k, r);
     reply_of(o)
 }
 
 // Serves the next asking caller after the last one served: one schedule in front of the output, or no more.
-pub fn serve(callers: &mut [Caller], last: &mut u64, handed: &mut u64, out: &mut [u8]) -> Reply
+pub fn serve(callers: &mut [Caller], last: &mut u64, out: &mut [u8]) -> Reply
     ensures { λ r. ⌜ Served (now (out .entry))
-        (shared (now (callers .entry)) (now (last .entry)) (now (handed .entry))) r
-        (shared (now (callers .exit)) (now (last .exit)) (now (handed .exit))) (now (out .exit)) ⌝ }
+        (shared (now (callers .entry)) (now (last .entry))) r
+        (shared (now (callers .exit)) (now (last .exit))) (now (out .exit)) ⌝ }
 {
     let n = callers.len();
     let a = record_at(callers, 0);
     let b = record_at(callers, 1);
     let c = record_at(callers, 2);
     let d = record_at(callers, 3);
-    let o = serve_four(n, a, b, c, d, last, handed, out);
+    let o = serve_four(n, a, b, c, d, last, out);
     let k = place_of(o);
     let r = record_of(o);
     put_record(callers, k, r);
@@ -85,54 +79,42 @@ pub fn serve(callers: &mut [Caller], last: &mut u64, handed: &mut u64, out: &mut
 }
 
 // Caller k's last schedule handed since it opened, or the beginning if there is none, is stored under this name.
-pub fn set(callers: &mut [Caller], last: &mut u64, handed: &mut u64, k: usize, name: &[u8]) -> Reply
+pub fn set(callers: &mut [Caller], last: &mut u64, k: usize, name: &[u8]) -> Reply
     ensures { λ r. ⌜ Does (set-mark k (now (name .entry)))
-        (shared (now (callers .entry)) (now (last .entry)) (now (handed .entry))) r
-        (shared (now (callers .exit)) (now (last .exit)) (now (handed .exit))) ⌝ }
+        (shared (now (callers .entry)) (now (last .entry))) r
+        (shared (now (callers .exit)) (now (last .exit))) ⌝ }
 {
     let n = callers.len();
     let c = record_at(callers, k);
-    let o = set_one(n, c, last, handed, k, name);
+    let o = set_one(n, c, last, k, name);
     let r = record_of(o);
     put_record(callers, k, r);
     reply_of(o)
 }
 
 // Caller k stands where the mark of this name does, and its serves go on behind it.
-pub fn return_to(
-    callers: &mut [Caller],
-    last: &mut u64,
-    handed: &mut u64,
-    k: usize,
-    name: &[u8],
-) -> Reply
+pub fn return_to(callers: &mut [Caller], last: &mut u64, k: usize, name: &[u8]) -> Reply
     ensures { λ r. ⌜ Does (return-to k (now (name .entry)))
-        (shared (now (callers .entry)) (now (last .entry)) (now (handed .entry))) r
-        (shared (now (callers .exit)) (now (last .exit)) (now (handed .exit))) ⌝ }
+        (shared (now (callers .entry)) (now (last .entry))) r
+        (shared (now (callers .exit)) (now (last .exit))) ⌝ }
 {
     let n = callers.len();
     let c = record_at(callers, k);
-    let o = return_one(n, c, last, handed, k, name);
+    let o = return_one(n, c, last, k, name);
     let r = record_of(o);
     put_record(callers, k, r);
     reply_of(o)
 }
 
 // Caller k's mark of this name is freed.
-pub fn forget(
-    callers: &mut [Caller],
-    last: &mut u64,
-    handed: &mut u64,
-    k: usize,
-    name: &[u8],
-) -> Reply
+pub fn forget(callers: &mut [Caller], last: &mut u64, k: usize, name: &[u8]) -> Reply
     ensures { λ r. ⌜ Does (forget k (now (name .entry)))
-        (shared (now (callers .entry)) (now (last .entry)) (now (handed .entry))) r
-        (shared (now (callers .exit)) (now (last .exit)) (now (handed .exit))) ⌝ }
+        (shared (now (callers .entry)) (now (last .entry))) r
+        (shared (now (callers .exit)) (now (last .exit))) ⌝ }
 {
     let n = callers.len();
     let c = record_at(callers, k);
-    let o = forget_one(n, c, last, handed, k, name);
+    let o = forget_one(n, c, last, k, name);
     let r = record_of(o);
     put_record(callers, k, r);
     reply_of(o)

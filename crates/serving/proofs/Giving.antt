@@ -14,7 +14,7 @@ use Rattle.lines.proofs.Over.{take-over}
 use Rattle.schedules.specs.Order.{Schedule}
 use Rattle.sharing.specs.declared.caller.Caller.{Caller}
 use Rattle.sharing.specs.Record.{reading, fresh, served}
-use Rattle.sharing.specs.Call.{Call, serve, Answer, done, given, ended, idle, refused, Shared, seatOf, lastRead, nextAsking, forSeat, handedTo, servedTo, serveAnswer, answerTo, callersDone, callersAfter, lastAfter, handedAfter, outputAfter, after}
+use Rattle.sharing.specs.Call.{Call, serve, Answer, done, given, ended, idle, refused, Shared, seatOf, lastRead, nextAsking, forSeat, handedTo, servedTo, serveAnswer, answerTo, callersDone, callersAfter, lastAfter, outputAfter, after}
 use Rattle.sharing.proofs.Seats.{after-refused}
 use Rattle.records.specs.declared.next.Next.{Next}
 use Rattle.records.specs.Next.{nextOf}
@@ -31,11 +31,6 @@ module _ (k : ℕ) (c r : Caller) (x : Next) where
   gave-kept none e q f n l = absurd (true≢false (sym f ∙ ap (λ (y : Next). y .found) e))
   gave-kept (some s) e q f n l = let j = l ∙ ap (λ (y : Next). y .steps) e in λ i. record { at = k; caller = q i; reply = Given k (j i) }
 
-  pub gave-handed : (o : Option Schedule) → x ≡ nextOf o → x .found ≡ true → (h h′ : ℕ) → h′ ≡ (h + 1) % 2 ^ 64 → h′ ≡ handedAfter (handedTo k o) h
-  unfolding nextOf handedTo handedAfter
-  gave-handed none e f h h′ l = absurd (true≢false (sym f ∙ ap (λ (y : Next). y .found) e))
-  gave-handed (some s) e f h h′ l = l
-
   pub gave-output : (o : Option Schedule) → x ≡ nextOf o → x .found ≡ true → (n : ℕ) → n ≡ x .steps → (out out′ : List ℕ) → out′ ≡ over (take n (x .schedule)) out → out′ ≡ outputAfter (handedTo k o) out
   unfolding nextOf handedTo outputAfter
   gave-output none e f n l out out′ p = absurd (true≢false (sym f ∙ ap (λ (y : Next). y .found) e))
@@ -46,11 +41,6 @@ module _ (k : ℕ) (c r : Caller) (x : Next) where
   unfolding nextOf keptFor handedTo replyOf
   ended-kept none e q f = λ i. record { at = k; caller = q i; reply = Ended k }
   ended-kept (some s) e q f = absurd (true≢false (sym (ap (λ (y : Next). y .found) e) ∙ f))
-
-  pub ended-handed : (o : Option Schedule) → x ≡ nextOf o → x .found ≡ false → (h : ℕ) → h ≡ handedAfter (handedTo k o) h
-  unfolding nextOf handedTo handedAfter
-  ended-handed none e f h = refl
-  ended-handed (some s) e f h = absurd (true≢false (sym (ap (λ (y : Next). y .found) e) ∙ f))
 
   pub ended-output : (o : Option Schedule) → x ≡ nextOf o → x .found ≡ false → (out : List ℕ) → out ≡ outputAfter (handedTo k o) out
   unfolding nextOf handedTo outputAfter
@@ -67,57 +57,57 @@ four-list (w ∷ x ∷ y ∷ z ∷ []) a b c d e f = λ i. f .0 i ∷ f .1 i ∷
 four-list (w ∷ x ∷ y ∷ z ∷ v ∷ vs) a b c d e f = absurd (omega (arith, e))
 
 -- ---- the answers
-module _ (cs : List Caller) (m h : ℕ) (out : List ℕ) where
-  pub serve-22 : (length cs ≡ 4 → ⊥) → answerTo (serve out) (shared cs m h) ≡ refused 22 0
+module _ (cs : List Caller) (m : ℕ) (out : List ℕ) where
+  pub serve-22 : (length cs ≡ 4 → ⊥) → answerTo (serve out) (shared cs m) ≡ refused 22 0
   unfolding answerTo serveAnswer
   serve-22 d = rw (ne-eqb (length cs) 4 d)
 
-  pub serve-short : length cs ≡ 4 → length out < 24 → answerTo (serve out) (shared cs m h) ≡ refused 22 0
+  pub serve-short : length cs ≡ 4 → length out < 24 → answerTo (serve out) (shared cs m) ≡ refused 22 0
   unfolding answerTo serveAnswer
   serve-short e l = rw (eq-eqb (length cs) 4 e, lt-ltb (length out) 24 l)
 
-  served-to : length cs ≡ 4 → 24 ≤ length out → answerTo (serve out) (shared cs m h) ≡ servedTo cs (nextAsking cs m)
+  served-to : length cs ≡ 4 → 24 ≤ length out → answerTo (serve out) (shared cs m) ≡ servedTo cs (nextAsking cs m)
   unfolding answerTo serveAnswer
   served-to e l = rw (eq-eqb (length cs) 4 e, le-ltb (length out) 24 l)
 
-  pub serve-idle : length cs ≡ 4 → 24 ≤ length out → nextAsking cs m ≡ none → answerTo (serve out) (shared cs m h) ≡ idle
+  pub serve-idle : length cs ≡ 4 → 24 ≤ length out → nextAsking cs m ≡ none → answerTo (serve out) (shared cs m) ≡ idle
   unfolding servedTo
   serve-idle e l q = served-to e l ∙ ap (servedTo cs) q
 
-  pub serve-one : length cs ≡ 4 → 24 ≤ length out → (k : ℕ) (r : Caller) → nextAsking cs m ≡ some k → r ≡ getD cs k fresh → answerTo (serve out) (shared cs m h) ≡ handedTo k (forSeat (reading r))
+  pub serve-one : length cs ≡ 4 → 24 ≤ length out → (k : ℕ) (r : Caller) → nextAsking cs m ≡ some k → r ≡ getD cs k fresh → answerTo (serve out) (shared cs m) ≡ handedTo k (forSeat (reading r))
   unfolding servedTo seatOf
   serve-one e l k r q p = served-to e l ∙ ap (servedTo cs) q ∙ ap (λ (y : Caller). handedTo k (forSeat (reading y))) (sym p)
 
   -- ---- what is left
   module _ (o : Kept) where
     -- nothing is put back where the list has no record
-    gone : (y : Reply) → o ≡ record { at = length cs; caller = fresh; reply = y } → (m′ h′ : ℕ) → shared (set cs (o .at) (o .caller)) m′ h′ ≡ shared cs m′ h′
-    gone y e m′ h′ = ap (λ (z : Kept). shared (set cs (z .at) (z .caller)) m′ h′) e ∙ ap (λ (l : List Caller). shared l m′ h′) (set-out cs (length cs) fresh (le-refl (length cs)))
+    gone : (y : Reply) → o ≡ record { at = length cs; caller = fresh; reply = y } → (m′ : ℕ) → shared (set cs (o .at) (o .caller)) m′ ≡ shared cs m′
+    gone y e m′ = ap (λ (z : Kept). shared (set cs (z .at) (z .caller)) m′) e ∙ ap (λ (l : List Caller). shared l m′) (set-out cs (length cs) fresh (le-refl (length cs)))
 
-    pub serve-away : (n p : ℕ) → o ≡ record { at = length cs; caller = fresh; reply = Refused n p } → answerTo (serve out) (shared cs m h) ≡ refused n p
-        → Served out (shared cs m h) (o .reply) (shared (set cs (o .at) (o .caller)) m h) out
+    pub serve-away : (n p : ℕ) → o ≡ record { at = length cs; caller = fresh; reply = Refused n p } → answerTo (serve out) (shared cs m) ≡ refused n p
+        → Served out (shared cs m) (o .reply) (shared (set cs (o .at) (o .caller)) m) out
     unfolding replyOf outputAfter
-    serve-away n p e a = (ap (λ (z : Kept). z .reply) e ∙ sym (ap replyOf a), gone (Refused n p) e m h ∙ sym (after-refused (serve out) (shared cs m h) n p a), sym (ap (λ (y : Answer). outputAfter y out) a))
+    serve-away n p e a = (ap (λ (z : Kept). z .reply) e ∙ sym (ap replyOf a), gone (Refused n p) e m ∙ sym (after-refused (serve out) (shared cs m) n p a), sym (ap (λ (y : Answer). outputAfter y out) a))
 
-    pub serve-nobody : (m′ : ℕ) → o ≡ record { at = length cs; caller = fresh; reply = Idle } → m′ ≡ lastRead m → answerTo (serve out) (shared cs m h) ≡ idle
-        → Served out (shared cs m h) (o .reply) (shared (set cs (o .at) (o .caller)) m′ h) out
-    unfolding replyOf outputAfter after callersAfter lastAfter handedAfter
+    pub serve-nobody : (m′ : ℕ) → o ≡ record { at = length cs; caller = fresh; reply = Idle } → m′ ≡ lastRead m → answerTo (serve out) (shared cs m) ≡ idle
+        → Served out (shared cs m) (o .reply) (shared (set cs (o .at) (o .caller)) m′) out
+    unfolding replyOf outputAfter after callersAfter lastAfter
     serve-nobody m′ e l a = (
       ap (λ (z : Kept). z .reply) e ∙ sym (ap replyOf a),
-      gone Idle e m′ h ∙ ap (λ (i : ℕ). shared cs i h) l ∙ ap (λ (y : Answer). record { callers = callersAfter (serve out) y cs; last = lastAfter y m; handed = handedAfter y h }) (sym a),
+      gone Idle e m′ ∙ ap (λ (i : ℕ). shared cs i) l ∙ ap (λ (y : Answer). record { callers = callersAfter (serve out) y cs; last = lastAfter y m }) (sym a),
       sym (ap (λ (y : Answer). outputAfter y out) a),
     )
 
     -- the record of the caller that was served is put back
-    pub serve-given : (k : ℕ) (r : Caller) (x : Option Schedule) (m′ h′ : ℕ) (out′ : List ℕ) → r ≡ getD cs k fresh → o ≡ keptFor k r x → m′ ≡ k → h′ ≡ handedAfter (handedTo k x) h → out′ ≡ outputAfter (handedTo k x) out
-        → answerTo (serve out) (shared cs m h) ≡ handedTo k x → Served out (shared cs m h) (o .reply) (shared (set cs (o .at) (o .caller)) m′ h′) out′
+    pub serve-given : (k : ℕ) (r : Caller) (x : Option Schedule) (m′ : ℕ) (out′ : List ℕ) → r ≡ getD cs k fresh → o ≡ keptFor k r x → m′ ≡ k → out′ ≡ outputAfter (handedTo k x) out
+        → answerTo (serve out) (shared cs m) ≡ handedTo k x → Served out (shared cs m) (o .reply) (shared (set cs (o .at) (o .caller)) m′) out′
     unfolding keptFor after handedTo callersAfter lastAfter
-    serve-given k r x m′ h′ out′ q e l f p a = (
+    serve-given k r x m′ out′ q e l p a = (
       ap (λ (z : Kept). z .reply) e ∙ sym (ap replyOf a),
-      ap (λ (z : Kept). shared (set cs (z .at) (z .caller)) m′ h′) e ∙ (λ i. shared (set cs k (served (q i) x)) (l i) (f i)) ∙ left x ∙ ap (λ (y : Answer). record { callers = callersAfter (serve out) y cs; last = lastAfter y m; handed = handedAfter y h }) (sym a),
+      ap (λ (z : Kept). shared (set cs (z .at) (z .caller)) m′) e ∙ (λ i. shared (set cs k (served (q i) x)) (l i)) ∙ left x ∙ ap (λ (y : Answer). record { callers = callersAfter (serve out) y cs; last = lastAfter y m }) (sym a),
       p ∙ sym (ap (λ (y : Answer). outputAfter y out) a),
     )
       where
-        left : (y : Option Schedule) → shared (set cs k (served (getD cs k fresh) y)) k (handedAfter (handedTo k y) h) ≡ record { callers = callersAfter (serve out) (handedTo k y) cs; last = lastAfter (handedTo k y) m; handed = handedAfter (handedTo k y) h }
+        left : (y : Option Schedule) → shared (set cs k (served (getD cs k fresh) y)) k ≡ record { callers = callersAfter (serve out) (handedTo k y) cs; last = lastAfter (handedTo k y) m }
         left none = refl
         left (some s) = refl

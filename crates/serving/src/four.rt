@@ -11,13 +11,12 @@ use records::next_of;
 use records::put_front;
 use records::served;
 use sharing::Caller;
-use std::num::wrapping_add_u64;
 ghost use mathlib.Core.Path.{_≡_};
 ghost use mathlib.Core.List.{List};
 ghost use Prim.Native.Nat.{_≤_};
 ghost use lib.ListN.{length, set};
 ghost use Rattle.sharing.specs.Record.{reading, fresh};
-ghost use Rattle.sharing.specs.Call.{forSeat, handedTo, handedAfter, outputAfter};
+ghost use Rattle.sharing.specs.Call.{forSeat, handedTo, outputAfter};
 ghost use Rattle.handling.specs.Reply.{shared, Served};
 ghost use Rattle.serving.specs.Kept.{keptFor, Four};
 
@@ -33,11 +32,10 @@ fn nothing_kept(n: usize, reply: Reply) -> Kept
 }
 
 // What caller k gets, whose record this is: its next schedule, in front of the output, or no more.
-fn serve_to(k: usize, c: Caller, last: &mut u64, handed: &mut u64, out: &mut [u8]) -> Kept
+fn serve_to(k: usize, c: Caller, last: &mut u64, out: &mut [u8]) -> Kept
     requires { ⌜ 24 ≤ length (now out) ⌝ }
     ensures kept { λ r. ⌜ r ≡ keptFor k c (forSeat (reading c)) ⌝ }
     ensures last { λ r. ⌜ now (last .exit) ≡ k ⌝ }
-    ensures handed { λ r. ⌜ now (handed .exit) ≡ handedAfter (handedTo k (forSeat (reading c))) (now (handed .entry)) ⌝ }
     ensures output { λ r. ⌜ now (out .exit) ≡ outputAfter (handedTo k (forSeat (reading c))) (now (out .entry)) ⌝ }
 {
     let x = next_of(c);
@@ -47,7 +45,6 @@ fn serve_to(k: usize, c: Caller, last: &mut u64, handed: &mut u64, out: &mut [u8
         let steps = x.schedule;
         let n = wide(x.steps);
         put_front(out, &steps, n);
-        *handed = wrapping_add_u64(*handed, 1);
         return Kept {
             at: k,
             caller: r,
@@ -69,12 +66,11 @@ pub fn serve_four(
     c: Caller,
     d: Caller,
     last: &mut u64,
-    handed: &mut u64,
     out: &mut [u8],
 ) -> Kept
     ensures { λ r. ⌜ ((cs : List Caller) → length cs ≡ n → Four cs a b c d → Served (now (out .entry))
-        (shared cs (now (last .entry)) (now (handed .entry))) (r .reply)
-        (shared (set cs (r .at) (r .caller)) (now (last .exit)) (now (handed .exit))) (now (out .exit))) ⌝ }
+        (shared cs (now (last .entry))) (r .reply)
+        (shared (set cs (r .at) (r .caller)) (now (last .exit))) (now (out .exit))) ⌝ }
 {
     if n != 4 {
         return nothing_kept(n, Reply::Refused(22, 0));
@@ -88,5 +84,5 @@ pub fn serve_four(
         return nothing_kept(n, Reply::Idle);
     }
     let r = of_four(a, b, c, d, k);
-    serve_to(k, r, last, handed, out)
+    serve_to(k, r, last, out)
 }

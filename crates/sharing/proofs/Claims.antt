@@ -12,11 +12,12 @@ use Rattle.program.specs.Decode.{accepted, decode}
 use Rattle.list.specs.ListOf.{listOf}
 use Rattle.sharing.specs.declared.caller.Caller.{Caller}
 use Rattle.sharing.specs.Seat.{Place, beginning, Seat, closed, active, toCome, isOpen, asks}
-use Rattle.sharing.specs.Record.{reading, noMark, fresh, opened, asked}
+use Rattle.sharing.specs.Record.{reading, noMark, fresh, opened, plain, asked}
 use Rattle.sharing.specs.Marks.{nameFits}
 use Rattle.sharing.specs.Call.{Call, open-for, ask-for, close-for, return-to, forget, done, refused, Shared, start, seatOf, openAnswer, openOnly, answerTo, after}
-use Rattle.sharing.specs.Play.{answers, behindAll, schedulesIn}
+use Rattle.sharing.specs.Play.{answers, behindAll, received, schedulesOf}
 use Rattle.sharing.specs.Noted.{Noted, nothingNoted}
+use Rattle.sharing.specs.Concerns.{Event, concerns}
 use Rattle.sharing.specs.Claims.{Sharing}
 use Rattle.sharing.proofs.Readings.{reading-fresh, reading-opened, reading-asked, reading-returned}
 use Rattle.sharing.proofs.Seats.{Four, Opens, open-either, only-either, four-after}
@@ -26,7 +27,8 @@ use Rattle.sharing.proofs.Lent.{known-small}
 use Rattle.sharing.proofs.InOrder.{order-from}
 use Rattle.sharing.proofs.Fair.{fair-from, distance-small}
 use Rattle.sharing.proofs.Noted.{Agrees, agrees-opened, Open, noted-from, known-slot, unknown-refused}
-use Rattle.sharing.proofs.Handed.{handed-from}
+use Rattle.sharing.proofs.Counted.{counted-from}
+use Rattle.sharing.proofs.Isolation.{recordAfter, handsAfter, decided-from}
 
 -- there are four records behind every list of calls
 four-all : (cs : List Call) (σ : Shared) → Four (σ .callers) → Four (behindAll cs σ .callers)
@@ -79,13 +81,20 @@ opened-open σ k f p n h d e small = record {
   holds = subst (λ (r : Caller). Agrees p n r nothingNoted) (sym (opened-record σ k f h e .1)) (agrees-opened p n f);
 }
 
--- behind a closing nobody is there
-closed-seat : (σ : Shared) (k : ℕ) → Four (σ .callers) → answerTo (close-for k) σ ≡ done → seatOf (after (close-for k) σ .callers) k ≡ closed
+-- behind a closing the record is empty, and nobody is there
+closed-record : (σ : Shared) (k : ℕ) → Four (σ .callers) → answerTo (close-for k) σ ≡ done →
+    (recordOf (after (close-for k) σ) k ≡ fresh) × (seatOf (after (close-for k) σ .callers) k ≡ closed)
 unfolding answerTo seatOf ownDone whose
-closed-seat σ k h e = ⊎-elim
-    (λ (q : (openOnly (σ .callers) k ≡ done) × (k < 4) × (isOpen (seatOf (σ .callers) k) ≡ true)). ap reading (own-leaves σ h k (q .1) (close-for k) refl e) ∙ reading-fresh)
+closed-record σ k h e = ⊎-elim
+    (λ (q : (openOnly (σ .callers) k ≡ done) × (k < 4) × (isOpen (seatOf (σ .callers) k) ≡ true)).
+    let r = own-leaves σ h k (q .1) (close-for k) refl e in (r, ap reading r ∙ reading-fresh))
     (λ (q : (n : ℕ) × (m : ℕ) × (openOnly (σ .callers) k ≡ refused n m)). let z = sym e ∙ q .2 in absurd (let y : _≡_ {A = ℕ} 0 1 = cc in omega arith))
     (only-either (σ .callers) k h)
+
+-- an opened record has counted nothing
+opened-count : (f : List ℕ) → opened f .count ≡ 0
+unfolding opened plain
+opened-count f = refl
 
 -- a return goes to the place that was noted, and keeps the asking
 returned-seat : (p : Program) (n : List ℕ) (k : ℕ) (small : k < 4) (σ : Shared) (μ : Noted) (o : Open p n k small σ μ) (x : Place) → μ .place ≡ some x →
@@ -132,6 +141,17 @@ sharing = record {
       let h = four-all before start four-start in
       let small = opened-seat σ k f p h d e .0 in
       unknown-both p n k small _ _ (noted-from p n k small later (after (open-for k f) σ) nothingNoted st (opened-open σ k f p n h d e small)) i m;
-  closes = λ before k e. closed-seat (behindAll before start) k (four-all before start four-start) e;
-  counted = λ calls. handed-from calls start (omega arith) ∙ ap (λ (n : ℕ). n % 2 ^ 64) (let m = schedulesIn (answers calls start) in let z : 0 + m ≡ m = omega arith in z);
+  closes = λ before k e. closed-record (behindAll before start) k (four-all before start four-start) e;
+  counted = λ before later k f p d e st.
+      let σ = behindAll before start in
+      let h = four-all before start four-start in
+      let q = opened-seat σ k f p h d e in
+      let z : recordOf (after (open-for k f) σ) k .count ≡ 0 = ap (λ (r : Caller). r .count) (opened-record σ k f h e .1) ∙ opened-count f in
+      counted-from k (q .0) p later (after (open-for k f) σ) beginning false (four-after (open-for k f) σ h) (q .1) st (omega (arith, z))
+      ∙ ap (λ (n : ℕ). n % 2 ^ 64) (let m = schedulesOf (received k (answers later (after (open-for k f) σ))) in let y : recordOf (after (open-for k f) σ) k .count + m ≡ m = omega (arith, z) in y);
+  isolated = λ left right k small e.
+      let l = decided-from k small left start four-start in
+      let r = decided-from k small right start four-start in
+      let same = l .0 ∙ ap (λ (es : List Event). recordAfter k es (recordOf start k)) e ∙ sym (r .0) in
+      (ap (λ (c : Caller). c .count) same, same, l .1 ∙ ap (λ (es : List Event). handsAfter k es (recordOf start k)) e ∙ sym (r .1));
 }

@@ -29,14 +29,14 @@ use Rattle.sc.proofs.Examples.{seen}
 use Rattle.list.specs.ListOf.{together, permits, permitted, renames, alikeBy, alike, listOf}
 use Rattle.sharing.specs.declared.caller.Mark.{Mark}
 use Rattle.sharing.specs.Seat.{toCome, isOpen, asks}
-use Rattle.sharing.specs.Record.{fileRead, behindFull, placeOf, seated, seatBy, reading, noMark, plain, standing, handing, withMarks, fresh, opened, asked, served, returned}
+use Rattle.sharing.specs.Record.{fileRead, behindFull, placeOf, seated, seatBy, reading, noMark, plain, standing, handing, counting, withMarks, fresh, opened, asked, served, returned}
 use Rattle.sharing.specs.Marks.{isSome, nameFits, markPlace, nameOf, bears, slotOf, isFree, slotFor, lastHanded, markAt, newMark, emptied, markSet, markForgotten, markReturned}
-use Rattle.sharing.specs.Call.{Call, open-for, ask-for, serve, close-for, set-mark, return-to, forget, Answer, done, given, ended, idle, refused, start, seatOf, checked, openedBy, openAnswer, openOnly, byProgram, marksOnly, doneIf, marksOf, setAnswer, knownOnly, lastRead, inTurn, nextAsking, forSeat, handedTo, servedTo, serveAnswer, answerTo, changed, callersDone, callersAfter, lastAfter, handedAfter, after, Shared}
+use Rattle.sharing.specs.Call.{Call, open-for, ask-for, serve, close-for, set-mark, return-to, forget, Answer, done, given, ended, idle, refused, start, seatOf, checked, openedBy, openAnswer, openOnly, byProgram, marksOnly, doneIf, marksOf, setAnswer, knownOnly, lastRead, inTurn, nextAsking, forSeat, handedTo, servedTo, serveAnswer, answerTo, changed, callersDone, callersAfter, lastAfter, after, Shared}
 use Rattle.sharing.specs.Play.{answers, behindAll}
 
 -- what a proof names on its `unfolding` line to compute the answers to a list of calls
 unfoldable calling : List Call → Shared → List Answer
-unfolding computing over seen lower digit value digitOf hexadecimal pairs frame digits text prepend before split remark spelt meaning kinds lookup kindOf word kind known registerFits locationFits skipFits operandFits inRange opens declares starts isAccess skipOf operand buildOwn build instruction D.fresh threadAt lastThread inPlace accessesIn allAccessesIn withinLimits isGiven valueAt startFits sameBytes sameList sameCode among grouped memberFits followersFit membersFit alikeFits frameRefusal D.after farSkip firstFarSkip programIn finish readLines decode accesses size accessesLeft replayFrom replay movedEvent movedRead movedReads movedWrites together permits permitted renames alikeBy alike listOf toCome isOpen asks fileRead behindFull placeOf seated seatBy reading noMark plain standing handing withMarks fresh opened asked served returned isSome nameFits markPlace nameOf bears slotOf isFree slotFor lastHanded markAt newMark emptied markSet markForgotten markReturned start seatOf checked openedBy openAnswer openOnly byProgram marksOnly doneIf marksOf setAnswer knownOnly lastRead inTurn nextAsking forSeat handedTo servedTo serveAnswer answerTo changed callersDone callersAfter lastAfter handedAfter after answers behindAll
+unfolding computing over seen lower digit value digitOf hexadecimal pairs frame digits text prepend before split remark spelt meaning kinds lookup kindOf word kind known registerFits locationFits skipFits operandFits inRange opens declares starts isAccess skipOf operand buildOwn build instruction D.fresh threadAt lastThread inPlace accessesIn allAccessesIn withinLimits isGiven valueAt startFits sameBytes sameList sameCode among grouped memberFits followersFit membersFit alikeFits frameRefusal D.after farSkip firstFarSkip programIn finish readLines decode accesses size accessesLeft replayFrom replay movedEvent movedRead movedReads movedWrites together permits permitted renames alikeBy alike listOf toCome isOpen asks fileRead behindFull placeOf seated seatBy reading noMark plain standing handing counting withMarks fresh opened asked served returned isSome nameFits markPlace nameOf bears slotOf isFree slotFor lastHanded markAt newMark emptied markSet markForgotten markReturned start seatOf checked openedBy openAnswer openOnly byProgram marksOnly doneIf marksOf setAnswer knownOnly lastRead inTurn nextAsking forSeat handedTo servedTo serveAnswer answerTo changed callersDone callersAfter lastAfter after answers behindAll
 calling cs σ = answers cs σ
 
 -- one thread without instructions: one schedule is listed, the empty one
@@ -81,7 +81,6 @@ abbrev lent : Shared
 lent = record {
   callers = withMarks (opened file) (markAt (1 ∷ []) 3 0 out ∷ markAt (1 ∷ []) 1 0 out ∷ markAt (1 ∷ []) 2 0 out ∷ replicate 5 noMark) ∷ replicate 3 fresh;
   last = 3;
-  handed = 0;
 }
 
 -- the first of the two counts
@@ -105,3 +104,16 @@ first-free : getD (behindAll (set-mark 0 (2 ∷ []) ∷ []) lent .callers) 0 fre
     ≡ markAt (2 ∷ []) 1 0 out ∷ markAt (1 ∷ []) 1 0 out ∷ markAt (1 ∷ []) 2 0 out ∷ replicate 5 noMark
 unfolding calling
 first-free = refl
+
+-- a repeat after a return counts, no more does not, and what 1 is handed counts for 1 alone
+counts : (getD (behindAll (
+    open-for 0 file ∷ open-for 1 file ∷ ask-for 0 ∷ ask-for 1 ∷ serve out ∷ serve out ∷ set-mark 1 (7 ∷ []) ∷ ask-for 0 ∷ serve out ∷ close-for 1 ∷ []) start .callers) 0 fresh .count ≡ 1)
+    × (getD (behindAll (
+    open-for 0 file ∷ set-mark 0 (97 ∷ []) ∷ ask-for 0 ∷ serve out ∷ ask-for 0 ∷ serve out ∷ return-to 0 (97 ∷ []) ∷ ask-for 0 ∷ serve out ∷ []) start .callers) 0 fresh .count ≡ 2)
+unfolding calling
+counts = (refl, refl)
+
+-- closing empties the count
+closed-count : getD (behindAll (open-for 0 file ∷ ask-for 0 ∷ serve out ∷ close-for 0 ∷ []) start .callers) 0 fresh .count ≡ 0
+unfolding calling
+closed-count = refl

@@ -19,7 +19,8 @@ pub mod Lent
 pub mod InOrder
 pub mod Fair
 pub mod Noted
-pub mod Handed
+pub mod Counted
+pub mod Isolation
 pub mod Claims
 -- examples, computed
 pub mod Examples

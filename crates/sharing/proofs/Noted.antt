@@ -16,7 +16,7 @@ use Rattle.schedules.specs.Order.{Schedule}
 use Rattle.sharing.specs.declared.caller.Caller.{Caller}
 use Rattle.sharing.specs.declared.caller.Mark.{Mark}
 use Rattle.sharing.specs.Seat.{Place, beginning, behind, Seat, active, toCome, asks}
-use Rattle.sharing.specs.Record.{reading, noMark, fresh, opened, asked, served, withMarks, returned, plain, standing, handing}
+use Rattle.sharing.specs.Record.{reading, noMark, fresh, opened, asked, served, withMarks, returned, plain, standing, handing, counting}
 use Rattle.sharing.specs.Marks.{sameName, isSome, nameFits, markPlace, bears, slotOf, slotFor, lastHanded, newMark, emptied}
 use Rattle.sharing.specs.Call.{Call, open-for, ask-for, serve, close-for, set-mark, return-to, forget, Answer, done, given, ended, refused, Shared, seatOf, handedTo, doneIf, marksOf, knownOnly, answerTo, after}
 use Rattle.sharing.specs.Play.{behindAll, Stays}
@@ -75,13 +75,13 @@ module _ (p : Program) (n : List ℕ) where
   agrees-returned r m μ g = agrees-like r (returned r m) μ g refl refl
 
   agrees-ended : (r : Caller) (μ : Noted) → Agrees r μ → Agrees (served r none) μ
-  unfolding served standing lastHanded
+  unfolding served standing counting lastHanded
   agrees-ended r μ g = agrees-like r (served r none) μ g refl refl
 
   -- a schedule handed is the last one from then on
   agrees-given : (r : Caller) (s : Schedule) (μ : Noted) → lastHanded p (served r (some s)) ≡ some (behind s) → Agrees r μ →
       Agrees (served r (some s)) (record { last = some s; place = μ .place })
-  unfolding served standing handing asPlace
+  unfolding served standing handing counting asPlace
   agrees-given r s μ h g = record { eight = g .eight; last = h; place = g .place; fits = g .fits }
 
   -- behind a forget

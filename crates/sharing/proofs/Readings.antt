@@ -23,7 +23,7 @@ use Rattle.sc.proofs.Lawful.{at-most-24}
 use Rattle.sharing.specs.declared.caller.Caller.{Caller}
 use Rattle.sharing.specs.declared.caller.Mark.{Mark}
 use Rattle.sharing.specs.Seat.{Place, beginning, behind, end, Seat, closed, active}
-use Rattle.sharing.specs.Record.{fileRead, behindFull, placeOf, seated, seatBy, reading, fresh, opened, asked, served, withMarks, returned, plain, standing, handing}
+use Rattle.sharing.specs.Record.{fileRead, behindFull, placeOf, seated, seatBy, reading, fresh, opened, asked, served, withMarks, returned, plain, standing, handing, counting}
 use Rattle.sharing.specs.Marks.{nameFits, markPlace, lastHanded}
 
 -- a seat is not both closed and active
@@ -87,16 +87,16 @@ full-place c p x a s e f =
     rw (le-ltb 24 (length s) (at-most-24 p (active-formed c p x a e) s f), take-over s (replicate 24 0), replay-whole p s (endOf p s) .1 (f, refl))
 
 pub reading-given : (c : Caller) (p : Program) (x : Place) (a : Bool) (s : Schedule) → reading c ≡ active p x a → Full p s → reading (served c (some s)) ≡ active p (behind s) false
-unfolding served standing handing fileRead
+unfolding served standing handing counting fileRead
 reading-given c p x a s e f = let k = active-file c p x a e in by-place (served c (some s)) p (behind s) (k .0) (full-place c p x a s e f)
 
 -- and it is the last one handed
 pub handed-given : (c : Caller) (p : Program) (x : Place) (a : Bool) (s : Schedule) → reading c ≡ active p x a → Full p s → lastHanded p (served c (some s)) ≡ some (behind s)
-unfolding served standing handing lastHanded
+unfolding served standing handing counting lastHanded
 handed-given c p x a s e f = full-place c p x a s e f
 
 pub reading-ended : (c : Caller) (p : Program) (x : Place) (a : Bool) → reading c ≡ active p x a → reading (served c none) ≡ active p end false
-unfolding served standing fileRead placeOf
+unfolding served standing counting fileRead placeOf
 reading-ended c p x a e = let k = active-file c p x a e in by-place (served c none) p end (k .0) refl
 
 -- marks change nothing in what it reads as

@@ -20,7 +20,7 @@ use Rattle.sharing.specs.declared.caller.Caller.{Caller}
 use Rattle.sharing.specs.Seat.{Place, Seat, closed, active, isOpen, asks}
 use Rattle.sharing.specs.Record.{reading, fresh, opened, asked, served}
 use Rattle.sharing.specs.Marks.{nameFits}
-use Rattle.sharing.specs.Call.{Call, open-for, ask-for, serve, close-for, set-mark, return-to, forget, Answer, done, given, ended, idle, refused, Shared, seatOf, checked, openedBy, openAnswer, openOnly, byProgram, marksOnly, doneIf, changed, nextAsking, forSeat, handedTo, servedTo, serveAnswer, answerTo, callersDone, callersAfter, lastAfter, handedAfter, after}
+use Rattle.sharing.specs.Call.{Call, open-for, ask-for, serve, close-for, set-mark, return-to, forget, Answer, done, given, ended, idle, refused, Shared, seatOf, checked, openedBy, openAnswer, openOnly, byProgram, marksOnly, doneIf, changed, nextAsking, forSeat, handedTo, servedTo, serveAnswer, answerTo, callersDone, callersAfter, lastAfter, after}
 
 -- four records, as every call leaves them
 abbrev pub Four : List Caller → Type 0
@@ -28,7 +28,7 @@ Four cs = length cs ≡ 4
 
 -- ---- what a call can answer
 -- caller k is one of the four, and what it reads as is this
-checked-four : (cs : List Caller) (k : ℕ) (a : Answer) → Four cs → checked cs k a ≡ cond (ltb 3 k) (refused 42 0) a
+pub checked-four : (cs : List Caller) (k : ℕ) (a : Answer) → Four cs → checked cs k a ≡ cond (ltb 3 k) (refused 42 0) a
 unfolding checked
 checked-four cs k a h = rw h
 
@@ -136,7 +136,7 @@ seat-other cs k j x ne = ap reading (getD-set-other cs k j x fresh ne)
 
 -- a refusal changes nothing
 pub after-refused : (c : Call) (σ : Shared) (n m : ℕ) → answerTo c σ ≡ refused n m → after c σ ≡ σ
-unfolding after callersAfter lastAfter handedAfter
+unfolding after callersAfter lastAfter
 after-refused c σ n m e = rw e
 
 -- there are four records behind every call

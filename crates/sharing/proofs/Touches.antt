@@ -56,7 +56,7 @@ own-sets (return-to i n) j cs e = let z : i ≡ j = cc in ap (λ (m : ℕ). chan
 own-sets (forget i n) j cs e = let z : i ≡ j = cc in ap (λ (m : ℕ). changed cs m (λ p. markForgotten p n)) z
 
 -- it is done or refused
-own-either : (c : Call) (j : ℕ) (σ : Shared) → Four (σ .callers) → whose c ≡ some j → (answerTo c σ ≡ done) ⊎ ((n : ℕ) × (m : ℕ) × (answerTo c σ ≡ refused n m))
+pub own-either : (c : Call) (j : ℕ) (σ : Shared) → Four (σ .callers) → whose c ≡ some j → (answerTo c σ ≡ done) ⊎ ((n : ℕ) × (m : ℕ) × (answerTo c σ ≡ refused n m))
 unfolding whose answerTo setAnswer knownOnly
 own-either (open-for i f) j σ h e = ⊎-elim (λ (q : (openAnswer (σ .callers) i f ≡ done) × Opens (σ .callers) i f). inl (q .0))
     (λ (q : (n : ℕ) × (m : ℕ) × (openAnswer (σ .callers) i f ≡ refused n m)). inr q) (open-either (σ .callers) i f h)

@@ -1,6 +1,6 @@
--- The seven calls. What a call answers goes by what the four records read as; what it leaves in the records, in the two numbers and in an
--- output goes by its answer. A refusal changes nothing.
-use Prim.Native.Nat.{ℕ, _+_, _%_, _^_}
+-- The seven calls. What a call answers goes by what the four records read as; what it leaves in the records, in the number of the
+-- caller served last and in an output goes by its answer. A refusal changes nothing.
+use Prim.Native.Nat.{ℕ, _+_, _%_}
 use mathlib.Core.Bool.{Bool, true, false, cond, not}
 use mathlib.Core.Option.{Option, none, some}
 use mathlib.Core.List.{List, [], _∷_, map}
@@ -37,15 +37,14 @@ pub data Answer : Type 0 where
   idle : Answer
   refused : ℕ → ℕ → Answer
 
--- what goes into a call and comes out of it: the records, the caller served last, and how many schedules were handed to all, modulo 2^64
+-- what goes into a call and comes out of it: the records, and the caller served last
 pub record Shared : Type 0 where
   pub callers : List Caller
   pub last : ℕ
-  pub handed : ℕ
 
 -- four fresh records; before any serve the last caller is 3
 unfoldable pub start : Shared
-start = record { callers = fresh ∷ fresh ∷ fresh ∷ fresh ∷ []; last = 3; handed = 0 }
+start = record { callers = fresh ∷ fresh ∷ fresh ∷ fresh ∷ []; last = 3 }
 
 -- what caller k's record reads as
 unfoldable pub seatOf : List Caller → ℕ → Seat
@@ -159,14 +158,6 @@ lastAfter (ended k) n = k
 lastAfter idle n = lastRead n
 lastAfter (refused m k) n = n
 
--- the number of schedules handed to all
-unfoldable pub handedAfter : Answer → ℕ → ℕ
-handedAfter done n = n
-handedAfter (given k s) n = (n + 1) % 2 ^ 64
-handedAfter (ended k) n = n
-handedAfter idle n = n
-handedAfter (refused m k) n = n
-
 -- an output: a schedule stands over its front
 unfoldable pub outputAfter : Answer → List ℕ → List ℕ
 outputAfter done out = out
@@ -179,5 +170,4 @@ unfoldable pub after : Call → Shared → Shared
 after c σ = let a = answerTo c σ in record {
   callers = callersAfter c a (σ .callers);
   last = lastAfter a (σ .last);
-  handed = handedAfter a (σ .handed);
 }

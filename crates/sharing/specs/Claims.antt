@@ -1,10 +1,10 @@
 -- What holds of every list of calls from four fresh records, each call handed what the one before gave back.
-use Prim.Native.Nat.{ℕ, _%_, _^_, _≤_}
+use Prim.Native.Nat.{ℕ, _%_, _^_, _<_, _≤_}
 use mathlib.Core.Path.{_≡_}
 use mathlib.Core.Bool.{Bool, true, false}
 use mathlib.Core.Option.{none, some}
 use mathlib.Core.List.{List, [], map}
-use lib.ListN.{length}
+use lib.ListN.{length, getD}
 use Rattle.program.specs.Program.{Program}
 use Rattle.program.specs.Decode.{accepted, decode}
 use Rattle.schedules.specs.Lists.{range}
@@ -12,11 +12,13 @@ use Rattle.schedules.specs.Order.{Schedule}
 use Rattle.schedules.specs.Calls.{member}
 use Rattle.list.specs.ListOf.{listOf}
 use Rattle.sharing.specs.Seat.{Place, closed, active, toCome, asks}
+use Rattle.sharing.specs.Record.{fresh}
 use Rattle.sharing.specs.Marks.{nameFits}
 use Rattle.sharing.specs.Call.{Call, open-for, ask-for, close-for, return-to, forget}
 use Rattle.sharing.specs.Call.{done, refused, Shared, seatOf, answerTo, after, start}
-use Rattle.sharing.specs.Play.{answers, behindAll, received, serves, schedulesIn, returns, Stays}
+use Rattle.sharing.specs.Play.{answers, behindAll, received, serves, schedulesOf, returns, Stays}
 use Rattle.sharing.specs.Noted.{nothingNoted, noted}
+use Rattle.sharing.specs.Concerns.{concerns}
 
 -- what caller k is handed by these calls is this list in order, each member once, and no more exactly when all have been given: the i-th
 -- serve, from 0, gives member i, or no more if there are not so many
@@ -54,8 +56,18 @@ pub record Sharing : Type 0 where
       answerTo (open-for k f) (behindAll before start) ≡ done → Stays k later → nameFits (length n) ≡ true →
       noted k n later opening nothingNoted .place ≡ none →
       let now = behindAll later opening in (answerTo (return-to k n) now ≡ refused 46 0) × (answerTo (forget k n) now ≡ refused 46 0)
-  -- CLOSED: behind a closing that is not refused nobody is there
+  -- CLOSED: behind a closing that is not refused the record is empty, and nobody is there
   pub closes : (before : List Call) (k : ℕ) → answerTo (close-for k) (behindAll before start) ≡ done →
-      seatOf (after (close-for k) (behindAll before start) .callers) k ≡ closed
-  -- THE NUMBER counts the schedules handed to all, modulo 2^64
-  pub counted : (calls : List Call) → behindAll calls start .handed ≡ schedulesIn (answers calls start) % 2 ^ 64
+      let closing = after (close-for k) (behindAll before start) in
+      (getD (closing .callers) k fresh ≡ fresh) × (seatOf (closing .callers) k ≡ closed)
+  -- COUNTED: a caller's count is the number of schedules that it was handed since it opened, repeats after a return included, modulo 2^64
+  pub counted : (before later : List Call) (k : ℕ) (f : List ℕ) (p : Program) → decode f ≡ accepted p →
+      let opening = after (open-for k f) (behindAll before start) in
+      answerTo (open-for k f) (behindAll before start) ≡ done → Stays k later →
+      getD (behindAll later opening .callers) k fresh .count ≡ schedulesOf (received k (answers later opening)) % 2 ^ 64
+  -- ISOLATED: in two lists of calls that agree in caller k's own calls and in the serves that take it, in the same order among themselves,
+  -- its count, its whole record and the sequence that it receives are the same, whatever others open, ask, mark or close
+  pub isolated : (left right : List Call) (k : ℕ) → k < 4 → concerns k left start ≡ concerns k right start →
+      (getD (behindAll left start .callers) k fresh .count ≡ getD (behindAll right start .callers) k fresh .count)
+      × (getD (behindAll left start .callers) k fresh ≡ getD (behindAll right start .callers) k fresh)
+      × (received k (answers left start) ≡ received k (answers right start))

@@ -13,5 +13,7 @@ pub mod Lent
 pub mod Play
 -- what a caller's own calls leave under a name
 pub mod Noted
+-- what of a list of calls concerns a caller: its own calls, and the serves that take it
+pub mod Concerns
 -- the claims about every list of calls
 pub mod Claims

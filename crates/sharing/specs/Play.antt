@@ -44,14 +44,11 @@ unfoldable pub serves : List Answer → ℕ
 serves [] = 0
 serves (a ∷ rs) = elim (isServe a) [ true ↦ suc (serves rs) | false ↦ serves rs ]
 
--- how many schedules were handed out
-unfoldable pub schedulesIn : List Answer → ℕ
-schedulesIn [] = 0
-schedulesIn (given k s ∷ rs) = suc (schedulesIn rs)
-schedulesIn (done ∷ rs) = schedulesIn rs
-schedulesIn (ended k ∷ rs) = schedulesIn rs
-schedulesIn (idle ∷ rs) = schedulesIn rs
-schedulesIn (refused n k ∷ rs) = schedulesIn rs
+-- how many schedules these are; no more is none
+unfoldable pub schedulesOf : List (Option Schedule) → ℕ
+schedulesOf [] = 0
+schedulesOf (some s ∷ os) = suc (schedulesOf os)
+schedulesOf (none ∷ os) = schedulesOf os
 
 -- caller k does not close
 abbrev pub Stays : ℕ → List Call → Type 0

@@ -1,6 +1,6 @@
 -- A caller's record in the host's memory. One whose program would be refused, or whose place is neither the beginning, a full schedule nor
 -- the end, counts as closed and empty.
-use Prim.Native.Nat.{ℕ}
+use Prim.Native.Nat.{ℕ, _+_, _%_, _^_}
 use mathlib.Core.Bool.{cond}
 use mathlib.Core.Option.{Option, none, some}
 use mathlib.Core.List.{List}
@@ -54,6 +54,7 @@ unfoldable pub plain : List ℕ → ℕ → ℕ → Caller
 plain f n k = record {
   file = f;
   length = n;
+  count = 0;
   place = k;
   asking = 0;
   steps = 0;
@@ -69,6 +70,7 @@ unfoldable pub standing : Caller → ℕ → ℕ → List ℕ → ℕ → Caller
 standing c n k s a = record {
   file = c .file;
   length = c .length;
+  count = c .count;
   place = n;
   asking = a;
   steps = k;
@@ -84,6 +86,7 @@ unfoldable pub handing : Caller → Schedule → Caller
 handing c s = record {
   file = c .file;
   length = c .length;
+  count = c .count;
   place = c .place;
   asking = c .asking;
   steps = c .steps;
@@ -94,11 +97,28 @@ handing c s = record {
   marks = c .marks;
 }
 
+-- with one schedule more in its count
+unfoldable pub counting : Caller → Caller
+counting c = record {
+  file = c .file;
+  length = c .length;
+  count = (c .count + 1) % 2 ^ 64;
+  place = c .place;
+  asking = c .asking;
+  steps = c .steps;
+  schedule = c .schedule;
+  handed = c .handed;
+  size = c .size;
+  newest = c .newest;
+  marks = c .marks;
+}
+
 -- with these marks
 unfoldable pub withMarks : Caller → List Mark → Caller
 withMarks c ms = record {
   file = c .file;
   length = c .length;
+  count = c .count;
   place = c .place;
   asking = c .asking;
   steps = c .steps;
@@ -121,9 +141,9 @@ opened f = plain (over f (replicate 4096 0)) (length f) 1
 unfoldable pub asked : Caller → Caller
 asked c = standing c (c .place) (c .steps) (c .schedule) 1
 
--- served with this schedule, or with no more: its asking ends, and it stands behind what it was given
+-- served with this schedule, or with no more: its asking ends, it stands behind what it was given, and a schedule counts
 unfoldable pub served : Caller → Option Schedule → Caller
-served c (some s) = handing (standing c 2 (length s) (over s (replicate 24 0)) 0) s
+served c (some s) = counting (handing (standing c 2 (length s) (over s (replicate 24 0)) 0) s)
 served c none = standing c 3 0 (replicate 24 0) 0
 
 -- returned to this mark: its place is the mark's, and all else stays

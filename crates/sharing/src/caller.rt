@@ -14,11 +14,12 @@ pub struct Mark {
 
 // The program file is the first `length` bytes of `file`. The place is 1 at the beginning, 2 behind the first `steps` bytes of `schedule`,
 // 3 at the end, and anything else where the record is closed. It asks where `asking` is 1. The last schedule handed to it since it opened
-// is the first `size` bytes of `newest`, where `handed` is 1.
+// is the first `size` bytes of `newest`, where `handed` is 1. So many schedules were handed to it since then: `count`, modulo 2^64.
 #[repr(C)]
 pub struct Caller {
     pub file: [u8; 4096],
     pub length: usize,
+    pub count: u64,
     pub place: u8,
     pub asking: u8,
     pub steps: u8,

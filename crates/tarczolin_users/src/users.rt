@@ -38,64 +38,48 @@ pub(crate) fn user_word(r: Reply) -> u64
 pub extern "C" fn tarczolin_open(
     callers: &mut [Caller],
     last: &mut u64,
-    handed: &mut u64,
     caller: usize,
     file: &[u8],
 ) -> u64
     ensures { λ w. ⌜ Says (open-for caller (now (file .entry)))
-        (shared (now (callers .entry)) (now (last .entry)) (now (handed .entry))) w
-        (shared (now (callers .exit)) (now (last .exit)) (now (handed .exit))) ⌝ }
+        (shared (now (callers .entry)) (now (last .entry))) w
+        (shared (now (callers .exit)) (now (last .exit))) ⌝ }
 {
-    let r = service::open(callers, last, handed, caller, file);
+    let r = service::open(callers, last, caller, file);
     user_word(r)
 }
 
 // A caller asks for one schedule. Kind 1: done. Kind 3 with number and place.
 #[no_mangle]
-pub extern "C" fn tarczolin_ask(
-    callers: &mut [Caller],
-    last: &mut u64,
-    handed: &mut u64,
-    caller: usize,
-) -> u64
+pub extern "C" fn tarczolin_ask(callers: &mut [Caller], last: &mut u64, caller: usize) -> u64
     ensures { λ w. ⌜ Says (ask-for caller)
-        (shared (now (callers .entry)) (now (last .entry)) (now (handed .entry))) w
-        (shared (now (callers .exit)) (now (last .exit)) (now (handed .exit))) ⌝ }
+        (shared (now (callers .entry)) (now (last .entry))) w
+        (shared (now (callers .exit)) (now (last .exit))) ⌝ }
 {
-    let r = service::ask(callers, last, handed, caller);
+    let r = service::ask(callers, last, caller);
     user_word(r)
 }
 
 // Serves the next asking caller after the last one served. Kind 1: a schedule, which stands in front of `out`; bits 0 to 39 its length,
 // bits 40 to 47 the caller. Kind 2: no more, the caller likewise. Kind 5: nobody asks. Kind 3 with number and place.
 #[no_mangle]
-pub extern "C" fn tarczolin_serve(
-    callers: &mut [Caller],
-    last: &mut u64,
-    handed: &mut u64,
-    out: &mut [u8],
-) -> u64
+pub extern "C" fn tarczolin_serve(callers: &mut [Caller], last: &mut u64, out: &mut [u8]) -> u64
     ensures { λ w. ⌜ ServeSays (now (out .entry))
-        (shared (now (callers .entry)) (now (last .entry)) (now (handed .entry))) w
-        (shared (now (callers .exit)) (now (last .exit)) (now (handed .exit))) (now (out .exit)) ⌝ }
+        (shared (now (callers .entry)) (now (last .entry))) w
+        (shared (now (callers .exit)) (now (last .exit))) (now (out .exit)) ⌝ }
 {
-    let r = service::serve(callers, last, handed, out);
+    let r = service::serve(callers, last, out);
     user_word(r)
 }
 
 // A caller leaves, and its record is emptied. Kind 1: done. Kind 3 with number and place.
 #[no_mangle]
-pub extern "C" fn tarczolin_close(
-    callers: &mut [Caller],
-    last: &mut u64,
-    handed: &mut u64,
-    caller: usize,
-) -> u64
+pub extern "C" fn tarczolin_close(callers: &mut [Caller], last: &mut u64, caller: usize) -> u64
     ensures { λ w. ⌜ Says (close-for caller)
-        (shared (now (callers .entry)) (now (last .entry)) (now (handed .entry))) w
-        (shared (now (callers .exit)) (now (last .exit)) (now (handed .exit))) ⌝ }
+        (shared (now (callers .entry)) (now (last .entry))) w
+        (shared (now (callers .exit)) (now (last .exit))) ⌝ }
 {
-    let r = service::close(callers, last, handed, caller);
+    let r = service::close(callers, last, caller);
     user_word(r)
 }
 
@@ -105,15 +89,14 @@ pub extern "C" fn tarczolin_close(
 pub extern "C" fn tarczolin_set(
     callers: &mut [Caller],
     last: &mut u64,
-    handed: &mut u64,
     caller: usize,
     name: &[u8],
 ) -> u64
     ensures { λ w. ⌜ Says (set-mark caller (now (name .entry)))
-        (shared (now (callers .entry)) (now (last .entry)) (now (handed .entry))) w
-        (shared (now (callers .exit)) (now (last .exit)) (now (handed .exit))) ⌝ }
+        (shared (now (callers .entry)) (now (last .entry))) w
+        (shared (now (callers .exit)) (now (last .exit))) ⌝ }
 {
-    let r = service::set(callers, last, handed, caller, name);
+    let r = service::set(callers, last, caller, name);
     user_word(r)
 }
 
@@ -122,15 +105,14 @@ pub extern "C" fn tarczolin_set(
 pub extern "C" fn tarczolin_return(
     callers: &mut [Caller],
     last: &mut u64,
-    handed: &mut u64,
     caller: usize,
     name: &[u8],
 ) -> u64
     ensures { λ w. ⌜ Says (return-to caller (now (name .entry)))
-        (shared (now (callers .entry)) (now (last .entry)) (now (handed .entry))) w
-        (shared (now (callers .exit)) (now (last .exit)) (now (handed .exit))) ⌝ }
+        (shared (now (callers .entry)) (now (last .entry))) w
+        (shared (now (callers .exit)) (now (last .exit))) ⌝ }
 {
-    let r = service::return_to(callers, last, handed, caller, name);
+    let r = service::return_to(callers, last, caller, name);
     user_word(r)
 }
 
@@ -139,14 +121,13 @@ pub extern "C" fn tarczolin_return(
 pub extern "C" fn tarczolin_forget(
     callers: &mut [Caller],
     last: &mut u64,
-    handed: &mut u64,
     caller: usize,
     name: &[u8],
 ) -> u64
     ensures { λ w. ⌜ Says (forget caller (now (name .entry)))
-        (shared (now (callers .entry)) (now (last .entry)) (now (handed .entry))) w
-        (shared (now (callers .exit)) (now (last .exit)) (now (handed .exit))) ⌝ }
+        (shared (now (callers .entry)) (now (last .entry))) w
+        (shared (now (callers .exit)) (now (last .exit))) ⌝ }
 {
-    let r = service::forget(callers, last, handed, caller, name);
+    let r = service::forget(callers, last, caller, name);
     user_word(r)
 }

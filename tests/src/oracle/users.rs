@@ -1,4 +1,4 @@
-//! Four users on one explorer, by the words of document 02's requests h and j: what each call answers and leaves, for any content of the
+//! Four users on one explorer, by the words of document 02's requests h, j and m: what each call answers and leaves, for any content of the
 //! records that a host lends.
 use super::decode::{decode, Program};
 use super::listing::{self, Listed};
@@ -12,6 +12,7 @@ use std::rc::Rc;
 pub struct Record {
     pub file: Vec<u8>,
     pub length: u64,
+    pub count: u64,
     pub place: u8,
     pub asking: u8,
     pub steps: u8,
@@ -102,7 +103,6 @@ pub enum Call {
 pub struct Shared {
     pub records: Vec<Record>,
     pub last: u64,
-    pub handed: u64,
 }
 
 /// Lists by brute force, each worked out once.
@@ -122,7 +122,7 @@ impl Record {
     pub fn fresh() -> Record {
         let (place, asking, steps, schedule) = (0, 0, 0, [0; 24]);
         let (handed, size, newest, marks) = (0, 0, [0; 24], [FREE; 8]);
-        Record { file: vec![0; 4096], length: 0, place, asking, steps, schedule, handed, size, newest, marks }
+        Record { file: vec![0; 4096], length: 0, count: 0, place, asking, steps, schedule, handed, size, newest, marks }
     }
 
     /// Opened with this accepted file: before the first schedule.
@@ -149,6 +149,8 @@ impl Record {
             (self.place, self.steps) = (2, steps.len() as u8);
             self.schedule[..steps.len()].copy_from_slice(steps);
             (self.handed, self.size, self.newest) = (1, self.steps, self.schedule);
+            // repeats after a return included
+            self.count = self.count.wrapping_add(1);
         }
     }
 
@@ -182,7 +184,7 @@ impl Record {
 impl Shared {
     /// Four fresh records; before any serve the last caller is 3.
     pub fn fresh() -> Shared {
-        Shared { records: vec![Record::fresh(); 4], last: 3, handed: 0 }
+        Shared { records: vec![Record::fresh(); 4], last: 3 }
     }
 
     /// A number above 3 is read as 3.
@@ -269,10 +271,7 @@ impl Shared {
             };
             record.served(next.as_deref());
             return Ok(match next {
-                Some(schedule) => {
-                    self.handed = self.handed.wrapping_add(1);
-                    Said::Schedule(caller, schedule)
-                }
+                Some(schedule) => Said::Schedule(caller, schedule),
                 None => Said::NoMore(caller),
             });
         }

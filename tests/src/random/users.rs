@@ -61,11 +61,11 @@ pub fn call(random: &mut Random, files: &[Vec<u8>]) -> Call {
     }
 }
 
-/// Something else in a record than calls leave there, or in the two numbers.
+/// Something else in a record than calls leave there, or in the number of the last caller.
 pub fn damage(random: &mut Random, files: &[Vec<u8>], shared: &mut Shared) {
     match random.below(12) {
         0 => shared.last = random.pick(&[0, 1, 2, 3, 4, 5, 255, 256, 257, 1 << 32, u64::MAX]),
-        1 => shared.handed = random.pick(&[u64::MAX, u64::MAX - 1, 0]),
+        1 => shared.records[random.below(4)].count = random.pick(&[u64::MAX, u64::MAX - 1, 0, 1 << 40]),
         _ => {
             let k = random.below(4);
             damage_record(random, files, &mut shared.records[k]);

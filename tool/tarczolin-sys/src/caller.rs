@@ -28,6 +28,8 @@ pub struct Caller {
     /// The program file is the first `length` bytes.
     pub file: [u8; FILE],
     pub length: usize,
+    /// How many schedules were handed to it since it opened, modulo 2^64.
+    pub count: u64,
     /// 1 at the beginning, 2 behind the first `steps` bytes of `schedule`, 3 at the end; else the record is closed.
     pub place: u8,
     /// 1 where it asks.
@@ -51,6 +53,7 @@ impl Caller {
     pub const FRESH: Caller = Caller {
         file: [0; FILE],
         length: 0,
+        count: 0,
         place: 0,
         asking: 0,
         steps: 0,

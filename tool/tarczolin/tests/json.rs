@@ -61,7 +61,7 @@ fn every_command_fits_the_schema() {
         (&["judge", pair, "-"], no, 1, 1),
         (&["cuts", QUEUE, "3"], b"", 0, 1),
         (&["join", &piece], b"", 1, 7),
-        (&["users"], b"open 0 examples/empty-thread.hex\nask 0\nserve\nask 0\nserve\nserve\nask 1\ncount\nx\n", 2, 9),
+        (&["users"], b"open 0 examples/empty-thread.hex\nask 0\nserve\nask 0\nserve\nserve\nask 1\ncount 0\nx\n", 2, 9),
         (&["disasm", QUEUE], b"", 0, 1),
         (&["show", pair, "--model", "tso"], b"", 0, 5),
         (&["graph", pair, "000001011011", "--model", "tso"], b"", 0, 1),

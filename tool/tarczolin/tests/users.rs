@@ -22,11 +22,11 @@ fn answers(lines: &str) -> (i32, Vec<String>) {
 #[test]
 fn each_line_is_answered_by_a_line() {
     let (status, said) = answers(
-        "open 0 examples/whole.hex\nask 0\nask 0\nserve\nserve\n\n# a remark\nask 0\nserve\nask 0\nserve\nask 0\nserve\ncount\nclose 0\n",
+        "open 0 examples/whole.hex\nask 0\nask 0\nserve\nserve\n\n# a remark\nask 0\nserve\nask 0\nserve\nask 0\nserve\ncount 0\nclose 0\n",
     );
     let wanted =
         ["ok", "ok", "ok", "schedule 0 000102", "idle", "ok", "schedule 0 010002", "ok", "schedule 0 010200", "ok", "no more 0"];
-    assert_eq!((status, said), (0, [&wanted[..], &["count 3", "ok"]].concat().iter().map(|s| s.to_string()).collect()));
+    assert_eq!((status, said), (0, [&wanted[..], &["count 0 3", "ok"]].concat().iter().map(|s| s.to_string()).collect()));
 }
 
 /// A refusal is an answer; a line that cannot be carried out is told, and the next is read.
@@ -92,9 +92,9 @@ fn raw_bytes() {
     }
     let (_, said) = answers(
         "open 0 examples/whole.hex\nraw 0 schedule 020100\nraw 0 steps 03\nraw 0 place 02\nask 0\nserve\n\
-         raw 0 schedule 000102\nraw 0 place 02\nraw 0 asking 01\nraw 0 steps 03\nraw handed ffffffffffffffff\nserve\ncount\n",
+         raw 0 schedule 000102\nraw 0 place 02\nraw 0 asking 01\nraw 0 steps 03\nraw 0 count ffffffffffffffff\nserve\ncount 0\n",
     );
-    let wanted = ["ok", "ok", "ok", "ok", "ok", "no more 0", "ok", "ok", "ok", "ok", "ok", "schedule 0 010002", "count 0"];
+    let wanted = ["ok", "ok", "ok", "ok", "ok", "no more 0", "ok", "ok", "ok", "ok", "ok", "schedule 0 010002", "count 0 0"];
     assert_eq!(said, wanted);
     let (_, said) = answers("open 0 examples/whole.hex\nopen 1 examples/whole.hex\nraw last 0100\nask 0\nask 1\nserve\nserve\n");
     assert_eq!(said[5..], ["schedule 0 000102", "schedule 1 000102"]);
@@ -191,29 +191,29 @@ fn marks_in_c() -> String {
     format!("mark {}, {MARKS} of them\n{layout}", size_of::<Mark>())
 }
 
-/// What the C program tells of its calls: the word, the two numbers, the records that changed.
+/// What the C program tells of its calls: the word, the last caller, the records that changed.
 const CALLS: &str = "\
-open 0100000000000000 last 3 handed 0 changed 2
+open 0100000000000000 last 3 changed 2
 28 1 0
-ask 0100000000000000 last 3 handed 0 changed 2
+ask 0100000000000000 last 3 changed 2
 asking 1
-serve 0100020000000002 last 2 handed 1 changed 2
-1 2 2, 0 2 0
-serve 0500000000000000 last 2 handed 1 changed
-ask 032a000000000000 last 2 handed 1 changed
-ask 0316000000000000 last 2 handed 1 changed
-set 0100000000000000 last 2 handed 1 changed 2
+serve 0100020000000002 last 2 changed 2
+1 2 2, 0 2 0, count 1
+serve 0500000000000000 last 2 changed
+ask 032a000000000000 last 2 changed
+ask 0316000000000000 last 2 changed
+set 0100000000000000 last 2 changed 2
 4 2 2, 0 0
-set 032d000000000000 last 2 handed 1 changed
-return 032e000000000000 last 2 handed 1 changed
-place 0000000000000000 last 2 handed 1 changed 2
-return 0100000000000000 last 2 handed 1 changed 2
+set 032d000000000000 last 2 changed
+return 032e000000000000 last 2 changed
+place 0000000000000000 last 2 changed 2
+return 0100000000000000 last 2 changed 2
 2 2
-forget 0100000000000000 last 2 handed 1 changed 2
-forget 032e000000000000 last 2 handed 1 changed
-eight 0000000000000000 last 2 handed 1 changed 2
-set 032f000000000000 last 2 handed 1 changed
-close 0100000000000000 last 2 handed 1 changed 2
+forget 0100000000000000 last 2 changed 2
+forget 032e000000000000 last 2 changed
+eight 0000000000000000 last 2 changed 2
+set 032f000000000000 last 2 changed
+close 0100000000000000 last 2 changed 2
 ";
 
 /// The record of the header is that of the Rust wrapper, and the library's: a C program lends it and finds what it expects.
@@ -232,6 +232,7 @@ fn records_in_c() {
     let fields = [
         ("file", offset_of!(Caller, file), 4096),
         ("length", offset_of!(Caller, length), 8),
+        ("count", offset_of!(Caller, count), 8),
         ("place", offset_of!(Caller, place), 1),
         ("asking", offset_of!(Caller, asking), 1),
         ("steps", offset_of!(Caller, steps), 1),
@@ -241,7 +242,7 @@ fn records_in_c() {
         ("newest", offset_of!(Caller, newest), 24),
         ("marks", offset_of!(Caller, marks), 8 * size_of::<Mark>()),
     ];
-    assert_eq!((size_of::<Caller>(), offset_of!(Caller, marks), size_of::<Mark>()), (4440, 4157, 35), "as the header says");
+    assert_eq!((size_of::<Caller>(), offset_of!(Caller, marks), size_of::<Mark>()), (4448, 4165, 35), "as the header says");
     let layout: String = fields.iter().map(|(name, offset, size)| format!("{name} {offset} {size}\n")).collect();
     assert_eq!(ran, format!("size {}\n{layout}{}{CALLS}", size_of::<Caller>(), marks_in_c()));
 }

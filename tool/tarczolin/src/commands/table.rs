@@ -129,8 +129,8 @@ pub const COMMANDS: [Command; 17] = [
     Command {
         name: "users",
         words: "",
-        about: "four callers share the explorer: a line open CALLER FILE, ask CALLER, serve, close CALLER or count on standard input is \
-                answered by a line; so is set, return or forget CALLER NAME, marks to come back to, a name being the digits of 1 to 8 \
+        about: "four callers share the explorer: a line open CALLER FILE, ask CALLER, serve, close CALLER or count CALLER on standard input \
+                is answered by a line; so is set, return or forget CALLER NAME, marks to come back to, a name being the digits of 1 to 8 \
                 bytes; raw CALLER FIELD HEX damages a record",
         options: &[JSON],
         example: "tarczolin users < examples/two-people.users",

@@ -16,15 +16,15 @@ pub enum Call {
     Return(usize, Vec<u8>),
     /// Forget it.
     Forget(usize, Vec<u8>),
-    /// How many schedules were handed to all.
-    Count,
+    /// How many schedules were handed to this caller since it opened.
+    Count(usize),
     /// Put these bytes into a field.
     Raw(Field, Vec<u8>),
 }
 
 /// The lines that there are, for messages.
 const LINES: &str =
-    "open CALLER FILE, ask CALLER, serve, close CALLER, set CALLER NAME, return CALLER NAME, forget CALLER NAME, count, \
+    "open CALLER FILE, ask CALLER, serve, close CALLER, set CALLER NAME, return CALLER NAME, forget CALLER NAME, count CALLER, \
                      raw CALLER FIELD HEX; a NAME is digits, two a byte";
 
 impl Call {
@@ -47,7 +47,7 @@ impl Call {
             ("set", rest) => named(rest, Call::Set)?,
             ("return", rest) => named(rest, Call::Return)?,
             ("forget", rest) => named(rest, Call::Forget)?,
-            ("count", "") => Call::Count,
+            ("count", caller) => Call::Count(counted(caller)?),
             ("raw", rest) => raw(rest)?,
             _ => return Err(format!("this is none of the lines {LINES}")),
         };
@@ -68,6 +68,11 @@ fn number(word: &str) -> Result<usize, String> {
     word.parse().map_err(|_| format!("a caller is a number, and {word:?} is none"))
 }
 
+/// A caller whose record is there to look at: no call of the library tells the count.
+fn counted(word: &str) -> Result<usize, String> {
+    number(word).and_then(|caller| if caller < 4 { Ok(caller) } else { Err("there are records of 0 to 3".to_string()) })
+}
+
 /// `0 6162`: a caller and a name, which the library refuses where it has another length than 1 to 8 bytes.
 fn named(rest: &str, call: fn(usize, Vec<u8>) -> Call) -> Result<Call, String> {
     let (caller, digits) = split(rest);
@@ -80,14 +85,13 @@ fn named(rest: &str, call: fn(usize, Vec<u8>) -> Call) -> Result<Call, String> {
 fn raw(rest: &str) -> Result<Call, String> {
     let (first, behind) = split(rest);
     let (field, digits) = match first {
-        "last" | "handed" => (Field::of_host(first), behind),
+        "last" => (Field::of_host(first), behind),
         caller => {
             let (name, digits) = split(behind);
             (Field::of_record(number(caller)?, name), digits)
         }
     };
-    let field =
-        field.ok_or_else(|| format!("a record of 0 to 3 has the fields {}, and the host last and handed", Field::NAMES))?;
+    let field = field.ok_or_else(|| format!("a record of 0 to 3 has the fields {}, and the host last", Field::NAMES))?;
     let bytes = hex::bytes(digits.as_bytes()).filter(|bytes| !bytes.is_empty() && bytes.len() <= field.size());
     let bytes = bytes.ok_or_else(|| format!("this field takes 1 to {} bytes, two digits each", field.size()))?;
     Ok(Call::Raw(field, bytes))
@@ -118,7 +122,7 @@ mod tests {
             "return 1 zz",
             "forget",
             "raw 0 mark8.place 00",
-            "count 0",
+            "count 4",
             "raw 4 place 01",
             "raw 0 places 01",
         ] {

@@ -1,4 +1,4 @@
-//! Fields of records, and the host's two numbers, to put other bytes there than the calls leave.
+//! Fields of records, and the host's number, to put other bytes there than the calls leave.
 use tarczolin_sys::{Caller, FILE, MARKS, NAME, SCHEDULE};
 
 #[derive(Clone, Copy, Debug, PartialEq, Eq)]
@@ -12,6 +12,7 @@ pub struct Field {
 pub enum Name {
     File,
     Length,
+    Count,
     Place,
     Asking,
     Steps,
@@ -22,7 +23,6 @@ pub enum Name {
     /// A field of the mark of this number.
     Mark(usize, MarkField),
     Last,
-    Handed,
 }
 
 #[derive(Clone, Copy, Debug, PartialEq, Eq)]
@@ -35,9 +35,10 @@ pub enum MarkField {
 }
 
 /// The fields of a record, each with its size in bytes.
-const RECORD: [(&str, Name, usize); 9] = [
+const RECORD: [(&str, Name, usize); 10] = [
     ("file", Name::File, FILE),
     ("length", Name::Length, 8),
+    ("count", Name::Count, 8),
     ("place", Name::Place, 1),
     ("asking", Name::Asking, 1),
     ("steps", Name::Steps, 1),
@@ -53,11 +54,11 @@ const MARK: [(&str, MarkField, usize); 5] = [
     ("steps", MarkField::Steps, 1),
     ("schedule", MarkField::Schedule, SCHEDULE),
 ];
-const HOST: [(&str, Name, usize); 2] = [("last", Name::Last, 8), ("handed", Name::Handed, 8)];
+const HOST: [(&str, Name, usize); 1] = [("last", Name::Last, 8)];
 
 impl Field {
     pub const NAMES: &'static str =
-        "file, length, place, asking, steps, schedule, handed, size, newest, mark0.name to mark7.schedule";
+        "file, length, count, place, asking, steps, schedule, handed, size, newest, mark0.name to mark7.schedule";
 
     pub fn of_record(caller: usize, name: &str) -> Option<Field> {
         let known = RECORD.iter().find(|(known, ..)| *known == name).map(|(_, name, _)| *name);
@@ -97,6 +98,7 @@ pub fn put(caller: &mut Caller, name: Name, bytes: &[u8]) {
         Name::File => caller.file[..bytes.len()].copy_from_slice(bytes),
         Name::Schedule => caller.schedule[..bytes.len()].copy_from_slice(bytes),
         Name::Length => caller.length = number(bytes) as usize,
+        Name::Count => caller.count = number(bytes),
         Name::Place => caller.place = bytes[0],
         Name::Asking => caller.asking = bytes[0],
         Name::Steps => caller.steps = bytes[0],
@@ -113,6 +115,6 @@ pub fn put(caller: &mut Caller, name: Name, bytes: &[u8]) {
                 MarkField::Schedule => mark.schedule[..bytes.len()].copy_from_slice(bytes),
             }
         }
-        Name::Last | Name::Handed => unreachable!("no field of a record"),
+        Name::Last => unreachable!("no field of a record"),
     }
 }

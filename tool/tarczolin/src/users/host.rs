@@ -1,6 +1,6 @@
-//! A host: four records, the caller served last, and the number of schedules handed to all, lent to the library call by call.
+//! A host: four records and the caller served last, lent to the library call by call.
 use super::call::Call;
-use super::field::{number, put, Field, Name};
+use super::field::{number, put, Field};
 use super::said::Said;
 use crate::ask::Refusal;
 use crate::error::Error;
@@ -12,13 +12,12 @@ use tarczolin_sys::{Answer, Caller, Served, SCHEDULE};
 pub struct Host {
     callers: Box<[Caller; 4]>,
     last: u64,
-    handed: u64,
 }
 
 impl Default for Host {
     /// Four fresh records; before any serve the last caller is 3.
     fn default() -> Host {
-        Host { callers: Box::new([Caller::FRESH; 4]), last: 3, handed: 0 }
+        Host { callers: Box::new([Caller::FRESH; 4]), last: 3 }
     }
 }
 
@@ -32,7 +31,7 @@ fn done(answer: Answer) -> Said {
 
 impl Host {
     fn lent(&mut self) -> Shared<'_> {
-        Shared { callers: self.callers.as_mut_slice(), last: &mut self.last, handed: &mut self.handed }
+        Shared { callers: self.callers.as_mut_slice(), last: &mut self.last }
     }
 
     /// Carries a call out. A file that cannot be read, or a text form that is wrong, is an error; all else is answered.
@@ -45,7 +44,7 @@ impl Host {
             Call::Set(caller, name) => done(users::set(self.lent(), *caller, name)),
             Call::Return(caller, name) => done(users::return_to(self.lent(), *caller, name)),
             Call::Forget(caller, name) => done(users::forget(self.lent(), *caller, name)),
-            Call::Count => Said::Count(self.handed),
+            Call::Count(caller) => Said::Count(*caller, self.callers.get(*caller).map_or(0, |record| record.count)),
             Call::Raw(field, bytes) => self.raw(*field, bytes),
         })
     }
@@ -63,8 +62,7 @@ impl Host {
     fn raw(&mut self, field: Field, bytes: &[u8]) -> Said {
         match (field.caller, field.name) {
             (Some(caller), name) => put(&mut self.callers[caller], name, bytes),
-            (None, Name::Last) => self.last = number(bytes),
-            (None, _) => self.handed = number(bytes),
+            (None, _) => self.last = number(bytes),
         }
         Said::Ok
     }

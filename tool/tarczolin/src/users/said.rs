@@ -12,8 +12,8 @@ pub enum Said {
     NoMore(u8),
     Idle,
     Refused(Refusal),
-    /// So many schedules were handed to all.
-    Count(u64),
+    /// So many schedules were handed to this caller since it opened.
+    Count(usize, u64),
 }
 
 impl Said {
@@ -28,7 +28,9 @@ impl Said {
             Said::Refused(Refusal { number, place }) => {
                 vec![("answer", "refused".into()), ("number", (*number).into()), ("place", (*place).into())]
             }
-            Said::Count(handed) => vec![("answer", "count".into()), ("handed", (*handed).into())],
+            Said::Count(caller, count) => {
+                vec![("answer", "count".into()), ("caller", (*caller as u64).into()), ("count", (*count).into())]
+            }
         }
     }
 }
@@ -41,7 +43,7 @@ impl fmt::Display for Said {
             Said::NoMore(caller) => write!(f, "no more {caller}"),
             Said::Idle => f.write_str("idle"),
             Said::Refused(Refusal { number, place }) => write!(f, "refused {number} {place}"),
-            Said::Count(handed) => write!(f, "count {handed}"),
+            Said::Count(caller, count) => write!(f, "count {caller} {count}"),
         }
     }
 }

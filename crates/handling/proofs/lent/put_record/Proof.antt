@@ -61,8 +61,8 @@ stayed = (stay-slice (0 ∷ []) tt (plain (λ _. R)), (stay-none (λ _. usize) y
 abbrev mach : Caller → Val
 mach c = LL.val T.the-type T′.the-laws c
 
-product-fits : (k n : ℕ) → Room R n → k < n → k * 4440 < 2 ^ 64
-product-fits k n room within = let h : n * 4440 < 2 ^ 63 = room .1 in omega (arith, h, within)
+product-fits : (k n : ℕ) → Room R n → k < n → k * 4448 < 2 ^ 64
+product-fits k n room within = let h : n * 4448 < 2 ^ 63 = room .1 in omega (arith, h, within)
 
 module _ {M : Type 1} (𝓤 : URA M) (H : Heap 𝓤) (A : Atoms 𝓤) (W : Given 𝓤 H A) (mem : Memory → SProp 𝓤) (run : Routine → Fun 𝓤) (κ : Lft) (q : Share) (b o : ℕ) (γ : GName) (ys : List Caller) (k : ℕ) (c : Caller) (k-fits : k < 2 ^ 64) (c-is : Is R c (mach c ∷ [])) (room : Room R (length ys)) where
   abbrev x : List Caller → RefT (List Caller)
@@ -105,7 +105,7 @@ module _ {M : Type 1} (𝓤 : URA M) (H : Heap 𝓤) (A : Atoms 𝓤) (W : Given
         (λ h. let within : k < length ys = ltb→lt k (length ys) h in
         assigns ! (bin ! (load ! (from ! (stop !)) (look ! 10 refl)) (big-lit ! (record { fits = lit< tt })) (record { fits = product-fits k (length ys) room within })) (from ! (stop !)) (init ! 2 refl (tt, record { fits = product-fits k (length ys) room within })) $
         assigns ! (bin ! (load ! (from ! (fld ! refl (stop !))) (look-in ! 12 (sub ! 0 refl (whole !)))) (load ! (from ! (stop !)) (look ! 2 refl)) tt) (from ! (stop !)) (init ! 0 refl (tt, tt)) $
-        rewrite ! 0 (λ (p : ℕ). ‵ (fat fullShare tyPtr l₇ 0 (vptr b p))) (sym (place-is 4440 o k)) refl $
+        rewrite ! 0 (λ (p : ℕ). ‵ (fat fullShare tyPtr l₇ 0 (vptr b p))) (sym (place-is 4448 o k)) refl $
         move ! (17 ∷ []) $ fsplit ! $ fsplit ! $ move ! (1 ∷ []) $ fsplit ! $ move ! (20 ∷ []) $ split ! $ move ! (2 ∷ 3 ∷ 0 ∷ []) $
         opens-slice ! tt R ys b o $ elem-out ! R (Is R) (shows 𝓤 H A R) (LL.vals T.the-type T′.the-laws) (LL.tells T.the-type T′.the-laws) fullShare ys k c b o within (λ _.
         assigns-last ! (of-opd ! (load ! (from ! (stop !)) (look ! 17 refl))) (from ! (hop ! (look ! 9 refl) (stop !))) (store-raw ! 0 refl (LL.lawful T.the-type T′.the-laws 𝓤 H A W .typed c _ c-is .0)) $

@@ -69,8 +69,8 @@ stayed = (stay-none-slice (0 ∷ []) tt (plain (λ _. R)) yes, (stay-none (λ _.
 abbrev mach : Caller → Val
 mach c = LL.val T.the-type T′.the-laws c
 
-product-fits : (k n : ℕ) → Room R n → k < n → k * 4440 < 2 ^ 64
-product-fits k n room within = let h : n * 4440 < 2 ^ 63 = room .1 in omega (arith, h, within)
+product-fits : (k n : ℕ) → Room R n → k < n → k * 4448 < 2 ^ 64
+product-fits k n room within = let h : n * 4448 < 2 ^ 63 = room .1 in omega (arith, h, within)
 
 module _ {M : Type 1} (𝓤 : URA M) (H : Heap 𝓤) (A : Atoms 𝓤) (mem : Memory → SProp 𝓤) (run : Routine → Fun 𝓤) where
   abbrev Empty : Contract 𝓤
@@ -134,7 +134,7 @@ module _ {M : Type 1} (𝓤 : URA M) (H : Heap 𝓤) (A : Atoms 𝓤) (W : Given
         (λ h. let within : k < length ys = ltb→lt k (length ys) h in
         assigns ! (bin ! (load ! (from ! (stop !)) (look ! 16 refl)) (big-lit ! (record { fits = lit< tt })) (record { fits = product-fits k (length ys) room within })) (from ! (stop !)) (init ! 10 refl (tt, record { fits = product-fits k (length ys) room within })) $
         assigns ! (bin ! (load ! (from ! (fld ! refl (stop !))) (look-in ! 18 (sub ! 0 refl (whole !)))) (load ! (from ! (stop !)) (look ! 10 refl)) tt) (from ! (stop !)) (init ! 8 refl (tt, tt)) $
-        rewrite ! 8 (λ (p : ℕ). ‵ (fat fullShare tyPtr l₆ 0 (vptr b p))) (sym (place-is 4440 o k)) refl $
+        rewrite ! 8 (λ (p : ℕ). ‵ (fat fullShare tyPtr l₆ 0 (vptr b p))) (sym (place-is 4448 o k)) refl $
         looks-slice ! tt R (Is R) (shows 𝓤 H A R) (LL.vals T.the-type T′.the-laws) (LL.tells T.the-type T′.the-laws) (LL.copy T.the-type T′.the-copy 𝓤 H A W) ys b o (λ q′.
         elem-out ! R (Is R) (shows 𝓤 H A R) (LL.vals T.the-type T′.the-laws) (LL.tells T.the-type T′.the-laws) q′ ys k fresh b o within (λ g.
         -- [the element; what it owns; the others; what shuts; the fractured borrow; true; res; the slice's fact; the number's; _7; …]

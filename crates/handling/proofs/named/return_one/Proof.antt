@@ -18,8 +18,8 @@ use Rattle.handling.proofs.named.return_one.Tie as tie
 returns : tie.Need-returns
 returns c cs n q =
     let x = c .before .before .before .before .args in
-    away (return-to (x .k) (x .name .now)) cs (x .k) (x .last .now) (x .handed .now) _ (x .c) _ 0 q (c .turned-away .ensures)
-    (return-early cs (x .k) (x .last .now) (x .handed .now) (x .name .now) (x .c) q (x .n) _ n (c .before .before .first-refusal .ensures) (c .before .if1 .taken))
+    away (return-to (x .k) (x .name .now)) cs (x .k) (x .last .now) _ (x .c) _ 0 q (c .turned-away .ensures)
+    (return-early cs (x .k) (x .last .now) (x .name .now) (x .c) q (x .n) _ n (c .before .before .first-refusal .ensures) (c .before .if1 .taken))
 
 program-of-requires : tie.Need-program-of-requires
 program-of-requires c κs =
@@ -33,8 +33,8 @@ returns-2 : tie.Need-returns-2
 returns-2 c cs n q =
     let x = c .before .before .before .before .before .before .before .before .args in
     let g = passed (x .n) (x .k) (isOpen (reading (x .c))) (nameFits (length (x .name .now))) (sym (c .before .before .before .before .before .before .first-refusal .ensures) ∙ c .before .before .before .before .before .if1 .left) in
-    away (return-to (x .k) (x .name .now)) cs (x .k) (x .last .now) (x .handed .now) _ (x .c) 46 0 q (c .turned-away2 .ensures)
-    (return-46 cs (x .k) (x .last .now) (x .handed .now) (x .name .now) (x .c) q (n ∙ g .0) (g .1) (g .3) (programOf (c .before .before .before .before .program-of .result)) (c .before .before .before .before .program-of .ensures .0) _ (c .before .before .slot-of .ensures) (c .before .if2 .taken))
+    away (return-to (x .k) (x .name .now)) cs (x .k) (x .last .now) _ (x .c) 46 0 q (c .turned-away2 .ensures)
+    (return-46 cs (x .k) (x .last .now) (x .name .now) (x .c) q (n ∙ g .0) (g .1) (g .3) (programOf (c .before .before .before .before .program-of .result)) (c .before .before .before .before .program-of .ensures .0) _ (c .before .before .slot-of .ensures) (c .before .if2 .taken))
 
 returned-to-requires : tie.Need-returned-to-requires
 returned-to-requires c κs = omega (arith, c .before .before .if2 .left)
@@ -43,9 +43,9 @@ returns-3 : tie.Need-returns-3
 returns-3 c cs n q =
     let x = c .before .before .before .before .before .before .before .before .before .before .before .args in
     let g = passed (x .n) (x .k) (isOpen (reading (x .c))) (nameFits (length (x .name .now))) (sym (c .before .before .before .before .before .before .before .before .before .first-refusal .ensures) ∙ c .before .before .before .before .before .before .before .before .if1 .left) in
-    back (return-to (x .k) (x .name .now)) cs (x .k) (x .last .now) (x .handed .now) _ _ _ (c .put-back .ensures) (c .before .before .settle .ensures)
-    (return-done cs (x .k) (x .last .now) (x .handed .now) (x .name .now) (x .c) q (n ∙ g .0) (g .1) (g .3) (programOf (c .before .before .before .before .before .before .before .program-of .result)) (c .before .before .before .before .before .before .before .program-of .ensures .0) _ (c .before .before .before .before .before .slot-of .ensures) (c .before .before .before .before .if2 .left))
-    (return-list cs (x .k) (x .last .now) (x .handed .now) (x .name .now) (x .c) q (n ∙ g .0) (g .1) (g .3) (programOf (c .before .before .before .before .before .before .before .program-of .result)) (c .before .before .before .before .before .before .before .program-of .ensures .0) _ (c .before .before .before .before .before .slot-of .ensures) (c .before .before .before .before .if2 .left) _ (c .before .returned-to .ensures))
+    back (return-to (x .k) (x .name .now)) cs (x .k) (x .last .now) _ _ _ (c .put-back .ensures) (c .before .before .settle .ensures)
+    (return-done cs (x .k) (x .last .now) (x .name .now) (x .c) q (n ∙ g .0) (g .1) (g .3) (programOf (c .before .before .before .before .before .before .before .program-of .result)) (c .before .before .before .before .before .before .before .program-of .ensures .0) _ (c .before .before .before .before .before .slot-of .ensures) (c .before .before .before .before .if2 .left))
+    (return-list cs (x .k) (x .last .now) (x .name .now) (x .c) q (n ∙ g .0) (g .1) (g .3) (programOf (c .before .before .before .before .before .before .before .program-of .result)) (c .before .before .before .before .before .before .before .program-of .ensures .0) _ (c .before .before .before .before .before .slot-of .ensures) (c .before .before .before .before .if2 .left) _ (c .before .returned-to .ensures))
 
 pub return-one-spec : {M : Type 1} → statement M
 return-one-spec = tie.close (tie.spec (λ c κs. search needs) (λ c κs. search needs) returns program-of-requires slot-of-requires (λ c κs. search needs) returns-2 (λ c κs. search needs) returned-to-requires (λ c κs. search needs) returns-3)

@@ -10,7 +10,7 @@ returns : tie.Need-returns
 unfolding fresh plain
 returns c =
     let e = c .no-marks .ensures in
-    λ i. record { file = replicate 4096 0; length = 0; place = 0; asking = 0; steps = 0; schedule = replicate 24 0; handed = 0; size = 0; newest = replicate 24 0; marks = e i }
+    λ i. record { file = replicate 4096 0; length = 0; count = 0; place = 0; asking = 0; steps = 0; schedule = replicate 24 0; handed = 0; size = 0; newest = replicate 24 0; marks = e i }
 
 pub fresh-record-spec : {M : Type 1} → statement M
 fresh-record-spec = tie.close (tie.spec (λ c κs. search needs) returns)

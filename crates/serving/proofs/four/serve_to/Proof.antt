@@ -5,7 +5,7 @@ use native.Mathlib.Omega.{arith}
 use Rattle.sharing.specs.Record.{reading}
 use Rattle.sharing.specs.Call.{forSeat}
 use Rattle.records.proofs.Given.{next-small}
-use Rattle.serving.proofs.Giving.{gave-kept, gave-handed, gave-output, ended-kept, ended-handed, ended-output}
+use Rattle.serving.proofs.Giving.{gave-kept, gave-output, ended-kept, ended-output}
 use Rattle.serving.proofs.four.serve_to.Statement.{statement}
 use Rattle.serving.proofs.four.serve_to.Tie as tie
 
@@ -19,17 +19,14 @@ put-front-requires c κs =
 
 returns : tie.Need-returns
 returns c =
-    let a = c .before .before .before .before .before .before .before .before .before .before .before .before .before .args in
-    let x = c .before .before .before .before .before .before .before .before .before .before .before .next-of in
-    let s = c .before .before .before .before .before .before .before .before .before .before .served in
-    let f = c .before .before .before .before .before .before .before .before .before .if1 .taken in
-    let n = c .before .before .before .before .before .before .before .wide in
+    let a = c .before .before .before .before .before .before .before .before .before .before .before .args in
+    let x = c .before .before .before .before .before .before .before .before .before .next-of in
+    let s = c .before .before .before .before .before .before .before .before .served in
+    let f = c .before .before .before .before .before .before .before .if1 .taken in
+    let n = c .before .before .before .before .before .wide in
     let o = forSeat (reading (a .c)) in (
       gave-kept (a .k) (a .c) (s .result) (x .result) o (x .ensures) (s .ensures o (x .ensures)) f (n .result) (n .ensures .0),
-      (
-        refl,
-        (gave-handed (a .k) (a .c) (s .result) (x .result) o (x .ensures) f (a .handed .now) _ (c .wrapping-add-u64 .ensures), gave-output (a .k) (a .c) (s .result) (x .result) o (x .ensures) f (n .result) (n .ensures .0) (a .out .now) _ (c .before .before .before .before .put-front .ensures)),
-      ),
+      (refl, gave-output (a .k) (a .c) (s .result) (x .result) o (x .ensures) f (n .result) (n .ensures .0) (a .out .now) _ (c .before .before .put-front .ensures)),
     )
 
 returns-2 : tie.Need-returns-2
@@ -40,8 +37,8 @@ returns-2 c =
     let f = c .if1 .left in
     let o = forSeat (reading (a .c)) in (
       ended-kept (a .k) (a .c) (s .result) (x .result) o (x .ensures) (s .ensures o (x .ensures)) f,
-      (refl, (ended-handed (a .k) (a .c) (s .result) (x .result) o (x .ensures) f (a .handed .now), ended-output (a .k) (a .c) (s .result) (x .result) o (x .ensures) f (a .out .now))),
+      (refl, ended-output (a .k) (a .c) (s .result) (x .result) o (x .ensures) f (a .out .now)),
     )
 
 pub serve-to-spec : {M : Type 1} → statement M
-serve-to-spec = tie.close (tie.spec (λ c κs. search needs) (λ c κs. search needs) (λ c κs. search needs) (λ c. search needs) put-front-requires (λ c κs. search needs) (λ c. search needs) returns returns-2)
+serve-to-spec = tie.close (tie.spec (λ c κs. search needs) (λ c κs. search needs) (λ c κs. search needs) (λ c. search needs) put-front-requires (λ c. search needs) returns returns-2)
