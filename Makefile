@@ -84,6 +84,7 @@ $(LIBRARY):
 	@install -D -m 644 $(LIBRARY_FROM) $(LIBRARY)
 else
 $(LIBRARY): $(SOURCES)
+	@rt check $(EXPORTED)
 	@for crate in $(EXPORTED); do rt staticlib $$crate || exit 1; done
 	@rm -rf target/objects && mkdir target/objects
 	@cd target/objects && for crate in $(EXPORTED); do ar x ../staticlib/lib$$crate.a || exit 1; done

@@ -6,6 +6,8 @@ use mathlib.Core.Bool.{true}
 use mathlib.Core.List.{List}
 use lib.ListN.{length, getD}
 use Rattle.program.specs.WellFormed.{accesses}
+use Rattle.accesses.specs.declared.thread.ThreadState.{ThreadState}
+use Rattle.machine.specs.declared.state.LastWrite.{LastWrite}
 use Rattle.machine.specs.declared.state.Machine.{Machine}
 use Rattle.machine.specs.Held as SC
 use Rattle.tso.specs.Queue.{Entry}
@@ -35,6 +37,25 @@ slotAt m k = getD (m .slots) k noStore
 -- thread t's queue, oldest first
 abbrev pub queueOf : QueuedMachine → ℕ → List Entry
 queueOf m t = queueAt (m .slots) (headAt m t) (tailAt m t - headAt m t)
+
+-- what a step of thread t needs of the machine: its thread, memory, last writes, the slots, and where its queue begins and ends
+pub record Parts : Type 0 where
+  pub thread : ThreadState
+  pub memory : List ℕ
+  pub last : List LastWrite
+  pub slots : List Pending
+  pub head : ℕ
+  pub tail : ℕ
+
+abbrev pub partsOf : QueuedMachine → ℕ → Parts
+partsOf m t = record {
+  thread = SC.threadAt (coreOf m) t;
+  memory = m .memory;
+  last = m .last;
+  slots = m .slots;
+  head = headAt m t;
+  tail = tailAt m t;
+}
 
 -- the machine holds this state, of a program whose code stands in these rows, in threads of these lengths
 pub record Holds (code lengths : List ℕ) (m : QueuedMachine) (σ : State) : Type 0 where

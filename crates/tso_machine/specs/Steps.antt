@@ -4,7 +4,7 @@ use mathlib.Core.Path.{_≡_}
 use mathlib.Core.Bool.{Bool, false, cond}
 use mathlib.Core.Option.{none, some}
 use mathlib.Core.List.{List}
-use lib.ListN.{getD}
+use lib.ListN.{getD, set}
 use Rattle.rows.specs.Rows.{threadCode}
 use Rattle.sc.specs.Local.{placeOf, takes, puts, next}
 use Rattle.sc.specs.State.{Event, Cell, initialWrite}
@@ -15,6 +15,7 @@ use Rattle.tso.specs.State.{kindOf, owner}
 use Rattle.tso.specs.Actions.{action}
 use Rattle.tso_machine.specs.declared.state.QueuedMachine.{QueuedMachine}
 use Rattle.tso_machine.specs.declared.meeting.Met.{Met}
+use Rattle.tso_machine.specs.declared.stepping.Change.{Change}
 use Rattle.tso_machine.specs.declared.stepping.Stepped.{Stepped}
 use Rattle.tso_machine.specs.Held.{Holds}
 use Rattle.tso_machine.specs.Looked.{isThere}
@@ -57,15 +58,22 @@ pub record HoldsStep (code lengths : List ℕ) (σ : State) (b : ℕ) (r : Stepp
   pub source : eventOf (r .source) ≡ sourceOf (kindOf b) (owner b) (threadOf σ (owner b)) (cellAt σ b)
   pub own : r .own ≡ ownOf (kindOf b) (threadOf σ (owner b))
 
--- an access that did this, with this machine behind it
-abbrev pub did : QueuedMachine → ℕ → Met → Bool → Stepped
-did m number a b = record {
-  machine = m;
-  source = a .source;
-  number = number;
-  location = a .location;
-  reads = a .reads;
-  locks = a .locks;
-  puts = b;
-  own = a .own;
+-- the machine with a step's change stored in it, thread t being the u-th, and what the step did
+abbrev pub behind : QueuedMachine → ℕ → Change → Stepped
+behind m u c = record {
+  machine = record {
+    threads = set (m .threads) u (c .thread);
+    memory = set (m .memory) (c .place) (c .value);
+    last = set (m .last) (c .place) (c .last);
+    heads = set (m .heads) u (c .head);
+    tails = set (m .tails) u (c .tail);
+    slots = set (m .slots) (c .at) (c .slot);
+  };
+  source = c .source;
+  number = c .number;
+  location = c .location;
+  reads = c .reads;
+  locks = c .locks;
+  puts = c .puts;
+  own = c .own;
 }

@@ -5,14 +5,15 @@ use lines::wide;
 use machine::Machine;
 use rows::Code;
 ghost use mathlib.Core.Path.{_≡_};
-ghost use Prim.Native.Nat.{_<_};
+ghost use Prim.Native.Nat.{_<_, _≤_};
 ghost use lib.Dec.{ltb};
 ghost use Rattle.schedules.specs.System.{ended};
 ghost use Rattle.tso.specs.State.{State, TSO, able, access, threadOf, enabled};
-ghost use lib.ListN.{length};
+ghost use lib.ListN.{length, getD};
 ghost use mathlib.Core.List.{List};
 ghost use Prim.Native.Nat.{ℕ};
 ghost use Rattle.machine.specs.Asked.{failsBy};
+ghost use Rattle.machine.specs.Held.{threadAt};
 ghost use Rattle.tso_machine.specs.Held.{coreOf, headAt, tailAt, Holds};
 
 // Whether thread u, one of the six, has a pending store.
@@ -23,19 +24,19 @@ pub(crate) fn pends(m: QueuedMachine, u: usize) -> bool
     m.heads[u] < m.tails[u]
 }
 
-// Whether thread t may do its next access.
-fn may_access(code: &Code, lengths: &[usize; 6], m: QueuedMachine, t: u8) -> bool
-    requires { ⌜ (t < 6) × ((σ : State) × Holds (now code) (now lengths) m σ) ⌝ }
-    ensures { λ r. ⌜ ((σ : State) → Holds (now (code .entry)) (now (lengths .entry)) m σ
+// Whether thread t, which stands at this row of its code with this queue, may do its next access.
+pub fn may_access(code: &Code, lengths: &[usize; 6], at: usize, head: u8, tail: u8, t: u8) -> bool
+    requires { ⌜ (t < 6) × (at < getD (now lengths) t 0 → getD (now lengths) t 0 ≤ 16) ⌝ }
+    ensures { λ r. ⌜ ((m : QueuedMachine) (σ : State) → Holds (now (code .entry)) (now (lengths .entry)) m σ
+        → threadAt (coreOf m) t .at ≡ at → headAt m t ≡ head → tailAt m t ≡ tail
         → r ≡ able access (threadOf σ t) (length (σ .cells))) ⌝ }
 {
     let u = wide(t);
-    let thread = m.threads[u];
-    if lengths[u] <= thread.at {
+    if lengths[u] <= at {
         return false;
     }
-    if locks_at(code, u * 16 + thread.at) {
-        return !pends(m, u);
+    if locks_at(code, u * 16 + at) {
+        return tail <= head;
     }
     true
 }
@@ -46,7 +47,9 @@ pub fn enabled(code: &Code, lengths: &[usize; 6], m: QueuedMachine, b: u8) -> bo
     ensures { λ r. ⌜ ((σ : State) → Holds (now (code .entry)) (now (lengths .entry)) m σ → r ≡ enabled σ b) ⌝ }
 {
     if b < 6 {
-        return may_access(code, lengths, m, b);
+        let u = wide(b);
+        let thread = m.threads[u];
+        return may_access(code, lengths, thread.at, m.heads[u], m.tails[u], b);
     }
     if b < 16 {
         return false;

@@ -1,14 +1,10 @@
 // What a thread finds at a location: its newest pending store there, else what memory holds.
 use crate::state::Pending;
-use crate::state::QueuedMachine;
 use lines::wide;
 use machine::LastWrite;
 ghost use mathlib.Core.Path.{_≡_};
-ghost use Prim.Native.Nat.{_≤_, _-_, _<_};
-ghost use lib.ListN.{getD};
+ghost use Prim.Native.Nat.{_≤_, _-_};
 ghost use Rattle.tso.specs.Queue.{newest};
-ghost use Rattle.machine.specs.Held.{lastAt};
-ghost use Rattle.tso_machine.specs.Held.{coreOf, queueOf, tailAt};
 ghost use Rattle.tso_machine.specs.Slots.{queueAt, entryIn};
 ghost use Rattle.tso_machine.specs.Looked.{lookOf};
 
@@ -35,14 +31,20 @@ fn newest_slot(slots: [Pending; 16], head: usize, tail: usize, l: u8) -> usize
     16
 }
 
-// What thread t finds at l.
-pub(crate) fn look(m: QueuedMachine, t: u8, l: u8) -> Sight
-    requires { ⌜ (t < 6) × (tailAt m t ≤ 16) ⌝ }
-    ensures { λ r. ⌜ (l < 8 → r ≡ lookOf t (newest (queueOf m t) l) (getD (m .memory) l 0) (lastAt (coreOf m) l)) ⌝ }
+// What thread t, with this queue, finds at l, where memory holds v, written by w.
+pub(crate) fn look(
+    slots: [Pending; 16],
+    head: u8,
+    tail: u8,
+    v: u32,
+    w: LastWrite,
+    t: u8,
+    l: u8,
+) -> Sight
+    requires { ⌜ tail ≤ 16 ⌝ }
+    ensures { λ r. ⌜ r ≡ lookOf t (newest (queueAt slots head (tail - head)) l) v w ⌝ }
 {
-    let u = wide(t);
-    let slots = m.slots;
-    let k = newest_slot(slots, wide(m.heads[u]), wide(m.tails[u]), l);
+    let k = newest_slot(slots, wide(head), wide(tail), l);
     if k < 16 {
         let s = slots[k];
         return Sight {
@@ -54,10 +56,8 @@ pub(crate) fn look(m: QueuedMachine, t: u8, l: u8) -> Sight
             own: true,
         };
     }
-    let i = wide(l) % 8;
-    let w = m.last[i];
     Sight {
-        value: m.memory[i],
+        value: v,
         source: w,
         own: false,
     }

@@ -1,5 +1,5 @@
 -- A prefix as the search holds it: how it starts, and how a step leads on.
-use Prim.Native.Nat.{ℕ, zero, suc, _+_, _%_, _<_, _≤_}
+use Prim.Native.Nat.{ℕ, zero, suc, _+_, _<_, _≤_}
 use mathlib.Core.Path.{_≡_, refl, sym, ap, ap₂, subst, _∙_}
 use mathlib.Core.Logic.{_≢_}
 use mathlib.Core.Bool.{Bool, true, false, cond, not, _&&_, _||_}
@@ -7,7 +7,6 @@ use mathlib.Core.Option.{Option, none, some}
 use mathlib.Core.List.{List, [], _∷_, _++_, List·Memᴰ, List·Memᴰ·not-nil}
 use native.Mathlib.Omega.{arith}
 use native.Mathlib.Decide.{ℕ-discrete}
-use native.Mathlib.Nat.{mod-eq-of-lt}
 use native.Mathlib.Numerals.{add-one}
 use lib.Dec.{eqb, ltb, leb}
 use lib.ListN.{length, getD, set, take, length-append}
@@ -27,8 +26,9 @@ use Rattle.sc.specs.State.{Event}
 use Rattle.sc.specs.Local.{placeOf, takes}
 use Rattle.sc.specs.Actions.{given}
 use Rattle.sc.specs.Standing.{silent}
+use Rattle.accesses.specs.declared.thread.ThreadState.{ThreadState}
+use Rattle.machine.specs.Held as Core
 use Rattle.machine.specs.Held.{eventOf, threadAt, Loaded}
-use Rattle.machine.proofs.HeldNext.{held-left}
 use Rattle.prefix.specs.ClassGroups.{Lined}
 use Rattle.survivors.specs.Sets.{has, setOf}
 use Rattle.survivors.proofs.Sets.{set-none, set-same, set-has}
@@ -44,13 +44,12 @@ use Rattle.sc.proofs.Start.{start-writes}
 use Rattle.tso.proofs.Regular.{Regular, place-in, regular-run, regular-start}
 use Rattle.tso_list.specs.Rules.{twin}
 use Rattle.tso_survivors.specs.Far.{twinMoves, startsBy, starts}
-use Rattle.tso_machine.proofs.HeldCore.{tail-below}
-use Rattle.tso_machine.specs.Slots.{noStore}
-use Rattle.tso_machine.specs.Held.{coreOf, headAt, tailAt, limitAt, slotAt, Holds, MayStep}
-use Rattle.tso_machine.specs.declared.state.Pending.{Pending}
-use Rattle.tso_machine.specs.Steps.{sourceOf, ownOf, cellAt, HoldsStep}
+use Rattle.tso_machine.proofs.HeldMay.{move-held}
+use Rattle.tso_machine.specs.Held.{coreOf, headAt, tailAt, Holds, MayStep}
+use Rattle.tso_machine.specs.Steps.{sourceOf, ownOf, HoldsStep, behind}
 use Rattle.tso_machine.specs.Looked.{isThere}
 use Rattle.tso_machine.specs.declared.state.QueuedMachine.{QueuedMachine}
+use Rattle.tso_machine.specs.declared.stepping.Change.{Change}
 use Rattle.tso_machine.specs.declared.stepping.Stepped.{Stepped}
 use Rattle.tso_carried.specs.Deeds.{isNone, looking, deedOf, deed, waits}
 use Rattle.tso_carried.specs.LateBytes.{bytesOf, lateAt, farAt, goesOn, lateNow, farNow}
@@ -60,12 +59,11 @@ use Rattle.tso_carried.proofs.Kept.{start-done}
 use Rattle.tso_carried.proofs.LateBytes.{late-more, far-more, late-start, far-start}
 use Rattle.tso_carried.proofs.Words.{quiet-silent, word-own, word-other}
 use Rattle.tso_carried.proofs.Twins.{twin-by-word}
-use Rattle.tso_prefix.specs.Freed.{Ends, HoldsSets}
-use Rattle.tso_prefix.specs.Reached.{Carries, Reached}
-use Rattle.tso_prefix.specs.declared.place.Sets.{Sets}
+use Rattle.tso_waits.specs.Freed.{HoldsSets}
+use Rattle.tso_waits.specs.declared.sets.Sets.{Sets}
+use Rattle.tso_prefix.specs.Reached.{machineOf, Carries, Reached}
 use Rattle.tso_prefix.specs.declared.place.Place.{Place}
-use Rattle.tso_prefix.proofs.HeldDeeds.{live, some-pending}
-use Rattle.tso_prefix.proofs.Choices.{bytes-has, bytes-same, chosen-free, chosen-may}
+use Rattle.tso_waits.proofs.Choices.{bytes-has, bytes-same, chosen-free, chosen-may}
 
 -- ---- bytes
 access-byte : (u : ℕ) → u + 0 ≡ byteFor access u
@@ -131,10 +129,17 @@ word-start p t =
     let f = lt-ltb (threadOf (start p) t .history .done) 9 (omega (arith, d .0)) in
     rw (s, f) (ap₂ (λ (n : ℕ) (rs : List (ℕ × Event)). digits t (sourcesOf n rs)) (d .0) (d .1))
 
+-- a machine made anew of its arrays
+abbrev rebuilt : QueuedMachine → QueuedMachine
+rebuilt m = record { threads = m .threads; memory = m .memory; last = m .last; heads = m .heads; tails = m .tails; slots = m .slots }
+
+held-rebuilt : (code lengths : List ℕ) (m : QueuedMachine) (σ : State) → Holds code lengths m σ → Holds code lengths (rebuilt m) σ
+held-rebuilt code lengths m σ h = record { core = h .core; sizes = h .sizes; short = h .short; queues = h .queues; ordered = h .ordered; room = h .room; places = h .places }
+
 pub reached-start : (code lengths class : List ℕ) (threads groups : ℕ) (m : QueuedMachine) (schedule : List ℕ) (may : ℕ) (p : Program)
     → Loaded code lengths threads p → allAccesses (p .threads) ≤ 16 → Lined class groups p → Holds code lengths m (start p) → may ≡ bytesOf (enabled (start p)) access
     → Reached code lengths class threads groups
-    (record { machine = m; words = 0 ∷ 0 ∷ 0 ∷ 0 ∷ 0 ∷ 0 ∷ []; steps = 0; schedule = schedule; sets = record { live = may; moving = 0; late = 0; overdue = 0; far = 0 } }) p []
+    (record { threads = m .threads; memory = m .memory; last = m .last; heads = m .heads; tails = m .tails; slots = m .slots; words = 0 ∷ 0 ∷ 0 ∷ 0 ∷ 0 ∷ 0 ∷ []; steps = 0; schedule = schedule; sets = record { live = may; moving = 0; late = 0; overdue = 0; far = 0 } }) p []
 reached-start code lengths class threads groups m schedule may p loaded few lines held all =
     let nil = run-nil TSO (start p) in
     record {
@@ -142,7 +147,7 @@ reached-start code lengths class threads groups m schedule may p loaded few line
       few = few;
       lines = lines;
       allowed = tt;
-      holds = subst (Holds code lengths m) (sym nil) held;
+      holds = subst (Holds code lengths (rebuilt m)) (sym nil) (held-rebuilt code lengths m (start p) held);
       counted = refl;
       schedule = refl;
       sets = record {
@@ -164,6 +169,10 @@ reached-start code lengths class threads groups m schedule may p loaded few line
     zeros (suc (suc (suc (suc (suc zero))))) = refl
     zeros (suc (suc (suc (suc (suc (suc t)))))) = refl
 
+-- what was stored is read back
+stored-at : {A : Type 0} (xs : List A) (u t : ℕ) (v d : A) → u ≡ t → u < length xs → getD (set xs u v) t d ≡ v
+stored-at xs u t v d e h = ap (λ (j : ℕ). getD (set xs u v) j d) (sym e) ∙ getD-set-same xs u v d h
+
 -- ---- a step more
 module _ (code lengths class : List ℕ) (threads groups : ℕ) (x : Place) (p : Program) (v : Schedule) (at : Reached code lengths class threads groups x p v) (b : ℕ) (ok : enabled (endOf p v) b ≡ true) where
   abbrev σ : State
@@ -175,7 +184,7 @@ module _ (code lengths class : List ℕ) (threads groups : ℕ) (x : Place) (p :
   abbrev w : WellFormed p
   w = at .loaded .wellFormed
 
-  pub step-may : MayStep code lengths (x .machine) b
+  pub step-may : MayStep code lengths (machineOf x) b
   step-may = record { state = σ; holds = at .holds; may = ok }
 
   more-allowed : Allowed TSO (start p) (v ++ (b ∷ []))
@@ -257,16 +266,16 @@ module _ (code lengths class : List ℕ) (threads groups : ℕ) (x : Place) (p :
             ap (λ (l : List ℕ). getD l u 0) ew ∙ getD-set-other (x .words) t u new 0 q ∙ at .words u h
             ∙ sym (word-other p (at .loaded .wellFormed) (at .few) v (at .allowed) b ok u (λ z. q (z ∙ sym et)))
 
-    pub reached-next : (r : Place) (t lt ov fa lv mo : ℕ) → length (x .schedule) ≡ 32 → length (x .words) ≡ 6 → t ≡ owner b
-        → r .machine ≡ a .machine → r .schedule ≡ set (x .schedule) (x .steps) b → r .steps ≡ x .steps + 1
+    pub reached-next : (r : Place) (t : ℕ) (s : Sets) → length (x .schedule) ≡ 32 → length (x .words) ≡ 6 → t ≡ owner b
+        → machineOf r ≡ a .machine → r .schedule ≡ set (x .schedule) (x .steps) b → r .steps ≡ x .steps + 1
         → r .words ≡ set (x .words) t (wordBehind t (getD (x .words) t 0) (cond (a .reads) (sourceDigit t (eventOf (a .source))) 1) (a .puts))
-        → lv ≡ bytesOf (enabled (step (endOf p v) b)) access → mo ≡ bytesOf (enabled (step (endOf p v) b)) move
-        → lt ≡ setOf (λ u. has lv u && (not (eqb b (u + 0)) && (ltb (u + 0) b || has (x .sets .late) u))) 6
-        → ov ≡ setOf (λ u. has mo u && (not (eqb b (u + 16)) && (ltb (u + 16) b || has (x .sets .overdue) u))) 6
-        → fa ≡ setOf (λ t. has mo t && (not (eqb b (t + 16)) && (any (λ u. twinByWord p (x .words) t u && ltb (u + 16) b) (range 0 t) || has (x .sets .far) t))) 6
-        → HoldsSets (step (endOf p v) b) (deed (endOf p v) b) lv mo lt ov fa (r .sets)
+        → s .live ≡ bytesOf (enabled (step (endOf p v) b)) access → s .moving ≡ bytesOf (enabled (step (endOf p v) b)) move
+        → s .late ≡ setOf (λ u. has (s .live) u && (not (eqb b (u + 0)) && (ltb (u + 0) b || has (x .sets .late) u))) 6
+        → s .overdue ≡ setOf (λ u. has (s .moving) u && (not (eqb b (u + 16)) && (ltb (u + 16) b || has (x .sets .overdue) u))) 6
+        → s .far ≡ setOf (λ t. has (s .moving) t && (not (eqb b (t + 16)) && (any (λ u. twinByWord p (x .words) t u && ltb (u + 16) b) (range 0 t) || has (x .sets .far) t))) 6
+        → HoldsSets (step (endOf p v) b) (deed (endOf p v) b) s (r .sets)
         → Reached code lengths class threads groups r p (v ++ (b ∷ []))
-    reached-next r t lt ov fa lv mo size six et em es en ew elv emo elt eov efa S = record {
+    reached-next r t s size six et em es en ew elv emo elt eov efa S = record {
       loaded = at .loaded;
       few = at .few;
       lines = at .lines;
@@ -277,12 +286,36 @@ module _ (code lengths class : List ℕ) (threads groups : ℕ) (x : Place) (p :
       sets = record {
         live = S .live ∙ elv ∙ ap (λ (ρ : State). bytesOf (enabled ρ) access) (sym snoc);
         moving = S .moving ∙ emo ∙ ap (λ (ρ : State). bytesOf (enabled ρ) move) (sym snoc);
-        late = late-behind access lt (r .sets .late) (late-chosen access 0 lv (x .sets .late) lt access-byte elv (at .sets .late) elt) (S .late);
-        overdue = late-behind move ov (r .sets .overdue) (late-chosen move 16 mo (x .sets .overdue) ov move-byte emo (at .sets .overdue) eov) (S .overdue);
-        far = far-behind fa (r .sets .far) (far-chosen mo (x .sets .far) fa emo (at .sets .far) efa) (S .far);
+        late = late-behind access (s .late) (r .sets .late) (late-chosen access 0 (s .live) (x .sets .late) (s .late) access-byte elv (at .sets .late) elt) (S .late);
+        overdue = late-behind move (s .overdue) (r .sets .overdue) (late-chosen move 16 (s .moving) (x .sets .overdue) (s .overdue) move-byte emo (at .sets .overdue) eov) (S .overdue);
+        far = far-behind (s .far) (r .sets .far) (far-chosen (s .moving) (x .sets .far) (s .far) emo (at .sets .far) efa) (S .far);
       };
       words = λ u h. words-behind (r .words) t et six ew u h ∙ ap (λ (ρ : State). wordOf ρ u) (sym snoc);
     }
+
+  -- ---- behind the step, whose change c is stored: thread t, the u-th, is the one that stepped
+  module _ (c : Change) (u t : ℕ) (eu : u ≡ t) (et : t ≡ owner b) (H : HoldsStep code lengths (endOf p v) b (behind (machineOf x) u c)) where
+    here : t < 6
+    here = subst (λ (i : ℕ). i < 6) (sym et) (enabled-small (endOf p v) b ok)
+
+    thread-next : threadAt (coreOf (behind (machineOf x) u c .machine)) t .at ≡ c .thread .at
+    thread-next = ap (λ (k : ThreadState). k .at) (stored-at (x .threads) u t (c .thread) Core.idle eu (omega (arith, here, eu, at .holds .core .sizes .0)))
+
+    head-next : headAt (behind (machineOf x) u c .machine) t ≡ c .head
+    head-next = stored-at (x .heads) u t (c .head) 0 eu (omega (arith, here, eu, at .holds .sizes .0))
+
+    tail-next : tailAt (behind (machineOf x) u c .machine) t ≡ c .tail
+    tail-next = stored-at (x .tails) u t (c .tail) 0 eu (omega (arith, here, eu, at .holds .sizes .1))
+
+    pub next-short : (t < 6) × (c .thread .at < getD lengths t 0 → getD lengths t 0 ≤ 16)
+    next-short = (here, λ h. H .holds .short t here (omega (arith, h, thread-next)))
+
+    pub next-access : (on : Bool) → ((m : QueuedMachine) (ρ : State) → Holds code lengths m ρ → threadAt (coreOf m) t .at ≡ c .thread .at → headAt m t ≡ c .head → tailAt m t ≡ c .tail → on ≡ able access (threadOf ρ t) (length (ρ .cells)))
+        → on ≡ enabled (step (endOf p v) b) (byteFor access t)
+    next-access on f = f (behind (machineOf x) u c .machine) (step (endOf p v) b) (H .holds) thread-next head-next tail-next ∙ sym (enabled-for (step (endOf p v) b) access t here)
+
+    pub next-move : ltb (c .head) (c .tail) ≡ enabled (step (endOf p v) b) (byteFor move t)
+    next-move = ap₂ ltb (sym head-next) (sym tail-next) ∙ move-held (H .holds) t here ∙ sym (enabled-for (step (endOf p v) b) move t here)
 
   -- each of those asked may step
   pub late-may : (lv lt : ℕ) → lv ≡ bytesOf (enabled (step (endOf p v) b)) access → lt ≡ setOf (λ u. has lv u && (not (eqb b (u + 0)) && (ltb (u + 0) b || has (x .sets .late) u))) 6 → (u : ℕ) → u < 6 → has lt u ≡ true → enabled (step (endOf p v) b) (byteFor access u) ≡ true
@@ -296,20 +329,3 @@ module _ (code lengths class : List ℕ) (threads groups : ℕ) (x : Place) (p :
 
   pub step-enabled : enabled (endOf p v) b ≡ true
   step-enabled = ok
-
--- a queue ends within the slots; a thread that may access has an instruction left among sixteen
-pub ends : (code lengths : List ℕ) (m : QueuedMachine) (ρ : State) → Holds code lengths m ρ → Ends (m .tails)
-ends code lengths m ρ held t h = omega (arith, tail-below held t h)
-
-pub short-at : (code lengths : List ℕ) (m : QueuedMachine) (ρ : State) → Holds code lengths m ρ → (u : ℕ) → u < 6 → enabled ρ (byteFor access u) ≡ true → threadAt (coreOf m) u .at < 16
-short-at code lengths m ρ held u h e = let l = held-left code lengths (coreOf m) (withoutQueues ρ) u (held .core) (live code lengths m ρ held u h e) in omega (arith, l, held .short u h l)
-
--- the slot at a queue's head, as the code finds it
-pub held-slot : (code lengths : List ℕ) (m : QueuedMachine) (ρ : State) → Holds code lengths m ρ → (u : ℕ) → u < 6 → enabled ρ (byteFor move u) ≡ true → (slots : List Pending) (heads : List ℕ) → m .slots ≡ slots → m .heads ≡ heads →
-    (i : ℕ) → i ≡ getD heads u 0 → slotAt m (headAt m u) ≡ getD slots (i % 16) noStore
-held-slot code lengths m ρ held u h e slots heads es eh i ei =
-    let l = some-pending code lengths m ρ held u h e in
-    let n = ends code lengths m ρ held u h in
-    let q : i ≡ headAt m u = ei ∙ ap (λ (x : List ℕ). getD x u 0) (sym eh) in
-    let r : i % 16 ≡ headAt m u = ap (λ (j : ℕ). j % 16) q ∙ mod-eq-of-lt (omega (arith, l, n)) in
-    ap₂ (λ (s : List Pending) (j : ℕ). getD s j noStore) es (sym r)

@@ -1,5 +1,3 @@
 -- What a reader of this crate must believe, in reading order.
 -- a prefix of a run as the search holds it; for the code
 pub mod Reached
--- queues in slots, and sets behind a step; for the code
-pub mod Freed

@@ -13,10 +13,15 @@ use Rattle.prefix.specs.ClassGroups.{Lined}
 use Rattle.tso.specs.State.{TSO, access, move, enabled, start}
 use Rattle.tso.specs.Graph.{endOf}
 use Rattle.tso_machine.specs.Held.{Holds}
+use Rattle.tso_machine.specs.declared.state.QueuedMachine.{QueuedMachine}
 use Rattle.tso_carried.specs.LateBytes.{bytesOf, lateAt, farAt}
 use Rattle.tso_carried.specs.ReadWords.{wordOf}
-use Rattle.tso_prefix.specs.declared.place.Sets.{Sets}
+use Rattle.tso_waits.specs.declared.sets.Sets.{Sets}
 use Rattle.tso_prefix.specs.declared.place.Place.{Place}
+
+-- the machine at a place
+abbrev pub machineOf : Place → QueuedMachine
+machineOf x = record { threads = x .threads; memory = x .memory; last = x .last; heads = x .heads; tails = x .tails; slots = x .slots }
 
 -- the sets behind the prefix v: who may access and who may move, whose access and whose move is late, whose move is far
 pub record Carries (s : Sets) (p : Program) (v : Schedule) : Type 0 where
@@ -32,7 +37,7 @@ pub record Reached (code lengths class : List ℕ) (threads groups : ℕ) (x : P
   pub few : allAccesses (p .threads) ≤ 16
   pub lines : Lined class groups p
   pub allowed : Allowed TSO (start p) v
-  pub holds : Holds code lengths (x .machine) (endOf p v)
+  pub holds : Holds code lengths (machineOf x) (endOf p v)
   pub counted : length v ≡ x .steps
   pub schedule : take (x .steps) (x .schedule) ≡ v
   pub sets : Carries (x .sets) p v

@@ -1,37 +1,35 @@
 // The start of a search, and a step.
-use crate::choosing::farther;
-use crate::choosing::smaller;
-use crate::freeing::free_accesses;
-use crate::freeing::free_moves;
 use crate::place::Place;
-use crate::place::Sets;
 use crate::reading::digit;
 use crate::reading::word_behind;
-use crate::sets::six;
-use crate::sets::with_bit;
-use crate::waiting::holders;
 use lines::wide;
 use rows::Code;
 use tso_carried::Deed;
+use tso_machine::Change;
 use tso_machine::QueuedMachine;
 use tso_machine::enabled;
+use tso_machine::lean_step;
+use tso_machine::may_access;
 use tso_machine::started;
-use tso_machine::step;
+use tso_machine::thread_of;
+use tso_waits::Sets;
+use tso_waits::candidates;
+use tso_waits::freed;
+use tso_waits::six;
 ghost use mathlib.Core.Path.{_≡_};
 ghost use mathlib.Core.Bool.{true, not, _&&_};
 ghost use mathlib.Core.List.{List, [], _∷_, _++_};
-ghost use Prim.Native.Nat.{ℕ, _<_, _≤_};
+ghost use Prim.Native.Nat.{ℕ, _≤_};
+ghost use lib.Dec.{leb};
 ghost use Rattle.program.specs.Program.{Program, initial};
 ghost use Rattle.program.specs.WellFormed.{allAccesses};
 ghost use Rattle.schedules.specs.Order.{Schedule};
-ghost use Rattle.machine.specs.Held.{Loaded, threadAt};
-ghost use Rattle.survivors.specs.Sets.{has};
+ghost use Rattle.machine.specs.Held.{Loaded};
 ghost use Rattle.prefix.specs.ClassGroups.{Lined};
-ghost use Rattle.tso.specs.State.{State, owner, byteFor, access, move, enabled};
+ghost use Rattle.tso.specs.State.{State, access, enabled};
 ghost use Rattle.tso.specs.Graph.{endOf};
-ghost use Rattle.tso_machine.specs.Held.{coreOf, Holds};
+ghost use Rattle.tso_machine.specs.Held.{Holds};
 ghost use Rattle.tso_carried.specs.LateBytes.{bytesOf};
-ghost use Rattle.tso_prefix.specs.Freed.{Ends, HoldsSets};
 ghost use Rattle.tso_prefix.specs.Reached.{Reached};
 
 // Which of the six may do their next access.
@@ -57,9 +55,21 @@ pub fn begun(code: &Code, lengths: &[usize; 6], threads: usize, starting: [u32; 
         → Reached (now (code .entry)) (now (lengths .entry)) class threads groups r p []) ⌝ }
 {
     let m = started(code, lengths, threads, starting);
+    let all = m.threads;
+    let memory = m.memory;
+    let last = m.last;
+    let heads = m.heads;
+    let tails = m.tails;
+    let slots = m.slots;
     Place {
-        schedule: [0u8; 32],
+        threads: all,
+        memory: memory,
+        last: last,
+        heads: heads,
+        tails: tails,
+        slots: slots,
         words: [0u64; 6],
+        schedule: [0u8; 32],
         steps: 0,
         sets: Sets {
             live: live_set(code, lengths, m),
@@ -68,18 +78,7 @@ pub fn begun(code: &Code, lengths: &[usize; 6], threads: usize, starting: [u32; 
             overdue: 0,
             far: 0,
         },
-        machine: m,
     }
-}
-
-// The thread of a byte.
-fn thread_of(b: u8) -> u8
-    ensures { λ r. ⌜ r ≡ owner b ⌝ }
-{
-    if b < 16 {
-        return b;
-    }
-    b - 16
 }
 
 // Whether a step that reads or not, its own pending store or not, looks at memory.
@@ -92,36 +91,26 @@ fn looked(reads: bool, own: bool) -> bool
     !own
 }
 
-// The sets behind a step that did e and led to this machine, of those that may step and those that could be late or far.
-fn sets_behind(
-    code: &Code,
-    m: QueuedMachine,
-    live: u8,
-    moving: u8,
-    late: u8,
-    overdue: u8,
-    far: u8,
-    e: Deed,
-) -> Sets
-    requires { ⌜ ((u : ℕ) → u < 6 → has late u ≡ true → threadAt (coreOf m) u .at < 16) × Ends (m .tails) ⌝ }
-    ensures { λ r. ⌜ ((lengths : List ℕ) (σ : State) → Holds (now (code .entry)) lengths m σ
-        → ((u : ℕ) → u < 6 → has late u ≡ true → enabled σ (byteFor access u) ≡ true)
-        → ((u : ℕ) → u < 6 → has overdue u ≡ true → enabled σ (byteFor move u) ≡ true)
-        → ((u : ℕ) → u < 6 → has far u ≡ true → enabled σ (byteFor move u) ≡ true)
-        → HoldsSets σ e live moving late overdue far r) ⌝ }
+// What the step b of thread t did, by its change.
+fn deed_of(c: Change, t: u8, b: u8) -> Deed
+    ensures { λ r. ⌜ r ≡ record {
+      thread = t;
+      number = c .number;
+      location = c .location;
+      moves = leb 16 b;
+      locks = c .locks;
+      looks = c .reads && not (c .own);
+      puts = c .puts;
+    } ⌝ }
 {
-    let threads = m.threads;
-    let memory = m.memory;
-    let slots = m.slots;
-    let heads = m.heads;
-    let tails = m.tails;
-    let holding = holders(slots, &heads, &tails, e.location);
-    Sets {
-        live: live,
-        moving: moving,
-        late: free_accesses(code, threads, memory, holding, late, e),
-        overdue: free_moves(slots, &heads, overdue, e),
-        far: free_moves(slots, &heads, far, e),
+    Deed {
+        thread: t,
+        number: c.number,
+        location: c.location,
+        moves: 16 <= b,
+        locks: c.locks,
+        looks: looked(c.reads, c.own),
+        puts: c.puts,
     }
 }
 
@@ -135,32 +124,49 @@ pub fn advanced(code: &Code, lengths: &[usize; 6], class: &[usize; 6], x: Place,
 {
     let mut y = x;
     let n = y.steps;
-    let before = y.machine;
     let old = y.sets;
-    let s = step(code, lengths, before, b);
-    let m = s.machine;
-    let source = s.source;
     let t = thread_of(b);
-    let e = Deed {
-        thread: t,
-        number: s.number,
-        location: s.location,
-        moves: 16 <= b,
-        locks: s.locks,
-        looks: looked(s.reads, s.own),
-        puts: s.puts,
-    };
-    let live = with_bit(old.live, t, enabled(code, lengths, m, t));
-    let moving = with_bit(old.moving, t, enabled(code, lengths, m, t + 16));
-    let late = smaller(live, old.late, b, 0);
-    let overdue = smaller(moving, old.overdue, b, 16);
-    let far = farther(class, &y.words, moving, old.far, b);
-    y.sets = sets_behind(code, m, live, moving, late, overdue, far, e);
-    y.machine = m;
+    let u = wide(t);
+    let thread = y.threads[u];
+    let memory = y.memory;
+    let last = y.last;
+    let slots = y.slots;
+    let c = lean_step(
+        code,
+        lengths,
+        thread,
+        memory,
+        last,
+        slots,
+        y.heads[u],
+        y.tails[u],
+        b,
+    );
+    let k = c.thread;
+    let l = c.place;
+    let w = c.last;
+    let q = c.slot;
+    let at = c.at;
+    let source = c.source;
+    y.threads[u] = k;
+    y.memory[l] = c.value;
+    y.last[l] = w;
+    y.slots[at] = q;
+    y.heads[u] = c.head;
+    y.tails[u] = c.tail;
+    let on = may_access(code, lengths, k.at, c.head, c.tail, t);
+    let s = candidates(class, &y.words, old, on, c.head < c.tail, t, b);
+    let e = deed_of(c, t, b);
+    let all = y.threads;
+    let values = y.memory;
+    let queues = y.slots;
+    let heads = y.heads;
+    let tails = y.tails;
+    let sets = freed(code, all, values, queues, &heads, &tails, s, e);
+    y.sets = sets;
     y.schedule[n] = b;
     y.steps = n + 1;
-    let u = wide(t);
     let word = y.words[u];
-    y.words[u] = word_behind(t, word, digit(t, s.reads, source), s.puts);
+    y.words[u] = word_behind(t, word, digit(t, c.reads, source), c.puts);
     y
 }

@@ -47,11 +47,11 @@ use Rattle.tso_machine.specs.Held.{coreOf, headAt, tailAt, Holds}
 use Rattle.tso_machine.specs.declared.state.Pending.{Pending}
 use Rattle.tso_machine.specs.declared.state.QueuedMachine.{QueuedMachine}
 use Rattle.tso_carried.specs.LateBytes.{bytesOf, lateAt}
-use Rattle.tso_prefix.specs.Freed.{storesTo}
+use Rattle.tso_waits.specs.Freed.{storesTo}
 use Rattle.tso_prefix.specs.Reached.{Reached}
 use Rattle.tso_prefix.specs.declared.place.Place.{Place}
-use Rattle.tso_prefix.proofs.HeldDeeds.{queue-none, queue-more}
-use Rattle.tso_prefix.proofs.Choices.{bytes-has}
+use Rattle.tso_waits.proofs.HeldDeeds.{queue-none, queue-more}
+use Rattle.tso_waits.proofs.Choices.{bytes-has}
 use Rattle.tso_rules.specs.Shown.{Shown, ReadyAt}
 
 -- ---- sets
@@ -95,14 +95,26 @@ all-same f g e = equal-tests (all f (range 0 6)) (all g (range 0 6))
     (λ q. all-of g (range 0 6) (λ u m. sym (e u (of-range 0 6 u m .1)) ∙ all-at f (range 0 6) u q m))
     (λ q. all-of f (range 0 6) (λ u m. e u (of-range 0 6 u m .1) ∙ all-at g (range 0 6) u q m))
 
-but-own : (a b : Bool) → not (cond a false b) ≡ (a || not b)
-but-own true b = refl
-but-own false b = refl
+not-not : (b : Bool) → not (not b) ≡ b
+not-not true = refl
+not-not false = refl
 
-pub quiet-but : (f : ℕ → Bool) (W t s : ℕ) → W ≡ setOf f 6 → s ≡ setOf (λ u. cond (eqb u t) false (has W u)) 6 → eqb s 0 ≡ all (λ u. eqb u t || not (f u)) (range 0 6)
-quiet-but f W t s eW es =
-    ap (λ (i : ℕ). eqb i 0) es ∙ set-empty (λ u. cond (eqb u t) false (has W u))
-    ∙ all-same (λ u. not (cond (eqb u t) false (has W u))) (λ u. eqb u t || not (f u)) (λ u h. but-own (eqb u t) (has W u) ∙ ap (λ (b : Bool). eqb u t || not b) (ap (λ (i : ℕ). has i u) eW ∙ set-has f 6 u h))
+either : (a b : Bool) → not (not a && b) ≡ (a || not b)
+either true b = refl
+either false b = refl
+
+pub any-none : (g : ℕ → Bool) → ((u : ℕ) → u < 6 → g u ≡ false) → any g (range 0 6) ≡ false
+any-none g h = sym (set-some g (setOf g 6) refl) ∙ ap not (eq-eqb (setOf g 6) 0 (set-none g 6 h))
+
+-- none of an empty set
+pub none-asleep : (f : ℕ → Bool) (s : ℕ) → s ≡ 0 → any (λ t. has s t && f t) (range 0 6) ≡ false
+none-asleep f s e = any-none (λ t. has s t && f t) (λ u h. ap (λ (b : Bool). b && f u) (ap (λ (i : ℕ). has i u) e ∙ has-none u))
+
+pub quiet-but : (f : ℕ → Bool) (t : ℕ) (r : Bool) → r ≡ any (λ u. not (eqb u t) && f u) (range 0 6) → not r ≡ all (λ u. eqb u t || not (f u)) (range 0 6)
+quiet-but f t r e =
+    let s = setOf (λ u. not (eqb u t) && f u) 6 in
+    ap not (e ∙ sym (set-some (λ u. not (eqb u t) && f u) s refl)) ∙ not-not (eqb s 0) ∙ set-empty (λ u. not (eqb u t) && f u)
+    ∙ all-same (λ u. not (not (eqb u t) && f u)) (λ u. eqb u t || not (f u)) (λ u h. either (eqb u t) (f u))
 
 -- ---- what is left to a thread
 module _ (code lengths at : List ℕ) (slots : List Pending) (heads tails : List ℕ) (σ : State) (shown : Shown code lengths at slots heads tails σ) (u : ℕ) (h : u < 6) (l : ℕ) (small : l < 8) (w : Bool) where

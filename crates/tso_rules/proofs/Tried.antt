@@ -27,7 +27,7 @@ use Rattle.tso_carried.specs.LateBytes.{bytesOf, lateAt, farAt}
 use Rattle.tso_carried.proofs.Twins.{twin-by-word}
 use Rattle.tso_prefix.specs.Reached.{Reached}
 use Rattle.tso_prefix.specs.declared.place.Place as Held
-use Rattle.tso_prefix.proofs.Choices.{bytes-has}
+use Rattle.tso_waits.proofs.Choices.{bytes-has}
 use Rattle.tso_rules.specs.Tried.{tried}
 
 any-same : (f g : ℕ → Bool) (l : List ℕ) → ((u : ℕ) → List·Memᴰ u l → f u ≡ g u) → any f l ≡ any g l

@@ -8,9 +8,9 @@ use rules::meets;
 use tso_machine::Pending;
 use tso_machine::locks_at;
 use tso_prefix::Place;
-use tso_prefix::is_pending;
-use tso_prefix::six;
-use tso_prefix::with_bit;
+use tso_waits::Sets;
+use tso_waits::is_pending;
+use tso_waits::six;
 ghost use mathlib.Core.Path.{_≡_};
 ghost use mathlib.Core.Bool.{true, not, _&&_, _||_};
 ghost use mathlib.Core.Option.{some};
@@ -26,12 +26,18 @@ ghost use Rattle.rules.specs.Left.{Left, ShortAt};
 ghost use Rattle.tso.specs.State.{State, TSO, byteFor, access, move, threadOf};
 ghost use Rattle.tso.specs.Graph.{endOf};
 ghost use Rattle.tso_list.specs.Rules.{wakes, unwoken, asleep};
-ghost use Rattle.tso_prefix.specs.Freed.{Ends};
+ghost use Rattle.tso_waits.specs.Freed.{Ends};
 ghost use Rattle.tso_prefix.specs.Reached.{Reached};
 ghost use Rattle.tso_rules.specs.Shown.{Shown, ReadyAt};
 
-// Whether something left to thread u, in its queue or in its code, could make a step at l wait: one that could put (w), or one that only
-// looks at memory.
+// A late step: its thread, its location, and whether one that only looks at memory could make it wait too, as one that could put.
+pub struct Awaited {
+    pub thread: u8,
+    pub location: u8,
+    pub writer: bool,
+}
+
+// Whether u is another thread and something left to it, in its queue or in its code, could make the step a wait.
 fn wakes(
     left: &[u8; 192],
     lengths: &[usize; 6],
@@ -39,46 +45,47 @@ fn wakes(
     slots: [Pending; 16],
     heads: &[u8; 6],
     tails: &[u8; 6],
+    a: Awaited,
     u: u8,
-    l: u8,
-    w: bool,
 ) -> bool
     requires { ⌜ (u < 6) × ShortAt (now lengths) (now at) × Ends (now tails) ⌝ }
     ensures { λ r. ⌜ ((code : List ℕ) (σ : State) → Left code (now (lengths .entry)) (now (left .entry))
-        → Shown code (now (lengths .entry)) (now (at .entry)) slots (now (heads .entry)) (now (tails .entry)) σ → l < 8
-        → r ≡ wakes (some w) l (threadOf σ u)) ⌝ }
+        → Shown code (now (lengths .entry)) (now (at .entry)) slots (now (heads .entry)) (now (tails .entry)) σ → a .location < 8
+        → r ≡ (not (eqb u (a .thread)) && wakes (some (a .writer)) (a .location) (threadOf σ u))) ⌝ }
 {
+    if u == a.thread {
+        return false;
+    }
     let i = wide(u);
-    if is_pending(slots, heads[i], tails[i], l) {
+    if is_pending(slots, heads[i], tails[i], a.location) {
         return true;
     }
-    meets(left, lengths, at, i, l, w)
+    meets(left, lengths, at, i, a.location, a.writer)
 }
 
-// The threads to which something is left that could.
-fn wakers(
+// Whether some other thread could.
+fn is_woken(
     left: &[u8; 192],
     lengths: &[usize; 6],
     at: &[usize; 6],
     slots: [Pending; 16],
     heads: &[u8; 6],
     tails: &[u8; 6],
-    l: u8,
-    w: bool,
-) -> u8
+    a: Awaited,
+) -> bool
     requires { ⌜ ShortAt (now lengths) (now at) × Ends (now tails) ⌝ }
     ensures { λ r. ⌜ ((code : List ℕ) (σ : State) → Left code (now (lengths .entry)) (now (left .entry))
-        → Shown code (now (lengths .entry)) (now (at .entry)) slots (now (heads .entry)) (now (tails .entry)) σ → l < 8
-        → r ≡ setOf (λ u. wakes (some w) l (threadOf σ u)) 6) ⌝ }
+        → Shown code (now (lengths .entry)) (now (at .entry)) slots (now (heads .entry)) (now (tails .entry)) σ → a .location < 8
+        → r ≡ any (λ u. not (eqb u (a .thread)) && wakes (some (a .writer)) (a .location) (threadOf σ u)) (range 0 6)) ⌝ }
 {
-    six(
-        wakes(left, lengths, at, slots, heads, tails, 0, l, w),
-        wakes(left, lengths, at, slots, heads, tails, 1, l, w),
-        wakes(left, lengths, at, slots, heads, tails, 2, l, w),
-        wakes(left, lengths, at, slots, heads, tails, 3, l, w),
-        wakes(left, lengths, at, slots, heads, tails, 4, l, w),
-        wakes(left, lengths, at, slots, heads, tails, 5, l, w),
-    )
+    let mut u = 0u8;
+    while u < 6 {
+        if wakes(left, lengths, at, slots, heads, tails, a, u) {
+            return true;
+        }
+        u += 1;
+    }
+    false
 }
 
 // Whether thread t's next access may be done, is late, and nothing left to the others could make it wait. A store waits for nothing.
@@ -105,22 +112,12 @@ fn is_access_asleep(
     if !is_reader(code, row) {
         return true;
     }
-    let w = locks_at(code, row);
-    with_bit(
-        wakers(
-            left,
-            lengths,
-            at,
-            slots,
-            heads,
-            tails,
-            location_at(code, row),
-            w,
-        ),
-        t,
-        false,
-    )
-        == 0
+    let a = Awaited {
+        thread: t,
+        location: location_at(code, row),
+        writer: locks_at(code, row),
+    };
+    !is_woken(left, lengths, at, slots, heads, tails, a)
 }
 
 // Whether thread t may move, its move is late, and nothing left to the others could make it wait.
@@ -143,12 +140,12 @@ fn is_move_asleep(
         return false;
     }
     let e = slots[wide(heads[wide(t)]) % 16];
-    with_bit(
-        wakers(left, lengths, at, slots, heads, tails, e.location, true),
-        t,
-        false,
-    )
-        == 0
+    let a = Awaited {
+        thread: t,
+        location: e.location,
+        writer: true,
+    };
+    !is_woken(left, lengths, at, slots, heads, tails, a)
 }
 
 // Whether some access is asleep for good.
@@ -206,6 +203,16 @@ fn is_some_move(
         != 0
 }
 
+// Whether no step is late.
+fn is_none_late(s: Sets) -> bool
+    ensures { λ r. ⌜ (r ≡ true → (s .late ≡ 0) × (s .overdue ≡ 0)) ⌝ }
+{
+    if s.late == 0 {
+        return s.overdue == 0;
+    }
+    false
+}
+
 // Whether some byte that may step is asleep for good.
 pub fn some_asleep(code: &Code, lengths: &[usize; 6], left: &[u8; 192], x: Place) -> bool
     requires { ⌜ ((class : List ℕ) × (threads : ℕ) × (groups : ℕ) × (p : Program) × (v : Schedule)
@@ -215,17 +222,19 @@ pub fn some_asleep(code: &Code, lengths: &[usize; 6], left: &[u8; 192], x: Place
         → r ≡ any (asleep p v (endOf p v)) (TSO .names)) ⌝ }
 {
     let s = x.sets;
-    let m = x.machine;
-    let a = m.threads[0];
-    let b = m.threads[1];
-    let c = m.threads[2];
-    let d = m.threads[3];
-    let e = m.threads[4];
-    let f = m.threads[5];
+    if is_none_late(s) {
+        return false;
+    }
+    let a = x.threads[0];
+    let b = x.threads[1];
+    let c = x.threads[2];
+    let d = x.threads[3];
+    let e = x.threads[4];
+    let f = x.threads[5];
     let at = [a.at, b.at, c.at, d.at, e.at, f.at];
-    let slots = m.slots;
-    let heads = m.heads;
-    let tails = m.tails;
+    let slots = x.slots;
+    let heads = x.heads;
+    let tails = x.tails;
     if is_some_access(code, left, lengths, &at, slots, &heads, &tails, s.late) {
         return true;
     }

@@ -1,7 +1,7 @@
 // R1, R2 and R2 far: whether a byte is tried.
 use prefix::is_in;
 use rules::has_same_word;
-use tso_prefix::Sets;
+use tso_waits::Sets;
 ghost use mathlib.Core.Path.{_≡_};
 ghost use mathlib.Core.List.{List};
 ghost use Prim.Native.Nat.{ℕ, _+_, _<_};

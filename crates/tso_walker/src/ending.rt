@@ -1,10 +1,11 @@
 // What the search does at a full schedule.
 use crate::listed::ROW;
 use crate::listed::WIDTH;
+use machine::Machine;
+use machine::fails;
 use pages::Aim;
 use pages::is_meant;
 use pages::put_row;
-use tso_machine::fails;
 use tso_prefix::Place;
 ghost use mathlib.Core.Path.{_≡_};
 ghost use mathlib.Core.Bool.{true};
@@ -33,8 +34,14 @@ pub(crate) fn at_end(x: Place, a: Aim, out: &mut [u8]) -> usize
     if a.room <= rows {
         return rows;
     }
-    let m = x.machine;
-    let f = fails(m);
+    let threads = x.threads;
+    let memory = x.memory;
+    let last = x.last;
+    let f = fails(Machine {
+        threads: threads,
+        memory: memory,
+        last: last,
+    });
     if !is_meant(a.failures, f) {
         return rows;
     }

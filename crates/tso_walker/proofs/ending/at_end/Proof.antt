@@ -24,7 +24,7 @@ returns c =
 returns-2 : tie.Need-returns-2
 unfolding fails
 returns-2 c =
-    let entry = c .before .before .before .before .before .before .before in
+    let entry = c .before .before .before .before .before .before .before .before .before in
     let a = entry .args in (
       entry .pre .1,
       λ code lengths class threads groups p v at e.
@@ -35,18 +35,18 @@ returns-2 c =
 
 array-share-prefix-schedule : tie.Need-array-share-prefix-schedule
 array-share-prefix-schedule c =
-    let s : length (c .before .before .before .before .before .before .before .before .before .args .x .schedule) ≡ 32 = search needs in
-    omega (arith, s, c .before .before .before .before .before .before .before .before .before .pre .0)
+    let s : length (c .before .before .before .before .before .before .before .before .before .before .before .args .x .schedule) ≡ 32 = search needs in
+    omega (arith, s, c .before .before .before .before .before .before .before .before .before .before .before .pre .0)
 
 slice-aggregate-put-row : tie.Need-slice-aggregate-put-row
 slice-aggregate-put-row c =
-    let s : length (c .before .before .before .before .before .before .before .before .before .before .args .x .schedule) ≡ 32 = search needs in
-    sym (length-take-le _ _ (omega (arith, s, c .before .before .before .before .before .before .before .before .before .before .pre .0)))
+    let s : length (c .before .before .before .before .before .before .before .before .before .before .before .before .args .x .schedule) ≡ 32 = search needs in
+    sym (length-take-le _ _ (omega (arith, s, c .before .before .before .before .before .before .before .before .before .before .before .before .pre .0)))
 
 put-row-requires : tie.Need-put-row-requires
 put-row-requires c κs =
-    let x = c .before .before .before .before .before .before .before .before .before .before .args .x in
-    let s : length (c .before .before .before .before .before .before .before .before .before .before .args .x .schedule) ≡ 32 = search needs in
+    let x = c .before .before .before .before .before .before .before .before .before .before .before .before .args .x in
+    let s : length (c .before .before .before .before .before .before .before .before .before .before .before .before .args .x .schedule) ≡ 32 = search needs in
     (omega (arith, length-take (x .steps) (x .schedule), s), omega arith, search needs)
 
 returns-3 : tie.Need-returns-3
@@ -54,13 +54,13 @@ unfolding fails rowOf
 returns-3 c = (
   search needs,
   λ code lengths class threads groups p v at e.
-      let a = c .before .before .before .before .before .before .before .before .before .before .before .before .before .args in
+      let a = c .before .before .before .before .before .before .before .before .before .before .before .before .before .before .before .args in
       let failed = c .before .before .before .before .before .before .before .before .fails in
       let f : failing tso p v ≡ failed .result = sym (failed .ensures ∙ fails-by (at .holds .core)) in
       let w = at .schedule in
       adds-one 48 (failing tso p) (a .a .room) _ v (a .out .now) (c .before .before .put-row .last .0) (a .a .rows)
       (behind-end (a .a .failures) p (a .x .steps) v (failed .result) e f (sym (c .before .before .before .before .before .before .before .is-meant .ensures) ∙ not-false _ (c .before .before .before .before .before .before .if2 .left)))
-      (c .before .before .before .before .before .before .before .before .before .before .if1 .left) (c .before .before .put-row .ensures ∙ rw (w, f)),
+      (c .before .before .before .before .before .before .before .before .before .before .before .before .if1 .left) (c .before .before .put-row .ensures ∙ rw (w, f)),
 )
 
 pub at-end-spec : {M : Type 1} → statement M

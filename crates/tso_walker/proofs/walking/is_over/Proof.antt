@@ -9,7 +9,7 @@ use Rattle.schedules.specs.System.{ended}
 use Rattle.tso.specs.State.{TSO, State, access, move, enabled}
 use Rattle.tso.specs.Graph.{endOf}
 use Rattle.tso_carried.specs.LateBytes.{bytesOf}
-use Rattle.tso_prefix.specs.declared.place.Sets.{Sets}
+use Rattle.tso_waits.specs.declared.sets.Sets.{Sets}
 use Rattle.tso_walker.proofs.ReachedEnd.{ended-sets, going-set}
 use Rattle.tso_walker.proofs.walking.is_over.Statement.{statement}
 use Rattle.tso_walker.proofs.walking.is_over.Tie as tie
