@@ -5,9 +5,9 @@ use Prim.Native.Nat.{ℕ}
 use mathlib.Core.Path.{sym, ap, _∙_}
 use Rattle.survivors.specs.Sets.{has}
 use Rattle.prefix.proofs.ReachedStep.{reached-live}
-use Rattle.walker.proofs.TriedSteps.{tried-ended, tried-late, tried-twin}
-use Rattle.walker.proofs.walking.is_tried.Statement.{statement}
-use Rattle.walker.proofs.walking.is_tried.Tie as tie
+use Rattle.search.proofs.TriedSteps.{tried-ended, tried-late, tried-twin}
+use Rattle.search.proofs.walking.is_tried.Statement.{statement}
+use Rattle.search.proofs.walking.is_tried.Tie as tie
 
 returns : tie.Need-returns
 returns c =

@@ -1,5 +1,4 @@
 // What the search does at a full schedule.
-use crate::listed::ROW;
 use accesses::ThreadState;
 use pages::Aim;
 use pages::is_meant;
@@ -21,10 +20,13 @@ ghost use Rattle.machine.specs.Held.{Holds};
 ghost use Rattle.machine.specs.declared.state.Machine.{Machine};
 ghost use Rattle.survivors.specs.Search.{foundBehind};
 ghost use Rattle.prefix.specs.Reached.{Reached};
-ghost use Rattle.walker.specs.Walked.{Adds};
+ghost use Rattle.ending.specs.Walked.{Adds};
+
+// The bytes of a listed schedule's row.
+pub const ROW: usize = 26;
 
 // Whether an assertion of one of these threads failed.
-fn some_failed(threads: [ThreadState; 6]) -> bool
+pub fn some_failed(threads: [ThreadState; 6]) -> bool
     ensures { λ r. ⌜ ((code lengths : List ℕ) (m : Machine) (σ : State) → m .threads ≡ threads → Holds code lengths m σ → r ≡ fails σ) ⌝ }
 {
     let mut t = 0;
@@ -39,7 +41,7 @@ fn some_failed(threads: [ThreadState; 6]) -> bool
 }
 
 // Adds its row, if it is looked for and there is room; answers how many rows there are.
-pub(crate) fn at_end(x: Place, a: Aim, out: &mut [u8]) -> usize
+pub fn at_end(x: Place, a: Aim, out: &mut [u8]) -> usize
     requires { ⌜ (x .steps ≤ 24) × (a .rows ≤ a .room) × (a .room * 26 ≤ length (now out)) ⌝ }
     ensures within { λ r. ⌜ r ≤ a .room ⌝ }
     ensures added { λ r. ⌜ ((code lengths class : List ℕ) (threads groups : ℕ) (p : Program) (v : Schedule)

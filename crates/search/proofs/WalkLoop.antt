@@ -1,12 +1,12 @@
 -- The search as the code walks it: with one next step, over the next steps in turn, and at a full schedule.
 use Prim.Native.Nat.{ℕ, _+_, _-_, _<_, _≤_}
-use mathlib.Core.Path.{_≡_, refl, sym, ap, _∙_}
+use mathlib.Core.Path.{_≡_, refl, sym, ap, subst, _∙_}
 use mathlib.Core.Bool.{Bool, true, false, not}
 use mathlib.Core.Option.{Option, none}
 use mathlib.Core.List.{List, [], _∷_, _++_}
 use native.Mathlib.Omega.{arith}
 use lib.Dec.{eqb}
-use lib.ListN.{length, drop, length-append}
+use lib.ListN.{length, getD, drop, length-append}
 use borrow.Author.Tests.{eqb-true, eqb-false, not-true, not-false}
 use Rattle.program.specs.Program.{Program}
 use Rattle.schedules.specs.Lists.{range, any}
@@ -26,11 +26,16 @@ use Rattle.survivors.proofs.Search.{up-asleep, up-not, with-given-up, with-live
 use Rattle.prefix.specs.Reached.{Reached}
 use Rattle.prefix.specs.declared.place.Place.{Place}
 use Rattle.prefix.proofs.ReachedStep.{reached-room}
+use Rattle.machine.specs.Held.{idle}
 use Rattle.pages.specs.Bounds.{boundAt}
+use Rattle.pages.specs.declared.aim.Aim.{Aim}
+use Rattle.pages.proofs.AddedRows.{adds-same}
 use Rattle.pages.proofs.WalkLoop as Loop
-use Rattle.walker.specs.Tried.{tried}
-use Rattle.walker.specs.Walked.{Adds}
-use Rattle.walker.proofs.TriedSteps.{tried-enabled, tried-on-time, tried-alone, untried-none}
+use Rattle.ending.specs.Runner.{RunnerOf}
+use Rattle.search.specs.Tried.{tried}
+use Rattle.ending.specs.Walked.{Adds}
+use Rattle.ending.specs.declared.alone.Runner.{Runner}
+use Rattle.search.proofs.TriedSteps.{tried-enabled, tried-on-time, tried-alone, untried-none}
 
 -- ---- with one next step
 module _ (code lengths class : List ℕ) (threads groups : ℕ) (x : Place) (p : Program) (v : Schedule) (at : Reached code lengths class threads groups x p v)
@@ -49,7 +54,7 @@ module _ (code lengths class : List ℕ) (threads groups : ℕ) (x : Place) (p :
       next-steps = omega (arith, next .counted, at .counted, length-append v (t ∷ []))
 
       -- one step fewer is left
-      pub visit-less : (24 - y .steps) + (24 - y .steps) + 1 < (24 - x .steps) + (24 - x .steps)
+      pub visit-less : 24 - y .steps < 24 - x .steps
       visit-less = omega (arith, next-steps, reached-room code lengths class threads groups x p v at t ok)
 
       -- no rule gives it up
@@ -61,18 +66,42 @@ module _ (code lengths class : List ℕ) (threads groups : ℕ) (x : Place) (p :
           ∙ ap (λ (q : Option Schedule). foundBehind failures p (x .steps + 1) q (v ++ (t ∷ []))) (sym e)
           ∙ ap (λ (k : ℕ). foundBehind failures p k (boundAt still bound k) (v ++ (t ∷ []))) (sym next-steps)
 
+      -- what is added behind it, with the aim b, is added with it
+      pub visit-adds : not (eqb (sleepers (endOf p (v ++ (t ∷ []))) (lateSet p (v ++ (t ∷ [])))) 0) ≡ false
+          → (room rows : ℕ) (b : Aim) (bound : List ℕ) → b .failures ≡ failures → b .room ≡ room → b .rows ≡ rows → boundAt (b .tight) bound (x .steps + 1) ≡ past o t
+          → (out out' : List ℕ) (n : ℕ) → Adds p (b .room) (foundBehind (b .failures) p (y .steps) (boundAt (b .tight) bound (y .steps)) (v ++ (t ∷ []))) out (b .rows) out' n
+          → Adds p room (foundWith failures p (x .steps) o v t) out rows out' n
+      visit-adds c room rows b bound ef em er e out out' n adds =
+          adds-same 24 (failing p) room _ _ out out' rows n (visit-on c (b .tight) bound e)
+          (subst (λ (f : Bool). Adds p room (foundBehind f p (y .steps) (boundAt (b .tight) bound (y .steps)) (v ++ (t ∷ []))) out rows out' n) ef
+          (subst (λ (k : ℕ). Adds p k (foundBehind (b .failures) p (y .steps) (boundAt (b .tight) bound (y .steps)) (v ++ (t ∷ []))) out rows out' n) em
+          (subst (λ (k : ℕ). Adds p (b .room) (foundBehind (b .failures) p (y .steps) (boundAt (b .tight) bound (y .steps)) (v ++ (t ∷ []))) out k out' n) er adds)))
+
+-- none is asleep
+pub none-sleeps : (p : Program) (v : Schedule) → not (eqb (sleepers (endOf p v) (lateSet p v)) 0) ≡ false → sleepers (endOf p v) (lateSet p v) ≡ 0
+none-sleeps p v e = eqb-true _ 0 (not-false _ e)
+
+-- an aim that differs in the rows alone
+pub as-aimed : (p : Program) (b c : Aim) (steps : ℕ) (bound : List ℕ) (v : Schedule) (t : ℕ) (out : List ℕ) (rows : ℕ) (out' : List ℕ) (n : ℕ)
+    → b .failures ≡ c .failures → b .tight ≡ c .tight → b .room ≡ c .room
+    → Adds p (b .room) (foundWith (b .failures) p steps (boundAt (b .tight) bound steps) v t) out rows out' n
+    → Adds p (c .room) (foundWith (c .failures) p steps (boundAt (c .tight) bound steps) v t) out rows out' n
+as-aimed p b c steps bound v t out rows out' n ef et em adds =
+    subst (λ (f : Bool). Adds p (c .room) (foundWith f p steps (boundAt (c .tight) bound steps) v t) out rows out' n) ef
+    (subst (λ (f : Bool). Adds p (c .room) (foundWith (b .failures) p steps (boundAt f bound steps) v t) out rows out' n) et
+    (subst (λ (k : ℕ). Adds p k (foundWith (b .failures) p steps (boundAt (b .tight) bound steps) v t) out rows out' n) em adds))
+
+-- the thread s, the u-th of the array, with memory and the steps
+pub runner-of : (x : Place) (s u : ℕ) (r : Runner) (f : Bool) → u ≡ s
+    → r ≡ record { thread = getD (x .threads) u idle; memory = x .memory; schedule = x .schedule; steps = x .steps; failed = f } → RunnerOf x s r
+runner-of x s u r f eu er = record {
+  thread = ap (λ (i : ℕ). getD (x .threads) i idle) (sym eu) ∙ ap (λ (k : Runner). k .thread) (sym er);
+  memory = ap (λ (k : Runner). k .memory) (sym er);
+  schedule = ap (λ (k : Runner). k .schedule) (sym er);
+  steps = ap (λ (k : Runner). k .steps) (sym er);
+}
+
 -- ---- over the next steps in turn
--- the run has ended, along the bound
-pub bound-met : (failures : Bool) (p : Program) (steps : ℕ) (v : Schedule) (b : List ℕ) → ended SC (endOf p v) ≡ true
-    → foundBehind failures p steps (boundAt true b steps) v ≡ []
-unfolding boundAt
-bound-met failures p steps v b e = behind-bound failures p steps v (drop steps b) e
-
--- apart from it
-pub bound-apart : (failures : Bool) (p : Program) (steps : ℕ) (v : Schedule) (b : List ℕ) → foundBehind failures p steps (boundAt false b steps) v ≡ foundBehind failures p steps none v
-unfolding boundAt
-bound-apart failures p steps v b = refl
-
 -- the programs and prefixes that the place may stand for
 abbrev pub Cases : (code lengths class : List ℕ) (x : Place) → Type 0
 Cases code lengths class x = (threads : ℕ) × (groups : ℕ) × (p : Program) × (v : Schedule) × Reached code lengths class threads groups x p v

@@ -16,7 +16,7 @@ use Rattle.survivors.specs.Sets.{has}
 use Rattle.survivors.specs.LateSet.{lateSet}
 use Rattle.survivors.specs.Search.{foundWith}
 use Rattle.survivors.proofs.Search.{up-late, up-twin, with-ended, with-given-up}
-use Rattle.walker.specs.Tried.{tried}
+use Rattle.search.specs.Tried.{tried}
 
 module _ (p : Program) (v : Schedule) (t : ℕ) where
   -- ---- one question after the other

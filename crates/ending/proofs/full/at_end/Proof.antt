@@ -11,8 +11,8 @@ use Rattle.survivors.proofs.Search.{behind-end, behind-passed}
 use Rattle.prefix.specs.Reached.{machineOf}
 use Rattle.pages.specs.Rows.{rowOf}
 use Rattle.pages.proofs.AddedRows.{adds-none, adds-full, adds-one}
-use Rattle.walker.proofs.ending.at_end.Statement.{statement}
-use Rattle.walker.proofs.ending.at_end.Tie as tie
+use Rattle.ending.proofs.full.at_end.Statement.{statement}
+use Rattle.ending.proofs.full.at_end.Tie as tie
 
 returns : tie.Need-returns
 returns c =

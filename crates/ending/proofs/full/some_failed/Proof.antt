@@ -9,8 +9,8 @@ use lib.ListN.{getD}
 use Rattle.accesses.specs.declared.thread.ThreadState.{ThreadState}
 use Rattle.machine.specs.Held.{idle}
 use Rattle.machine.proofs.HeldAsking.{one-more, fails-by, fails-yes, fails-not}
-use Rattle.walker.proofs.ending.some_failed.Statement.{statement}
-use Rattle.walker.proofs.ending.some_failed.Tie as tie
+use Rattle.ending.proofs.full.some_failed.Statement.{statement}
+use Rattle.ending.proofs.full.some_failed.Tie as tie
 
 abbrev Inv-loop : tie.InvT-loop
 Inv-loop threads t₀ t = (t ≤ 6) × ((u : ℕ) → u < t → getD threads u idle .failed ≡ false)
