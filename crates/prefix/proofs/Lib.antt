@@ -6,5 +6,7 @@ pub mod RowAccess
 pub mod ClassGroups
 -- the set of the threads that have not ended
 pub mod LiveSet
+-- the late ones behind a step, asked one after the other
+pub mod LateLoop
 -- a prefix: its start, a step more, who may step
 pub mod ReachedStep

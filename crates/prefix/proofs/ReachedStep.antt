@@ -183,37 +183,58 @@ module _ (code lengths class : List ℕ) (threads groups : ℕ) (x : Place) (p :
           ap (λ (k : ThreadState). ltb (k .at) (getD lengths t 0)) (sym (getD-set-same (x .threads) t (a .thread) idle (omega (arith, six, at .holds .sizes .0))))
           ∙ enabled-held code lengths next (step σ t) (moved .holds) t six
 
-      pub reached-next : (r : Place) → length (x .schedule) ≡ 24 → Carried code lengths x t a r → Reached code lengths class threads groups r p (v ++ (t ∷ []))
-      unfolding wordsBehind
-      reached-next r size c = record {
+      -- a place that holds the step, and what the rules carry
+      pub reached-more : (r : Place) → length (x .schedule) ≡ 24
+          → r .threads ≡ set (x .threads) t (a .thread) → r .memory ≡ a .memory → r .schedule ≡ set (x .schedule) (x .steps) t → r .steps ≡ x .steps + 1
+          → r .late ≡ lateSet p (v ++ (t ∷ [])) → r .live ≡ setOf (enabled (endOf p (v ++ (t ∷ [])))) 6
+          → r .stamps ≡ wordsOf p (v ++ (t ∷ [])) .stamps → r .words ≡ wordsOf p (v ++ (t ∷ [])) .words
+          → Reached code lengths class threads groups r p (v ++ (t ∷ []))
+      reached-more r size et em es en late live stamps words = record {
         loaded = at .loaded;
         lines = at .lines;
         allowed = more-allowed;
         last = moved .last;
         holds =
-            subst (λ (ts : List ThreadState). Holds code lengths (record { threads = ts; memory = r .memory; last = moved .last }) (endOf p (v ++ (t ∷ [])))) (sym (c .threads))
-            (subst (λ (vs : List ℕ). Holds code lengths (record { threads = set (x .threads) t (a .thread); memory = vs; last = moved .last }) (endOf p (v ++ (t ∷ [])))) (sym (c .memory)) next-held);
-        counted = omega (arith, length-append v (t ∷ []), at .counted, c .steps);
+            subst (λ (ts : List ThreadState). Holds code lengths (record { threads = ts; memory = r .memory; last = moved .last }) (endOf p (v ++ (t ∷ [])))) (sym et)
+            (subst (λ (vs : List ℕ). Holds code lengths (record { threads = set (x .threads) t (a .thread); memory = vs; last = moved .last }) (endOf p (v ++ (t ∷ [])))) (sym em) next-held);
+        counted = omega (arith, length-append v (t ∷ []), at .counted, en);
         schedule =
-            ap₂ (λ (n : ℕ) (l : List ℕ). take n l) (c .steps ∙ add-one (x .steps)) (c .schedule)
+            ap₂ (λ (n : ℕ) (l : List ℕ). take n l) (en ∙ add-one (x .steps)) es
             ∙ take-suc-set (x .schedule) (x .steps) t (omega (arith, size, reached-room)) ∙ ap (λ (l : List ℕ). l ++ (t ∷ [])) (at .schedule);
-        late =
-            c .late next (step σ t) refl refl (moved .holds) ∙ ap₂ (λ (s : ℕ) (a : Action). lateBehind (step σ t) s a) (at .late) did ∙ sym (late-more p v t);
-        live =
-            c .live ∙ ap₂ (λ (b : Bool) (s : ℕ). cond b s (s - 2 ^ t)) goes (at .live) ∙ sym (live-more σ t ok)
-            ∙ ap (λ (τ : State). setOf (enabled τ) 6) (sym (run-snoc SC (start p) v t));
-        stamps =
-            c .stamps
-            ∙ ap₂ (λ (l : ℕ) (w : Bool). set (x .stamps) l (cond w (x .steps + 1) (getD (x .stamps) l 0))) near (moved .wrote)
-            ∙ ap₂ (λ (s : List ℕ) (n : ℕ). set s (place σ t) (cond (writes σ t) n (getD s (place σ t) 0))) (at .stamps) count
-            ∙ stamp-stored (wordsOf p v .stamps) (place σ t) (length v + 1) (writes σ t)
-            ∙ ap (λ (w : Words). w .stamps) (sym (words-more p v t));
-        words =
-            c .words
-            ∙ ap₂ (λ (l : ℕ) (w : Bool). set (x .words) t (wordBehind t (getD (x .words) t 0) (getD (x .stamps) l 0) w)) near (moved .wrote)
-            ∙ ap₂ (λ (s z : List ℕ). set z t (wordBehind t (getD z t 0) (getD s (place σ t) 0) (writes σ t))) (at .stamps) (at .words)
-            ∙ ap (λ (w : Words). w .words) (sym (words-more p v t));
+        late = late;
+        live = live;
+        stamps = stamps;
+        words = words;
       }
+
+      pub reached-next : (r : Place) → length (x .schedule) ≡ 24 → Carried code lengths x t a r → Reached code lengths class threads groups r p (v ++ (t ∷ []))
+      unfolding wordsBehind
+      reached-next r size c =
+          reached-more r size (c .threads) (c .memory) (c .schedule) (c .steps)
+          (c .late next (step σ t) refl refl (moved .holds) ∙ ap₂ (λ (s : ℕ) (a : Action). lateBehind (step σ t) s a) (at .late) did ∙ sym (late-more p v t))
+          (c .live ∙ ap₂ (λ (b : Bool) (s : ℕ). cond b s (s - 2 ^ t)) goes (at .live) ∙ sym (live-more σ t ok)
+          ∙ ap (λ (τ : State). setOf (enabled τ) 6) (sym (run-snoc SC (start p) v t)))
+          (c .stamps
+          ∙ ap₂ (λ (l : ℕ) (w : Bool). set (x .stamps) l (cond w (x .steps + 1) (getD (x .stamps) l 0))) near (moved .wrote)
+          ∙ ap₂ (λ (s : List ℕ) (n : ℕ). set s (place σ t) (cond (writes σ t) n (getD s (place σ t) 0))) (at .stamps) count
+          ∙ stamp-stored (wordsOf p v .stamps) (place σ t) (length v + 1) (writes σ t)
+          ∙ ap (λ (w : Words). w .stamps) (sym (words-more p v t)))
+          (c .words
+          ∙ ap₂ (λ (l : ℕ) (w : Bool). set (x .words) t (wordBehind t (getD (x .words) t 0) (getD (x .stamps) l 0) w)) near (moved .wrote)
+          ∙ ap₂ (λ (s z : List ℕ). set z t (wordBehind t (getD z t 0) (getD s (place σ t) 0) (writes σ t))) (at .stamps) (at .words)
+          ∙ ap (λ (w : Words). w .words) (sym (words-more p v t)))
+
+  -- where not all have ended there is room for a step
+  pub reached-open : ended SC (endOf p v) ≡ false → x .steps < 24
+  reached-open e = go (decLt (x .steps) 24)
+    where
+      none : 24 ≤ x .steps → (t : ℕ) (b : Bool) → enabled (endOf p v) t ≡ b → enabled (endOf p v) t ≡ false
+      none h t true q = absurd (omega (arith, h, reached-room t q))
+      none h t false q = q
+
+      go : Dec (x .steps < 24) → x .steps < 24
+      go (yes h) = h
+      go (no h) = absurd (true≢false (sym (ended-of SC σ (λ t. none (omega (arith, h)) t (enabled (endOf p v) t) refl)) ∙ e))
 
   -- a place at which t has an instruction left, whatever prefix led to it
   pub enabled-again : (t : ℕ) → t < 6 → getD (x .threads) t idle .at < getD lengths t 0 → enabled (endOf p v) t ≡ true

@@ -1,28 +1,30 @@
-// The start of a search, and a step.
+// The start of a search, and what a step leaves to the rules.
 use crate::place::Place;
-use crate::running::live_behind;
 use crate::running::live_set;
+use accesses::ThreadState;
 use carried::Step;
 use carried::addend;
 use carried::is_late_behind;
-use carried::late_bound;
 use carried::power;
 use carried::stamp_behind;
 use carried::word_behind;
 use lines::wide;
-use machine::lean_step;
+use machine::Machine;
+use machine::Moved;
 use machine::started;
 use program::STEPS;
 use rows::Code;
 ghost use mathlib.Core.Path.{_≡_};
-ghost use mathlib.Core.Bool.{true};
-ghost use mathlib.Core.List.{List, [], _∷_, _++_};
-ghost use Prim.Native.Nat.{ℕ};
+ghost use mathlib.Core.Bool.{cond};
+ghost use mathlib.Core.List.{List, []};
+ghost use Prim.Native.Nat.{ℕ, _+_, _%_, _^_, _<_, _≤_};
+ghost use lib.ListN.{getD, set};
 ghost use Rattle.program.specs.Program.{Program, initial};
-ghost use Rattle.schedules.specs.Order.{Schedule};
-ghost use Rattle.sc.specs.State.{enabled};
-ghost use Rattle.sc.specs.Graph.{endOf};
-ghost use Rattle.machine.specs.Held.{Loaded};
+ghost use Rattle.sc.specs.State.{State};
+ghost use Rattle.machine.specs.Held.{Loaded, Holds, threadAt};
+ghost use Rattle.survivors.specs.Sets.{addend};
+ghost use Rattle.survivors.specs.LateSet.{lateNow};
+ghost use Rattle.survivors.specs.ReadWords.{wordBehind};
 ghost use Rattle.prefix.specs.ClassGroups.{Lined};
 ghost use Rattle.prefix.specs.Reached.{Reached};
 
@@ -47,48 +49,52 @@ pub fn begun(code: &Code, lengths: &[usize; 6], threads: usize, starting: [u32; 
     }
 }
 
-// Behind a step of thread t, which has not ended. One copy of the place is made, and the step's changes are stored in it.
-pub fn advanced(code: &Code, lengths: &[usize; 6], x: Place, t: u8) -> Place
-    requires { ⌜ ((class : List ℕ) × (threads : ℕ) × (groups : ℕ) × (p : Program) × (v : Schedule)
-        × Reached (now code) (now lengths) class threads groups x p v × (enabled (endOf p v) t ≡ true)) ⌝ }
-    ensures { λ r. ⌜ ((class : List ℕ) (threads groups : ℕ) (p : Program) (v : Schedule)
-        → Reached (now (code .entry)) (now (lengths .entry)) class threads groups x p v
-        → Reached (now (code .entry)) (now (lengths .entry)) class threads groups r p (v ++ (t ∷ []))) ⌝ }
+// Stores the stamp of a location behind a step to it, which comes behind n others and wrote it or not; gives back the one that it had.
+pub fn mark_location(stamps: &mut [u8; 8], location: u8, wrote: bool, n: usize) -> u8
+    requires { ⌜ n < 24 ⌝ }
+    ensures old { λ r. ⌜ r ≡ getD (now (stamps .entry)) (location % 8) 0 ⌝ }
+    ensures new { λ r. ⌜ now (stamps .exit) ≡ set (now (stamps .entry)) (location % 8)
+        (cond wrote (n + 1) (getD (now (stamps .entry)) (location % 8) 0)) ⌝ }
 {
-    let mut y = x;
-    let n = y.steps;
+    let l = wide(location) % 8;
+    let stamp = stamps[l];
+    stamps[l] = stamp_behind(stamp, (n + 1) as u8, wrote);
+    stamp
+}
+
+// Stores the word of thread t behind a step of its, which found this stamp, and wrote or not.
+pub fn mark_thread(words: &mut [u64; 6], t: u8, stamp: u8, wrote: bool)
+    requires { ⌜ t < 6 ⌝ }
+    ensures { λ r. ⌜ now (words .exit) ≡ set (now (words .entry)) t (wordBehind t (getD (now (words .entry)) t 0) stamp wrote) ⌝ }
+{
     let u = wide(t);
-    let thread = y.threads[u];
-    let memory = y.memory;
-    let a = lean_step(code, lengths, thread, memory, t);
-    let k = a.thread;
-    let values = a.memory;
-    y.threads[u] = k;
-    y.memory = values;
-    y.schedule[n] = t;
-    y.steps = n + 1;
-    let l = wide(a.location) % 8;
-    let stamp = y.stamps[l];
-    y.stamps[l] = stamp_behind(stamp, (n + 1) as u8, a.wrote);
-    let word = y.words[u];
-    y.words[u] = word_behind(t, word, stamp, a.wrote);
+    let word = words[u];
+    words[u] = word_behind(t, word, stamp, wrote);
+}
+
+// What thread u, which stands so behind the step a of thread t, adds to the set of the late: its bit or nothing.
+pub fn late_bit(
+    code: &Code,
+    lengths: &[usize; 6],
+    k: ThreadState,
+    a: Moved,
+    u: u8,
+    late: u8,
+    t: u8,
+) -> u8
+    requires { ⌜ (u < 6) × (k .at < getD (now lengths) u 0 → getD (now lengths) u 0 ≤ 16) ⌝ }
+    ensures { λ r. ⌜ (r ≤ 2 ^ u) × ((m : Machine) (σ : State) → Holds (now (code .entry)) (now (lengths .entry)) m σ
+        → threadAt m u ≡ k → m .memory ≡ a .memory
+        → r ≡ addend (lateNow σ late (record { thread = t; location = a .location; wrote = a .wrote }) u) (2 ^ u)) ⌝ }
+{
+    let memory = a.memory;
     let s = Step {
         thread: t,
         location: a.location,
         wrote: a.wrote,
     };
-    let top = late_bound(y.late, t);
-    let mut late = 0u8;
-    let mut w = 0u8;
-    while w < top {
-        let h = y.threads[wide(w)];
-        late += addend(
-            is_late_behind(code, lengths, h, values, w, y.late, s),
-            power(w),
-        );
-        w += 1;
-    }
-    y.late = late;
-    y.live = live_behind(y.live, t, k.at < lengths[u]);
-    y
+    addend(
+        is_late_behind(code, lengths, k, memory, u, late, s),
+        power(u),
+    )
 }

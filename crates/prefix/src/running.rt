@@ -29,7 +29,7 @@ pub(crate) fn live_set(lengths: &[usize; 6], threads: [ThreadState; 6]) -> u8
 }
 
 // Those behind a step of thread t, one of them, which goes on behind it or not.
-pub(crate) fn live_behind(live: u8, t: u8, on: bool) -> u8
+pub fn live_behind(live: u8, t: u8, on: bool) -> u8
     requires { ⌜ (t < 6) × (2 ^ t ≤ live) ⌝ }
     ensures { λ r. ⌜ r ≡ cond on live (live - 2 ^ t) ⌝ }
 {

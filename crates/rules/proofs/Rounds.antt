@@ -37,21 +37,25 @@ six-counters ts (suc (suc (suc (suc zero)))) h = refl
 six-counters ts (suc (suc (suc (suc (suc zero))))) h = refl
 six-counters ts (suc (suc (suc (suc (suc (suc k)))))) h = absurd (omega arith)
 
-module _ (code lengths class : List ℕ) (threads groups : ℕ) (x : Place) (p : Program) (v : Schedule) (r : Reached code lengths class threads groups x p v) where
+-- where the threads stand as at a place, and as many are late
+module _ (code lengths class : List ℕ) (threads groups : ℕ) (x : Place) (p : Program) (v : Schedule) (r : Reached code lengths class threads groups x p v)
+    (ts : List ThreadState) (et : x .threads ≡ ts) (s : ℕ) (es : x .late ≡ s) where
   abbrev σ : State
   σ = endOf p v
 
-  pub counters-short : ShortAt lengths (countersOf (x .threads))
-  counters-short k h l = let e = six-counters (x .threads) k h in reached-short code lengths class threads groups x p v r k h (omega (arith, e, l))
+  pub counters-short : ShortAt lengths (countersOf ts)
+  counters-short = subst (λ (l : List ThreadState). ShortAt lengths (countersOf l)) et
+      (λ k h l. let e = six-counters (x .threads) k h in reached-short code lengths class threads groups x p v r k h (omega (arith, e, l)))
 
-  pub counters-rest : Rests code lengths (countersOf (x .threads)) (endOf p v)
-  counters-rest t h = r .holds .threads t h .rest ∙ ap (λ (i : ℕ). drop i (threadCode code t (getD lengths t 0))) (sym (six-counters (x .threads) t h))
+  pub counters-rest : Rests code lengths (countersOf ts) (endOf p v)
+  counters-rest = subst (λ (l : List ThreadState). Rests code lengths (countersOf l) (endOf p v)) et
+      (λ t h. r .holds .threads t h .rest ∙ ap (λ (i : ℕ). drop i (threadCode code t (getD lengths t 0))) (sym (six-counters (x .threads) t h)))
 
-  pub late-small : x .late < 64
-  late-small = omega (arith, r .late, late-below p v)
+  pub late-small : s < 64
+  late-small = omega (arith, r .late, late-below p v, es)
 
-  pub asleep-first : sleepers (endOf p v) (lateSet p v) ≡ sleepers (endOf p v) (x .late)
-  asleep-first = ap (sleepers σ) (sym (r .late))
+  pub asleep-first : sleepers (endOf p v) (lateSet p v) ≡ sleepers (endOf p v) s
+  asleep-first = ap (sleepers σ) (sym (r .late) ∙ es)
 
 -- ---- a round, from the set s to n
 module _ (σ : State) (s n : ℕ) (small : s < 64) (e : n ≡ unwoken σ s) where

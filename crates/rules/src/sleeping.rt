@@ -1,4 +1,5 @@
 // R3: late threads that nothing left to the others can wake.
+use accesses::ThreadState;
 use lines::wide;
 use prefix::Place;
 use prefix::addend;
@@ -137,25 +138,32 @@ fn unwoken(code: &Code, lengths: &[usize; 6], left: &[u8; 192], at: &[usize; 6],
     three + addend(b3, 8) + addend(b4, 16) + addend(b5, 32)
 }
 
-// Whether some late threads are asleep for good.
-pub fn some_asleep(code: &Code, lengths: &[usize; 6], left: &[u8; 192], x: Place) -> bool
-    requires { ⌜ ((class : List ℕ) × (threads : ℕ) × (groups : ℕ) × (p : Program) × (v : Schedule)
-        × Reached (now code) (now lengths) class threads groups x p v × Left (now code) (now lengths) (now left)) ⌝ }
-    ensures { λ r. ⌜ ((class : List ℕ) (threads groups : ℕ) (p : Program) (v : Schedule)
-        → Reached (now (code .entry)) (now (lengths .entry)) class threads groups x p v
+// Whether some of these late threads are asleep for good, where the threads stand so.
+pub fn some_asleep(
+    code: &Code,
+    lengths: &[usize; 6],
+    left: &[u8; 192],
+    threads: [ThreadState; 6],
+    late: u8,
+) -> bool
+    requires { ⌜ ((class : List ℕ) × (count : ℕ) × (groups : ℕ) × (x : Place) × (p : Program) × (v : Schedule)
+        × Reached (now code) (now lengths) class count groups x p v × (x .threads ≡ threads) × (x .late ≡ late)
+        × Left (now code) (now lengths) (now left)) ⌝ }
+    ensures { λ r. ⌜ ((class : List ℕ) (count groups : ℕ) (x : Place) (p : Program) (v : Schedule)
+        → Reached (now (code .entry)) (now (lengths .entry)) class count groups x p v → x .threads ≡ threads → x .late ≡ late
         → r ≡ not (eqb (sleepers (endOf p v) (lateSet p v)) 0)) ⌝ }
 {
-    if x.late == 0 {
+    if late == 0 {
         return false;
     }
-    let a = x.threads[0];
-    let b = x.threads[1];
-    let c = x.threads[2];
-    let d = x.threads[3];
-    let e = x.threads[4];
-    let f = x.threads[5];
+    let a = threads[0];
+    let b = threads[1];
+    let c = threads[2];
+    let d = threads[3];
+    let e = threads[4];
+    let f = threads[5];
     let at = [a.at, b.at, c.at, d.at, e.at, f.at];
-    let mut set = x.late;
+    let mut set = late;
     while set != 0 {
         let next = unwoken(code, lengths, left, &at, set);
         if next == set {

@@ -2,9 +2,9 @@
 -- the same holds, and the search goes on with it alone.
 use Prim.Native.Nat.{ℕ, zero, suc, _+_, _-_, _<_, _≤_}
 use mathlib.Core.Path.{_≡_, refl, sym, ap, _∙_}
-use mathlib.Core.Logic.{_≢_, inl, inr}
+use mathlib.Core.Logic.{_≢_, _⊎_, inl, inr}
 use mathlib.Core.Bool.{Bool, true, false, not, true≢false, false≢true}
-use mathlib.Core.Option.{Option}
+use mathlib.Core.Option.{Option, none}
 use mathlib.Core.List.{List, [], _∷_, _++_, append-nil}
 use native.Mathlib.Omega.{arith}
 use native.Mathlib.Decide.{ℕ-discrete}
@@ -17,11 +17,11 @@ use Rattle.program.specs.declared.instruction.Instruction.{Instruction}
 use Rattle.program.proofs.Tests.{both}
 use Rattle.schedules.specs.Lists.{range, any}
 use Rattle.schedules.specs.Order.{Schedule}
-use Rattle.schedules.specs.System.{Allowed}
+use Rattle.schedules.specs.System.{ended, Allowed}
 use Rattle.schedules.specs.Search.{low, past}
 use Rattle.schedules.specs.Found.{concatRange}
 use Rattle.schedules.proofs.Lists.{of-range, any-yes}
-use Rattle.schedules.proofs.Runs.{not-ended}
+use Rattle.schedules.proofs.Runs.{run-snoc, ended-of, not-ended}
 use Rattle.model.proofs.LateSet.{and-false}
 use Rattle.sc.specs.Local.{Local, pending, beginsWithAccess}
 use Rattle.sc.specs.State.{State, SC, threadOf, place, enabled, step, start}
@@ -36,16 +36,12 @@ use Rattle.list.specs.Rules.{sameLocal, twin}
 use Rattle.survivors.specs.Sets.{has}
 use Rattle.survivors.specs.LateSet.{lateNow, lateBehind, lateSet}
 use Rattle.survivors.specs.Sleepers.{readsLeft, writesLeft, meets, wakes, sleepers}
+use Rattle.survivors.specs.Alone.{Alone}
 use Rattle.survivors.specs.Search.{givenUp, foundBehind, foundWith}
 use Rattle.survivors.proofs.Sets.{has-none, set-none}
 use Rattle.survivors.proofs.LateSet.{late-below, late-more}
 use Rattle.survivors.proofs.Sleepers.{sleepers-greatest, sleepers-none}
 use Rattle.survivors.proofs.Search.{up-not, with-ended, with-live, behind-branches}
-
--- only t may step
-pub record Alone (σ : State) (t : ℕ) : Type 0 where
-  pub live : enabled σ t ≡ true
-  pub others : (u : ℕ) → u ≢ t → enabled σ u ≡ false
 
 -- nothing is left to a thread that has ended
 ended-rest : (σ : State) → Regular σ → (u : ℕ) → u < 6 → enabled σ u ≡ false → threadOf σ u .local .rest ≡ []
@@ -145,3 +141,24 @@ module _ (p : Program) (w : WellFormed p) (v : Schedule) (a : Allowed SC (start 
       behind-branches failures p steps v o (not-ended SC lawful σ t (one .live)) h
       ∙ concat-range-only (λ d. foundWith failures p steps o v d) (6 - low o) (low o) t l (omega (arith, l, enabled-small σ t (one .live))) (λ u n. with-ended failures p steps o v u (one .others u n))
       ∙ with-live failures p steps o v t (one .live) (last-goes-on z)
+
+  -- apart from the bound
+  pub last-apart : (failures : Bool) (steps : ℕ) → steps < 24 → sleepers (endOf p v) (lateSet p v) ≡ 0 →
+      foundBehind failures p steps none v ≡ foundBehind failures p (steps + 1) none (v ++ (t ∷ []))
+  unfolding low past
+  last-apart failures steps h z = last-alone failures steps none h (omega arith) z
+
+  -- behind its step it is still alone, or all have ended
+  pub alone-more : (ended SC (endOf p (v ++ (t ∷ []))) ≡ true) ⊎ Alone (endOf p (v ++ (t ∷ []))) t
+  alone-more = go (enabled (endOf p (v ++ (t ∷ []))) t) refl
+    where
+      others : (u : ℕ) → u ≢ t → enabled (endOf p (v ++ (t ∷ []))) u ≡ false
+      others u n = ap (λ (τ : State). enabled τ u) (run-snoc SC (start p) v t) ∙ enabled-other σ t u n ∙ one .others u n
+
+      go : (b : Bool) → enabled (endOf p (v ++ (t ∷ []))) t ≡ b → (ended SC (endOf p (v ++ (t ∷ []))) ≡ true) ⊎ Alone (endOf p (v ++ (t ∷ []))) t
+      go true e = inr (record { live = e; others = others })
+      go false e = inl (ended-of SC (endOf p (v ++ (t ∷ []))) (λ u. at u (ℕ-discrete u t)))
+        where
+          at : (u : ℕ) → Dec (u ≡ t) → enabled (endOf p (v ++ (t ∷ []))) u ≡ false
+          at u (yes q) = ap (enabled (endOf p (v ++ (t ∷ [])))) q ∙ e
+          at u (no q) = others u q

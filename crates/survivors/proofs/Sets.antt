@@ -1,9 +1,10 @@
 -- What is in a set given by its bits.
 use Prim.Native.Nat.{ℕ, zero, suc, _+_, _-_, _*_, _/_, _%_, _^_, _<_, _≤_}
 use mathlib.Core.Path.{_≡_, refl, sym, ap, ap₂, subst, _∙_}
+use mathlib.Core.Logic.{_≢_}
 use mathlib.Core.Bool.{Bool, true, false, _||_}
 use native.Mathlib.Omega.{arith}
-use native.Mathlib.Decide.{ℕ-discrete}
+use native.Mathlib.Decide.{decLt, ℕ-discrete}
 use native.Mathlib.Nat.{add-zero, add-suc, mul-assoc, mul-one, pow-suc, one-le-pow, pow-le-pow-right, div-eq-of-lt, add-mul-div-left, add-mul-mod-self-left, two-pow-succ}
 use lib.Dec.{eqb}
 use borrow.Author.Tests.{eqb-true}
@@ -45,6 +46,20 @@ has-not a n h = ap (λ (k : ℕ). eqb (k % 2) 1) (div-eq-of-lt h)
 -- the empty set
 pub has-none : (t : ℕ) → has 0 t ≡ false
 has-none t = has-not 0 t (power-positive t)
+
+-- the set of one
+one-alone : (t : ℕ) → 2 ^ t ≡ 0 + 2 ^ t
+one-alone t = omega arith
+
+pub has-own : (t : ℕ) → has (2 ^ t) t ≡ true
+has-own t = ap (λ (k : ℕ). has k t) (one-alone t) ∙ has-top 0 t (power-positive t)
+
+pub has-own-only : (t u : ℕ) → u ≢ t → has (2 ^ t) u ≡ false
+has-own-only t u ne = go (decLt u t)
+  where
+    go : Dec (u < t) → has (2 ^ t) u ≡ false
+    go (yes h) = ap (λ (k : ℕ). has k u) (one-alone t) ∙ has-old 0 t u h ∙ has-none u
+    go (no h) = let k = pow-le-pow-right {n = 2} (omega arith) (let l : suc t ≤ u = omega (arith, h, ne) in l) in has-not (2 ^ t) u (omega (arith, k, two-pow-succ t, power-positive t))
 
 -- ---- the set of those that pass a test
 set-nil : (f : ℕ → Bool) → setOf f 0 ≡ 0

@@ -7,6 +7,8 @@ pub mod Sets
 pub mod LateSet
 -- R3: late threads that nothing left to the others can wake
 pub mod Sleepers
+-- one thread alone has not ended
+pub mod Alone
 -- THE SEARCH, with no test at a full schedule
 pub mod Search
 -- R2 by a word for each thread's reads

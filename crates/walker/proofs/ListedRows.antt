@@ -21,7 +21,7 @@ use Rattle.prefix.proofs.ClassGroups.{program-groups}
 use Rattle.pages.specs.Bounds.{boundAt}
 use Rattle.pages.specs.Rows.{rowsOf}
 use Rattle.walker.specs.Rows.{Shown}
-use Rattle.walker.specs.Walked.{Adds}
+use Rattle.ending.specs.Walked.{Adds}
 
 -- the classes that name a group are those of the program's threads
 pub lines-known : (c : Compiled) (class : List ℕ) → ((t : ℕ) → t < 6 → getD class t 0 ≤ c .groups) → groupsOf class (c .groups) ≡ groupsOf (c .class) (c .groups)

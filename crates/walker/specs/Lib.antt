@@ -3,7 +3,3 @@
 pub mod Rows
 -- a cursor in the list, and pages of it
 pub mod Cursor
--- which next steps are tried; for the code
-pub mod Tried
--- what the search adds to the rows in its output; for the code
-pub mod Walked

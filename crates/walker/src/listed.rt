@@ -1,10 +1,11 @@
 // The listed schedules of a decoded program behind a bound, as rows in a lent buffer.
-use crate::walking::walk;
 use decoder::Compiled;
+use ending::ROW;
 use pages::Aim;
 use prefix::begun;
 use prefix::known_lines;
 use rules::left_sets;
+use search::walk;
 ghost use Prim.Native.Nat.{_/_};
 ghost use lib.ListN.{length, take};
 ghost use Rattle.program.specs.WellFormed.{WellFormed};
@@ -13,9 +14,6 @@ ghost use Rattle.schedules.specs.Found.{after};
 ghost use Rattle.list.specs.Search.{sought};
 ghost use Rattle.pages.specs.Bounds.{boundAt};
 ghost use Rattle.walker.specs.Rows.{Shown};
-
-// The bytes of a listed schedule's row.
-pub const ROW: usize = 26;
 
 // Writes the rows of the listed schedules (of those that fail, if only these are wanted) behind the bound, or from the first one on, as
 // many as the output has room for; answers how many.

@@ -1,7 +1,7 @@
 // The list by pages: rows of what a cursor has yet to come, and the cursor behind them. All that walks the list goes on by `next_page`.
-use crate::listed::ROW;
 use crate::listed::listed_rows;
 use decoder::Compiled;
+use ending::ROW;
 use lines::wide;
 use pages::Cursor;
 use pages::Page;
