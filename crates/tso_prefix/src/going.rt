@@ -1,4 +1,5 @@
 // The start of a search, and a step.
+use crate::choosing::candidates;
 use crate::place::Place;
 use crate::reading::digit;
 use crate::reading::word_behind;
@@ -13,7 +14,6 @@ use tso_machine::may_access;
 use tso_machine::started;
 use tso_machine::thread_of;
 use tso_waits::Sets;
-use tso_waits::candidates;
 use tso_waits::freed;
 use tso_waits::six;
 ghost use mathlib.Core.Path.{_≡_};

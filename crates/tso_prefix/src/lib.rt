@@ -5,6 +5,8 @@
 mod place;
 // What a thread's accesses read from, as one word.
 mod reading;
+// Which threads could be late or far behind a step.
+mod choosing;
 // The start, and a step.
 mod going;
 

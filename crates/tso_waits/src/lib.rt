@@ -6,10 +6,7 @@ mod sets;
 mod waiting;
 // Which of a set of threads need not wait.
 mod freeing;
-// Which threads could be late or far behind a step.
-mod choosing;
 
-pub use choosing::candidates;
 pub use freeing::freed;
 pub use sets::Sets;
 pub use sets::six;

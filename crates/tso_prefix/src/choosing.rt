@@ -1,9 +1,9 @@
 // Which threads could be late or far behind a step: those that may step, but not by its byte, and that were so or become so here.
-use crate::sets::Sets;
-use crate::sets::six;
-use crate::sets::with_bit;
 use prefix::is_in;
 use rules::has_same_word;
+use tso_waits::Sets;
+use tso_waits::six;
+use tso_waits::with_bit;
 ghost use mathlib.Core.Path.{_≡_};
 ghost use mathlib.Core.Bool.{true, false, cond, not, _&&_, _||_};
 ghost use mathlib.Core.List.{List};
@@ -111,7 +111,7 @@ fn farther(class: &[usize; 6], words: &[u64; 6], may: u8, before: u8, b: u8) -> 
 }
 
 // The sets behind the step b of thread t, behind which it may access or not and move or not: of late and far those that could be so.
-pub fn candidates(
+pub(crate) fn candidates(
     class: &[usize; 6],
     words: &[u64; 6],
     old: Sets,

@@ -9,9 +9,9 @@ use lib.Dec.{eqb, ltb}
 use Rattle.survivors.specs.Sets.{has, setOf}
 use Rattle.schedules.specs.Lists.{range, any}
 use Rattle.tso_carried.specs.ReadWords.{twinByWord}
 use Rattle.tso_waits.proofs.Choices.{or-last, or-not, any-cut}
-use Rattle.tso_waits.proofs.choosing.is_farther.Statement.{statement}
-use Rattle.tso_waits.proofs.choosing.is_farther.Tie as tie
+use Rattle.tso_prefix.proofs.choosing.is_farther.Statement.{statement}
+use Rattle.tso_prefix.proofs.choosing.is_farther.Tie as tie
 
 returns : tie.Need-returns
 returns c = let q = sym ((c .before .is-in) .ensures) ∙ not-true _ ((c .if1) .taken) in λ groups p lines. rw q

@@ -3,8 +3,8 @@ use borrow.Author.Needs.{needs}
 use native.Mathlib.Omega.{arith}
 use borrow.Author.Tests.{lt-ltb, le-ltb}
 use Prim.Native.Nat.{_+_}
-use Rattle.tso_waits.proofs.choosing.moves_below.Statement.{statement}
-use Rattle.tso_waits.proofs.choosing.moves_below.Tie as tie
+use Rattle.tso_prefix.proofs.choosing.moves_below.Statement.{statement}
+use Rattle.tso_prefix.proofs.choosing.moves_below.Tie as tie
 
 returns : tie.Need-returns
 returns c = let a = (c .before .args) in let i = (c .if1) .taken in (omega arith, λ u h. absurd (omega arith), λ u h j. le-ltb (u + 16) (a .b) (omega (arith, i)))

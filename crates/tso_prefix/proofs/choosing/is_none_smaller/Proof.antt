@@ -2,8 +2,8 @@
 use borrow.Author.Needs.{needs}
 use borrow.Author.Tests.{leb-true}
 use mathlib.Core.Bool.{false≢true}
-use Rattle.tso_waits.proofs.choosing.is_none_smaller.Statement.{statement}
-use Rattle.tso_waits.proofs.choosing.is_none_smaller.Tie as tie
+use Rattle.tso_prefix.proofs.choosing.is_none_smaller.Statement.{statement}
+use Rattle.tso_prefix.proofs.choosing.is_none_smaller.Tie as tie
 
 returns : tie.Need-returns
 returns c = λ e. (c .if1 .taken, leb-true _ _ e)

@@ -6,9 +6,9 @@ use mathlib.Core.Bool.{Bool, cond, not, true, false, _&&_, _||_}
 use native.Mathlib.Omega.{arith}
 use lib.Dec.{eqb, ltb}
 use Rattle.survivors.specs.Sets.{has, setOf}
 use Rattle.tso_waits.proofs.Choices.{none-smaller}
-use Rattle.tso_waits.proofs.choosing.smaller.Statement.{statement}
-use Rattle.tso_waits.proofs.choosing.smaller.Tie as tie
+use Rattle.tso_prefix.proofs.choosing.smaller.Statement.{statement}
+use Rattle.tso_prefix.proofs.choosing.smaller.Tie as tie
 
 returns : tie.Need-returns
 returns c = let a = (c .before .before .args) in let q = (c .before .is-none-smaller) .ensures ((c .if1) .taken) in sym (none-smaller (a .may) (a .before) (a .b) (a .first) (q .0) (q .1))

@@ -7,9 +7,9 @@ use lib.Dec.{eqb, ltb}
 use Rattle.survivors.specs.Sets.{has, setOf}
 use Rattle.schedules.specs.Lists.{range, any}
 use Rattle.tso_carried.specs.ReadWords.{twinByWord}
 use Rattle.tso_waits.proofs.Choices.{none-farther}
-use Rattle.tso_waits.proofs.choosing.farther.Statement.{statement}
-use Rattle.tso_waits.proofs.choosing.farther.Tie as tie
+use Rattle.tso_prefix.proofs.choosing.farther.Statement.{statement}
+use Rattle.tso_prefix.proofs.choosing.farther.Tie as tie
 
 returns : tie.Need-returns
 returns c = let a = (c .before .before .args) in let q = (c .before .is-none-smaller) .ensures ((c .if1) .taken) in λ groups p lines. sym (none-farther (λ t u. twinByWord p (a .words .now) t u) (a .may) (a .before) (a .b) (q .0) (q .1))

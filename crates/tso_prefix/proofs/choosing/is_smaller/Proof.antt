@@ -2,8 +2,8 @@
 use borrow.Author.Needs.{needs}
 use borrow.Author.Tests.{eq-eqb, ne-eqb, lt-ltb, le-ltb, not-true, not-false}
 use mathlib.Core.Path.{_≡_, refl, sym, ap, _∙_}
-use Rattle.tso_waits.proofs.choosing.is_smaller.Statement.{statement}
-use Rattle.tso_waits.proofs.choosing.is_smaller.Tie as tie
+use Rattle.tso_prefix.proofs.choosing.is_smaller.Statement.{statement}
+use Rattle.tso_prefix.proofs.choosing.is_smaller.Tie as tie
 
 returns : tie.Need-returns
 returns c = let q = sym ((c .before .is-in) .ensures) ∙ not-true _ ((c .if1) .taken) in rw q
