@@ -21,7 +21,7 @@ pub fn import(arguments: &Arguments) -> Result<End, Error> {
 
 pub fn export(arguments: &Arguments) -> Result<End, Error> {
     each("export-litmus", arguments, |question| {
-        let source = question.source()?;
+        let source = question.whole_source()?;
         let program = Program::of_accepted(&source.file).named(&source.names);
         let test = litmus::export("exported", &program).map_err(|message| unfit(question, message))?;
         question.answer_text(test.clone(), [("text", test.into())], End::Answered)
