@@ -32,7 +32,9 @@ fn instructions(made: &[Made], wrong: &mut Wrongs) {
     let takes = made.iter().filter(|other| std::ptr::eq(other.statement, first.statement)).count();
     let several = if takes > 1 { format!("; the statement takes {takes}") } else { String::new() };
     let message = match first.statement.kind {
-        Kind::Fence => format!("a fence takes an instruction, and none is left: {INSTRUCTIONS} are used, as many as a thread has"),
+        Kind::Fence => {
+            format!("a fence takes an instruction, and none is left: {INSTRUCTIONS} are used, as many as a thread has")
+        }
         _ => format!("this is instruction number {number} of its thread; a thread has at most {INSTRUCTIONS}{several}"),
     };
     let fences = made.iter().filter(|made| made.is_fence()).count();

@@ -88,7 +88,8 @@ impl Remarks {
     /// The same of a text whose fences in some lines are left out: a remark line stands in place of each.
     pub fn of_text_without(text: &[u8], lines: &[usize], left_out: &[usize]) -> Remarks {
         let all = (1..).zip(text.split(|&c| c == b'\n').map(<[u8]>::trim_ascii));
-        let own = all.filter(|(_, line)| line.starts_with(b"#")).map(|(at, line)| (at, String::from_utf8_lossy(line).into_owned()));
+        let own =
+            all.filter(|(_, line)| line.starts_with(b"#")).map(|(at, line)| (at, String::from_utf8_lossy(line).into_owned()));
         let mut remarks: Vec<(usize, String)> = own.chain(left_out.iter().map(|at| (*at, LEFT_OUT.to_string()))).collect();
         remarks.sort_by_key(|(at, _)| *at);
         let before = |at: usize| lines.iter().filter(|line| **line < at).count();

@@ -14,7 +14,8 @@ fn unfit(question: &Question, message: String) -> Error {
 pub fn import(arguments: &Arguments) -> Result<End, Error> {
     each("import-litmus", arguments, |question| {
         let text = input::text(question.file)?;
-        let form = litmus::import(&String::from_utf8_lossy(&text)).map_err(|message| unfit(question, message))?;
+        let name = called(question.file).to_string();
+        let form = litmus::import(&String::from_utf8_lossy(&text)).map_err(|marks| Error::Text { name, marks })?;
         question.answer_text(form.clone(), [("text", form.into())], End::Answered)
     })
 }
