@@ -74,7 +74,8 @@ fn threads<'a>(code: Part<'a>, wrong: &mut Vec<Wrong>) -> Threads<'a> {
     for row in rows {
         let cells = row.split('|');
         if cells.len() != heads.len() {
-            wrong.push(row.wrong(format!("this row has {} cells, and there are {} threads", cells.len(), heads.len())));
+            let message = format!("cells in this row: {}, and threads: {}", cells.len(), heads.len());
+            wrong.push(row.wrong(message));
             continue;
         }
         for ((_, thread), part) in threads.iter_mut().zip(cells).filter(|(_, part)| !part.is_empty()) {
