@@ -1,6 +1,6 @@
 //! The text form of a program file.
 use super::remarks::Remarks;
-use crate::program::{number, Frame, Names, FENCE};
+use crate::program::{number, Frame, Names};
 
 /// The text of these frames, by these names, with these remark lines.
 pub fn text(frames: &[Frame], names: &Names, remarks: &Remarks) -> String {
@@ -17,10 +17,7 @@ pub fn text(frames: &[Frame], names: &Names, remarks: &Remarks) -> String {
             }
             Frame::Instruction(instruction) => {
                 place += 1;
-                match names.is_fence(thread, place - 1) {
-                    true => format!("  {FENCE}\n"),
-                    false => format!("  {}\n", names.instruction(thread, instruction)),
-                }
+                format!("  {}\n", names.statement_at(thread, place - 1, instruction))
             }
             Frame::Start(l, value) => format!("init {} {}\n", names.location(*l), number(*value)),
             Frame::Alike(members) => {

@@ -77,6 +77,14 @@ impl Names {
         all.filter(|(t, at)| self.is_fence(*t, *at))
     }
 
+    /// A thread's instruction at a place in the text form, where a fence is one.
+    pub fn statement_at(&self, t: u8, at: usize, instruction: &Instruction) -> String {
+        match self.is_fence(t, at) {
+            true => FENCE.to_string(),
+            false => self.instruction(t, instruction),
+        }
+    }
+
     /// An instruction of a thread in the text form.
     pub fn instruction(&self, t: u8, instruction: &Instruction) -> String {
         let (register, operand) = (|r| self.register(t, r), |p| self.operand(t, p));
