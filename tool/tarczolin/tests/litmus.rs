@@ -2,6 +2,10 @@
 mod common;
 
 use common::{run, run_with};
+use tarczolin::asm::assemble;
+use tarczolin::litmus::import;
+use tarczolin_tests::random::Random;
+use tarczolin_tests::share;
 
 /// A test as diy writes it: its rows, its condition.
 fn test(name: &str, rows: &str, condition: &str) -> String {
@@ -219,6 +223,41 @@ fn more_of_x86() {
     assert_eq!(turned("forall (x=0) \\/ (0:EAX=1)"), "!((x=0) | (P0.eax=1))", "the whole of it is turned");
     assert_eq!(turned("forall (x=0 /\\ 0:EAX=0)"), "!(x=0 & P0.eax=0)");
     assert_eq!(turned("~exists ~ (x=0) /\\ [x]=1"), "! (x=0) & x=1");
+}
+
+/// Damaged tests: each is a program of which every condition can be asked, or has errors with places in the text.
+#[test]
+fn any_text() {
+    const SIGNS: [&str; 16] =
+        ["|", ";", "{", "}", "(*", "*)", ":", "=", "[", "\u{e9}", "MFENCE ;", "JE L", "L:", "CMP EAX,$0 ;", "\n", " $9 "];
+    let mut random = Random::new(0x117);
+    let (mut taken, mut refused) = (0, 0);
+    for k in 0..share::of(20_000) {
+        let mut text: Vec<char> =
+            if k % 2 == 0 { MUCH.to_string() } else { test("SB", NEVER[1].1, "exists (x=1)") }.chars().collect();
+        for _ in 0..random.between(1, 4) {
+            let at = random.below(text.len());
+            let end = text.len().min(at + random.below(6));
+            let put: Vec<char> = if random.one_in(2) { random.pick(&SIGNS).chars().collect() } else { Vec::new() };
+            text.splice(at..end, put);
+        }
+        let text: String = text.into_iter().collect();
+        match import(&text) {
+            Ok(form) => {
+                assert!(assemble(form.as_bytes()).is_ok(), "{text}\n{form}");
+                taken += 1;
+            }
+            Err(marks) => {
+                let lines: Vec<&str> = text.split('\n').collect();
+                let inside = |line: usize, column: usize| (1..=lines[line - 1].chars().count() + 1).contains(&column);
+                assert!(!marks.is_empty() && marks.iter().all(|mark| inside(mark.line, mark.column)), "{text}\n{marks:?}");
+                refused += 1;
+            }
+        }
+    }
+    assert!(!share::whole() || (taken > 1_000 && refused > 1_000), "{taken} {refused}");
+    let long = format!("X86 A\n{{ }}\n P0 ;\n{}exists (true)\n", " JE L ;\n".repeat(100_000));
+    assert!(import(&long).is_err_and(|marks| marks.iter().any(|mark| mark.message.contains("at most 16 instructions"))));
 }
 
 /// Exported and imported, a program has the same list.

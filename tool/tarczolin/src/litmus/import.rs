@@ -2,7 +2,7 @@
 //! with its line and column: no instruction is dropped without a word.
 use super::cell::{cell, Cell};
 use super::condition::condition;
-use super::part::Part;
+use super::part::{Part, MOST};
 use super::parts::{parts, without_remarks, Parts};
 use super::starts::{starts, Place, Start};
 use super::thread::{Line, Thread};
@@ -14,6 +14,7 @@ use std::collections::BTreeSet;
 
 /// The text form of a test, with its condition as a remark that `outcomes --where` takes; or all that does not fit, each with its place.
 pub fn import(text: &str) -> Result<String, Vec<Mark>> {
+    let text = text.strip_prefix('\u{feff}').unwrap_or(text);
     let made = without_remarks(text).map_err(|one| vec![one]).and_then(|bare| {
         let parts = parts(&bare).map_err(|one| vec![one])?;
         form(&parts)
@@ -23,6 +24,9 @@ pub fn import(text: &str) -> Result<String, Vec<Mark>> {
         wrong.into_iter().map(|one| asm::mark(text.as_bytes(), one)).collect()
     })
 }
+
+/// More cells are not read of a thread: no program has so many instructions, whatever labels and comparisons take.
+const CELLS: usize = 64;
 
 /// The threads: the head of each, and its cells that are not empty.
 type Threads<'a> = Vec<(Part<'a>, Vec<Cell<'a>>)>;
@@ -72,6 +76,9 @@ fn threads<'a>(code: Part<'a>, wrong: &mut Vec<Wrong>) -> Threads<'a> {
     }
     let mut threads: Threads = heads.iter().map(|head| (*head, Vec::new())).collect();
     for row in rows {
+        if wrong.len() >= MOST || threads.iter().any(|(_, cells)| cells.len() > CELLS) {
+            break;
+        }
         let cells = row.split('|');
         if cells.len() != heads.len() {
             let message = format!("cells in this row: {}, and threads: {}", cells.len(), heads.len());
@@ -85,6 +92,10 @@ fn threads<'a>(code: Part<'a>, wrong: &mut Vec<Wrong>) -> Threads<'a> {
             }
         }
     }
+    let longest = threads.iter().filter_map(|(_, cells)| cells.get(CELLS));
+    wrong.extend(
+        longest.map(|cell| cell.part.wrong(format!("the thread has {CELLS} cells above; a thread has at most 16 instructions"))),
+    );
     threads
 }
 

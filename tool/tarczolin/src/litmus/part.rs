@@ -1,6 +1,9 @@
 //! Parts of a test that know where they stand.
 use crate::asm::Wrong;
 
+/// So many errors are told at most.
+pub const MOST: usize = 100;
+
 /// A part of a text, from one byte to another.
 #[derive(Clone, Copy, Debug)]
 pub struct Part<'a> {

@@ -83,18 +83,11 @@ fn end_of_code(rest: Part) -> usize {
     at
 }
 
-/// Whether it is asked for what is not so, and the condition. Which locations are printed does not matter.
+/// Whether it is asked for what is not so, and the condition.
 fn asked(behind: Part) -> Result<(bool, Part), Wrong> {
-    let front = |word: &str| {
-        let part = behind.text().strip_prefix(word)?;
-        (!part.starts_with(|c: char| c.is_ascii_alphanumeric() || c == '_')).then(|| behind.split_at(word.len()).1.trim())
-    };
-    if let Some(locations) = front("locations") {
-        let (_, rest) = locations.split_once(']').ok_or_else(|| locations.wrong("locations stand in brackets: ] is missing"))?;
-        return asked(rest.trim());
-    }
+    let behind = without_locations(behind)?;
     let found = [("exists", false), ("~exists", false), ("forall", true)].into_iter();
-    let found = found.filter_map(|(word, turned)| Some((turned, front(word)?))).next();
+    let found = found.filter_map(|(word, turned)| Some((turned, behind_word(behind, word)?))).next();
     match found {
         Some((_, condition)) if condition.is_empty() => Err(condition.wrong("the condition is missing behind this word")),
         Some(found) => Ok(found),
@@ -104,4 +97,19 @@ fn asked(behind: Part) -> Result<(bool, Part), Wrong> {
             Err(word.wrong(format!("the condition begins with exists, ~exists or forall, not {}", word.text())))
         }
     }
+}
+
+/// What stands behind a word, if the part begins with it.
+fn behind_word<'a>(part: Part<'a>, word: &str) -> Option<Part<'a>> {
+    let rest = part.text().strip_prefix(word)?;
+    (!rest.starts_with(|c: char| c.is_ascii_alphanumeric() || c == '_')).then(|| part.split_at(word.len()).1.trim())
+}
+
+/// The part behind lists of locations: which of them are printed does not matter.
+fn without_locations(mut behind: Part) -> Result<Part, Wrong> {
+    while let Some(locations) = behind_word(behind, "locations") {
+        let (_, rest) = locations.split_once(']').ok_or_else(|| locations.wrong("locations stand in brackets: ] is missing"))?;
+        behind = rest.trim();
+    }
+    Ok(behind)
 }

@@ -1,13 +1,15 @@
 //! The initial values of a test: of locations, `x=5`, and of registers, `0:EBX=1`.
 use super::operand::{location, register};
 use super::part::Part;
+use super::part::MOST;
 use crate::asm::{constant, Wrong};
+use std::collections::BTreeMap;
 
 /// What types may stand in front of a location: every value has 32 bits here, and a test that needs more has no place.
 const TYPES: [&str; 8] = ["int", "unsigned", "long", "volatile", "int32_t", "uint32_t", "int64_t", "uint64_t"];
 
 /// What begins with a value: a location, or a register of a thread.
-#[derive(Clone, Debug, PartialEq, Eq)]
+#[derive(Clone, Debug, PartialEq, Eq, PartialOrd, Ord)]
 pub enum Place {
     Location(String),
     Register(usize, String),
@@ -30,16 +32,20 @@ impl Start<'_> {
 /// All starts, and what is wrong with some of them.
 pub fn starts(initial: Part) -> (Vec<Start>, Vec<Wrong>) {
     let (mut all, mut wrong): (Vec<Start>, Vec<Wrong>) = (Vec::new(), Vec::new());
+    let mut lines: BTreeMap<Place, Part> = BTreeMap::new();
     for part in initial.split(';').into_iter().filter(|part| !part.is_empty()) {
         match start(part) {
             Err(error) => wrong.push(error),
-            Ok(start) => match all.iter().find(|other| other.place == start.place) {
+            Ok(start) => match lines.insert(start.place.clone(), part) {
                 Some(above) => {
-                    let line = above.part.place().0;
+                    let line = above.place().0;
                     wrong.push(part.wrong(format!("this has a starting value already, in line {line}")));
                 }
                 None => all.push(start),
             },
+        }
+        if wrong.len() >= MOST {
+            break;
         }
     }
     (all, wrong)

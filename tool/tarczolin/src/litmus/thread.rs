@@ -143,12 +143,11 @@ impl<'a> Thread<'a, '_> {
         self.cells.iter().position(|cell| cell.label.is_some_and(|label| label.text() == name))
     }
 
-    /// The comparison that a jump asks for: the cell in front, or that of a jump in front.
+    /// The comparison that a jump asks for: that of the cell in front of it, and of the jumps right in front of it.
     fn comparison(&self, at: usize) -> Option<(&str, &Operand)> {
-        let before = at.checked_sub(1).filter(|_| self.jumps_behind(at))?;
-        match self.what(before)? {
+        let first = (0..=at).rev().find(|at| !self.jumps_behind(*at)).filter(|first| *first < at)?;
+        match self.what(first)? {
             What::Compare { r, p } => Some((r, p)),
-            What::Jump { equal: Some(_), .. } => self.comparison(before),
             _ => None,
         }
     }
