@@ -1,6 +1,7 @@
 //! Files named on the command line; `-` is standard input. No more is read than can be of use.
 use crate::asm::{self, Assembled, Remarks};
 use crate::error::{called, Error, Mark};
+use crate::model::Model;
 use crate::program::{Names, FILE_LIMIT};
 use std::fs::{File, Metadata};
 use std::io::{self, Read};
@@ -34,17 +35,20 @@ fn front(name: &str, most: usize) -> Result<Vec<u8>, Error> {
 
 /// A program, as a program file or in the text form: that is told by the name's end, or by how the content begins. Of a
 /// program file that is too long only so much is read as shows that to the library.
-pub fn program(name: &str) -> Result<Source, Error> {
+///
+/// A text is read for one memory model, or for both: what is run under sequential consistency has no fences, and that is told.
+pub fn program(name: &str, model: Option<Model>) -> Result<Source, Error> {
     let file = front(name, FILE_LIMIT + 1)?;
     let called = called(name).to_string();
     if !name.ends_with(".asm") && !asm::is_text(&file) {
-        let remarks = Remarks::of_file(&file);
-        return Ok(Source { name: called, file, names: remarks.names(), remarks });
+        let (names, remarks) = asm::named(&file);
+        return Ok(Source { name: called, file, names, remarks });
     }
     let text = rest(name, file)?;
-    let Assembled { file, names, remarks, warnings } =
-        asm::assemble(&text).map_err(|marks| Error::Text { name: called.clone(), marks })?;
+    let made = asm::assemble_for(&text, model).map_err(|marks| Error::Text { name: called.clone(), marks })?;
+    let Assembled { file, names, remarks, warnings, left_out } = made;
     warn(&called, warnings);
+    tell_left_out(&called, left_out);
     Ok(Source { name: called, file, names, remarks })
 }
 
@@ -53,6 +57,15 @@ pub fn warn(name: &str, warnings: Vec<Mark>) {
     for mut warning in warnings {
         warning.message = format!("warning: {}", warning.message);
         eprintln!("tarczolin: {}", warning.told(name));
+    }
+}
+
+/// Tells on standard error how many fences are left out, and why they may be.
+pub fn tell_left_out(name: &str, fences: usize) {
+    match fences {
+        0 => {}
+        1 => eprintln!("tarczolin: {name}: 1 fence is left out: under sequential consistency it means nothing"),
+        _ => eprintln!("tarczolin: {name}: {fences} fences are left out: under sequential consistency they mean nothing"),
     }
 }
 

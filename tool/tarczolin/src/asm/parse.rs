@@ -137,6 +137,7 @@ impl<'a> Reader<'a> {
             }
             "goto" => Kind::Goto(self.name("a label")?),
             "fail" => Kind::Fail,
+            "fence" => Kind::Fence,
             _ => return self.assignment(first),
         })
     }
@@ -216,7 +217,7 @@ fn unknown(word: &str) -> String {
         ("load" | "fetch_add" | "cas", _) => format!("{word} needs a register for the old value: r0 = {word} .."),
         (_, Some(known)) => format!("a statement does not begin with {word}; is it {known}?"),
         _ => format!(
-            "a statement does not begin with {word}; it begins with thread, alike, const, init, store, if, goto, assert, fail or a register"
+            "a statement does not begin with {word}; it begins with thread, alike, const, init, store, if, goto, assert, fail, fence or a register"
         ),
     }
 }

@@ -6,7 +6,7 @@ use crate::error::Error;
 
 pub fn run(arguments: &Arguments) -> Result<End, Error> {
     each("check", arguments, |question| {
-        question.source()?;
+        question.whole_source()?;
         question.answer("accepted", [("accepted", true.into())], End::Answered)
     })
 }

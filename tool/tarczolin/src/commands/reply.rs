@@ -34,8 +34,18 @@ impl<'a> Question<'a> {
 
     /// The same for the listing of this model.
     pub fn source_under(&self, model: Model) -> Result<Source, Error> {
-        let source = input::program(self.file)?;
-        ask::accepted(model, &source.file).map_err(|r| refusal::of_program(&source.name, &source.file, r))?;
+        self.source_for(Some(model))
+    }
+
+    /// The same for both models, its fences kept: for what does not run it.
+    pub fn whole_source(&self) -> Result<Source, Error> {
+        self.source_for(None)
+    }
+
+    fn source_for(&self, model: Option<Model>) -> Result<Source, Error> {
+        let source = input::program(self.file, model)?;
+        let accepted = ask::accepted(model.unwrap_or_default(), &source.file);
+        accepted.map_err(|r| refusal::of_program(&source.name, &source.file, r))?;
         Ok(source)
     }
 

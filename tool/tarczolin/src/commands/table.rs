@@ -1,7 +1,7 @@
 //! The commands, each with its words, its options and an example.
 use super::command::Command;
 use super::count::CLASSES;
-use super::models::MODEL;
+use super::models::{FOR_MODEL, MODEL};
 use super::opt::Opt;
 use super::piece::{AFTER, JOBS_OPTION, UNTIL};
 use super::reply::JSON;
@@ -139,8 +139,8 @@ pub const COMMANDS: [Command; 17] = [
     Command {
         name: "asm",
         words: "FILE..",
-        about: "from the text form to a program file",
-        options: &[REMARKS, JSON],
+        about: "from the text form to a program file, a fence as a fetch and add of zero",
+        options: &[REMARKS, FOR_MODEL, JSON],
         example: "tarczolin asm examples/queue-broken.asm > queue.hex",
         run: asm::run,
     },
@@ -155,7 +155,7 @@ pub const COMMANDS: [Command; 17] = [
     Command {
         name: "import-litmus",
         words: "FILE..",
-        about: "from a litmus test for x86 to the text form, its condition as a remark for outcomes --where",
+        about: "from a litmus test for x86 to the text form, MFENCE as fence, its condition as a remark for outcomes --where",
         options: &[JSON],
         example: "tarczolin import-litmus sb.litmus > sb.asm",
         run: litmus::import,
@@ -163,7 +163,7 @@ pub const COMMANDS: [Command; 17] = [
     Command {
         name: "export-litmus",
         words: "FILE..",
-        about: "from a program to a litmus test for x86",
+        about: "from a program to a litmus test for x86, fence as MFENCE",
         options: &[JSON],
         example: "tarczolin export-litmus examples/store-load-pair.hex",
         run: litmus::export,

@@ -10,7 +10,7 @@ use std::collections::BTreeSet;
 pub use frame::Frame;
 pub use instruction::{number, Comparison, Instruction, Operand};
 pub use limits::*;
-pub use names::{Names, ThreadNames};
+pub use names::{Names, ThreadNames, FENCE};
 
 /// The code of each thread, the threads that each `02` line declares alike, what each `03` line lets a location start with, and the names
 /// of the text form.
@@ -75,15 +75,21 @@ impl Program {
         all
     }
 
-    /// The locations that its code or a `03` line names, ascending.
+    /// The locations that its code or a `03` line names, ascending; where a fence reads is no matter of the program.
     pub fn locations(&self) -> BTreeSet<u8> {
         let started = self.starts.iter().map(|(l, _)| *l);
-        self.threads.iter().flatten().filter_map(Instruction::location).chain(started).collect()
+        self.numbers().flat_map(|t| self.meant(t)).filter_map(Instruction::location).chain(started).collect()
     }
 
-    /// The registers that a thread's code names, ascending.
+    /// The registers that a thread's code names, ascending; what a fence changes is no matter of the program.
     pub fn registers(&self, t: u8) -> BTreeSet<u8> {
-        self.threads[t as usize].iter().flat_map(Instruction::registers).collect()
+        self.meant(t).flat_map(Instruction::registers).collect()
+    }
+
+    /// The instructions of a thread that are no fences.
+    fn meant(&self, t: u8) -> impl Iterator<Item = &Instruction> + '_ {
+        let code = self.threads[t as usize].iter().enumerate();
+        code.filter(move |(at, _)| !self.names.is_fence(t, *at)).map(|(_, instruction)| instruction)
     }
 }
 
