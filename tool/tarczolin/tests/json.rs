@@ -35,7 +35,7 @@ fn every_command_fits_the_schema() {
     let (graph, piece) = (graph.display().to_string(), piece.display().to_string());
     let no = b"400001ffff\n400101ffff\n41000000\n41010100\n";
     let pair = "examples/store-load-pair.hex";
-    let cases: [(&[&str], &[u8], i32, usize); 31] = [
+    let cases: [(&[&str], &[u8], i32, usize); 33] = [
         (&["list", QUEUE], b"", 1, 7),
         (&["count", QUEUE], b"", 1, 1),
         (&["count", QUEUE, "--jobs", "2"], b"", 1, 1),
@@ -47,7 +47,8 @@ fn every_command_fits_the_schema() {
         (&["outcomes", QUEUE], b"", 1, 7),
         (&["outcomes", QUEUE, "--where", "second.mine = 1"], b"", 1, 7),
         (&["covers", QUEUE, QUEUE], b"", 0, 1),
-        (&["covers", QUEUE, pair], b"", 1, 1),
+        (&["covers", QUEUE, pair], b"", 2, 1),
+        (&["covers", QUEUE, pair, "--by", "number"], b"", 1, 1),
         (&["covers", QUEUE, "-"], b"01\n110400\n", 2, 1),
         (&["show", QUEUE], b"", 1, 7),
         (&["show", QUEUE, "00000102020201"], b"", 1, 1),
@@ -60,6 +61,7 @@ fn every_command_fits_the_schema() {
         (&["judge", QUEUE, &graph], b"", 0, 1),
         (&["judge", pair, "-"], no, 1, 1),
         (&["cuts", QUEUE, "3"], b"", 0, 1),
+        (&["cuts", pair, "3", "--model", "tso"], b"", 0, 1),
         (&["join", &piece], b"", 1, 7),
         (&["users"], b"open 0 examples/empty-thread.hex\nask 0\nserve\nask 0\nserve\nserve\nask 1\ncount 0\nx\n", 2, 9),
         (&["disasm", QUEUE], b"", 0, 1),

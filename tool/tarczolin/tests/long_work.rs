@@ -107,6 +107,7 @@ fn interrupted_count_and_outcomes() {
     assert!(out.ends_with(" listed, 0 failing\n") && err.contains("interrupted: "), "{out}{err}");
     let (status, _, err) = interrupted(&["outcomes", "-", "--json"]);
     assert!(status == Some(2) && err.contains("interrupted: "), "{err}");
+    assert!(err.ends_with(" listed, 0 failing so far\n"), "outcomes has no --after to go on by: {err}");
 }
 
 /// By one job too `count` and `violation` tell how far they are, and Ctrl-C tells the counts so far.
@@ -120,6 +121,20 @@ fn progress_of_one_job() {
         assert!(last.contains(" listed, 0 failing so far") && last.contains(further), "{words:?}: {err}");
         let counted = last.split("interrupted: ").nth(1).unwrap().split(" so far").next().unwrap();
         assert_eq!(out, if words[0] == "count" { format!("{counted}\n") } else { String::new() });
+    }
+}
+
+/// Before the first line of progress too.
+#[test]
+fn interrupted_before_any_progress() {
+    for (words, further) in [(["count", "-"], "; go on with --after 0"), (["violation", "-"], "; go on with list --after 0")] {
+        let (status, out, err) = interrupted_with("3000", &words);
+        assert_eq!((status, err.lines().count()), (Some(2), 1), "{words:?}: {err}");
+        assert!(
+            err.contains("interrupted: ") && err.contains(" listed, 0 failing so far") && err.contains(further),
+            "{words:?}: {err}"
+        );
+        assert_eq!(out.is_empty(), words[0] == "violation", "{out}");
     }
 }
 

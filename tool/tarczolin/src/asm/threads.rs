@@ -10,6 +10,7 @@ use std::collections::BTreeMap;
 
 /// A thread: the statement that opens it, its instructions, its registers' names.
 struct Thread<'a> {
+    number: usize,
     opens: &'a Statement,
     made: Vec<Made<'a>>,
     registers: BTreeMap<String, u8>,
@@ -59,7 +60,7 @@ impl<'a> Threads<'a> {
             let made = instructions(&scope.code(wrong));
             limits(&made, &mut accesses, wrong);
             let unused_labels = scope.unused_labels();
-            threads.push(Thread { opens, made, registers: scope.registers, unused_labels });
+            threads.push(Thread { number: t, opens, made, registers: scope.registers, unused_labels });
         }
         let mut alike = Vec::new();
         for statement in statements {
@@ -123,7 +124,7 @@ impl<'a> Threads<'a> {
 impl Thread<'_> {
     fn names(&self) -> ThreadNames {
         let name = match &self.opens.kind {
-            Kind::Thread(Some(name)) => Some(name.text.clone()),
+            Kind::Thread(Some(name)) if !words::is_default(&name.text, self.number) => Some(name.text.clone()),
             _ => None,
         };
         let mut registers = [const { None }; 4];
@@ -139,11 +140,9 @@ impl Thread<'_> {
 /// Tells where a thread has too many instructions, and where the program has too many accesses.
 fn limits(made: &[Made], accesses: &mut usize, wrong: &mut Wrongs) {
     if let Some(first) = made.get(INSTRUCTIONS) {
-        let takes = made.iter().filter(|other| std::ptr::eq(other.statement, first.statement)).count();
-        let several = if takes > 1 { format!("; the statement takes {takes}") } else { String::new() };
         let number = INSTRUCTIONS + 1;
-        let message = format!("this is instruction number {number} of its thread; a thread has at most {INSTRUCTIONS}{several}");
-        wrong.add_at(first.statement, message);
+        let front = format!("this is instruction number {number} of its thread; a thread has at most {INSTRUCTIONS}");
+        wrong.add_at(first.statement, format!("{front}; {}", costs(made)));
     }
     for made in made.iter().filter(|made| made.instruction.access().is_some()) {
         *accesses += 1;
@@ -152,6 +151,23 @@ fn limits(made: &[Made], accesses: &mut usize, wrong: &mut Wrongs) {
             wrong.add_at(made.statement, message);
         }
     }
+}
+
+/// How many instructions each statement of a thread takes, by lines of the text: lines of equal cost, one right below the other, together.
+fn costs(made: &[Made]) -> String {
+    let mut runs: Vec<(usize, usize, usize)> = Vec::new();
+    for statement in made.chunk_by(|one, next| std::ptr::eq(one.statement, next.statement)) {
+        let (line, cost) = (statement[0].statement.line, statement.len());
+        match runs.last_mut() {
+            Some((_, last, of)) if *of == cost && *last + 1 == line => *last = line,
+            _ => runs.push((line, line, cost)),
+        }
+    }
+    let told = |(first, last, cost): &(usize, usize, usize)| match first == last {
+        true => format!("line {first} takes {cost}"),
+        false => format!("lines {first} to {last} take {cost} each"),
+    };
+    runs.iter().map(told).collect::<Vec<_>>().join(", ")
 }
 
 /// What the init lines say, each for another location.

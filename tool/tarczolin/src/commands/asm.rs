@@ -1,8 +1,9 @@
 //! asm: from the text form to a program file.
 use super::arguments::Arguments;
 use super::reply::{each, Question};
+use crate::called::called;
 use crate::end::End;
-use crate::error::{called, Error};
+use crate::error::Error;
 use crate::{ask, asm, input, program};
 
 pub fn run(arguments: &Arguments) -> Result<End, Error> {
@@ -16,10 +17,10 @@ fn assembled(question: &Question, remarks: bool) -> Result<End, Error> {
     let name = called(question.file);
     if ask::check(&text).is_ok() && program::frames(&text).is_some_and(|frames| !frames.is_empty()) {
         let message = "this is a program file already; disasm makes a text of it".to_string();
-        return Err(Error::Unfit { name: name.to_string(), message });
+        return Err(Error::Unfit { name, message });
     }
-    let made = asm::assemble(&text).map_err(|marks| Error::Text { name: name.to_string(), marks })?;
-    input::warn(name, made.warnings);
+    let made = asm::assemble(&text).map_err(|marks| Error::Text { name: name.clone(), marks })?;
+    input::warn(&name, made.warnings);
     let mut file = made.file;
     if remarks {
         let frames = program::frames(&file).expect("frames only");

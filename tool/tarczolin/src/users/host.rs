@@ -6,6 +6,7 @@ use crate::ask::Refusal;
 use crate::error::Error;
 use crate::input;
 use crate::schedule::Schedule;
+use std::ffi::OsStr;
 use tarczolin_sys::users::{self, Shared};
 use tarczolin_sys::{Answer, Caller, Served, SCHEDULE};
 
@@ -37,7 +38,7 @@ impl Host {
     /// Carries a call out. A file that cannot be read, or a text form that is wrong, is an error; all else is answered.
     pub fn call(&mut self, call: &Call) -> Result<Said, Error> {
         Ok(match call {
-            Call::Open(caller, name) => done(users::open(self.lent(), *caller, &input::program(name)?.file)),
+            Call::Open(caller, name) => done(users::open(self.lent(), *caller, &input::program(OsStr::new(name))?.file)),
             Call::Ask(caller) => done(users::ask(self.lent(), *caller)),
             Call::Serve => self.serve(),
             Call::Close(caller) => done(users::close(self.lent(), *caller)),
