@@ -81,7 +81,7 @@ impl<'a> Execution<'a> {
 
     /// What it is called on a page: its place in the list, or its schedule.
     pub fn name(&self) -> String {
-        self.position.map_or(self.schedule.to_string(), |position| position.to_string())
+        self.position.map_or(self.schedule.told(), |position| position.to_string())
     }
 
     /// The location of an access that the execution did.

@@ -5,7 +5,7 @@ mod fenced;
 
 use common::json::{fits, parse, Value};
 use common::{run_with, Ran};
-use fenced::{random, End};
+use fenced::{asserted, random, End, Fenced};
 use std::collections::BTreeSet;
 use tarczolin_tests::files::read;
 use tarczolin_tests::random::Random;
@@ -40,7 +40,13 @@ fn store_buffering() {
     for words in [&["list", "-"][..], &["show", "-"], &["count", "-", "--classes"], &["outcomes", "-"], &["cuts", "-", "2"]] {
         assert_eq!(run_with(words, BUFFERED.as_bytes()).out, run_with(words, bare.as_bytes()).out, "{words:?}");
     }
-    assert!(run_with(&["force", "-", "--hostile", "a"], BUFFERED.as_bytes()).err.contains("2 fences are left out"));
+    for words in [&["force", "-", "--hostile", "a"][..], &["check", "-", "--model", "sc"], &["covers", "-", "examples/whole.hex"]]
+    {
+        assert!(run_with(words, BUFFERED.as_bytes()).err.contains("2 fences are left out"), "{words:?}");
+    }
+    for words in [&["check", "-"][..], &["disasm", "-"], &["export-litmus", "-"], &["asm", "-"]] {
+        assert_eq!(run_with(words, BUFFERED.as_bytes()).err, "", "it is not run, and nothing is left out: {words:?}");
+    }
     let shown = under("tso", &["show", "-", "0010000001110101"], BUFFERED).out;
     assert!(shown.contains("#1   a  fence\n#2   a  load y -> n = 0             initial\n"), "{shown}");
     assert!(shown.ends_with("memory     x = 1, y = 1\nregisters  a.n = 0, b.n = 1\n"), "{shown}");
@@ -100,18 +106,37 @@ fn narrowed(all: BTreeSet<Told>, names: &Told) -> BTreeSet<Told> {
 /// location and register that the program names; and those of the program file that is made of it, with its remarks and without.
 #[test]
 fn nothing_can_tell_a_fence() {
-    let mut random_numbers = Random::new(0xfe9ce);
+    let mut numbers = Random::new(0xfe9ce);
+    let programs = (0..share::of(250)).map(|_| random(&mut numbers));
+    let (compared, without, fences) = all_compared(programs);
+    assert!(!share::whole() || (compared > 120 && without > 5 && fences > 200), "{compared} {without} {fences}");
+}
+
+/// A failed assertion ends a thread, and its registers are told as they are then: a register that is given a value behind the assertion only
+/// is not free in front of it.
+#[test]
+fn nor_behind_a_failed_assertion() {
+    let text = "thread\n  r0 = 5\n  r1 = 6\n  r2 = 7\n  r3 = 8\n  fence\n  assert r0 == 0\n  r3 = 1\n";
+    let ran = under("tso", &["outcomes", "-"], text);
+    assert!(ran.status == 2 && ran.err.contains(":6:3: a fence needs a register"), "{}{}", ran.out, ran.err);
+    let given = text.replace("  assert", "  r2 = 9\n  assert");
+    let ran = under("tso", &["outcomes", "-"], &given);
+    assert!(ran.status == 1 && ran.out.contains("T0.r2 = 9") && ran.out.contains("T0.r3 = 8"), "{}{}", ran.out, ran.err);
+    let mut numbers = Random::new(0xa55e);
+    let programs = (0..share::of(120)).map(|_| asserted(&mut numbers));
+    let (compared, without, fences) = all_compared(programs);
+    assert!(!share::whole() || (compared > 30 && without > 20 && fences > 30), "{compared} {without} {fences}");
+}
+
+/// Compares these, and says how many were compared, how many had no register for a fence, and how many fences the first ones had.
+fn all_compared(programs: impl Iterator<Item = Fenced>) -> (usize, usize, usize) {
     let (mut compared, mut without, mut fences) = (0, 0, 0);
-    for _ in 0..share::of(250) {
-        let program = random(&mut random_numbers);
+    for program in programs {
         let text = program.text();
         let ran = under("tso", &["outcomes", "-", "--json"], &text);
         if ran.status == 2 {
-            assert!(
-                ran.err.contains("a fence needs a register") && ran.err.contains("none is left: all 4 are used"),
-                "{}",
-                ran.err
-            );
+            let said = ran.err.contains("a fence needs a register") && ran.err.contains("none is left: all 4 are used");
+            assert!(said, "{}", ran.err);
             without += 1;
             continue;
         }
@@ -129,7 +154,7 @@ fn nothing_can_tell_a_fence() {
         compared += 1;
         fences += text.matches("fence").count();
     }
-    assert!(!share::whole() || (compared > 120 && without > 5 && fences > 200), "{compared} {without} {fences}");
+    (compared, without, fences)
 }
 
 /// What one fence becomes: the frame in the program file.
@@ -217,6 +242,17 @@ fn skips_over_fences() {
     let remarked = under("sc", &["asm", "--remarks", "-"], text).out;
     let remark = "# a fence is left out here: under sequential consistency it means nothing\n";
     assert!(remarked.contains(&format!("01\n{remark}20010000000001\n{remark}10010100000001\n")), "{remarked}");
+}
+
+/// What a program uses: its fences take instructions and accesses, which sequential consistency alone does without.
+#[test]
+fn what_is_used() {
+    let used = |words: &[&str]| run_with(&[&["check", "-"], words].concat(), BUFFERED.as_bytes()).out;
+    let with = "accepted: 2 of 6 threads, 3 of 16 instructions in the longest, 6 of 24 accesses (16 under --model tso), 2 of 8 locations, 1 of 4 registers\n";
+    assert_eq!([used(&[]), used(&["--model", "tso"])], [with, with]);
+    assert_eq!(used(&["--model", "sc"]), with.replace("3 of 16", "2 of 16").replace("6 of 24", "4 of 24"));
+    let file = run_with(&["asm", "--remarks", "-"], BUFFERED.as_bytes()).out;
+    assert_eq!(run_with(&["check", "-"], file.as_bytes()).out, with);
 }
 
 /// To a program file and back: by its line in the remarks a fence is shown as one. Without it, it is the fetch and add that it became.

@@ -260,6 +260,19 @@ fn any_text() {
     assert!(import(&long).is_err_and(|marks| marks.iter().any(|mark| mark.message.contains("at most 16 instructions"))));
 }
 
+/// A condition of many brackets, or of many `~`, is an error with its place.
+#[test]
+fn deep_conditions() {
+    for [open, close] in [["(", ")"], ["~(", ")"], ["~", ""]] {
+        let condition = format!("exists {}x=1{}", open.repeat(20_000), close.repeat(20_000));
+        let ran = run_with(&["import-litmus", "-"], test("A", "P0; MOV [x],$1", &condition).as_bytes());
+        assert_eq!((ran.status, ran.out.as_str()), (2, ""), "{}", ran.err.len());
+        assert!(ran.err.starts_with("tarczolin: standard input:11:8: more than 100 "), "{}", &ran.err[..ran.err.len().min(200)]);
+    }
+    let condition = format!("exists {}x=1{}", "(".repeat(90), ")".repeat(90));
+    assert_eq!(run_with(&["import-litmus", "-"], test("A", "P0; MOV [x],$1", &condition).as_bytes()).status, 0);
+}
+
 /// Exported and imported, a program has the same list.
 #[test]
 fn there_and_back() {

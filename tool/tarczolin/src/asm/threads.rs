@@ -13,6 +13,7 @@ use std::collections::BTreeMap;
 
 /// A thread: the statement that opens it, its instructions, its registers' names.
 struct Thread<'a> {
+    number: usize,
     opens: &'a Statement,
     made: Vec<Made<'a>>,
     registers: BTreeMap<String, u8>,
@@ -61,7 +62,7 @@ impl<'a> Threads<'a> {
             let scope = Scope::of(symbols, t, &code, wrong);
             let made = instructions(&scope.code(wrong), model != Some(Model::Sc));
             let unused_labels = scope.unused_labels();
-            threads.push(Thread { opens, made, registers: scope.registers, unused_labels });
+            threads.push(Thread { number: t, opens, made, registers: scope.registers, unused_labels });
         }
         let mut made: Vec<&mut Vec<Made>> = threads.iter_mut().map(|thread| &mut thread.made).collect();
         fence::choose(&mut made, wrong);
@@ -128,7 +129,7 @@ impl<'a> Threads<'a> {
 impl Thread<'_> {
     fn names(&self) -> ThreadNames {
         let name = match &self.opens.kind {
-            Kind::Thread(Some(name)) => Some(name.text.clone()),
+            Kind::Thread(Some(name)) if !words::is_default(&name.text, self.number) => Some(name.text.clone()),
             _ => None,
         };
         let mut registers = [const { None }; 4];

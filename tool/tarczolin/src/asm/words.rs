@@ -27,6 +27,11 @@ pub fn thread(word: &str) -> Option<u8> {
     lettered(word, 'T').unwrap_or(word).parse().ok()
 }
 
+/// Is it what the thread of this number is called where it has no name?
+pub fn is_default(word: &str, number: usize) -> bool {
+    lettered(word, 'T') == Some(&number.to_string())
+}
+
 /// Is it a name: letters, digits and lines below, and no letter with digits that means something else?
 pub fn is_name(word: &str) -> bool {
     let begins = word.starts_with(|c: char| c.is_ascii_alphabetic() || c == '_');

@@ -2,8 +2,9 @@
 use super::arguments::Arguments;
 use super::models::only_model;
 use super::reply::{each, Question};
+use crate::called::called;
 use crate::end::End;
-use crate::error::{called, Error};
+use crate::error::Error;
 use crate::model::Model;
 use crate::{ask, asm, input, program, refusal};
 
@@ -18,13 +19,13 @@ fn assembled(question: &Question, remarks: bool, model: Option<Model>) -> Result
     let name = called(question.file);
     if ask::check(&text).is_ok() && program::frames(&text).is_some_and(|frames| !frames.is_empty()) {
         let message = "this is a program file already; disasm makes a text of it".to_string();
-        return Err(Error::Unfit { name: name.to_string(), message });
+        return Err(Error::Unfit { name, message });
     }
-    let made = asm::assemble_for(&text, model).map_err(|marks| Error::Text { name: name.to_string(), marks })?;
+    let made = asm::assemble_for(&text, model).map_err(|marks| Error::Text { name: name.clone(), marks })?;
     let accepted = ask::accepted(model.unwrap_or_default(), &made.file);
-    accepted.map_err(|refused| refusal::of_program(question.file, &made.file, refused))?;
-    input::warn(name, made.warnings);
-    input::tell_left_out(name, made.left_out);
+    accepted.map_err(|refused| refusal::of_program(&name, &made.file, refused))?;
+    input::warn(&name, made.warnings);
+    question.noted(&name, &input::notes(made.left_out))?;
     let mut file = made.file;
     if remarks {
         let frames = program::frames(&file).expect("frames only");

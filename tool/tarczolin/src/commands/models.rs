@@ -23,9 +23,5 @@ pub fn only_model(arguments: &Arguments) -> Result<Option<Model>, Error> {
 
 /// The model that is asked for; sequential consistency where none is.
 pub fn model(arguments: &Arguments) -> Result<Model, Error> {
-    match arguments.option(MODEL.name) {
-        None | Some("sc") => Ok(Model::Sc),
-        Some("tso") => Ok(Model::Tso),
-        Some(other) => Err(Error::usage(format!("--model takes the word sc or tso, not {other}"))),
-    }
+    arguments.one_of(MODEL.name, &[("sc", Model::Sc), ("tso", Model::Tso)], Model::Sc)
 }

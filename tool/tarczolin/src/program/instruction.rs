@@ -62,6 +62,17 @@ impl Instruction {
         }
     }
 
+    /// The same at another location, where it is an access.
+    pub fn moved(self, to: impl Fn(u8) -> u8) -> Instruction {
+        match self {
+            Store { l, p } => Store { l: to(l), p },
+            Load { r, l } => Load { r, l: to(l) },
+            FetchAdd { r, l, p } => FetchAdd { r, l: to(l), p },
+            CompareSwap { r, l, e, v } => CompareSwap { r, l: to(l), e, v },
+            Set { .. } | Add { .. } | SkipUnless { .. } | Assert { .. } => self,
+        }
+    }
+
     /// The registers that it names.
     pub fn registers(&self) -> Vec<u8> {
         let (own, operands) = match *self {

@@ -3,6 +3,7 @@ mod frame;
 mod instruction;
 mod limits;
 mod names;
+mod used;
 
 use crate::model::Model;
 use std::collections::BTreeSet;
@@ -10,7 +11,8 @@ use std::collections::BTreeSet;
 pub use frame::Frame;
 pub use instruction::{number, Comparison, Instruction, Operand};
 pub use limits::*;
-pub use names::{Names, ThreadNames, FENCE};
+pub use names::{Called, Names, ThreadNames, FENCE};
+pub use used::Used;
 
 /// The code of each thread, the threads that each `02` line declares alike, what each `03` line lets a location start with, and the names
 /// of the text form.
@@ -79,6 +81,20 @@ impl Program {
     pub fn locations(&self) -> BTreeSet<u8> {
         let started = self.starts.iter().map(|(l, _)| *l);
         self.numbers().flat_map(|t| self.meant(t)).filter_map(Instruction::location).chain(started).collect()
+    }
+
+    /// How much it uses of what there is.
+    pub fn used(&self) -> Used {
+        let longest = self.threads.iter().map(Vec::len).max();
+        let accesses = self.threads.iter().flatten().filter(|instruction| instruction.access().is_some());
+        let registers = self.numbers().map(|t| self.registers(t).len()).max();
+        Used {
+            threads: self.threads.len(),
+            instructions: longest.unwrap_or(0),
+            accesses: accesses.count(),
+            locations: self.locations().len(),
+            registers: registers.unwrap_or(0),
+        }
     }
 
     /// The registers that a thread's code names, ascending; what a fence changes is no matter of the program.

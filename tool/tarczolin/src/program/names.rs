@@ -6,10 +6,13 @@ use Instruction::*;
 /// The statement of an instruction that is a fence.
 pub const FENCE: &str = "fence";
 
+/// What the locations are called, by their numbers, where they have names.
+pub type Called = [Option<String>; LOCATIONS as usize];
+
 /// Names, where there are any: `x3`, `T1` and `r0` stand in place of those that are missing.
 #[derive(Clone, Debug, Default, PartialEq, Eq)]
 pub struct Names {
-    pub locations: [Option<String>; LOCATIONS as usize],
+    pub locations: Called,
     pub threads: Vec<ThreadNames>,
 }
 

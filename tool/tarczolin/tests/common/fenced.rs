@@ -82,6 +82,23 @@ pub fn random(random: &mut Random) -> Fenced {
     Fenced { threads: (0..threads).map(|t| of(t, random)).collect(), starts }
 }
 
+/// A program whose first thread gives every register a value that memory never holds, then mixes fences, loads, assertions that mostly fail
+/// and new values for registers: by what the registers hold at its end it shows a fence that took one too early.
+pub fn asserted(random: &mut Random) -> Fenced {
+    let mut code: Vec<Op> = (0..4).map(|r| Op::Set(r, P::Number(40 + r as u32))).collect();
+    for _ in 0..random.between(4, 8) {
+        let r = random.below(4);
+        code.push(match random.below(6) {
+            0 | 1 => Op::Fence,
+            2 => Op::Load(r, 0),
+            3 => Op::Assert(r, P::Number(random.below(2) as u32)),
+            _ => Op::Set(r, P::Number(50)),
+        });
+    }
+    code.push(Op::Set(random.below(4), P::Number(60)));
+    Fenced { threads: vec![code, vec![Op::Store(0, P::Number(1)), Op::Load(0, 1)]], starts: [0; 8] }
+}
+
 impl P {
     fn text(self) -> String {
         match self {
