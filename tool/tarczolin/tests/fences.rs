@@ -122,6 +122,12 @@ fn nor_behind_a_failed_assertion() {
     let given = text.replace("  assert", "  r2 = 9\n  assert");
     let ran = under("tso", &["outcomes", "-"], &given);
     assert!(ran.status == 1 && ran.out.contains("T0.r2 = 9") && ran.out.contains("T0.r3 = 8"), "{}{}", ran.out, ran.err);
+}
+
+/// Random programs that mostly fail behind a fence, compared as the others: the program file without remarks shows what a fence did to its
+/// register.
+#[test]
+fn nothing_can_tell_a_fence_where_threads_fail() {
     let mut numbers = Random::new(0xa55e);
     let programs = (0..share::of(120)).map(|_| asserted(&mut numbers));
     let (compared, without, fences) = all_compared(programs);
