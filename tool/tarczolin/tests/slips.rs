@@ -46,8 +46,11 @@ fn statements_of_other_languages() {
     let front = ":2:7: behind = stands a number, a register, load, fetch_add or cas, not";
     said(&["check", "-"], b"thread\n  a = xchg x 1\n", &format!("{front} xchg with operands\n"));
     said(&["check", "-"], b"thread\n  a = lod x\n", &format!("{front} lod with operands; is it load?\n"));
-    for fence in ["mfence", "sfence", "lfence"] {
-        let wanted = format!(":2:3: a statement does not begin with {fence}; the fence of the text form is fence\n");
+    let wanted = ":2:3: a statement does not begin with mfence; the fence of the text form is fence\n";
+    said(&["check", "-"], b"thread\n  mfence\n", wanted);
+    for (fence, kept) in [("lfence", "loads"), ("sfence", "stores")] {
+        let wanted =
+            format!(":2:3: there is no {fence}, leave it out: x86 keeps the order of {kept} without it; fence is MFENCE\n");
         said(&["check", "-"], format!("thread\n  {fence}\n").as_bytes(), &wanted);
     }
     let named = b"thread T0\n  store x 1\nthread T1\n  store x 1\nalike T0 T1\n";

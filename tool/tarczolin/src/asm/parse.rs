@@ -233,7 +233,10 @@ fn taken_away<'a>(first: Token<'a>, rest: &[Token]) -> Option<&'a str> {
 /// A statement that begins with an unknown word.
 fn unknown(word: &str) -> String {
     match (word, near(word, KEYWORDS)) {
-        ("mfence" | "lfence" | "sfence", _) => format!("a statement does not begin with {word}; the fence of the text form is fence"),
+        ("mfence", _) => format!("a statement does not begin with {word}; the fence of the text form is fence"),
+        // never fence in their place: it forbids more than they do
+        ("lfence", _) => format!("there is no {word}, leave it out: x86 keeps the order of loads without it; fence is MFENCE"),
+        ("sfence", _) => format!("there is no {word}, leave it out: x86 keeps the order of stores without it; fence is MFENCE"),
         ("load" | "fetch_add" | "cas", _) => format!("{word} needs a register for the old value: r0 = {word} .."),
         (_, Some(known)) => format!("a statement does not begin with {word}; is it {known}?"),
         _ => format!(

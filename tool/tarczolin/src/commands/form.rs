@@ -8,7 +8,7 @@ pub const STATEMENTS: [(&str, &str); 18] = [
     ("n = load tail", "n becomes what tail holds"),
     ("n = fetch_add tail 1", "n becomes what tail holds, and tail one more"),
     ("n = cas tail 0 1", "n becomes what tail holds; where that is 0, tail becomes 1"),
-    ("fence", "MFENCE of x86: every store above it in its thread reaches memory before anything behind it steps"),
+    ("fence", "MFENCE: stores above it in its thread reach memory before anything behind it steps"),
     ("n = 1", "a register becomes a number, or what another one holds"),
     ("n += -1", "a number or a register is added to a register"),
     ("if n != 1 skip 2", "where n is not 1 the next two statements are left out; also ==, <=, >, < and >="),
