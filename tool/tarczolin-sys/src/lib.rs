@@ -14,7 +14,7 @@ pub mod users;
 
 pub use answer::Answer;
 pub use caller::{Caller, Mark, FILE, MARKS, NAME};
-pub use closed::standard_output_was_closed;
+pub use closed::{standard_input_was_closed, standard_output_was_closed};
 pub use covers::Covers;
 pub use interrupt::{note_interrupts, was_interrupted};
 pub use served::Served;

@@ -52,13 +52,15 @@ pub fn check(file: &[u8]) -> Result<(), Refusal> {
     length(library::check(file)).map(|_| ())
 }
 
-/// The same for the listing of this model, which may take fewer accesses.
+/// The same for the listing of this model, which may take fewer accesses. Either is one call.
 pub fn accepted(model: Model, file: &[u8]) -> Result<(), Refusal> {
-    check(file)?;
-    match (model, tso::start(file, &mut [])) {
-        // with no output at all 22 refuses what the file does not
-        (Model::Tso, Answer::Refused(number, place)) if number != 22 => Err(Refusal { number, place }),
-        _ => Ok(()),
+    match model {
+        Model::Sc => check(file),
+        // with no output at all 22 refuses what the file does not, behind all that the file is refused by
+        Model::Tso => match tso::start(file, &mut []) {
+            Answer::Refused(number, place) if number != 22 => Err(Refusal { number, place }),
+            _ => Ok(()),
+        },
     }
 }
 

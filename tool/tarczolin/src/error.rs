@@ -20,7 +20,7 @@ pub enum Error {
     Text { name: String, marks: Vec<Mark> },
     /// A condition behind --where that does not fit the program of this file.
     Condition { name: String, message: String },
-    /// A litmus test or a program that does not fit the other form.
+    /// A litmus test or a program that does not fit the other form, or two programs that do not fit each other.
     Unfit { name: String, message: String },
     /// Ctrl-C, while a page or drawings were made: so much had been listed, and nothing is written.
     Interrupted(Counts),
@@ -57,15 +57,6 @@ pub struct Mark {
     pub column: usize,
     pub shown: String,
     pub message: String,
-}
-
-/// What a file is called in messages.
-pub fn called(name: &str) -> &str {
-    match name {
-        "-" => "standard input",
-        "" => "a file without a name",
-        _ => name,
-    }
 }
 
 impl Error {
@@ -116,7 +107,7 @@ impl fmt::Display for Error {
         match self {
             Error::Usage(message) => f.write_str(message),
             Error::Words => f.write_str("too few or too many words"),
-            Error::File { name, cause } => write!(f, "{}: {cause}", called(name)),
+            Error::File { name, cause } => write!(f, "{name}: {cause}"),
             Error::TooLong { name, most } => write!(f, "{name}: the text is longer than {most} bytes, and no more are read"),
             Error::Refused(refused) => refused.fmt(f),
             Error::Text { name, marks } => {

@@ -2,7 +2,7 @@
 use crate::ask::{self, Listed, Refusal};
 use crate::graph::{Event, Graph};
 use crate::machine::{Done, Failure, Machine, Queue};
-use crate::program::{number, Comparison, Instruction, Operand, Program};
+use crate::program::{number, Comparison, Instruction, Operand, Program, FENCE};
 use crate::schedule::Schedule;
 use std::collections::BTreeMap;
 
@@ -48,7 +48,7 @@ impl<'a> Execution<'a> {
 
     /// Any full schedule. The values are replayed; the sources are those of the library's graph, and the replay must fit them.
     pub fn replayed(file: &[u8], program: &'a Program, schedule: &[u8]) -> Result<Execution<'a>, Refusal> {
-        let graph = Graph::of_text(&ask::graph(program.model, file, schedule)?);
+        let mut graph = Graph::of_text(&ask::graph(program.model, file, schedule)?);
         let executions = ask::class(program.model, file, schedule)?;
         let starting = program.memory();
         let mut machine = Machine::new(program);
@@ -65,8 +65,9 @@ impl<'a> Execution<'a> {
                 source.map_or(Source::Initial, write)
             });
             left.insert(done.event, done);
-            steps.push(Step { done, source });
+            steps.push(Step { done, source: source.filter(|_| !done.fence) });
         }
+        graph.reads.retain(|event, _| !left[event].fence);
         let (memory, registers) = machine.values();
         let (schedule, fails) = (schedule.iter().copied().collect(), machine.fails());
         Ok(Execution { program, position: None, schedule, at_once, steps, graph, fails, executions, memory, registers })
@@ -80,7 +81,7 @@ impl<'a> Execution<'a> {
 
     /// What it is called on a page: its place in the list, or its schedule.
     pub fn name(&self) -> String {
-        self.position.map_or(self.schedule.to_string(), |position| position.to_string())
+        self.position.map_or(self.schedule.told(), |position| position.to_string())
     }
 
     /// The location of an access that the execution did.
@@ -111,6 +112,7 @@ impl<'a> Execution<'a> {
         let found = number(done.found.unwrap_or(0));
         let register = |r| names.register(done.event.t, r);
         match (done.instruction, done.left) {
+            _ if done.fence => FENCE.to_string(),
             (Instruction::Load { r, .. }, _) => format!("load {l} -> {} = {found}", register(r)),
             (Instruction::FetchAdd { r, .. }, Some(left)) => {
                 format!("fetch_add {l} {first} -> {} = {found}, {l} = {}", register(r), number(left))

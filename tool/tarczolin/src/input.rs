@@ -1,10 +1,15 @@
-//! Files named on the command line; `-` is standard input. No more is read than can be of use.
+//! Files named on the command line; `-` is standard input. No more is read than can be of use, and nothing is read twice.
 use crate::asm::{self, Assembled, Remarks};
-use crate::error::{called, Error, Mark};
+use crate::called::called;
+use crate::error::{Error, Mark};
+use crate::model::Model;
+use crate::output;
 use crate::program::{Names, FILE_LIMIT};
+use std::ffi::OsStr;
 use std::fs::{File, Metadata};
-use std::io::{self, Read};
+use std::io::{self, Read, Stdin};
 use std::os::fd::AsFd;
+use std::os::unix::ffi::OsStrExt;
 use std::os::unix::fs::MetadataExt;
 
 /// At most so many bytes are read of a graph text, of a schedule and of a program in the text form.
@@ -17,73 +22,90 @@ pub struct Source {
     pub file: Vec<u8>,
     pub names: Names,
     pub remarks: Remarks,
+    /// What has to be known of how it was read.
+    pub notes: Vec<String>,
+    /// Whether the library accepts it is known already: it was asked where a text was made a file.
+    pub asked: bool,
 }
 
-/// The bytes of a file, at most so many.
-fn front(name: &str, most: usize) -> Result<Vec<u8>, Error> {
-    let mut bytes = Vec::new();
-    let read = match name {
-        "-" => io::stdin().take(most as u64).read_to_end(&mut bytes),
-        _ => File::open(name).and_then(|file| file.take(most as u64).read_to_end(&mut bytes)),
-    };
-    match read {
-        Ok(_) => Ok(bytes),
-        Err(cause) => Err(Error::File { name: called(name).to_string(), cause }),
+/// Standard input, where it is open: one that was closed from the start is no empty file.
+pub fn standard() -> io::Result<Stdin> {
+    if tarczolin_sys::standard_input_was_closed() {
+        return Err(io::Error::other("it is closed; there is nothing to read"));
     }
+    Ok(io::stdin())
+}
+
+/// A file that is read from its beginning.
+fn opened(name: &OsStr) -> Result<Box<dyn Read>, Error> {
+    let opened = match name.as_bytes() {
+        b"-" => standard().map(|input| Box::new(input) as Box<dyn Read>),
+        _ => File::open(name).map(|file| Box::new(file) as Box<dyn Read>),
+    };
+    opened.map_err(|cause| Error::File { name: called(name), cause })
+}
+
+/// Reads on behind these bytes, until there are so many of them.
+fn read_on(name: &OsStr, reader: &mut dyn Read, bytes: &mut Vec<u8>, most: usize) -> Result<(), Error> {
+    let read = reader.take((most - bytes.len()) as u64).read_to_end(bytes);
+    read.map(|_| ()).map_err(|cause| Error::File { name: called(name), cause })
 }
 
 /// A program, as a program file or in the text form: that is told by the name's end, or by how the content begins. Of a
 /// program file that is too long only so much is read as shows that to the library.
-pub fn program(name: &str) -> Result<Source, Error> {
-    let file = front(name, FILE_LIMIT + 1)?;
-    let called = called(name).to_string();
-    if !name.ends_with(".asm") && !asm::is_text(&file) {
-        let remarks = Remarks::of_file(&file);
-        return Ok(Source { name: called, file, names: remarks.names(), remarks });
+///
+/// A text is read for one memory model, or for both: what is run under sequential consistency has no fences.
+pub fn program(name: &OsStr, model: Option<Model>) -> Result<Source, Error> {
+    let (mut reader, mut file) = (opened(name)?, Vec::new());
+    read_on(name, &mut *reader, &mut file, FILE_LIMIT + 1)?;
+    let known = called(name);
+    if !name.as_bytes().ends_with(b".asm") && !asm::is_text(&file) {
+        let (names, remarks) = asm::named(&file);
+        return Ok(Source { name: known, file, names, remarks, notes: Vec::new(), asked: false });
     }
-    let text = rest(name, file)?;
-    let Assembled { file, names, remarks, warnings } =
-        asm::assemble(&text).map_err(|marks| Error::Text { name: called.clone(), marks })?;
-    warn(&called, warnings);
-    Ok(Source { name: called, file, names, remarks })
+    read_on(name, &mut *reader, &mut file, TEXT_LIMIT + 1)?;
+    let text = limited(name, file)?;
+    let made = asm::assemble_for(&text, model).map_err(|marks| Error::Text { name: known.clone(), marks })?;
+    let Assembled { file, names, remarks, warnings, left_out } = made;
+    warn(&known, warnings);
+    Ok(Source { name: known, file, names, remarks, notes: notes(left_out), asked: true })
 }
 
 /// Tells on standard error what looks like a slip.
 pub fn warn(name: &str, warnings: Vec<Mark>) {
     for mut warning in warnings {
         warning.message = format!("warning: {}", warning.message);
-        eprintln!("tarczolin: {}", warning.told(name));
+        output::tell(&warning.told(name));
     }
 }
 
-/// The whole of a text of which a part has been read.
-fn rest(name: &str, mut front_part: Vec<u8>) -> Result<Vec<u8>, Error> {
-    if front_part.len() <= FILE_LIMIT {
-        return Ok(front_part);
+/// What has to be known of a text of which so many fences are left out, and why they may be.
+pub fn notes(left_out: usize) -> Vec<String> {
+    match left_out {
+        0 => Vec::new(),
+        1 => vec!["1 fence is left out: under sequential consistency it means nothing".to_string()],
+        _ => vec![format!("{left_out} fences are left out: under sequential consistency they mean nothing")],
     }
-    if name != "-" {
-        return text(name);
-    }
-    front_part.extend(front(name, TEXT_LIMIT + 1 - front_part.len())?);
-    limited(name, front_part)
 }
 
 /// A graph text, a schedule, or a program in the text form.
-pub fn text(name: &str) -> Result<Vec<u8>, Error> {
-    limited(name, front(name, TEXT_LIMIT + 1)?)
+pub fn text(name: &OsStr) -> Result<Vec<u8>, Error> {
+    let mut bytes = Vec::new();
+    read_on(name, &mut *opened(name)?, &mut bytes, TEXT_LIMIT + 1)?;
+    limited(name, bytes)
 }
 
-fn limited(name: &str, bytes: Vec<u8>) -> Result<Vec<u8>, Error> {
+fn limited(name: &OsStr, bytes: Vec<u8>) -> Result<Vec<u8>, Error> {
     if bytes.len() > TEXT_LIMIT {
-        return Err(Error::TooLong { name: called(name).to_string(), most: TEXT_LIMIT });
+        return Err(Error::TooLong { name: called(name), most: TEXT_LIMIT });
     }
     Ok(bytes)
 }
 
 /// Would writing to this path change the input? Another path, a link, or the file that standard input comes from.
-pub fn is_input(path: &str, name: &str) -> bool {
-    let input = match name {
-        "-" => io::stdin().as_fd().try_clone_to_owned().map(File::from).and_then(|file| file.metadata()),
+pub fn is_input(path: &OsStr, name: &OsStr) -> bool {
+    let input = match name.as_bytes() {
+        b"-" => io::stdin().as_fd().try_clone_to_owned().map(File::from).and_then(|file| file.metadata()),
         _ => std::fs::metadata(name),
     };
     let known = |at: Metadata| (at.dev(), at.ino());

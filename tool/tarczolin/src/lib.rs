@@ -2,8 +2,10 @@
 //!
 //! What is listed, counted, judged or refused is the library's answer. What this crate works out by itself, and nobody has
 //! proved, is what it shows beside an answer: values, words, columns, drawings.
+pub mod accepted;
 pub mod ask;
 pub mod asm;
+pub mod called;
 pub mod commands;
 pub mod dot;
 pub mod end;
@@ -17,6 +19,7 @@ pub mod jobs;
 pub mod json;
 pub mod litmus;
 pub mod machine;
+pub mod matching;
 pub mod model;
 pub mod near;
 pub mod outcome;

@@ -42,6 +42,8 @@ pub struct Done {
     /// The assertion behind it that failed.
     pub failure: Option<Failure>,
     pub queue: Queue,
+    /// It is a fence: what it reads and where is no matter of the program.
+    pub fence: bool,
 }
 
 #[derive(Clone, Copy, Default)]
@@ -84,7 +86,8 @@ impl Thread {
     }
 
     /// Does the next access, which finds what its location looks like, and the instructions behind it.
-    fn access(&mut self, t: u8, code: &[Instruction], look: impl FnOnce(u8) -> u32) -> Done {
+    /// A fence leaves its register as it is: nothing of the program can tell what the library puts there.
+    fn access(&mut self, t: u8, code: &[Instruction], fence: bool, look: impl FnOnce(u8) -> u32) -> Done {
         let instruction = code[self.next];
         let event = Event { t, i: self.accesses };
         // operands are read before a register changes
@@ -102,7 +105,7 @@ impl Thread {
             CompareSwap { .. } => (old == operands[0]).then_some(operands[1]),
             _ => None,
         };
-        if let Some(r) = r {
+        if let Some(r) = r.filter(|_| !fence) {
             self.registers[r as usize] = old;
         }
         self.accesses += 1;
@@ -117,6 +120,7 @@ impl Thread {
             operands,
             failure: self.failure,
             queue: Queue::Aside,
+            fence,
         }
     }
 }
@@ -176,7 +180,9 @@ impl<'a> Machine<'a> {
         }
         let newest = |l: u8| queue.iter().rev().find(|pending| pending.location == l).and_then(|pending| pending.left);
         let look = |l: u8| newest(l).unwrap_or(memory[l as usize]);
-        let mut done = self.threads[t as usize].access(t, &self.program.threads[t as usize], look);
+        let (thread, code) = (&mut self.threads[t as usize], &self.program.threads[t as usize]);
+        let fence = self.program.names.is_fence(t, thread.next);
+        let mut done = thread.access(t, code, fence, look);
         match (self.program.model, done.instruction, done.left) {
             (Model::Tso, Store { .. }, _) => {
                 done.queue = Queue::In;

@@ -13,9 +13,17 @@ pub enum Model {
 /// Under total store order the byte of a step that moves a store of thread t to memory is this plus t.
 pub const MOVE: u8 = 0x10;
 
+/// A program has at most so many threads.
+const THREADS: u8 = 6;
+
 /// The thread that a step byte is about.
 pub fn thread(byte: u8) -> u8 {
     byte % MOVE
+}
+
+/// Is this byte a step that moves a store of one of six threads to memory?
+pub fn is_move(byte: u8) -> bool {
+    (MOVE..MOVE + THREADS).contains(&byte)
 }
 
 impl Model {

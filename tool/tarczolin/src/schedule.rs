@@ -4,6 +4,9 @@ use std::fmt;
 use std::ops::Deref;
 use tarczolin_sys::tso::SCHEDULE;
 
+/// An empty schedule for the eye.
+pub const NO_STEP: &str = "(no step)";
+
 /// At most 24 steps, under total store order 48. Two are compared as lists, first difference first.
 #[derive(Clone, Copy)]
 pub struct Schedule {
@@ -24,6 +27,15 @@ impl Schedule {
         let mut steps = [0; SCHEDULE];
         steps[..front.len()].copy_from_slice(front);
         Schedule { steps, length: front.len() }
+    }
+
+    /// The schedule for the eye, where an empty line would say nothing.
+    pub fn told(&self) -> String {
+        if self.is_empty() {
+            NO_STEP.to_string()
+        } else {
+            self.to_string()
+        }
     }
 
     /// One more step behind the others.

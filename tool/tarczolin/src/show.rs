@@ -1,5 +1,6 @@
 //! An execution in two columns: on the left the steps, on the right the write that each read saw; below, the values at the end.
 use crate::execution::{Execution, Step};
+use crate::schedule::NO_STEP;
 use std::fmt::Write;
 
 /// How the left column is sorted.
@@ -15,7 +16,7 @@ pub enum By {
 pub fn header(execution: &Execution) -> String {
     let verdict = if execution.fails { "fails" } else { "does not fail" };
     let steps = execution.schedule.iter().map(|t| format!("{t:02x}")).collect::<Vec<_>>().join(" ");
-    let schedule = if steps.is_empty() { "(no step)" } else { &steps };
+    let schedule = if steps.is_empty() { NO_STEP } else { &steps };
     let position = execution.position.map_or("execution".to_string(), |position| format!("execution {position}"));
     let standing = execution.standing().map_or(String::new(), |standing| format!(", {standing}"));
     format!("{position}: schedule {schedule}, {verdict}{standing}")

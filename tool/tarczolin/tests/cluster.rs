@@ -122,4 +122,45 @@ fn join_sees_what_is_missing() {
     );
     let wrong = run(&["join", &short, &back]);
     assert!(wrong.status == 2 && wrong.err.contains("cut short"), "{}", wrong.err);
+    assert_eq!(run(&["join", &front, "-"]).out, "", "an empty piece is cut short");
+}
+
+/// Pieces that do not fit leave nothing behind, whether they come from files or from a pipe; those that fit are read again.
+#[test]
+fn join_writes_all_or_nothing() {
+    let folder = folder("cluster-whole");
+    let [front, back] = ["front", "back"].map(|name| folder.join(name).display().to_string());
+    let whole = run(&["list", "examples/whole.hex"]).out;
+    std::fs::write(&front, run(&["list", "examples/whole.hex", "--until", "000102"]).out).unwrap();
+    std::fs::write(&back, run(&["list", "examples/whole.hex", "--after", "000102"]).out).unwrap();
+    let pipe = std::fs::read(&back).unwrap();
+    assert_eq!(run_with(&["join", &front, "-"], &pipe).out, whole);
+    let line = run_with(&["join", &front, "-", "--json"], &pipe).out;
+    assert!(line.ends_with("{\"command\":\"join\",\"listed\":3,\"failing\":0}\n"), "{line}");
+    for words in [["join", &front, &front], ["join", "-", &front], ["join", &front, "examples/whole.hex"]] {
+        let wrong = run_with(&words, &pipe);
+        assert_eq!((wrong.status, wrong.out.as_str()), (2, ""), "{words:?}");
+        assert!(wrong.err.contains("does not go on with the list"), "{words:?}: {}", wrong.err);
+    }
+}
+
+/// Under total store order too the cuts make pieces of the whole list.
+#[test]
+fn cuts_under_total_store_order() {
+    let pair = "examples/store-load-pair.hex";
+    let folder = folder("cluster-tso");
+    let whole = run(&["list", pair, "--model", "tso"]).out;
+    let cuts = run(&["cuts", pair, "3", "--model", "tso"]).out;
+    let cuts: Vec<&str> = cuts.lines().collect();
+    assert_eq!(cuts.len(), 3);
+    let mut pieces = vec!["join".to_string()];
+    for (k, until) in cuts.iter().enumerate() {
+        let after = if k == 0 { vec![] } else { vec!["--after", cuts[k - 1]] };
+        let piece = run(&[&["list", pair, "--model", "tso", "--until", until], &after[..]].concat());
+        let path = folder.join(k.to_string());
+        std::fs::write(&path, piece.out).unwrap();
+        pieces.push(path.display().to_string());
+    }
+    assert_eq!(run(&pieces.iter().map(String::as_str).collect::<Vec<_>>()).out, whole);
+    assert!(run(&["cuts", "examples/accesses-24.hex", "3", "--model", "tso"]).err.contains("refusal 41: "));
 }

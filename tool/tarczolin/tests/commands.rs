@@ -24,7 +24,7 @@ fn list_of_the_whole_case() {
     answered(run_with(&["list", "-"], &read("examples/whole.hex")), 0, whole);
     answered(run(&["count", "examples/whole.hex"]), 0, "3 listed, 0 failing\n");
     answered(run(&["violation", "examples/whole.hex"]), 0, "none\n");
-    answered(run(&["check", "examples/whole.hex"]), 0, "accepted\n");
+    assert!(run(&["check", "examples/whole.hex"]).is_accepted());
 }
 
 #[test]
@@ -33,7 +33,19 @@ fn a_violation_gives_status_1() {
     answered(run(&["list", name]), 1, "50000001\n50010100\n5100000000000000020000000000000001\n");
     answered(run(&["count", name]), 1, "2 listed, 1 failing\n");
     answered(run(&["violation", name]), 1, "0100\n");
-    answered(run(&["check", name]), 0, "accepted\n");
+    assert!(run(&["check", name]).is_accepted());
+}
+
+/// What is used of what there is.
+#[test]
+fn check_tells_what_is_used() {
+    let wanted = "accepted: 3 of 6 threads, 8 of 16 instructions in the longest, 9 of 24 accesses (16 under --model tso), \
+                  3 of 8 locations, 2 of 4 registers\n";
+    answered(run(&["check", "examples/queue-broken.asm"]), 0, wanted);
+    let json = run(&["check", "--json", "examples/queue-broken.asm"]).out;
+    let used = "\"used\":{\"threads\":3,\"instructions\":8,\"accesses\":9,\"locations\":3,\"registers\":2}}\n";
+    assert!(json.ends_with(used), "{json}");
+    assert!(run_with(&["check", "-"], b"").out.starts_with("accepted: 0 of 6 threads, 0 of 16 instructions"));
 }
 
 /// Every example and every program of the papers that the brute-force lister walks in a moment.

@@ -39,8 +39,10 @@ fn what_stands_behind_hostile() {
         ran.err
     };
     assert!(err(&[]).contains("force needs --hostile THREADS"));
-    assert!(err(&["--hostile", "third"]).contains("and third is none"));
-    assert!(err(&["--hostile", "8"]).contains("and 8 is none"));
+    assert!(
+        err(&["--hostile", "third"]).contains("--hostile: there is no thread third; the program has T0, T1, numbered from 0\n")
+    );
+    assert!(err(&["--hostile", "8"]).contains("--hostile: there is no thread 8; the program has T0, T1, numbered from 0\n"));
     assert!(
         err(&["--hostile", "7,2"]).contains("refusal 48 at thread 2: there is no thread 2; the program has 2, numbered from 0")
     );

@@ -35,7 +35,7 @@ fn every_command_fits_the_schema() {
     let (graph, piece) = (graph.display().to_string(), piece.display().to_string());
     let no = b"400001ffff\n400101ffff\n41000000\n41010100\n";
     let pair = "examples/store-load-pair.hex";
-    let cases: [(&[&str], &[u8], i32, usize); 31] = [
+    let cases: [(&[&str], &[u8], i32, usize); 33] = [
         (&["list", QUEUE], b"", 1, 7),
         (&["count", QUEUE], b"", 1, 1),
         (&["count", QUEUE, "--jobs", "2"], b"", 1, 1),
@@ -47,7 +47,8 @@ fn every_command_fits_the_schema() {
         (&["outcomes", QUEUE], b"", 1, 7),
         (&["outcomes", QUEUE, "--where", "second.mine = 1"], b"", 1, 7),
         (&["covers", QUEUE, QUEUE], b"", 0, 1),
-        (&["covers", QUEUE, pair], b"", 1, 1),
+        (&["covers", QUEUE, pair], b"", 2, 1),
+        (&["covers", QUEUE, pair, "--by", "number"], b"", 1, 1),
         (&["covers", QUEUE, "-"], b"01\n110400\n", 2, 1),
         (&["show", QUEUE], b"", 1, 7),
         (&["show", QUEUE, "00000102020201"], b"", 1, 1),
@@ -60,6 +61,7 @@ fn every_command_fits_the_schema() {
         (&["judge", QUEUE, &graph], b"", 0, 1),
         (&["judge", pair, "-"], no, 1, 1),
         (&["cuts", QUEUE, "3"], b"", 0, 1),
+        (&["cuts", pair, "3", "--model", "tso"], b"", 0, 1),
         (&["join", &piece], b"", 1, 7),
         (&["users"], b"open 0 examples/empty-thread.hex\nask 0\nserve\nask 0\nserve\nserve\nask 1\ncount 0\nx\n", 2, 9),
         (&["disasm", QUEUE], b"", 0, 1),
@@ -76,6 +78,39 @@ fn every_command_fits_the_schema() {
     let has_json = |command: &&&Command| command.options.iter().any(|option| option.name == "--json");
     assert_eq!(commands, all().iter().filter(has_json).map(|command| command.name).collect(), "every command that has --json");
     assert!(held(&["judge", pair, "-"], b"400001ffff\n41000000\n41010100\n").1[0].get("why").is_some());
+}
+
+/// What words tell on standard error of fences that are left out is an object in front of the answers of its file.
+#[test]
+fn fences_that_are_left_out() {
+    let text = b"thread\n  store x0 1\n  fence\n  r0 = load x1\nthread\n  r0 = load x0\n";
+    let note = Value::List(vec![Value::Text("1 fence is left out: under sequential consistency it means nothing".to_string())]);
+    let cases: [(&[&str], usize); 9] = [
+        (&["list", "-"], 4),
+        (&["count", "-"], 2),
+        (&["violation", "-"], 2),
+        (&["force", "-", "--hostile", "0"], 2),
+        (&["outcomes", "-"], 4),
+        (&["show", "-", "000001"], 2),
+        (&["graph", "-", "000001"], 2),
+        (&["cuts", "-", "2"], 2),
+        (&["asm", "-", "--model", "sc"], 2),
+    ];
+    for (words, objects) in &cases {
+        let (_, found) = held(words, text);
+        assert_eq!((found.len(), found[0].get("notes")), (*objects, Some(&note)), "{words:?}: {found:?}");
+        assert!(found[1..].iter().all(|one| one.get("notes").is_none() && one.get("file") == found[0].get("file")), "{found:?}");
+    }
+    for words in [&["count", "-", "--model", "tso"][..], &["check", "-"], &["asm", "-"]] {
+        assert!(held(words, text).1.iter().all(|one| one.get("notes").is_none()), "{words:?}");
+    }
+    let path = folder("json-notes").join("fenced.asm");
+    std::fs::write(&path, text).unwrap();
+    let path = path.display().to_string();
+    let (_, found) = held(&["covers", &path, &path], b"");
+    assert_eq!(found.iter().map(|one| one.get("notes").is_some()).collect::<Vec<_>>(), [true, true, false]);
+    let (_, found) = held(&["users"], format!("open 0 {path}\nask 0\n").as_bytes());
+    assert_eq!((found.len(), found[0].get("notes"), found[0].get("line")), (3, Some(&note), Some(&Value::Number(1))));
 }
 
 /// The commands that answer by a text, beside disasm.

@@ -3,8 +3,10 @@ mod common;
 
 use common::{run_with, tool};
 use std::collections::BTreeMap;
-use std::io::Write;
+use std::io::{Read, Write};
 use std::process::{Command, Stdio};
+use std::sync::{Arc, Mutex};
+use std::thread::JoinHandle;
 use std::time::Duration;
 use tarczolin_tests::files::{lines, text};
 use tarczolin_tests::random::program::{frames, SMALL};
@@ -17,13 +19,42 @@ fn long() -> Vec<u8> {
     lines(&format!("01 {} 01 {loads} 01 {loads}", "10000000000001 ".repeat(8)))
 }
 
-/// What a command had told when it was interrupted after a while.
-fn interrupted(words: &[&str]) -> (Option<i32>, String, String) {
-    interrupted_with("50", words)
+/// Six threads of four stores to one location: nobody sees the end of 24!/(4!)^6.
+fn endless() -> Vec<u8> {
+    lines(&format!("01 {}", "10000000000001 ".repeat(4)).repeat(6))
 }
 
-/// The same with another progress than a line every 50 milliseconds.
-fn interrupted_with(progress: &str, words: &[&str]) -> (Option<i32>, String, String) {
+/// What a command had told when it was interrupted after a while.
+fn interrupted(words: &[&str]) -> (Option<i32>, String, String) {
+    interrupted_with("50", words, &long())
+}
+
+/// What has come of a stream so far, and the thread that reads it to its end.
+type Reading = (Arc<Mutex<Vec<u8>>>, JoinHandle<()>);
+
+fn reading(mut stream: impl Read + Send + 'static) -> Reading {
+    let all = Arc::new(Mutex::new(Vec::new()));
+    let so_far = all.clone();
+    let reader = std::thread::spawn(move || {
+        let mut some = [0; 1 << 16];
+        while let Ok(length @ 1..) = stream.read(&mut some) {
+            so_far.lock().unwrap().extend(&some[..length]);
+        }
+    });
+    (all, reader)
+}
+
+/// Does this process catch Ctrl-C?
+fn catches(id: u32) -> bool {
+    let status = std::fs::read_to_string(format!("/proc/{id}/status")).unwrap_or_default();
+    let caught = status.lines().find_map(|line| line.strip_prefix("SigCgt:")).map(str::trim);
+    caught.is_some_and(|mask| u64::from_str_radix(mask, 16).unwrap() & 1 << (2 - 1) != 0)
+}
+
+/// The same of another program, with another progress than a line every 50 milliseconds. On a busy machine the while is as long as it takes
+/// the command to come so far that there is something to tell: it catches Ctrl-C, save where it is one call, and has told what it tells on
+/// its way. After half a minute it is interrupted in any case.
+fn interrupted_with(progress: &str, words: &[&str], file: &[u8]) -> (Option<i32>, String, String) {
     let mut child = tool(words)
         .env("TARCZOLIN_PROGRESS", progress)
         .stdin(Stdio::piped())
@@ -31,14 +62,28 @@ fn interrupted_with(progress: &str, words: &[&str]) -> (Option<i32>, String, Str
         .stderr(Stdio::piped())
         .spawn()
         .unwrap();
-    child.stdin.take().unwrap().write_all(&long()).unwrap();
-    let id = child.id().to_string();
-    let waiter = std::thread::spawn(move || child.wait_with_output().unwrap());
+    child.stdin.take().unwrap().write_all(file).unwrap();
+    let (out, out_reader) = reading(child.stdout.take().unwrap());
+    let (err, err_reader) = reading(child.stderr.take().unwrap());
+    let one_job = matches!(words[0], "count" | "violation");
+    let begun = || {
+        let lines = err.lock().unwrap().iter().filter(|&&c| c == b'\n').count();
+        (catches(child.id()) || (one_job && progress == "off"))
+            && (words[0] != "list" || !out.lock().unwrap().is_empty())
+            && (progress != "50" || lines > 4 || !(one_job || words[0] == "list"))
+    };
     std::thread::sleep(Duration::from_millis(700));
-    assert!(Command::new("kill").args(["-INT", &id]).status().unwrap().success());
-    let output = waiter.join().unwrap();
-    let text = |bytes| String::from_utf8(bytes).unwrap();
-    (output.status.code(), text(output.stdout), text(output.stderr))
+    for _ in 0..600 {
+        if begun() {
+            break;
+        }
+        std::thread::sleep(Duration::from_millis(50));
+    }
+    assert!(Command::new("kill").args(["-INT", &child.id().to_string()]).status().unwrap().success());
+    let status = child.wait().unwrap();
+    [out_reader, err_reader].into_iter().for_each(|reader| reader.join().unwrap());
+    let text = |bytes: Arc<Mutex<Vec<u8>>>| String::from_utf8(bytes.lock().unwrap().clone()).unwrap();
+    (status.code(), text(out), text(err))
 }
 
 /// The counts so far, the schedule to go on from, and lines of progress before.
@@ -107,6 +152,7 @@ fn interrupted_count_and_outcomes() {
     assert!(out.ends_with(" listed, 0 failing\n") && err.contains("interrupted: "), "{out}{err}");
     let (status, _, err) = interrupted(&["outcomes", "-", "--json"]);
     assert!(status == Some(2) && err.contains("interrupted: "), "{err}");
+    assert!(err.ends_with(" listed, 0 failing so far\n"), "outcomes has no --after to go on by: {err}");
 }
 
 /// By one job too `count` and `violation` tell how far they are, and Ctrl-C tells the counts so far.
@@ -123,13 +169,28 @@ fn progress_of_one_job() {
     }
 }
 
+/// Before the first line of progress too.
+#[test]
+fn interrupted_before_any_progress() {
+    for (words, further) in [(["count", "-"], "; go on with --after 0"), (["violation", "-"], "; go on with list --after 0")] {
+        let (status, out, err) = interrupted_with("60000", &words, &long());
+        assert_eq!((status, err.lines().count()), (Some(2), 1), "{words:?}: {err}");
+        assert!(
+            err.contains("interrupted: ") && err.contains(" listed, 0 failing so far") && err.contains(further),
+            "{words:?}: {err}"
+        );
+        assert_eq!(out.is_empty(), words[0] == "violation", "{out}");
+    }
+}
+
 /// With progress off they are one call of the library, which tells nothing and ends by the signal.
 #[test]
 fn one_long_call() {
     for command in ["count", "violation"] {
-        assert_eq!(interrupted_with("off", &[command, "-"]), (None, String::new(), String::new()), "{command}");
+        let ended = interrupted_with("off", &[command, "-"], &endless());
+        assert_eq!(ended, (None, String::new(), String::new()), "{command}");
     }
-    let (status, _, err) = interrupted_with("off", &["list", "-"]);
+    let (status, _, err) = interrupted_with("off", &["list", "-"], &endless());
     assert!(status == Some(2) && err.lines().count() == 1 && err.contains("interrupted: "), "{err}");
 }
 

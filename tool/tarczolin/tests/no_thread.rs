@@ -10,15 +10,31 @@ fn answered(ran: Ran, out: &str) {
     assert_eq!(ran, Ran { status: 0, out: out.to_string(), err: String::new() });
 }
 
+/// Where a person reads it, an empty schedule is written out; it can be given back so.
+#[test]
+fn the_empty_schedule_in_words() {
+    let failing = b"01\n23000000000001\n";
+    assert_eq!(run_with(&["violation", "-"], failing).out, "(no step)\n");
+    assert!(run_with(&["violation", "-", "--json"], failing).out.contains("\"violation\":\"\""));
+    assert_eq!(run_with(&["judge", FILE, "-"], b"").out, "yes (no step)\n");
+    for words in [&["(no step)"][..], &["(no", "step)"], &[""]] {
+        let ran = run_with(&[&["show", "-"], words].concat(), failing);
+        assert!(ran.status == 1 && ran.out.starts_with("execution: schedule (no step), fails\n"), "{words:?}: {}", ran.out);
+    }
+    let drawn = folder("no_thread-drawn");
+    let ran = run_with(&["show", "-", "(no step)", "--svg", &drawn.display().to_string()], failing);
+    assert!(ran.status == 1 && drawn.join("no-step-fails.svg").exists(), "{}{}", ran.out, ran.err);
+}
+
 #[test]
 fn answers() {
-    answered(run(&["check", FILE]), "accepted\n");
+    assert!(run(&["check", FILE]).is_accepted());
     answered(run(&["list", FILE]), LIST);
     answered(run_with(&["list", "-"], b""), LIST);
     answered(run(&["count", FILE]), "1 listed, 0 failing\n");
     answered(run(&["violation", FILE]), "none\n");
     answered(run(&["graph", FILE, ""]), "");
-    answered(run_with(&["judge", FILE, "-"], b""), "yes \n");
+    answered(run_with(&["judge", FILE, "-"], b""), "yes (no step)\n");
     let ran = run(&["graph", FILE, "00"]);
     assert!(ran.status == 2 && ran.err.contains("refusal 20 at step 0"), "{ran:?}");
     let ran = run_with(&["judge", FILE, "-"], b"400000ffff\n");

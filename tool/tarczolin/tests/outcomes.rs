@@ -115,3 +115,20 @@ fn outcomes_of_the_list() {
     let last = ran.lines().last().unwrap();
     assert!(last.starts_with(&format!("{} outcomes, {} listed", ends.len(), listed.lines().count() - 1)), "{last}");
 }
+
+/// Conditions of any depth and length are answered or refused in words.
+#[test]
+fn deep_and_long_conditions() {
+    let asked = |condition: &str| run(&["outcomes", "examples/whole.hex", "--where", condition]);
+    let nested = |depth: usize| format!("{}x0=1{}", "(".repeat(depth), ")".repeat(depth));
+    assert_eq!(asked(&nested(100)).status, 1);
+    for condition in [nested(101), nested(20_000), "(".repeat(60_000), format!("{}x0=1", "!".repeat(60_000))] {
+        let ran = asked(&condition);
+        assert_eq!((ran.status, ran.out.as_str()), (2, ""));
+        assert!(ran.err.contains("--where: more than 100 brackets and ! stand inside each other"), "{}", ran.err);
+    }
+    for sign in ["&", "|"] {
+        let ran = asked(&vec!["x0=1"; 20_000].join(sign));
+        assert!(ran.status == 1 && ran.out.ends_with("3 matching\n"), "{}{}", ran.out, ran.err);
+    }
+}

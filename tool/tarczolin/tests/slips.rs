@@ -37,3 +37,45 @@ fn another_kind_of_word() {
     said(&["outcomes", "examples/whole.hex", "--where", "x0 <= 1"], b"", "the character < has no meaning here");
     assert_eq!(run(&["outcomes", "examples/whole.hex", "--where", "x0 = 1 && x1 = 0 || false"]).status, 1, "as in C");
 }
+
+/// Statements that other languages have, and threads by the names that they have without one.
+#[test]
+fn statements_of_other_languages() {
+    said(&["check", "-"], b"thread\n  a = 1\n  a -= 1\n", ":3:3: there is no -=; a negative number is added: a += -1\n");
+    said(&["check", "-"], b"thread\n  a = 1\n  a-=1\n", ":3:3: there is no -=; a negative number is added: a += -1\n");
+    let front = ":2:7: behind = stands a number, a register, load, fetch_add or cas, not";
+    said(&["check", "-"], b"thread\n  a = xchg x 1\n", &format!("{front} xchg with operands\n"));
+    said(&["check", "-"], b"thread\n  a = lod x\n", &format!("{front} lod with operands; is it load?\n"));
+    let wanted = ":2:3: a statement does not begin with mfence; the fence of the text form is fence\n";
+    said(&["check", "-"], b"thread\n  mfence\n", wanted);
+    for (fence, kept) in [("lfence", "loads"), ("sfence", "stores")] {
+        let wanted =
+            format!(":2:3: there is no {fence}, leave it out: x86 keeps the order of {kept} without it; fence is MFENCE\n");
+        said(&["check", "-"], format!("thread\n  {fence}\n").as_bytes(), &wanted);
+    }
+    let named = b"thread T0\n  store x 1\nthread T1\n  store x 1\nalike T0 T1\n";
+    assert_eq!(run_with(&["count", "-"], named).out, "1 listed, 0 failing\n");
+    assert_eq!(run_with(&["asm", "-", "--remarks"], named).out.lines().filter(|line| line.starts_with("# name T")).count(), 0);
+    said(&["check", "-"], b"thread T1\n", ":1:8: T1 is what thread number 1 is called without a name; this is number 0\n");
+}
+
+/// What each statement costs is told where there are too many instructions.
+#[test]
+fn what_statements_cost() {
+    let many = format!("thread\n  n = load x\n{}  fail\n", "  if n == 1 goto end\n".repeat(8)) + "  n = 2\nend:\n";
+    let costs = "line 2 takes 1, lines 3 to 11 take 2 each, line 12 takes 1";
+    let wanted = format!(":10:3: this is instruction number 17 of its thread; a thread has at most 16; {costs}\n");
+    said(&["check", "-"], many.as_bytes(), &wanted);
+}
+
+#[test]
+fn threads_behind_hostile() {
+    let queue = "examples/queue-broken.asm";
+    said(
+        &["force", queue, "--hostile", "9"],
+        b"",
+        "there is no thread 9; the program has first, second, consumer, numbered from 0\n",
+    );
+    said(&["force", queue, "--hostile", "frst"], b"", "--hostile: there is no thread frst; is it first?\n");
+    assert_eq!(run(&["force", queue, "--hostile", "T0,T1"]), run(&["force", queue, "--hostile", "first,second"]));
+}

@@ -100,3 +100,38 @@ fn the_longest_file() {
     let ran = common::run_with(&["check", "-"], &[b'0'; 4097]);
     assert!(ran.status == 2 && ran.err.contains("refusal 1"), "{}", ran.err);
 }
+
+/// A closed standard input is no empty program, wherever it would be read; a command that reads none does not mind.
+#[test]
+fn closed_standard_input() {
+    let top = concat!(env!("CARGO_MANIFEST_DIR"), "/../..");
+    let pair = "examples/store-load-pair.hex";
+    let closed = |words: &str| {
+        let script = format!("exec '{}' {words} <&-", env!("CARGO_BIN_EXE_tarczolin"));
+        let output = Command::new("sh").args(["-c", &script]).current_dir(top).output().unwrap();
+        (output.status.code(), String::from_utf8(output.stdout).unwrap(), String::from_utf8(output.stderr).unwrap())
+    };
+    let alone = ["check", "list", "count", "violation", "outcomes", "show", "asm", "disasm"].map(|name| format!("{name} -"));
+    let others =
+        [format!("judge {pair} -"), format!("graph {pair} -"), format!("covers {pair} -"), "join -".into(), "users".into()];
+    for words in alone.iter().chain(&others) {
+        let (status, out, err) = closed(words);
+        assert_eq!((status, out.as_str()), (Some(2), ""), "{words}");
+        assert_eq!(err, "tarczolin: standard input: it is closed; there is nothing to read\n", "{words}");
+    }
+    assert_eq!(closed(&format!("count {pair}")).0, Some(0));
+}
+
+/// A text that comes through a pipe is read once, however long it is.
+#[test]
+fn a_long_text_through_a_pipe() {
+    let form =
+        format!("thread\n  store x 1\n{}  n = load x\n", "# a remark of some length that says nothing at all\n".repeat(200));
+    let file = common::folder("streams").join("long");
+    std::fs::write(&file, form).unwrap();
+    let script = format!("'{}' disasm <(cat '{}')", env!("CARGO_BIN_EXE_tarczolin"), file.display());
+    let output = Command::new("bash").args(["-c", &script]).output().expect("bash starts");
+    let (out, err) = (String::from_utf8(output.stdout).unwrap(), String::from_utf8(output.stderr).unwrap());
+    assert_eq!(output.status.code(), Some(0), "{err}");
+    assert!(out.ends_with("  n = load x\n") && out.lines().count() > 200, "{out}");
+}

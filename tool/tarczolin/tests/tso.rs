@@ -123,6 +123,32 @@ fn refusals() {
     assert!(run(&["list", PAIR, "--after", "10"]).err.contains("--after: there is no thread 10"));
 }
 
+/// A schedule is shown under its own model or not at all, and what knows one model only says so.
+#[test]
+fn schedules_of_the_other_model() {
+    let listed = run(&["list", PAIR, "--model", "tso"]).out;
+    for line in listed.lines().filter(|line| line.starts_with("50")) {
+        let ran = run(&["show", PAIR, &line[4..]]);
+        assert_eq!((ran.status, ran.out.as_str()), (2, ""), "{line}");
+        assert!(ran.err.contains("none is pending; this is a schedule under --model tso\n"), "{}", ran.err);
+    }
+    let ran = run(&["list", PAIR, "--after", "10"]);
+    assert!(ran.err.contains("; steps from 10 to 15 stand in schedules under --model tso\n"), "{}", ran.err);
+    let ran = run(&["show", PAIR, "00000101", "--model", "tso"]);
+    assert!(
+        ran.status == 2 && ran.err.contains("; it has no step from 10 to 15, as schedules without --model tso\n"),
+        "{}",
+        ran.err
+    );
+    for words in [&["judge", PAIR, "-"][..], &["covers", PAIR, PAIR], &["force", PAIR, "--hostile", "0"]] {
+        let ran = run(&[words, &["--model", "tso"]].concat());
+        assert_eq!((ran.status, ran.out.as_str()), (2, ""), "{words:?}");
+        assert!(ran.err.contains("judge, covers, force and users stay with sequential consistency"), "{words:?}: {}", ran.err);
+    }
+    let long = run(&["check", "examples/accesses-24.hex", "--model", "tso"]);
+    assert!(long.status == 2 && long.err.contains("refusal 41: "), "{}", long.err);
+}
+
 /// Small enough for the oracle.
 const SIZES: [Size; 3] = [
     Size { threads: 3, instructions: 4, accesses: 7, ..SMALL },

@@ -1,7 +1,7 @@
 //! Help behind each command, versions, suggestions, the end of options, the manual page, completions.
 mod common;
 
-use common::run;
+use common::{run, run_with};
 use std::process::Command;
 use tarczolin::commands::all;
 
@@ -94,6 +94,48 @@ fn every_command_and_option_is_listed() {
         assert_eq!(of_man, options.iter().map(|option| &option[2..]).collect::<Vec<_>>(), "man: {name}");
         assert!(page.contains(command.about) && page.contains(&format!("Example: {}", command.example)), "man: {name}");
     }
+}
+
+/// The help and the manual page say what the exit status means, which models there are, and the whole text form.
+#[test]
+fn the_whole_is_told() {
+    let man = run(&["man"]).out.replace("\\-", "-");
+    let help = run(&["help"]).out;
+    for text in [&man, &help].map(|text| text.replace('\n', " ")) {
+        for words in
+            ["the hostile side can force it (force)", "--model tso", "stay with sequential consistency", "total store order"]
+        {
+            assert!(text.contains(words), "{words} in {text}");
+        }
+    }
+    assert!(man.contains("T2.r1!=0") && run(&["help", "outcomes"]).out.contains("T2.r1!=0"));
+    let statements = [
+        "# remark",
+        "const FULL = 0x10",
+        "init tail FULL",
+        "thread producer",
+        "store tail 1",
+        "n = load tail",
+        "n = fetch_add tail 1",
+        "n = cas tail 0 1",
+        "fence",
+        "n = 1",
+        "n += -1",
+        "if n != 1 skip 2",
+        "if n == 1 goto done",
+        "goto done",
+        "assert n <= 7",
+        "fail",
+        "done:",
+    ];
+    for statement in statements.iter().chain(&["alike first second"]) {
+        assert!(man.contains(&format!("\n{statement}\n")), "{statement} in {man}");
+        for text in [&help, &run(&["help", "asm"]).out] {
+            assert!(text.contains(&format!("\n  {statement} ")), "{statement} in {text}");
+        }
+    }
+    assert_eq!(run_with(&["check", "-"], format!("{}\n", statements.join("\n")).as_bytes()).status, 0, "these are a program");
+    assert_eq!(run_with(&["check", "-"], b"thread first\nthread second\nalike first second\n").status, 0);
 }
 
 #[test]

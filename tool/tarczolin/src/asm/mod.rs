@@ -1,5 +1,8 @@
 //! The text form of a program: a statement a line, translated to the lines of the program file.
 mod condition;
+mod fence;
+mod limits;
+mod marked;
 mod parse;
 mod remarks;
 mod resolve;
@@ -15,15 +18,19 @@ mod wrong;
 
 use crate::ask;
 use crate::error::Mark;
+use crate::model::Model;
 use crate::program::{self, Frame, Names, FILE_LIMIT};
 use crate::refusal;
+use statement::Kind;
 use symbols::Symbols;
 use threads::Threads;
-use wrong::{Wrong, Wrongs};
+use wrong::Wrongs;
 
+pub use marked::named;
 pub use remarks::Remarks;
 pub use words::constant;
 pub use write::text;
+pub use wrong::Wrong;
 
 /// A program file made of a text, the text's names and remark lines, and what looks like a slip in it.
 #[derive(Clone, Debug, PartialEq, Eq)]
@@ -32,16 +39,23 @@ pub struct Assembled {
     pub names: Names,
     pub remarks: Remarks,
     pub warnings: Vec<Mark>,
+    /// So many fences are left out.
+    pub left_out: usize,
 }
 
-/// The program file of a text, or all that is wrong with it. The library itself says whether the program is accepted.
+/// The program file of a text for both memory models, or all that is wrong with it.
 pub fn assemble(text: &[u8]) -> Result<Assembled, Vec<Mark>> {
+    assemble_for(text, None)
+}
+
+/// The same for one memory model, or for both. The library itself says whether the program is accepted.
+pub fn assemble_for(text: &[u8], model: Option<Model>) -> Result<Assembled, Vec<Mark>> {
     let text = unmarked(text);
     let (statements, unread) = parse::statements(text);
     let mut wrong = Wrongs::of_lines(text, unread);
     let given = Remarks::of_text(text, &[]).names();
     let symbols = Symbols::of(&statements, given, &mut wrong);
-    let threads = Threads::of(&statements, &symbols, &mut wrong);
+    let threads = Threads::of(&statements, &symbols, model, &mut wrong);
     let marks = |all: Vec<Wrong>| all.into_iter().map(|one| mark(text, one)).collect::<Vec<_>>();
     if !wrong.is_empty() {
         return Err(marks(wrong.sorted()));
@@ -53,12 +67,17 @@ pub fn assemble(text: &[u8]) -> Result<Assembled, Vec<Mark>> {
     }
     let mut warnings = warnings::of_locations(&statements);
     warnings.extend(threads.unused_labels());
-    let remarks = Remarks::of_text(text, &threads.lines());
-    Ok(Assembled { file, names: threads.names(&symbols), remarks, warnings: marks(warnings) })
+    let fences = statements.iter().filter(|statement| model == Some(Model::Sc) && statement.kind == Kind::Fence);
+    let left_out: Vec<usize> = fences.map(|statement| statement.line).collect();
+    let remarks = Remarks::of_text_without(text, &threads.lines(), &left_out);
+    let (names, warnings, left_out) = (threads.names(&symbols), marks(warnings), left_out.len());
+    Ok(Assembled { file, names, remarks, warnings, left_out })
 }
 
-/// The program file of these frames with remark lines; where it would be too long, the frames alone.
-pub fn remarked(frames: &[Frame], remarks: &Remarks) -> Vec<u8> {
+/// The program file of these frames with remark lines, in front of them a line for each name and each fence; where it would be too long,
+/// the frames alone.
+pub fn remarked(frames: &[Frame], names: &Names, remarks: &Remarks) -> Vec<u8> {
+    let remarks = remarks.with(names).with_fences(names);
     let mut file = Vec::new();
     for at in 0..=frames.len() {
         remarks.before(at).for_each(|line| file.extend([line.as_bytes(), b"\n"].concat()));
@@ -84,7 +103,7 @@ fn unmarked(text: &[u8]) -> &[u8] {
 }
 
 /// A place in a text, with its line for the eye.
-fn mark(text: &[u8], Wrong { line, column, message }: Wrong) -> Mark {
+pub fn mark(text: &[u8], Wrong { line, column, message }: Wrong) -> Mark {
     let whole = text.split(|&c| c == b'\n').nth(line - 1).unwrap_or(&[]);
     let shown: String = String::from_utf8_lossy(whole).chars().map(|c| if c.is_control() { ' ' } else { c }).collect();
     Mark { line, column, shown: shown.trim_end().to_string(), message }

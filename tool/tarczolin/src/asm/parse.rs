@@ -3,7 +3,7 @@ use super::statement::{Jump, Kind, Statement, Test, Word};
 use super::tokens::{tokens, Token};
 use super::words::{self, KEYWORDS};
 use super::wrong::Wrong;
-use crate::near::near;
+use crate::near::{hint, near};
 
 /// The statements of a text, and what is wrong with its lines. Empty lines and remarks are left out.
 pub fn statements(text: &[u8]) -> (Vec<Statement>, Vec<Wrong>) {
@@ -137,6 +137,7 @@ impl<'a> Reader<'a> {
             }
             "goto" => Kind::Goto(self.name("a label")?),
             "fail" => Kind::Fail,
+            "fence" => Kind::Fence,
             _ => return self.assignment(first),
         })
     }
@@ -174,6 +175,9 @@ impl<'a> Reader<'a> {
     /// A statement that begins with a register or its name.
     fn assignment(&mut self, first: Token) -> Result<Kind, Wrong> {
         let r = Word { text: first.text.to_string(), column: first.column };
+        if let Some(name) = taken_away(first, self.tokens) {
+            return self.error(first.column, format!("there is no -=; a negative number is added: {name} += -1"));
+        }
         let assigns = matches!(self.tokens.first(), Some(sign) if ["=", "+="].contains(&sign.text));
         if !assigns && words::register(first.text).is_none() {
             return self.error(first.column, unknown(first.text));
@@ -185,8 +189,12 @@ impl<'a> Reader<'a> {
             other => return self.error(sign.column, format!("= or += is expected here, not {other}")),
         }
         let what = self.tokens.first().map_or("", |token| token.text);
-        if ["load", "fetch_add", "cas"].contains(&what) {
+        if ACCESSES.contains(&what) {
             self.token(what)?;
+        } else if let ([other, _, ..], true) = (self.tokens, what.starts_with(|c: char| c.is_ascii_alphabetic())) {
+            let hint = hint(what, ACCESSES);
+            let message = format!("behind = stands a number, a register, load, fetch_add or cas, not {what} with operands{hint}");
+            return self.error(other.column, message);
         }
         Ok(match what {
             "load" => Kind::Load { r, l: self.location()? },
@@ -210,13 +218,29 @@ impl<'a> Reader<'a> {
     }
 }
 
+/// The accesses that give a register the old value.
+const ACCESSES: [&str; 3] = ["load", "fetch_add", "cas"];
+
+/// What would be taken something from, where a statement has -= behind its first word: the sign joins the word before it, or stands alone.
+fn taken_away<'a>(first: Token<'a>, rest: &[Token]) -> Option<&'a str> {
+    match rest {
+        [minus, equal, ..] if minus.text == "-" && equal.text == "=" => Some(first.text),
+        [equal, ..] if equal.text == "=" => first.text.strip_suffix('-'),
+        _ => None,
+    }
+}
+
 /// A statement that begins with an unknown word.
 fn unknown(word: &str) -> String {
     match (word, near(word, KEYWORDS)) {
+        ("mfence", _) => format!("a statement does not begin with {word}; the fence of the text form is fence"),
+        // never fence in their place: it forbids more than they do
+        ("lfence", _) => format!("there is no {word}, leave it out: x86 keeps the order of loads without it; fence is MFENCE"),
+        ("sfence", _) => format!("there is no {word}, leave it out: x86 keeps the order of stores without it; fence is MFENCE"),
         ("load" | "fetch_add" | "cas", _) => format!("{word} needs a register for the old value: r0 = {word} .."),
         (_, Some(known)) => format!("a statement does not begin with {word}; is it {known}?"),
         _ => format!(
-            "a statement does not begin with {word}; it begins with thread, alike, const, init, store, if, goto, assert, fail or a register"
+            "a statement does not begin with {word}; it begins with thread, alike, const, init, store, if, goto, assert, fail, fence or a register"
         ),
     }
 }

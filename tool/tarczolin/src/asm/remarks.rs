@@ -1,6 +1,9 @@
-//! Remark lines of programs, and names kept in them: `# name x3 lock`, `# name T0 producer`, `# name T0 r1 old`.
+//! Remark lines of programs, and names kept in them: `# name x3 lock`, `# name T0 producer`, `# name T0 r1 old`; fences too: `# fence T0 2`.
 use super::words;
-use crate::program::{Names, ThreadNames, THREADS};
+use crate::program::{Names, INSTRUCTIONS, THREADS};
+
+/// The remark line in place of a fence that is left out.
+const LEFT_OUT: &str = "# a fence is left out here: under sequential consistency it means nothing";
 
 /// What a name line names.
 #[derive(Clone, Copy, Debug, PartialEq, Eq)]
@@ -39,12 +42,15 @@ fn line(thing: Thing, name: &str) -> String {
     }
 }
 
-/// The names of a thread; none yet of a thread that is new.
-fn of_thread(names: &mut Names, t: u8) -> &mut ThreadNames {
-    if names.threads.len() <= t as usize {
-        names.threads.resize_with(t as usize + 1, ThreadNames::default);
-    }
-    &mut names.threads[t as usize]
+/// The line of a fence: its thread, and its place among the thread's instructions, from 0.
+fn fence_line(t: u8, at: usize) -> String {
+    format!("# fence T{t} {at}")
+}
+
+/// The thread and the place of a fence, if a remark line tells one.
+fn fence(line: &str) -> Option<(u8, usize)> {
+    let all = (0..THREADS as u8).flat_map(|t| (0..INSTRUCTIONS).map(move |at| (t, at)));
+    all.into_iter().find(|(t, at)| fence_line(*t, *at) == line.trim_end())
 }
 
 /// Every thing that has a name.
@@ -76,10 +82,18 @@ impl Remarks {
 
     /// The remark lines of a text, by the lines of the text that its frames come from.
     pub fn of_text(text: &[u8], lines: &[usize]) -> Remarks {
+        Remarks::of_text_without(text, lines, &[])
+    }
+
+    /// The same of a text whose fences in some lines are left out: a remark line stands in place of each.
+    pub fn of_text_without(text: &[u8], lines: &[usize], left_out: &[usize]) -> Remarks {
         let all = (1..).zip(text.split(|&c| c == b'\n').map(<[u8]>::trim_ascii));
-        let remarks = all.filter(|(_, line)| line.starts_with(b"#"));
+        let own =
+            all.filter(|(_, line)| line.starts_with(b"#")).map(|(at, line)| (at, String::from_utf8_lossy(line).into_owned()));
+        let mut remarks: Vec<(usize, String)> = own.chain(left_out.iter().map(|at| (*at, LEFT_OUT.to_string()))).collect();
+        remarks.sort_by_key(|(at, _)| *at);
         let before = |at: usize| lines.iter().filter(|line| **line < at).count();
-        Remarks(remarks.map(|(at, line)| (before(at), String::from_utf8_lossy(line).into_owned())).collect())
+        Remarks(remarks.into_iter().map(|(at, line)| (before(at), line)).collect())
     }
 
     /// The names that the name lines give; of two for one thing, or of one for two things that could be taken for each other, the first.
@@ -99,8 +113,8 @@ impl Remarks {
             let name = Some(name.to_string());
             match thing {
                 Thing::Location(l) => names.locations[l as usize] = name,
-                Thing::Thread(t) => of_thread(&mut names, t).name = name,
-                Thing::Register(t, r) => of_thread(&mut names, t).registers[r as usize] = name,
+                Thing::Thread(t) => names.of_thread(t).name = name,
+                Thing::Register(t, r) => names.of_thread(t).registers[r as usize] = name,
             }
         }
         names
@@ -113,6 +127,22 @@ impl Remarks {
         let missing = all(names).into_iter().filter(|one| !given.contains(one));
         let lines = missing.map(|(thing, name)| (0, line(thing, name)));
         Remarks(lines.chain(self.0.iter().cloned()).collect())
+    }
+
+    /// The fences that remark lines tell.
+    pub fn fences(&self) -> impl Iterator<Item = (u8, usize)> + '_ {
+        self.0.iter().filter_map(|(_, line)| fence(line))
+    }
+
+    /// Takes away the lines of these fences.
+    pub fn without_fences(&mut self, fences: &[(u8, usize)]) {
+        self.0.retain(|(_, line)| !fence(line).is_some_and(|one| fences.contains(&one)));
+    }
+
+    /// These remarks, in front of them a line for each fence.
+    pub fn with_fences(self, names: &Names) -> Remarks {
+        let lines = names.fences().map(|(t, at)| (0, fence_line(t, at)));
+        Remarks(lines.chain(self.0).collect())
     }
 
     /// The remark lines that stand right in front of a frame, by its number, or behind the last one.

@@ -16,6 +16,7 @@ pub enum Code {
     Goto(usize),
     Assert(Condition),
     Fail,
+    Fence,
 }
 
 /// One thread: its statements, and what its names mean.
@@ -99,6 +100,7 @@ impl<'a> Scope<'a> {
             Kind::If { r, test, p, to } => Code::If { condition: line.condition(r, *test, p), to: line.jump(to) },
             Kind::Goto(label) => Code::Goto(line.label(label)),
             Kind::Assert { r, test, p } => Code::Assert(line.condition(r, *test, p)),
+            Kind::Fence => Code::Fence,
             Kind::Fail | Kind::Thread(_) | Kind::Alike(_) | Kind::Constant { .. } | Kind::Init { .. } | Kind::Label(_) => {
                 Code::Fail
             }

@@ -43,6 +43,7 @@ pub enum Kind {
     Goto(Word),
     Assert { r: Word, test: Test, p: Word },
     Fail,
+    Fence,
 }
 
 #[derive(Clone, Debug, PartialEq, Eq)]

@@ -1,6 +1,6 @@
 //! Names that hold in the whole text: constants, locations and threads.
 use super::statement::{Kind, Statement, Word};
-use super::words::{constant, is_name, location};
+use super::words::{constant, is_default, is_name, location, thread};
 use super::wrong::Wrongs;
 use crate::program::{Names, LOCATIONS};
 use std::collections::BTreeMap;
@@ -82,7 +82,13 @@ impl Symbols {
         let opened = statements.iter().filter(|s| matches!(s.kind, Kind::Thread(_)));
         for (t, statement) in opened.enumerate() {
             let Kind::Thread(Some(name)) = &statement.kind else { continue };
-            if !is_name(&name.text) {
+            if is_default(&name.text, t) {
+                continue;
+            }
+            if let Some(other) = thread(&name.text) {
+                let message = format!("{} is what thread number {other} is called without a name; this is number {t}", name.text);
+                wrong.add(statement, name, message);
+            } else if !is_name(&name.text) {
                 wrong.add(statement, name, format!("{} cannot be a name", name.text));
             } else if self.threads.insert(name.text.clone(), t as u8).is_some() {
                 wrong.add(statement, name, format!("a thread above is called {} already", name.text));

@@ -1,15 +1,19 @@
 //! The threads of a text: where each begins, its code, and the limits that it keeps.
+use super::fence;
+use super::limits;
 use super::resolve::Scope;
 use super::statement::{Kind, Statement, Word};
 use super::symbols::Symbols;
 use super::translate::{instructions, Made};
 use super::words;
 use super::wrong::{Wrong, Wrongs};
-use crate::program::{Frame, Names, ThreadNames, ACCESSES, INSTRUCTIONS, THREADS};
+use crate::model::Model;
+use crate::program::{Frame, Names, ThreadNames, FENCE, THREADS};
 use std::collections::BTreeMap;
 
 /// A thread: the statement that opens it, its instructions, its registers' names.
 struct Thread<'a> {
+    number: usize,
     opens: &'a Statement,
     made: Vec<Made<'a>>,
     registers: BTreeMap<String, u8>,
@@ -51,16 +55,18 @@ fn split<'a>(statements: &'a [Statement], wrong: &mut Wrongs) -> Vec<(&'a Statem
 }
 
 impl<'a> Threads<'a> {
-    pub fn of(statements: &'a [Statement], symbols: &'a Symbols, wrong: &mut Wrongs) -> Threads<'a> {
+    /// The threads for one memory model, or for both: under sequential consistency alone fences are left out.
+    pub fn of(statements: &'a [Statement], symbols: &'a Symbols, model: Option<Model>, wrong: &mut Wrongs) -> Threads<'a> {
         let mut threads = Vec::new();
-        let mut accesses = 0;
         for (t, (opens, code)) in split(statements, wrong).into_iter().enumerate() {
             let scope = Scope::of(symbols, t, &code, wrong);
-            let made = instructions(&scope.code(wrong));
-            limits(&made, &mut accesses, wrong);
+            let made = instructions(&scope.code(wrong), model != Some(Model::Sc));
             let unused_labels = scope.unused_labels();
-            threads.push(Thread { opens, made, registers: scope.registers, unused_labels });
+            threads.push(Thread { number: t, opens, made, registers: scope.registers, unused_labels });
         }
+        let mut made: Vec<&mut Vec<Made>> = threads.iter_mut().map(|thread| &mut thread.made).collect();
+        fence::choose(&mut made, wrong);
+        limits::tell(&made, model, wrong);
         let mut alike = Vec::new();
         for statement in statements {
             if let Kind::Alike(members) = &statement.kind {
@@ -123,7 +129,7 @@ impl<'a> Threads<'a> {
 impl Thread<'_> {
     fn names(&self) -> ThreadNames {
         let name = match &self.opens.kind {
-            Kind::Thread(Some(name)) => Some(name.text.clone()),
+            Kind::Thread(Some(name)) if !words::is_default(&name.text, self.number) => Some(name.text.clone()),
             _ => None,
         };
         let mut registers = [const { None }; 4];
@@ -131,26 +137,11 @@ impl Thread<'_> {
             registers[*r as usize] = Some(name.clone());
         }
         let several = |made: &Made| self.made.iter().filter(|other| other.statement.line == made.statement.line).count() > 1;
-        let statements = self.made.iter().map(|made| several(made).then(|| made.statement.text.clone())).collect();
-        ThreadNames { name, registers, statements }
-    }
-}
-
-/// Tells where a thread has too many instructions, and where the program has too many accesses.
-fn limits(made: &[Made], accesses: &mut usize, wrong: &mut Wrongs) {
-    if let Some(first) = made.get(INSTRUCTIONS) {
-        let takes = made.iter().filter(|other| std::ptr::eq(other.statement, first.statement)).count();
-        let several = if takes > 1 { format!("; the statement takes {takes}") } else { String::new() };
-        let number = INSTRUCTIONS + 1;
-        let message = format!("this is instruction number {number} of its thread; a thread has at most {INSTRUCTIONS}{several}");
-        wrong.add_at(first.statement, message);
-    }
-    for made in made.iter().filter(|made| made.instruction.access().is_some()) {
-        *accesses += 1;
-        if *accesses == ACCESSES + 1 {
-            let message = format!("this is access number {accesses} of the program, which has at most {ACCESSES}");
-            wrong.add_at(made.statement, message);
-        }
+        let statement = |made: &Made| match made.is_fence() {
+            true => Some(FENCE.to_string()),
+            false => several(made).then(|| made.statement.text.clone()),
+        };
+        ThreadNames { name, registers, statements: self.made.iter().map(statement).collect() }
     }
 }
 

@@ -1,7 +1,7 @@
 //! From statements to the instructions there are. What takes more than one instruction changes no register.
 use super::condition::Condition;
 use super::resolve::Code;
-use super::statement::Statement;
+use super::statement::{Kind, Statement};
 use crate::program::{Comparison, Instruction, Operand};
 use Instruction::{Assert, SkipUnless};
 
@@ -11,8 +11,17 @@ pub struct Made<'a> {
     pub instruction: Instruction,
 }
 
-/// The instructions of a thread. Jumps go forward, so that behind a statement all is translated before it.
-pub fn instructions<'a>(code: &[(&'a Statement, Code)]) -> Vec<Made<'a>> {
+/// What stands for a fence until its register and its location are chosen.
+const STAND_IN: Instruction = Instruction::FetchAdd { r: 0, l: 0, p: Operand::Constant(0) };
+
+impl Made<'_> {
+    pub fn is_fence(&self) -> bool {
+        self.statement.kind == Kind::Fence
+    }
+}
+
+/// The instructions of a thread, its fences kept or left out. Jumps go forward, so that behind a statement all is translated before it.
+pub fn instructions<'a>(code: &[(&'a Statement, Code)], fences: bool) -> Vec<Made<'a>> {
     let mut made: Vec<Vec<Instruction>> = vec![Vec::new(); code.len()];
     for (at, (_, one)) in code.iter().enumerate().rev() {
         let to = match one {
@@ -20,7 +29,7 @@ pub fn instructions<'a>(code: &[(&'a Statement, Code)]) -> Vec<Made<'a>> {
             _ => at + 1,
         };
         let distance = made[at + 1..to].iter().map(Vec::len).sum();
-        made[at] = translated(*one, distance);
+        made[at] = if *one == Code::Fence && !fences { Vec::new() } else { translated(*one, distance) };
     }
     let of = |((statement, _), all): (&(&'a Statement, Code), Vec<Instruction>)| {
         let statement = *statement;
@@ -36,6 +45,7 @@ fn translated(code: Code, distance: usize) -> Vec<Instruction> {
         Code::Assert(Condition { comparison: test, r, p, wanted: true }) => vec![Assert { test, r, p }],
         Code::Assert(condition) => guarded(condition, failing(condition)),
         Code::Fail => failing(NOTHING),
+        Code::Fence => vec![STAND_IN],
         Code::If { .. } | Code::Goto(_) if distance == 0 => Vec::new(),
         Code::If { condition, .. } if condition.wanted => guarded(condition, jump(condition, distance)),
         Code::If { condition, .. } => vec![unless(condition, distance)],

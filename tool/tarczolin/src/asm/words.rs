@@ -2,8 +2,8 @@
 use crate::program::{LOCATIONS, REGISTERS};
 
 /// The words that begin a statement, or stand inside one; no name may be one of them.
-pub const KEYWORDS: [&str; 13] =
-    ["thread", "alike", "const", "init", "store", "load", "fetch_add", "cas", "if", "goto", "assert", "fail", "skip"];
+pub const KEYWORDS: [&str; 14] =
+    ["thread", "alike", "const", "init", "store", "load", "fetch_add", "cas", "if", "goto", "assert", "fail", "skip", "fence"];
 
 /// A letter and digits: the number behind the letter.
 fn lettered(word: &str, letter: char) -> Option<&str> {
@@ -25,6 +25,11 @@ pub fn location(word: &str) -> Option<Result<u8, String>> {
 /// A thread by number, as `1` or as `T1`.
 pub fn thread(word: &str) -> Option<u8> {
     lettered(word, 'T').unwrap_or(word).parse().ok()
+}
+
+/// Is it what the thread of this number is called where it has no name?
+pub fn is_default(word: &str, number: usize) -> bool {
+    lettered(word, 'T') == Some(&number.to_string())
 }
 
 /// Is it a name: letters, digits and lines below, and no letter with digits that means something else?

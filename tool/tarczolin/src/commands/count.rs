@@ -25,9 +25,9 @@ pub fn run(arguments: &Arguments) -> Result<End, Error> {
 /// The whole list by one job is one call of the library; else its rows are counted.
 fn counted(question: &Question, piece: &Piece, classes: bool) -> Result<End, Error> {
     let (source, model) = (question.source_under(piece.model)?, piece.model);
-    let list = piece.list(List::of(&source, model, classes).expect("the file is accepted"))?;
+    let list = piece.list(List::of(&source, classes))?;
     if piece.is_one_call() && !classes {
-        return match piece::answered(&source.file, &list, move |file| ask::count(model, file)) {
+        return match piece::answered(&list, move |file| ask::count(model, file)) {
             Ok(counts) => told(question, counts.expect("the file is accepted"), None, false),
             Err(found) => {
                 piece::tell_cut(&found);

@@ -7,9 +7,10 @@ use crate::{asm, program};
 
 pub fn run(arguments: &Arguments) -> Result<End, Error> {
     each("disasm", arguments, |question| {
-        let source = question.source()?;
+        let source = question.whole_source()?;
         let frames = program::frames(&source.file).expect("an accepted file has frames only");
-        let text = asm::text(&frames, &source.names, &source.remarks.with(&source.names));
+        let names = &source.program.names;
+        let text = asm::text(&frames, names, &source.remarks.with(names));
         question.answer_text(text.clone(), [("text", text.into())], End::Answered)
     })
 }

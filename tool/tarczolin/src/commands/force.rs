@@ -8,6 +8,7 @@ use crate::end::End;
 use crate::error::Error;
 use crate::execution::Execution;
 use crate::json::{list, Json};
+use crate::near::hint;
 use crate::play::play;
 use crate::program::Program;
 use crate::progress::waiting;
@@ -22,7 +23,7 @@ pub const OPTIONS: &[Opt] = &[
 
 pub fn run(arguments: &Arguments) -> Result<End, Error> {
     let [name] = arguments.files()?;
-    let Some(threads) = arguments.option("--hostile") else {
+    let Some(threads) = arguments.option("--hostile")? else {
         return Err(Error::usage("force needs --hostile THREADS, as in --hostile 0,2"));
     };
     asked(&Question::of("force", arguments, name), |question| forced(question, threads, arguments.flag("--play")))
@@ -32,33 +33,42 @@ pub fn run(arguments: &Arguments) -> Result<End, Error> {
 fn set(program: &Program, threads: &str) -> Result<u8, Error> {
     let mut set = 0;
     for word in threads.split(',').map(str::trim).filter(|word| !word.is_empty()) {
-        let named = program.numbers().find(|&t| program.names.thread(t) == word);
-        let t = named.or_else(|| word.parse().ok().filter(|t| *t < 8));
-        let t =
-            t.ok_or_else(|| Error::usage(format!("--hostile takes threads by number, 0 to 7, or by name, and {word} is none")))?;
-        set |= 1 << t;
+        set |= 1 << thread(program, word)?;
     }
     Ok(set)
 }
 
+/// The thread of this number or name. That the program has no thread of a number up to 7 is the library's to say.
+fn thread(program: &Program, word: &str) -> Result<u8, Error> {
+    let named = program.numbers().find(|&t| program.names.thread(t) == word || format!("T{t}") == word);
+    let numbered = word.parse().ok().filter(|t| *t < 8);
+    named.or(numbered).ok_or_else(|| {
+        let names: Vec<String> = program.numbers().map(|t| program.names.thread(t)).collect();
+        let hint = hint(word, names.iter().map(String::as_str));
+        let all = if names.is_empty() { "none".to_string() } else { format!("{}, numbered from 0", names.join(", ")) };
+        let them = if hint.is_empty() { format!("; the program has {all}") } else { hint };
+        Error::usage(format!("--hostile: there is no thread {word}{them}"))
+    })
+}
+
 fn forced(question: &Question, threads: &str, wanted: bool) -> Result<End, Error> {
     let source = question.source()?;
-    let program = Program::of_accepted(&source.file).named(&source.names);
-    let set = set(&program, threads)?;
+    let program = &source.program;
+    let set = set(program, threads)?;
     let answer = waiting(|| ask::force(&source.file, set));
     let answer = answer.map_err(|r| refusal::of_threads(&source.name, &source.file, program.threads.len(), r))?;
-    let (words, side, step) = told(&program, answer);
+    let (words, side, step) = told(program, answer);
     let end = if side == "hostile" { End::Violation } else { End::Answered };
     let fields = [("hostile", list(members(set).map(Json::from))), ("forces", side.into()), ("first", step.into())];
     if !wanted {
         return question.answer(&words, fields, end);
     }
-    let schedule = play(&program, set);
-    let execution = Execution::replayed(&source.file, &program, &schedule).expect("a play is a full schedule");
+    let schedule = play(program, set);
+    let execution = Execution::replayed(&source.file, program, &schedule).expect("a play is a full schedule");
     assert_eq!(execution.fails, side == "hostile", "the winner of the play is the library's");
     let [hostile, forces, first] = fields;
     let [_, schedule, fails, _, steps, at_once, memory, registers] = record::execution(&execution);
-    let text = format!("{words}\n{}\n{}", divided(&program, set, side), columns(&execution, By::Time));
+    let text = format!("{words}\n{}\n{}", divided(program, set, side), columns(&execution, By::Time));
     question.answer_text(text, [hostile, forces, first, schedule, fails, steps, at_once, memory, registers], end)
 }
 

@@ -9,7 +9,6 @@ use crate::execution::Execution;
 use crate::graph::Graph;
 use crate::html;
 use crate::model::Model;
-use crate::program::Program;
 use crate::{ask, dot, output, refusal};
 
 pub fn run(arguments: &Arguments) -> Result<End, Error> {
@@ -22,11 +21,11 @@ pub fn run(arguments: &Arguments) -> Result<End, Error> {
 
 fn graph(question: &Question, arguments: &Arguments, model: Model, schedule: &[u8]) -> Result<End, Error> {
     let source = question.source_under(model)?;
-    let program = Program::of_accepted(&source.file).named(&source.names).under(model);
-    let refused = |r| refusal::of_schedule(&source.name, &program, schedule, r);
+    let program = &source.program;
+    let refused = |r| refusal::of_schedule(&source.name, program, schedule, r);
     let text = ask::graph(model, &source.file, schedule).map_err(refused)?;
     if arguments.flag("--dot") || arguments.flag("--svg") {
-        let execution = Execution::replayed(&source.file, &program, schedule).expect("the schedule is full");
+        let execution = Execution::replayed(&source.file, program, schedule).expect("the schedule is full");
         let drawn = if arguments.flag("--dot") { dot::text(&execution) } else { html::drawing(&execution) };
         return output::answer(drawn, End::Answered);
     }
@@ -35,5 +34,5 @@ fn graph(question: &Question, arguments: &Arguments, model: Model, schedule: &[u
         let digits = crate::hex::digits(schedule);
         return output::answer(question.object([("schedule", digits.into()), reads, writes]), End::Answered);
     }
-    output::answer(text, End::Answered)
+    output::answer(String::from_utf8_lossy(&text), End::Answered)
 }

@@ -1,29 +1,64 @@
 //! What `tarczolin help` and `-h` behind a command print.
 use super::command::Command;
+use super::form::{STATEMENTS, WORDS};
 use super::opt::Opt;
 use std::fmt::Write;
 
 pub const SHORT: &str = "usage: tarczolin COMMAND .., see `tarczolin help`";
 
-const FRONT: &str = "tarczolin explores the executions of a small concurrent program under sequential consistency.\n";
+const FRONT: &str =
+    "tarczolin explores the executions of a small concurrent program, under sequential consistency or, by --model tso, under the
+total store order of x86.\n";
 
 const END: &str = "
 FILE is a program file or a program in the text form, GRAPH a graph text; - is standard input. SCHEDULE is digits,
 two a step: 00000101. -- ends the options. `tarczolin COMMAND -h` tells a command's options and an example, --version the version.
-Exit status: 0 answered; 1 a violation was found, an outcome matches, NEW is not covered, or the judge says no; 2 refused, or bad usage.
 ";
 
-/// All commands, each with what it does.
+/// Which commands know which model.
+pub const MODELS: &str = "list, count, violation, show, graph, outcomes, cuts and check take --model tso; judge, covers, force and users stay \
+with sequential consistency. Under total store order a step from 10 to 15 moves the oldest pending store of thread 0 to 5 to memory, and a \
+program has at most 16 accesses.";
+
+/// What the exit status says.
+pub const STATUS: &str =
+    "0 answered; 1 a violation was found, the hostile side can force it (force), an outcome matches (outcomes --where), NEW \
+is not covered (covers), or the judge says no; 2 refused, bad usage, or interrupted before a violation was found.";
+
+/// All commands, each with what it does, and what holds for all of them.
 pub fn all(commands: &[&Command]) -> String {
     let mut text = FRONT.to_string();
     for command in commands {
         let words = if command.words.is_empty() { String::new() } else { format!(" {}", command.words) };
         write!(text, "\n  {}{words}\n      {}\n", command.name, command.about).expect("text grows");
     }
-    text + END
+    let [models, status] = [("Models", MODELS), ("Exit status", STATUS)].map(|(what, about)| folded(&format!("{what}: {about}")));
+    text + END + &format!("\n{models}\n{status}\n{}", form())
 }
 
-/// One command: its usage, its options, an example.
+/// Words in lines that fit a window.
+fn folded(words: &str) -> String {
+    const WIDTH: usize = 110;
+    let mut lines = vec![String::new()];
+    for word in words.split(' ') {
+        let last = lines.last_mut().expect("one line at least");
+        match last.len() + word.len() < WIDTH {
+            true if last.is_empty() => last.push_str(word),
+            true => *last += &format!(" {word}"),
+            false => lines.push(word.to_string()),
+        }
+    }
+    lines.join("\n") + "\n"
+}
+
+/// The text form.
+fn form() -> String {
+    let row = |(statement, about): &(&str, &str)| format!("  {statement:<21} {about}\n");
+    let front = folded(&format!("The text form, a statement a line. {WORDS}"));
+    format!("{front}\n{}", STATEMENTS.iter().map(row).collect::<String>())
+}
+
+/// One command: its usage, its options, an example; behind asm the text form.
 pub fn one(command: &Command) -> String {
     let mut text = format!("usage: tarczolin {}\n\n{}\n\n", command.usage(), command.about);
     for Opt { name, value, about } in command.all_options() {
@@ -31,5 +66,8 @@ pub fn one(command: &Command) -> String {
         writeln!(text, "  {shown:<18} {about}").expect("text grows");
     }
     write!(text, "\nexample: {}\n", command.example).expect("text grows");
+    if command.name == "asm" {
+        text += &format!("\n{}", form());
+    }
     text
 }

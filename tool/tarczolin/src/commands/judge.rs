@@ -1,41 +1,52 @@
 //! judge: can this graph happen? A no is explained.
 use super::arguments::Arguments;
 use super::reply::{asked, Question};
+use crate::accepted::Accepted;
+use crate::called::called;
 use crate::end::End;
 use crate::error::Error;
 use crate::graph::{Event, Graph, Order};
-use crate::input::{self, Source};
+use crate::input;
 use crate::json::{list, object, Json};
-use crate::program::{Names, Program};
+use crate::program::Names;
 use crate::schedule::Schedule;
 use crate::why::{why, Edge, Why};
 use crate::{ask, refusal};
+use std::ffi::OsStr;
 
 pub fn run(arguments: &Arguments) -> Result<End, Error> {
     let [name, graph] = arguments.files()?;
     asked(&Question::of("judge", arguments, name), |question| judged(question, graph))
 }
 
-fn judged(question: &Question, graph: &str) -> Result<End, Error> {
+fn judged(question: &Question, graph: &OsStr) -> Result<End, Error> {
     let source = question.source()?;
     let text = input::text(graph)?;
     let answer = ask::judge(&source.file, &text);
-    match answer.map_err(|r| refusal::of_graph([question.file, graph], &source.file, &text, r))? {
+    match answer.map_err(|r| refusal::of_graph([&source.name, &called(graph)], &source.file, &text, r))? {
         Some(schedule) => yes(question, graph, &schedule),
         None => no(question, graph, &source, &text),
     }
 }
 
-fn yes(question: &Question, graph: &str, schedule: &Schedule) -> Result<End, Error> {
-    let possible = [("graph", graph.into()), ("possible", true.into()), ("schedule", schedule.to_string().into())];
-    question.answer(&format!("yes {schedule}"), possible, End::Answered)
+fn yes(question: &Question, graph: &OsStr, schedule: &Schedule) -> Result<End, Error> {
+    let possible = [
+        ("graph", graph.to_string_lossy().into_owned().into()),
+        ("possible", true.into()),
+        ("schedule", schedule.to_string().into()),
+    ];
+    question.answer(&format!("yes {}", schedule.told()), possible, End::Answered)
 }
 
-fn no(question: &Question, graph: &str, source: &Source, text: &[u8]) -> Result<End, Error> {
-    let program = Program::of_accepted(&source.file).named(&source.names);
-    let why = why(&program, &Graph::of_text(text));
+fn no(question: &Question, graph: &OsStr, source: &Accepted, text: &[u8]) -> Result<End, Error> {
+    let program = &source.program;
+    let why = why(program, &Graph::of_text(text));
     let words = why.as_ref().map_or(String::new(), |why| told(&program.names, why));
-    let fields = [("graph", graph.into()), ("possible", false.into()), ("why", why.as_ref().map(json).into())];
+    let fields = [
+        ("graph", graph.to_string_lossy().into_owned().into()),
+        ("possible", false.into()),
+        ("why", why.as_ref().map(json).into()),
+    ];
     question.answer(&format!("no{words}"), fields, End::Violation)
 }
 

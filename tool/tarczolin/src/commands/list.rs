@@ -16,7 +16,7 @@ pub fn run(arguments: &Arguments) -> Result<End, Error> {
 
 fn listed(question: &Question, piece: &Piece) -> Result<End, Error> {
     let source = question.source_under(piece.model).inspect_err(|error| refused(question, error))?;
-    let list = piece.list(List::of(&source, piece.model, true).expect("the file is accepted"))?;
+    let list = piece.list(List::of(&source, true))?;
     let mut out = output::standard();
     let headed = if question.json { Ok(()) } else { out.write_all(question.heading().as_bytes()) };
     let found = piece::walk(&list, piece.jobs, |part| {

@@ -1,5 +1,7 @@
 //! The manual page, for man(1).
 use super::command::Command;
+use super::form::{STATEMENTS, WORDS};
+use super::help::{MODELS, STATUS};
 use std::fmt::Write;
 
 fn escaped(text: &str) -> String {
@@ -10,7 +12,8 @@ pub fn page(commands: &[&Command]) -> String {
     let mut text = String::from(
         ".TH TARCZOLIN 1\n.SH NAME\ntarczolin \\- explores the executions of small concurrent programs\n.SH SYNOPSIS\n\
          .B tarczolin\nCOMMAND ..\n.SH DESCRIPTION\nLists, counts, shows and judges the executions of a program under sequential \
-         consistency. What is listed, counted, judged or refused is the answer of a proved library.\n.SH COMMANDS\n",
+         consistency, or under the total store order of x86. What is listed, counted, judged or refused is the answer of a proved \
+         library.\n.SH COMMANDS\n",
     );
     for command in commands {
         write!(text, ".TP\n.B {}\n{}\n", escaped(&command.usage()), escaped(command.about)).expect("text grows");
@@ -19,6 +22,10 @@ pub fn page(commands: &[&Command]) -> String {
         }
         write!(text, ".br\nExample: {}\n", escaped(command.example)).expect("text grows");
     }
-    text + ".SH ENVIRONMENT\nTARCZOLIN_PROGRESS: off for no lines of progress, or how often there is one, in milliseconds.\n\
-    .SH EXIT STATUS\n0 answered; 1 a violation was found, an outcome matches, NEW is not covered, or the judge says no; 2 refused, or bad usage.\n"
+    write!(text, ".SH MODELS\n{}\n.SH TEXT FORM\nA statement a line. {}\n", escaped(MODELS), escaped(WORDS)).expect("text grows");
+    for (statement, about) in STATEMENTS {
+        write!(text, ".TP\n{}\n{}\n", escaped(statement), escaped(about)).expect("text grows");
+    }
+    let environment = "TARCZOLIN_PROGRESS: off for no lines of progress, or how often there is one, in milliseconds.";
+    text + &format!(".SH ENVIRONMENT\n{environment}\n.SH EXIT STATUS\n{}\n", escaped(STATUS))
 }

@@ -9,6 +9,7 @@ mod covers;
 mod cuts;
 mod disasm;
 mod force;
+mod form;
 mod graph;
 mod help;
 mod join;
@@ -26,6 +27,7 @@ mod piece;
 mod record;
 mod reply;
 mod show;
+mod spool;
 mod table;
 mod users;
 mod violation;
@@ -34,6 +36,7 @@ use crate::end::End;
 use crate::error::Error;
 use crate::output;
 use arguments::Arguments;
+use std::ffi::{OsStr, OsString};
 use std::process::ExitCode;
 
 pub use command::Command;
@@ -43,15 +46,15 @@ pub use own::all;
 pub const VERSION: &str = concat!("tarczolin ", env!("CARGO_PKG_VERSION"), "\n");
 
 /// Is this word the version's, or that of help?
-fn is_version(word: &str) -> bool {
-    ["--version", "-V"].contains(&word)
+fn is_version(word: &OsStr) -> bool {
+    word == "--version" || word == "-V"
 }
 
-fn is_help(word: &str) -> bool {
-    ["--help", "-h"].contains(&word)
+fn is_help(word: &OsStr) -> bool {
+    word == "--help" || word == "-h"
 }
 
-fn command(words: &[String]) -> Result<End, Error> {
+fn command(words: &[OsString]) -> Result<End, Error> {
     if tarczolin_sys::standard_output_was_closed() {
         return Err(Error::Closed);
     }
@@ -60,7 +63,7 @@ fn command(words: &[String]) -> Result<End, Error> {
     if is_version(name) || options.iter().any(|word| is_version(word)) {
         return output::answer(VERSION, End::Answered);
     }
-    let command = own::known(if is_help(name) { "help" } else { name })?;
+    let command = own::known(if is_help(name) { OsStr::new("help") } else { name })?;
     if options.iter().any(|word| is_help(word)) {
         return output::answer(help::one(command), End::Answered);
     }
@@ -71,9 +74,9 @@ fn command(words: &[String]) -> Result<End, Error> {
 }
 
 /// Carries out a command: 0 answered, 1 a violation was found, the judge says no or a program is not covered, 2 refused or bad usage.
-pub fn run(words: &[String]) -> ExitCode {
+pub fn run(words: &[OsString]) -> ExitCode {
     let end = command(words).unwrap_or_else(|error| {
-        eprintln!("tarczolin: {error}");
+        output::tell(&error.to_string());
         End::Refused
     });
     end.code()

@@ -18,7 +18,8 @@ use std::collections::BTreeMap;
 
 pub fn run(arguments: &Arguments) -> Result<End, Error> {
     let piece = Piece::of(arguments)?;
-    each("outcomes", arguments, |question| outcomes(question, &piece, arguments.option("--where")))
+    let condition = arguments.option("--where")?;
+    each("outcomes", arguments, |question| outcomes(question, &piece, condition))
 }
 
 /// Executions that end alike: so many, how many executions they stand for, and the first of them.
@@ -40,7 +41,7 @@ struct Outcomes {
 
 impl Outcomes {
     fn add(&mut self, list: &List, listed: &Listed) {
-        let end = Final::of(&list.program, &listed.schedule);
+        let end = Final::of(list.program, &listed.schedule);
         let executions =
             ask::class(list.program.model, list.file, &listed.schedule).expect("a listed schedule of an accepted file is full");
         let next = self.all.len();
@@ -69,19 +70,22 @@ impl Outcomes {
 
 fn outcomes(question: &Question, piece: &Piece, condition: Option<&str>) -> Result<End, Error> {
     let source = question.source_under(piece.model)?;
-    let list = piece.list(List::of(&source, piece.model, true).expect("the file is accepted"))?;
-    let condition = condition.map(|text| Condition::of(text, &list.program)).transpose();
+    let list = piece.list(List::of(&source, true))?;
+    let condition = condition.map(|text| Condition::of(text, list.program)).transpose();
     let condition = condition.map_err(|message| Error::Condition { name: source.name.clone(), message })?;
     let mut all = Outcomes::default();
     let found = piece::walk(&list, piece.jobs, |part| {
         part.listed.iter().for_each(|listed| all.add(&list, listed));
         Ok(())
     });
-    piece::tell_cut(&found);
+    if found.cut {
+        // the outcomes of what is left cannot be put together with these
+        piece::tell_interrupted(found.counts, None);
+    }
     let executions = all.executions;
     let chosen = match &condition {
         None => all.all.into_iter().map(|outcome| (outcome, false)).collect(),
-        Some(condition) => all.matching(&list.program, condition),
+        Some(condition) => all.matching(list.program, condition),
     };
     let matched = chosen.iter().map(|(outcome, _)| outcome.listed).sum();
     let mut text = if question.json { String::new() } else { question.heading() };
@@ -96,7 +100,7 @@ fn outcomes(question: &Question, piece: &Piece, condition: Option<&str>) -> Resu
 
 /// One outcome.
 fn told(question: &Question, list: &List, number: u64, outcome: &Outcome, exchanged: bool) -> String {
-    let execution = Execution::replayed(list.file, &list.program, &outcome.first).expect("a full schedule");
+    let execution = Execution::replayed(list.file, list.program, &outcome.first).expect("a full schedule");
     let Outcome { end, listed, executions, first } = outcome;
     let failures = end.failed.iter().enumerate().filter_map(|(t, failed)| Some((t as u8, (*failed)?)));
     let failures: Vec<String> = failures
@@ -121,7 +125,7 @@ fn told(question: &Question, list: &List, number: u64, outcome: &Outcome, exchan
     }
     let by = if exchanged { ", with alike threads exchanged" } else { "" };
     let failed: String = failures.iter().map(|failure| format!("fails      {failure}\n")).collect();
-    let first = if first.is_empty() { "(no step)".to_string() } else { first.to_string() };
+    let first = first.told();
     let in_all = in_all(list, *executions);
     format!("outcome {number}: {listed} listed{in_all}, first {first}{by}\n{}{failed}\n", end_lines(&execution))
 }

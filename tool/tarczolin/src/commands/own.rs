@@ -7,6 +7,7 @@ use super::{complete, help, man};
 use crate::end::End;
 use crate::error::Error;
 use crate::output;
+use std::ffi::OsStr;
 
 const OWN: [Command; 3] = [
     Command {
@@ -43,7 +44,7 @@ const OWN: [Command; 3] = [
 
 fn completions(arguments: &Arguments) -> Result<End, Error> {
     let [shell] = arguments.files()?;
-    output::answer(complete::script(&all(), shell).ok_or(Error::Words)?, End::Answered)
+    output::answer(complete::script(&all(), &shell.to_string_lossy()).ok_or(Error::Words)?, End::Answered)
 }
 
 /// All commands.
@@ -52,10 +53,11 @@ pub fn all() -> Vec<&'static Command> {
 }
 
 /// The command of this name, or what it may have been meant to be.
-pub fn known(name: &str) -> Result<&'static Command, Error> {
+pub fn known(name: &OsStr) -> Result<&'static Command, Error> {
+    let name = name.to_string_lossy();
     let found = all().into_iter().find(|command| command.name == name);
     found.ok_or_else(|| {
-        let hint = meant(name, all().iter().map(|command| command.name).chain(["--version"]));
+        let hint = meant(&name, all().iter().map(|command| command.name).chain(["--version"]));
         Error::usage(format!("there is no command {name}{hint}\n{}", help::SHORT))
     })
 }

@@ -1,11 +1,13 @@
 //! Executions as a page, or each as a drawing of its own.
 use crate::ask::{Counts, Listed};
+use crate::called::called;
 use crate::end::End;
 use crate::error::Error;
 use crate::execution::Execution;
 use crate::html::{self, Page, Pick};
 use crate::jobs::List;
 use crate::output;
+use std::ffi::OsStr;
 use std::io;
 use std::path::Path;
 
@@ -19,7 +21,7 @@ pub struct Walked {
 
 /// An execution of the list, ready to be shown.
 pub fn execution<'a>(list: &'a List, position: u64, listed: &Listed) -> Execution<'a> {
-    Execution::of(list.file, &list.program, position, listed).expect("a listed schedule of an accepted file is full")
+    Execution::of(list.file, list.program, position, listed).expect("a listed schedule of an accepted file is full")
 }
 
 /// What comes onto a page of the list; what is left out is told.
@@ -38,9 +40,9 @@ pub fn of_list<'a>(
     }
     let left_out = pick.left_out();
     let executions = pick.picked().iter().map(|(position, listed)| execution(list, *position, listed)).collect();
-    let page = Page { name, program: &list.program, listed: Some(listed), executions, left_out };
+    let page = Page { name, program: list.program, listed: Some(listed), executions, left_out };
     if let Some(left_out) = page.tell_left_out() {
-        eprintln!("tarczolin: {left_out}");
+        output::tell(&left_out);
     }
     Ok(page)
 }
@@ -52,27 +54,35 @@ pub fn of_one<'a>(name: &'a str, execution: Execution<'a>) -> Page<'a> {
 }
 
 /// Writes a page.
-pub fn page(page: &Page, to: &str) -> Result<End, Error> {
+pub fn page(page: &Page, to: &OsStr) -> Result<End, Error> {
     let found = End::of_failing(page.all().failing);
     if to == "-" {
         return output::answer(page.text(), found);
     }
-    std::fs::write(to, page.text()).map_err(|cause| Error::File { name: to.to_string(), cause })?;
-    output::answer(format!("{}, in {to}\n", page.counts()), found)
+    std::fs::write(to, page.text()).map_err(|cause| Error::File { name: called(to), cause })?;
+    output::answer(format!("{}, in {}\n", page.counts(), called(to)), found)
+}
+
+/// What a drawing's file is called: by the place in the list, or by the schedule.
+fn file_name(execution: &Execution) -> String {
+    match execution.position {
+        None if execution.schedule.is_empty() => "no-step".to_string(),
+        _ => execution.name(),
+    }
 }
 
 /// Writes a drawing of each execution into a folder: `2.svg`, or `2-fails.svg`.
-pub fn drawings(page: &Page, folder: &str) -> Result<End, Error> {
+pub fn drawings(page: &Page, folder: &OsStr) -> Result<End, Error> {
     if Path::new(folder).exists() && !Path::new(folder).is_dir() {
-        return Err(Error::usage(format!("--svg takes a folder, and {folder} is none")));
+        return Err(Error::usage(format!("--svg takes a folder, and {} is none", called(folder))));
     }
     let written = std::fs::create_dir_all(folder).and_then(|()| {
         page.executions.iter().try_for_each(|execution| {
             let fails = if execution.fails { "-fails" } else { "" };
-            let name = format!("{}{fails}.svg", execution.name());
+            let name = format!("{}{fails}.svg", file_name(execution));
             std::fs::write(Path::new(folder).join(name), html::drawing(execution))
         })
     });
-    written.map_err(|cause| Error::File { name: folder.to_string(), cause })?;
-    output::answer(format!("{}, in {folder}\n", page.counts()), End::of_failing(page.all().failing))
+    written.map_err(|cause| Error::File { name: called(folder), cause })?;
+    output::answer(format!("{}, in {}\n", page.counts(), called(folder)), End::of_failing(page.all().failing))
 }

@@ -5,11 +5,13 @@ use super::opt::Opt;
 use crate::ask::Counts;
 use crate::error::Error;
 use crate::jobs::{self, List, Part};
-use crate::model::{thread, Model, MOVE};
+use crate::model::{is_move, thread, Model, MOVE};
+use crate::output;
 use crate::progress::{self, Progress};
 use crate::schedule::Schedule;
 use std::io;
-use std::sync::mpsc::channel;
+use std::sync::mpsc::{channel, Receiver, RecvTimeoutError};
+use std::time::Duration;
 
 /// At most so many jobs.
 pub const JOBS: u64 = 256;
@@ -17,6 +19,9 @@ pub const JOBS: u64 = 256;
 pub const JOBS_OPTION: Opt = Opt { name: "--jobs", value: Some("N"), about: "so many threads walk pieces of the list" };
 pub const AFTER: Opt = Opt { name: "--after", value: Some("SCHEDULE"), about: "only what is listed behind this schedule" };
 pub const UNTIL: Opt = Opt { name: "--until", value: Some("SCHEDULE"), about: "only what is listed up to this schedule" };
+
+/// What a step from 10 to 15 says of a schedule.
+const TSO_SCHEDULE: &str = "; steps from 10 to 15 stand in schedules under --model tso";
 
 pub struct Piece {
     pub model: Model,
@@ -55,7 +60,9 @@ impl Piece {
             let names = |byte: u8| byte < bytes && (thread(byte) as usize) < threads;
             let other = bound.iter().flat_map(|bound| bound.iter()).find(|byte| !names(**byte));
             if let Some(t) = other {
-                return Err(Error::usage(format!("{}: there is no thread {t:02x}; the program has {threads}", option.name)));
+                let other_model = if self.model == Model::Sc && is_move(*t) { TSO_SCHEDULE } else { "" };
+                let message = format!("{}: there is no thread {t:02x}; the program has {threads}{other_model}", option.name);
+                return Err(Error::usage(message));
             }
         }
         Ok(List { after: self.after, until: self.until, ..list })
@@ -75,7 +82,7 @@ pub fn walk(list: &List, jobs: usize, mut each: impl FnMut(&Part) -> io::Result<
         progress.give_way();
         each(&part)?;
         let last = found.last;
-        progress.tell(found.counts, || last.map(|last| jobs::share(&list.program, &last)));
+        progress.tell(found.counts, || last.map(|last| jobs::share(list.program, &last)));
         Ok(())
     });
     progress.hide();
@@ -83,32 +90,37 @@ pub fn walk(list: &List, jobs: usize, mut each: impl FnMut(&Part) -> io::Result<
     found
 }
 
-/// The answer of one call of the library on the file of a list. Where it takes long the rows of the list are walked beside it, only to tell
-/// how far that is; what was walked is given back where Ctrl-C came before the answer.
-pub fn answered<T: Send + 'static>(
-    file: &[u8],
-    list: &List,
-    call: impl FnOnce(&[u8]) -> T + Send + 'static,
-) -> Result<T, Box<Found>> {
-    let Some(every) = progress::every() else { return Ok(call(file)) };
-    let (done, wait) = channel();
-    let file = file.to_vec();
-    std::thread::spawn(move || done.send(call(&file)));
-    let mut answer = wait.recv_timeout(every).ok();
-    if answer.is_none() {
-        let found = walk(list, 1, |_| {
-            answer = wait.try_recv().ok();
-            if answer.is_some() {
-                Err(io::Error::other("answered"))
-            } else {
-                Ok(())
-            }
-        });
-        if found.cut && answer.is_none() {
-            return Err(Box::new(found));
-        }
+/// The answer of one call of the library on the file of a list. Where it takes a while the rows of the list are walked beside it, only to
+/// tell how far that is; what was walked is given back where Ctrl-C came before the answer. With progress off the call stands alone.
+pub fn answered<T: Send + 'static>(list: &List, call: impl FnOnce(&[u8]) -> T + Send + 'static) -> Result<T, Box<Found>> {
+    if progress::every().is_none() {
+        return Ok(call(list.file));
     }
-    Ok(answer.unwrap_or_else(|| wait.recv().expect("the call of the library answers")))
+    tarczolin_sys::note_interrupts();
+    let (done, wait) = channel();
+    let file = list.file.to_vec();
+    std::thread::spawn(move || done.send(call(&file)));
+    if let Some(answer) = soon(&wait) {
+        return Ok(answer);
+    }
+    let mut answer = None;
+    let found = walk(list, 1, |_| {
+        answer = wait.try_recv().ok();
+        answer.as_ref().map_or(Ok(()), |_| Err(io::Error::other("answered")))
+    });
+    // where the rows have ended before the call, only the call is waited for
+    while answer.is_none() && !tarczolin_sys::was_interrupted() {
+        answer = soon(&wait);
+    }
+    answer.ok_or_else(|| Box::new(Found { cut: true, ..found }))
+}
+
+/// What comes within a while that nobody notices, if it does.
+fn soon<T>(wait: &Receiver<T>) -> Option<T> {
+    match wait.recv_timeout(Duration::from_millis(200)) {
+        Err(RecvTimeoutError::Disconnected) => panic!("the call of the library has failed"),
+        answer => answer.ok(),
+    }
 }
 
 /// Says how far a walk came that Ctrl-C cut short, and from where it can go on.
@@ -122,5 +134,5 @@ pub fn tell_cut(found: &Found) {
 pub fn tell_interrupted(counts: Counts, words: Option<String>) {
     let Counts { listed, failing } = counts;
     let further = words.map_or(String::new(), |words| format!("; go on with {words}"));
-    eprintln!("tarczolin: interrupted: {listed} listed, {failing} failing so far{further}");
+    output::tell(&format!("interrupted: {listed} listed, {failing} failing so far{further}"));
 }

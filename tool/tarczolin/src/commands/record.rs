@@ -3,6 +3,7 @@ use crate::execution::{Execution, Source, Step};
 use crate::graph::{Event, Graph};
 use crate::json::{list, object, Json};
 use crate::machine::Queue;
+use crate::program::FENCE;
 
 fn event(event: Event) -> Json {
     object([("thread", event.t.into()), ("access", event.i.into())])
@@ -25,9 +26,9 @@ fn step(execution: &Execution, step: &Step) -> Json {
         ("thread", done.event.t.into()),
         ("name", names.thread(done.event.t).into()),
         ("access", done.event.i.into()),
-        ("kind", done.instruction.access().into()),
-        ("location", names.location(done.location).into()),
-        ("found", done.found.into()),
+        ("kind", if done.fence { FENCE.into() } else { done.instruction.access().into() }),
+        ("location", (!done.fence).then(|| names.location(done.location)).into()),
+        ("found", done.found.filter(|_| !done.fence).into()),
         ("left", done.left.into()),
         ("reads_from", source),
         ("queue", queue),

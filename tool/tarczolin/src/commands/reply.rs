@@ -1,13 +1,14 @@
 //! How answers are told: in words or as JSON, for one file or for several.
 use super::arguments::Arguments;
 use super::opt::Opt;
+use crate::accepted::Accepted;
+use crate::called::{called, recorded};
 use crate::end::End;
-use crate::error::{called, Error};
-use crate::input::{self, Source};
-use crate::json::Json;
+use crate::error::Error;
+use crate::json::{list, Json};
 use crate::model::Model;
 use crate::output;
-use crate::{ask, refusal};
+use std::ffi::OsStr;
 
 /// The option that all commands share.
 pub const JSON: Opt = Opt { name: "--json", value: None, about: "answers as JSON, an object a line (docs/JSON.md)" };
@@ -16,32 +17,42 @@ pub const JSON: Opt = Opt { name: "--json", value: None, about: "answers as JSON
 #[derive(Clone, Copy)]
 pub struct Question<'a> {
     pub command: &'static str,
-    pub file: &'a str,
+    pub file: &'a OsStr,
     pub json: bool,
     /// There are several files: each answer has its file's name.
     pub several: bool,
 }
 
 impl<'a> Question<'a> {
-    pub fn of(command: &'static str, arguments: &Arguments, file: &'a str) -> Question<'a> {
+    pub fn of(command: &'static str, arguments: &Arguments, file: &'a OsStr) -> Question<'a> {
         Question { command, file, json: arguments.flag("--json"), several: false }
     }
 
     /// The program that it is about, if the library accepts it.
-    pub fn source(&self) -> Result<Source, Error> {
+    pub fn source(&self) -> Result<Accepted, Error> {
         self.source_under(Model::Sc)
     }
 
     /// The same for the listing of this model.
-    pub fn source_under(&self, model: Model) -> Result<Source, Error> {
-        let source = input::program(self.file)?;
-        ask::accepted(model, &source.file).map_err(|r| refusal::of_program(&source.name, &source.file, r))?;
-        Ok(source)
+    pub fn source_under(&self, model: Model) -> Result<Accepted, Error> {
+        self.source_for(Some(model))
+    }
+
+    /// The same for both models, its fences kept: for what does not run it.
+    pub fn whole_source(&self) -> Result<Accepted, Error> {
+        self.source_for(None)
+    }
+
+    /// The same for one model, or for both. What has to be known of it is told in front of the answer.
+    pub fn source_for(&self, model: Option<Model>) -> Result<Accepted, Error> {
+        let accepted = Accepted::read(self.file, model)?;
+        self.noted(&accepted.name, &accepted.notes)?;
+        Ok(accepted)
     }
 
     /// An object of the command, its file and these fields, as a line.
     pub fn object<const N: usize>(&self, fields: [(&str, Json); N]) -> String {
-        let front = [("command", self.command.into()), ("file", called(self.file).into())];
+        let front = [("command", self.command.into()), ("file", recorded(self.file).into())];
         let fields = front.into_iter().chain(fields).map(|(name, value)| (name.to_string(), value));
         format!("{}\n", Json::Object(fields.collect()))
     }
@@ -75,9 +86,18 @@ impl<'a> Question<'a> {
         }
     }
 
+    /// Tells what has to be known of how its file was read: in front of the answer, in an object too.
+    pub fn noted(&self, name: &str, notes: &[String]) -> Result<(), Error> {
+        notes.iter().for_each(|note| output::tell(&format!("{name}: {note}")));
+        if self.json && !notes.is_empty() {
+            output::answer(self.object([("notes", list(notes.iter().map(String::as_str)))]), End::Answered)?;
+        }
+        Ok(())
+    }
+
     /// Tells an error of this question, and that it was not carried out.
     pub fn failed(&self, error: &Error) -> Result<End, Error> {
-        eprintln!("tarczolin: {error}");
+        output::tell(&error.to_string());
         if self.json {
             return output::answer(self.object([("error", error.json())]), End::Refused);
         }
@@ -93,7 +113,8 @@ pub fn each(command: &'static str, arguments: &Arguments, ask: impl Fn(&Question
         let question = Question { several: names.len() > 1, ..Question::of(command, arguments, name) };
         end = end.max(asked(&question, &ask)?);
         if tarczolin_sys::was_interrupted() && k + 1 < names.len() {
-            eprintln!("tarczolin: not begun: {}", names[k + 1..].join(", "));
+            let left: Vec<String> = names[k + 1..].iter().map(|name| called(name)).collect();
+            output::tell(&format!("not begun: {}", left.join(", ")));
             break;
         }
     }

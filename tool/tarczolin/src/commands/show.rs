@@ -1,19 +1,21 @@
 //! show: executions in two columns, as a page, or drawn. Totals and exit status are those of the whole list.
-use super::arguments::Arguments;
+use super::arguments::{may_be_schedule, Arguments};
 use super::models::model;
 use super::pages::{self, Walked};
 use super::piece;
 use super::record;
 use super::reply::{asked, each, Question};
 use crate::ask::{Counts, Listed};
+use crate::called::called;
 use crate::end::End;
-use crate::error::{called, Error};
+use crate::error::Error;
 use crate::execution::Execution;
 use crate::jobs::{self, List};
 use crate::model::Model;
 use crate::progress::Progress;
 use crate::show::{columns, By};
 use crate::{input, output, refusal};
+use std::ffi::OsStr;
 use std::io::{self, Write};
 
 /// Which executions are shown, and how.
@@ -22,18 +24,8 @@ pub struct Choice<'a> {
     from: u64,
     failing_only: bool,
     by: By,
-    html: Option<&'a str>,
-    svg: Option<&'a str>,
-}
-
-/// The word that an option takes, one of these.
-fn one_of<T: Copy>(arguments: &Arguments, name: &str, words: &[(&str, T)], otherwise: T) -> Result<T, Error> {
-    let Some(given) = arguments.option(name) else { return Ok(otherwise) };
-    let known: Vec<&str> = words.iter().map(|(word, _)| *word).collect();
-    let found = words.iter().find(|(word, _)| *word == given);
-    found
-        .map(|(_, value)| *value)
-        .ok_or_else(|| Error::usage(format!("{name} takes the word {}, not {given}", known.join(" or "))))
+    html: Option<&'a OsStr>,
+    svg: Option<&'a OsStr>,
 }
 
 impl<'a> Choice<'a> {
@@ -41,10 +33,10 @@ impl<'a> Choice<'a> {
         Ok(Choice {
             model: model(arguments)?,
             from: arguments.number("--from", u64::MAX)?,
-            failing_only: one_of(arguments, "--only", &[("failing", true)], false)?,
-            by: one_of(arguments, "--by", &[("time", By::Time), ("thread", By::Thread)], By::Time)?,
-            html: arguments.option("--html"),
-            svg: arguments.option("--svg"),
+            failing_only: arguments.one_of("--only", &[("failing", true)], false)?,
+            by: arguments.one_of("--by", &[("time", By::Time), ("thread", By::Thread)], By::Time)?,
+            html: arguments.path("--html"),
+            svg: arguments.path("--svg"),
         })
     }
 }
@@ -53,8 +45,7 @@ pub fn run(arguments: &Arguments) -> Result<End, Error> {
     arguments.one_of_these(&["--html", "--svg", "--json"])?;
     let choice = Choice::of(arguments)?;
     let names = arguments.names()?;
-    let is_schedule = |word: &&str| *word == "-" || word.bytes().all(|c| c.is_ascii_hexdigit());
-    if names.len() > 1 && names[1..].iter().all(is_schedule) {
+    if names.len() > 1 && names[1..].iter().all(|word| may_be_schedule(word)) {
         let (name, schedule) = arguments.file_and_schedule()?;
         let schedule = schedule.ok_or(Error::Words)?;
         if arguments.flag("--from") || arguments.flag("--only") {
@@ -80,11 +71,11 @@ fn overwrites_nothing(question: &Question, choice: &Choice) -> Result<(), Error>
 fn shown(question: &Question, choice: &Choice) -> Result<End, Error> {
     overwrites_nothing(question, choice)?;
     let source = question.source_under(choice.model)?;
-    let list = List::of(&source, choice.model, false).expect("the file is accepted");
+    let list = List::of(&source, false);
     let walk = |each: &mut dyn FnMut(u64, &Listed) -> io::Result<()>| walk(&list, choice, each);
     match (choice.html, choice.svg) {
-        (Some(page), _) => pages::page(&pages::of_list(&list, called(question.file), walk)?, page),
-        (_, Some(folder)) => pages::drawings(&pages::of_list(&list, called(question.file), walk)?, folder),
+        (Some(page), _) => pages::page(&pages::of_list(&list, &source.name, walk)?, page),
+        (_, Some(folder)) => pages::drawings(&pages::of_list(&list, &source.name, walk)?, folder),
         _ => to_standard_output(question, &list, choice),
     }
 }
@@ -93,13 +84,13 @@ fn shown(question: &Question, choice: &Choice) -> Result<End, Error> {
 fn one(question: &Question, choice: &Choice, schedule: &[u8]) -> Result<End, Error> {
     overwrites_nothing(question, choice)?;
     let source = question.source_under(choice.model)?;
-    let list = List::of(&source, choice.model, false).expect("the file is accepted");
-    let refused = |r| refusal::of_schedule(&source.name, &list.program, schedule, r);
-    let execution = Execution::replayed(&source.file, &list.program, schedule).map_err(refused)?;
+    let list = List::of(&source, false);
+    let refused = |r| refusal::of_schedule(&source.name, list.program, schedule, r);
+    let execution = Execution::replayed(list.file, list.program, schedule).map_err(refused)?;
     let found = End::of_failing(execution.fails as u64);
     match (choice.html, choice.svg) {
-        (Some(page), _) => pages::page(&pages::of_one(called(question.file), execution), page),
-        (_, Some(folder)) => pages::drawings(&pages::of_one(called(question.file), execution), folder),
+        (Some(page), _) => pages::page(&pages::of_one(&source.name, execution), page),
+        (_, Some(folder)) => pages::drawings(&pages::of_one(&source.name, execution), folder),
         _ => question.answer_text(columns(&execution, choice.by), record::execution(&execution), found),
     }
 }
@@ -120,7 +111,7 @@ fn walk(list: &List, choice: &Choice, each: &mut dyn FnMut(u64, &Listed) -> io::
             progress.give_way();
             walked.written = each(position, listed);
         }
-        progress.tell(walked.counts, || Some(jobs::share(&list.program, &listed.schedule)));
+        progress.tell(walked.counts, || Some(jobs::share(list.program, &listed.schedule)));
         walked.written.is_err()
     });
     progress.hide();

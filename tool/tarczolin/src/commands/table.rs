@@ -1,7 +1,7 @@
 //! The commands, each with its words, its options and an example.
 use super::command::Command;
 use super::count::CLASSES;
-use super::models::MODEL;
+use super::models::{FOR_MODEL, MODEL};
 use super::opt::Opt;
 use super::piece::{AFTER, JOBS_OPTION, UNTIL};
 use super::reply::JSON;
@@ -11,7 +11,7 @@ const SHOW: Opt = Opt { name: "--show", value: None, about: "the whole execution
 const WHERE: Opt = Opt {
     name: "--where",
     value: Some("CONDITION"),
-    about: "only these, and status 1 where some execution ends so: 'tail=2 & T2.r1=0'; also fails, T2.fails, |, !, ( )",
+    about: "only these, and status 1 where some execution ends so: 'tail=2 & T2.r1!=0'; also fails, T2.fails, |, !, ( )",
 };
 const REMARKS: Opt = Opt { name: "--remarks", value: None, about: "with the text's names and remark lines, as remarks" };
 const SHOW_OPTIONS: &[Opt] = &[
@@ -52,7 +52,8 @@ pub const COMMANDS: [Command; 17] = [
     Command {
         name: "force",
         words: "FILE",
-        about: "can the hostile threads force a failure, stepping in turn with the others? who can, and the first step",
+        about: "can the hostile threads force a failure, stepping in turn with the others? who can, and the first step; by sequential \
+                consistency",
         options: force::OPTIONS,
         example: "tarczolin force examples/queue-broken.asm --hostile first,second --play",
         run: force::run,
@@ -68,9 +69,10 @@ pub const COMMANDS: [Command; 17] = [
     Command {
         name: "covers",
         words: "OLD NEW",
-        about: "can NEW end as OLD cannot? covered, or the first execution of NEW that does, and all outcomes of OLD",
-        options: &[JSON],
-        example: "tarczolin covers examples/whole.hex examples/store-load-pair.hex",
+        about: "can NEW end as OLD cannot? covered, or the first execution of NEW that does, and all outcomes of OLD; by sequential \
+                consistency",
+        options: covers::OPTIONS,
+        example: "tarczolin covers examples/queue-repaired.asm examples/queue-broken.asm",
         run: covers::run,
     },
     Command {
@@ -84,8 +86,8 @@ pub const COMMANDS: [Command; 17] = [
     Command {
         name: "check",
         words: "FILE..",
-        about: "is this a program? accepted, or why not",
-        options: &[JSON],
+        about: "is this a program? accepted and what it uses of what there is, or why not",
+        options: &[FOR_MODEL, JSON],
         example: "tarczolin check examples/whole.hex",
         run: check::run,
     },
@@ -105,7 +107,7 @@ pub const COMMANDS: [Command; 17] = [
     Command {
         name: "judge",
         words: "FILE GRAPH",
-        about: "can this graph happen? yes with the least schedule that makes it, or no and why",
+        about: "can this graph happen under sequential consistency? yes with the least schedule that makes it, or no and why",
         options: &[JSON],
         example: "tarczolin graph examples/store-load-pair.hex 00000101 | tarczolin judge examples/store-load-pair.hex -",
         run: judge::run,
@@ -114,7 +116,7 @@ pub const COMMANDS: [Command; 17] = [
         name: "cuts",
         words: "FILE N",
         about: "N full schedules that cut the list into pieces, for list --after A --until B on more than one machine",
-        options: &[JSON],
+        options: &[MODEL, JSON],
         example: "tarczolin cuts examples/queue-broken.asm 4",
         run: cuts::run,
     },
@@ -139,8 +141,8 @@ pub const COMMANDS: [Command; 17] = [
     Command {
         name: "asm",
         words: "FILE..",
-        about: "from the text form to a program file",
-        options: &[REMARKS, JSON],
+        about: "from the text form to a program file, a fence as a fetch and add of zero",
+        options: &[REMARKS, FOR_MODEL, JSON],
         example: "tarczolin asm examples/queue-broken.asm > queue.hex",
         run: asm::run,
     },
@@ -155,7 +157,7 @@ pub const COMMANDS: [Command; 17] = [
     Command {
         name: "import-litmus",
         words: "FILE..",
-        about: "from a litmus test for x86 to the text form, its condition as a remark for outcomes --where",
+        about: "from a litmus test for x86 to the text form, MFENCE as fence, its condition as a remark for outcomes --where",
         options: &[JSON],
         example: "tarczolin import-litmus sb.litmus > sb.asm",
         run: litmus::import,
@@ -163,7 +165,7 @@ pub const COMMANDS: [Command; 17] = [
     Command {
         name: "export-litmus",
         words: "FILE..",
-        about: "from a program to a litmus test for x86",
+        about: "from a program to a litmus test for x86, fence as MFENCE",
         options: &[JSON],
         example: "tarczolin export-litmus examples/store-load-pair.hex",
         run: litmus::export,

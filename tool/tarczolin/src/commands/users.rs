@@ -1,10 +1,13 @@
 //! users: a host of four callers, driven by lines on standard input, each answered by a line.
 use super::arguments::Arguments;
+use crate::called::{called, visible};
 use crate::end::End;
 use crate::error::Error;
-use crate::json::Json;
+use crate::input;
+use crate::json::{list, Json};
 use crate::output;
 use crate::users::{Call, Host, Said};
+use std::ffi::OsStr;
 use std::io::{self, BufRead, Read, Write};
 
 /// Of a line no more is read than a file's bytes as digits, and some words.
@@ -15,11 +18,12 @@ pub fn run(arguments: &Arguments) -> Result<End, Error> {
         return Err(Error::Words);
     }
     let (mut host, mut end, json) = (Host::default(), End::Answered, arguments.flag("--json"));
-    let (mut input, mut out) = (io::stdin().lock(), io::stdout().lock());
+    let unread = |cause| Error::File { name: called(OsStr::new("-")), cause };
+    let (mut input, mut out) = (input::standard().map_err(unread)?.lock(), io::stdout().lock());
     for place in 1u64.. {
         let mut line = Vec::new();
         let read = (&mut input).take(LONGEST).read_until(b'\n', &mut line);
-        if read.map_err(|cause| Error::File { name: "-".to_string(), cause })? == 0 {
+        if read.map_err(unread)? == 0 {
             break;
         }
         let said = match Call::of_line(&String::from_utf8_lossy(&line)) {
@@ -30,7 +34,8 @@ pub fn run(arguments: &Arguments) -> Result<End, Error> {
         if said.is_err() {
             end = End::Refused;
         }
-        let written = out.write_all(told(json, place, &said).as_bytes()).and_then(|()| out.flush());
+        let text = noted(json, place, &host.notes()) + &told(json, place, &said);
+        let written = out.write_all(text.as_bytes()).and_then(|()| out.flush());
         if written.is_err() {
             return output::ended(written, end);
         }
@@ -43,13 +48,26 @@ fn told(json: bool, place: u64, said: &Result<Said, String>) -> String {
     if !json {
         return match said {
             Ok(said) => format!("{said}\n"),
-            Err(message) => format!("error: {}\n", message.replace('\n', "; ")),
+            Err(message) => format!("error: {}\n", visible(message).replace('\n', "; ")),
         };
     }
     let fields = match said {
         Ok(said) => said.fields(),
         Err(message) => vec![("error", message.as_str().into())],
     };
+    object(place, fields)
+}
+
+/// What has to be known of how a file was read, which words tell on standard error only.
+fn noted(json: bool, place: u64, notes: &[String]) -> String {
+    match json && !notes.is_empty() {
+        true => object(place, vec![("notes", list(notes.iter().map(String::as_str)))]),
+        false => String::new(),
+    }
+}
+
+/// An object of these fields about a line.
+fn object(place: u64, fields: Vec<(&str, Json)>) -> String {
     let front = [("command", Json::from("users")), ("line", place.into())];
     let fields = front.into_iter().chain(fields).map(|(name, value)| (name.to_string(), value));
     format!("{}\n", Json::Object(fields.collect()))

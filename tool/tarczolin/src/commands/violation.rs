@@ -8,6 +8,7 @@ use crate::end::End;
 use crate::error::Error;
 use crate::execution::Execution;
 use crate::jobs::List;
+use crate::model::Model;
 use crate::schedule::Schedule;
 use crate::show::{columns, By};
 use std::io;
@@ -19,26 +20,27 @@ pub fn run(arguments: &Arguments) -> Result<End, Error> {
 
 fn violation(question: &Question, piece: &Piece, show: bool) -> Result<End, Error> {
     let (source, model) = (question.source_under(piece.model)?, piece.model);
-    let list = List::of(&source, model, false).expect("the file is accepted");
+    let list = List::of(&source, false);
     let found = if piece.is_one_call() {
         let call = move |file: &[u8]| ask::violation(model, file);
-        piece::answered(&source.file, &list, call).map(|found| found.expect("the file is accepted"))
+        piece::answered(&list, call).map(|found| found.expect("the file is accepted"))
     } else {
         by_rows(&list, piece.jobs)
     };
     let found = match found {
         Ok(found) => found,
         Err(cut) => {
-            piece::tell_interrupted(cut.counts, cut.last.map(|last| format!("list --after {last}")));
+            let option = if model == Model::Tso { " --model tso" } else { "" };
+            piece::tell_interrupted(cut.counts, cut.last.map(|last| format!("list{option} --after {last}")));
             return Ok(End::Refused);
         }
     };
     let Some(schedule) = found else { return question.answer("none", [("violation", None::<String>.into())], End::Answered) };
     let field = ("violation", schedule.to_string().into());
     if !show {
-        return question.answer(&schedule.to_string(), [field], End::Violation);
+        return question.answer(&schedule.told(), [field], End::Violation);
     }
-    let execution = Execution::replayed(&source.file, &list.program, &schedule).expect("a listed schedule is full");
+    let execution = Execution::replayed(list.file, list.program, &schedule).expect("a listed schedule is full");
     let [position, _, fails, executions, steps, at_once, memory, registers] = record::execution(&execution);
     let fields = [field, position, fails, executions, steps, at_once, memory, registers];
     question.answer_text(columns(&execution, By::Time), fields, End::Violation)

@@ -124,7 +124,7 @@ fn code(program: &Program) -> String {
     let mut text = String::from("<div class=\"code\">\n");
     for (t, code) in program.threads.iter().enumerate() {
         let (names, of) = (&program.names, t as u8);
-        let lines: Vec<String> = code.iter().map(|i| escaped(&names.instruction(of, i))).collect();
+        let lines: Vec<String> = code.iter().enumerate().map(|(at, i)| escaped(&names.statement_at(of, at, i))).collect();
         let name = escaped(&names.thread(of));
         writeln!(text, "<div><h2 class=\"t{t}\">{name}</h2><pre>{}</pre></div>", lines.join("\n")).expect("text grows");
     }

@@ -2,7 +2,7 @@
 use crate::execution::{Execution, Step};
 use crate::graph::Event;
 use crate::machine::{Done, Failure, Queue};
-use crate::program::{number, Instruction, Names};
+use crate::program::{number, Instruction, Names, FENCE};
 
 /// A row: a step, or an assertion that failed.
 pub enum Row<'a> {
@@ -35,6 +35,7 @@ impl Row<'_> {
     pub fn data(&self) -> String {
         match self {
             Row::Failure(t, _) => format!("data-t=\"{t}\""),
+            Row::Step(step) if step.done.fence => format!("data-t=\"{}\"", step.done.event.t),
             Row::Step(step) => format!("data-t=\"{}\" data-l=\"{}\"", step.done.event.t, step.done.location),
         }
     }
@@ -54,6 +55,7 @@ pub fn rows<'e>(execution: &'e Execution) -> Vec<Row<'e>> {
 pub fn words(names: &Names, row: &Row) -> [String; 2] {
     match row {
         Row::Failure(t, failed) => ["✗ assert".to_string(), names.register(*t, failed.r)],
+        Row::Step(Step { done, .. }) if done.fence => [format!("#{} {FENCE}", done.event.i), String::new()],
         Row::Step(Step { done, .. }) => {
             let name = match done.queue {
                 Queue::Aside => done.instruction.access().unwrap_or(""),

@@ -1,7 +1,6 @@
 //! A program whose list is walked, and parts of it.
-use crate::ask::{self, Counts, Listed, Refusal, Rows};
-use crate::input::Source;
-use crate::model::Model;
+use crate::accepted::Accepted;
+use crate::ask::{Counts, Listed, Rows};
 use crate::program::Program;
 use crate::schedule::Schedule;
 use std::time::{Duration, Instant};
@@ -26,7 +25,7 @@ pub struct Part {
 /// A program whose list is walked, or a piece of it.
 pub struct List<'a> {
     pub file: &'a [u8],
-    pub program: Program,
+    pub program: &'a Program,
     /// Whether the schedules themselves are wanted, or only counts.
     pub schedules: bool,
     /// Behind this schedule, where there is one, and up to this one.
@@ -60,12 +59,9 @@ impl Part {
 }
 
 impl<'a> List<'a> {
-    /// The whole list of a file that is accepted under this model.
-    pub fn of(source: &'a Source, model: Model, schedules: bool) -> Result<List<'a>, Refusal> {
-        let file = source.file.as_slice();
-        ask::accepted(model, file)?;
-        let program = Program::of_accepted(file).named(&source.names).under(model);
-        Ok(List { file, program, schedules, after: None, until: None })
+    /// The whole list of a program, under the model that it is accepted under.
+    pub fn of(source: &'a Accepted, schedules: bool) -> List<'a> {
+        List { file: &source.file, program: &source.program, schedules, after: None, until: None }
     }
 
     /// Is this schedule behind the piece?

@@ -80,7 +80,7 @@ fn work(list: &List, bounds: &[Schedule], pieces: &Mutex<Pieces>) {
 
 /// The bounds of the pieces of a list: those inside it, and its end.
 fn inside(list: &List, pieces: usize) -> Vec<Schedule> {
-    let mut bounds = bounds(&list.program, pieces);
+    let mut bounds = bounds(list.program, pieces);
     bounds.retain(|bound| list.after.is_none_or(|after| *bound > after) && list.until.is_none_or(|until| *bound < until));
     bounds.extend(list.until);
     bounds

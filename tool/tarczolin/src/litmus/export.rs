@@ -35,7 +35,11 @@ fn registers(program: &Program, t: u8) -> Vec<String> {
 fn column(program: &Program, t: u8) -> Result<Vec<String>, String> {
     let registers = registers(program, t);
     let mut cells = vec![format!("P{t}")];
-    for instruction in &program.threads[t as usize] {
+    for (at, instruction) in program.threads[t as usize].iter().enumerate() {
+        if program.names.is_fence(t, at) {
+            cells.push("MFENCE".to_string());
+            continue;
+        }
         let unfit = || format!("{} has no place in a litmus test", program.names.instruction(t, instruction));
         cells.extend(made(program, &registers, instruction).ok_or_else(unfit)?);
     }

@@ -1,107 +1,131 @@
-//! From a litmus test to the text form. A fence means nothing under sequential consistency.
+//! From a litmus test to the text form. What is made is assembled and accepted before anybody sees it, and what has no place is an error
+//! with its line and column: no instruction is dropped without a word.
+use super::cell::{cell, Cell};
 use super::condition::condition;
+use super::part::{Part, MOST};
+use super::parts::{parts, without_remarks, Parts};
+use super::starts::{starts, Place, Start};
+use super::thread::{Line, Thread};
+use crate::asm::{self, Wrong};
+use crate::error::Mark;
+use crate::outcome::Condition;
+use crate::program::Program;
+use std::collections::BTreeSet;
 
-/// What stands behind the code of a test.
-const BEHIND: [&str; 5] = ["locations", "filter", "exists", "~exists", "forall"];
+/// The text form of a test, with its condition as a remark that `outcomes --where` takes; or all that does not fit, each with its place.
+pub fn import(text: &str) -> Result<String, Vec<Mark>> {
+    let text = text.strip_prefix('\u{feff}').unwrap_or(text);
+    let made = without_remarks(text).map_err(|one| vec![one]).and_then(|bare| {
+        let parts = parts(&bare).map_err(|one| vec![one])?;
+        form(&parts)
+    });
+    made.map_err(|mut wrong| {
+        wrong.sort();
+        wrong.into_iter().map(|one| asm::mark(text.as_bytes(), one)).collect()
+    })
+}
 
-/// The text form of a test, with its condition as a remark that `outcomes --where` takes; or what does not fit, in words.
-pub fn import(text: &str) -> Result<String, String> {
-    let text = without_remarks(text);
-    let (first, rest) = text.trim_start().split_once('\n').unwrap_or((text.trim(), ""));
-    let name = first.strip_prefix("X86").map(|rest| rest.trim_start_matches("_64").trim());
-    let name = name.ok_or("the first line of a litmus test names X86 and the test")?;
-    // in front of the braces stand remarks of the tool that made the test
-    let (_, rest) = rest.split_once('{').ok_or("the initial values stand in braces")?;
-    let (initial, rest) = rest.split_once('}').ok_or("the initial values stand in braces")?;
-    let (code, behind) = parts(rest);
-    let mut form = format!("# {name}\n# exists: {}\n", condition(&behind)?) + &starts(initial)?;
-    let rows: Vec<Vec<&str>> = code.trim().trim_end_matches(';').split(';').map(cells).collect();
-    for (t, head) in rows[0].iter().enumerate() {
-        if *head != format!("P{t}") {
-            return Err(format!("the first row of the code names the threads P0, P1 and so on, not {head}"));
-        }
-        form += &format!("thread P{t}\n");
-        for cell in rows[1..].iter().filter_map(|row| row.get(t)) {
-            form += &statement(cell)?;
-        }
+/// More cells are not read of a thread: no program has so many instructions, whatever labels and comparisons take.
+const CELLS: usize = 64;
+
+/// The threads: the head of each, and its cells that are not empty.
+type Threads<'a> = Vec<(Part<'a>, Vec<Cell<'a>>)>;
+
+fn form(parts: &Parts) -> Result<String, Vec<Wrong>> {
+    let (starts, mut wrong) = starts(parts.initial);
+    let threads = threads(parts.code, &mut wrong);
+    wrong.extend(starts.iter().filter_map(|start| without_thread(start, threads.len())));
+    if !wrong.is_empty() {
+        return Err(wrong);
     }
-    Ok(form)
-}
-
-/// The text without remarks: `(* .. *)`.
-fn without_remarks(text: &str) -> String {
-    let mut parts = text.split("(*");
-    let first = parts.next().unwrap_or("").to_string();
-    parts.fold(first, |all, part| all + part.split_once("*)").map_or("", |(_, behind)| behind))
-}
-
-/// The code, and the condition behind it; which locations are printed does not matter.
-fn parts(text: &str) -> (String, String) {
-    let is_behind = |line: &&str| BEHIND.iter().any(|word| line.trim_start().starts_with(word));
-    let code: Vec<&str> = text.lines().take_while(|line| !is_behind(line)).collect();
-    let behind = text.lines().skip(code.len()).filter(|line| !line.trim_start().starts_with("locations"));
-    (code.join("\n"), behind.collect::<Vec<_>>().join(" "))
-}
-
-fn cells(row: &str) -> Vec<&str> {
-    row.split('|').map(str::trim).collect()
-}
-
-/// The initial values of locations, a statement each; 0 needs none, and registers begin with 0.
-fn starts(text: &str) -> Result<String, String> {
-    let mut form = String::new();
-    for (place, value) in text.split(';').filter_map(|one| one.rsplit_once('=')) {
-        let (place, value) = (place.trim(), value.trim());
-        let name = place.rsplit(char::is_whitespace).next().unwrap_or(place).trim_matches(['[', ']', '*']);
-        match crate::asm::constant(value) {
-            Some(Ok(0)) => {}
-            Some(Ok(_)) if place.contains(':') => {
-                return Err(format!("{place} begins with {value}, which is not possible: registers begin with 0"))
-            }
-            Some(Ok(_)) => form += &format!("init {name} {value}\n"),
-            _ => return Err(format!("{place} begins with {value}, which is no number of 32 bits")),
+    let named: BTreeSet<String> = threads.iter().flat_map(|(_, cells)| cells).filter_map(|cell| cell.location.clone()).collect();
+    let begun = starts.iter().filter_map(|start| if let Place::Location(l) = &start.place { Some(l.clone()) } else { None });
+    let known: BTreeSet<String> = named.iter().cloned().chain(begun).collect();
+    let asked = condition(parts.condition, parts.turned, &known).map_err(|one| vec![one])?;
+    let line = |text: String, part| Line { text, part };
+    let mut lines =
+        vec![line(format!("# {}", parts.name.text()), parts.name), line(format!("# exists: {}", asked.text), parts.condition)];
+    for start in &starts {
+        let Place::Location(l) = &start.place else { continue };
+        // 0 needs no statement, but for a location that only the condition names
+        if !start.is_zero() || (asked.locations.contains(l) && !named.contains(l)) {
+            lines.push(line(format!("init {l} {}", start.value), start.part));
         }
     }
-    Ok(form)
-}
-
-/// An operand: a number, a register, or a location in brackets.
-enum Operand {
-    Number(String),
-    Register(String),
-    Location(String),
-}
-
-fn operand(text: &str) -> Operand {
-    let text = text.trim();
-    match (text.strip_prefix('$'), text.strip_prefix('[').and_then(|inner| inner.strip_suffix(']'))) {
-        (Some(number), _) => Operand::Number(number.to_string()),
-        (_, Some(location)) => Operand::Location(location.trim().to_string()),
-        _ => Operand::Register(text.to_lowercase()),
+    let old = old(&known);
+    for (number, (head, cells)) in threads.iter().enumerate() {
+        let registers = asked.registers.iter().filter(|(t, _)| *t == number).map(|(_, r)| r.as_str()).collect();
+        lines.push(line(format!("thread P{number}"), *head));
+        lines.extend(Thread { number, cells, starts: &starts, asked: registers, old: &old }.lines()?);
     }
+    accepted(&lines, &asked.text, parts.condition)
 }
 
-/// One cell of the table.
-fn statement(cell: &str) -> Result<String, String> {
-    use Operand::{Location, Number, Register};
-    let upper = cell.to_uppercase();
-    if cell.is_empty() || ["MFENCE", "LFENCE", "SFENCE"].contains(&upper.as_str()) {
-        return Ok(String::new());
-    }
-    let unfit = || format!("{cell} is not of the part of x86 that fits: MOV, ADD, LOCK XADD, LOCK CMPXCHG and fences");
-    let locked = upper.starts_with("LOCK ");
-    let bare = if locked { cell[5..].trim() } else { cell };
-    let (name, operands) = bare.split_once(char::is_whitespace).ok_or_else(unfit)?;
-    let operands: Vec<Operand> = operands.split(',').map(operand).collect();
-    let made = match (name.to_uppercase().as_str(), locked, operands.as_slice()) {
-        ("MOV", false, [Location(l), Number(p) | Register(p)]) => format!("store {l} {p}"),
-        ("MOV", false, [Register(r), Location(l)]) => format!("{r} = load {l}"),
-        ("MOV", false, [Register(r), Number(p) | Register(p)]) => format!("{r} = {p}"),
-        ("ADD", false, [Register(r), Number(p) | Register(p)]) => format!("{r} += {p}"),
-        ("XADD", true, [Location(l), Register(r)]) => format!("{r} = fetch_add {l} {r}"),
-        // the old value comes to EAX, which had it already where the two are equal
-        ("CMPXCHG", true, [Location(l), Register(r)]) => format!("eax = cas {l} eax {r}"),
-        _ => return Err(unfit()),
+/// The threads of the code.
+fn threads<'a>(code: Part<'a>, wrong: &mut Vec<Wrong>) -> Threads<'a> {
+    let rows: Vec<Part> = code.split(';').into_iter().filter(|row| !row.is_empty()).collect();
+    let Some((heads, rows)) = rows.split_first() else {
+        wrong.push(code.wrong("the first row of the code names the threads P0, P1 and so on, and there is none"));
+        return Vec::new();
     };
-    Ok(format!("  {made}\n"))
+    let heads = heads.split('|');
+    for (t, head) in heads.iter().enumerate().filter(|(t, head)| head.text() != format!("P{t}")) {
+        let message =
+            format!("the first row of the code names the threads P0, P1 and so on; P{t} stands here, not {}", head.text());
+        wrong.push(head.wrong(message));
+    }
+    let mut threads: Threads = heads.iter().map(|head| (*head, Vec::new())).collect();
+    for row in rows {
+        if wrong.len() >= MOST || threads.iter().any(|(_, cells)| cells.len() > CELLS) {
+            break;
+        }
+        let cells = row.split('|');
+        if cells.len() != heads.len() {
+            let message = format!("cells in this row: {}, and threads: {}", cells.len(), heads.len());
+            wrong.push(row.wrong(message));
+            continue;
+        }
+        for ((_, thread), part) in threads.iter_mut().zip(cells).filter(|(_, part)| !part.is_empty()) {
+            match cell(part) {
+                Ok(cell) => thread.push(cell),
+                Err(error) => wrong.push(error),
+            }
+        }
+    }
+    let longest = threads.iter().filter_map(|(_, cells)| cells.get(CELLS));
+    wrong.extend(
+        longest.map(|cell| cell.part.wrong(format!("the thread has {CELLS} cells above; a thread has at most 16 instructions"))),
+    );
+    threads
+}
+
+/// A start of a register whose thread is not there.
+fn without_thread(start: &Start, threads: usize) -> Option<Wrong> {
+    match start.place {
+        Place::Register(t, _) if t >= threads => {
+            Some(start.part.wrong(format!("there is no thread {t}; the test has {threads}")))
+        }
+        _ => None,
+    }
+}
+
+/// A register's name that no location has.
+fn old(locations: &BTreeSet<String>) -> String {
+    let mut name = "old".to_string();
+    while locations.contains(&name) {
+        name.push('_');
+    }
+    name
+}
+
+/// The text of these lines, if it is a program whose condition can be asked for; else what is wrong, by its place in the test.
+fn accepted(lines: &[Line], asked: &str, condition: Part) -> Result<String, Vec<Wrong>> {
+    let form: String = lines.iter().map(|line| format!("{}\n", line.text)).collect();
+    let made = asm::assemble(form.as_bytes()).map_err(|marks| {
+        let back = |mark: Mark| lines.get(mark.line - 1).map_or(condition, |line| line.part).wrong(mark.message);
+        marks.into_iter().map(back).collect::<Vec<_>>()
+    })?;
+    let program = Program::of_accepted(&made.file).named(&made.names);
+    Condition::of(asked, &program).map_err(|message| vec![condition.wrong(message)])?;
+    Ok(form)
 }

@@ -3,6 +3,7 @@ use super::end::Final;
 use crate::asm::constant;
 use crate::near::hint;
 use crate::program::{Program, LOCATIONS, REGISTERS};
+use std::collections::VecDeque;
 
 #[derive(Clone, Debug, PartialEq, Eq)]
 pub enum Condition {
@@ -12,9 +13,12 @@ pub enum Condition {
     /// Some thread fails, or this one.
     Fails(Option<u8>),
     Not(Box<Condition>),
-    And(Box<Condition>, Box<Condition>),
-    Or(Box<Condition>, Box<Condition>),
+    All(Vec<Condition>),
+    Any(Vec<Condition>),
 }
+
+/// So many brackets and `!` may stand inside each other: nobody writes more, and each takes room on the stack.
+const DEEPEST: usize = 100;
 
 #[derive(Clone, Copy, Debug, PartialEq, Eq)]
 pub enum Value {
@@ -36,9 +40,9 @@ impl Value {
 impl Condition {
     /// Reads a condition; names are those of the program.
     pub fn of(text: &str, program: &Program) -> Result<Condition, String> {
-        let mut reader = Reader { tokens: tokens(text)?, program };
+        let mut reader = Reader { tokens: tokens(text)?.into(), depth: 0, program };
         let condition = reader.either()?;
-        match reader.tokens.first() {
+        match reader.tokens.front() {
             None => Ok(condition),
             Some(token) => Err(format!("the condition has ended; {token} is too much")),
         }
@@ -51,8 +55,8 @@ impl Condition {
             Condition::Fails(None) => end.fails(),
             Condition::Fails(Some(t)) => end.failed[*t as usize].is_some(),
             Condition::Not(inner) => !inner.holds(end),
-            Condition::And(a, b) => a.holds(end) && b.holds(end),
-            Condition::Or(a, b) => a.holds(end) || b.holds(end),
+            Condition::All(all) => all.iter().all(|one| one.holds(end)),
+            Condition::Any(all) => all.iter().any(|one| one.holds(end)),
         }
     }
 }
@@ -79,55 +83,70 @@ fn tokens(text: &str) -> Result<Vec<String>, String> {
 }
 
 struct Reader<'a> {
-    tokens: Vec<String>,
+    tokens: VecDeque<String>,
+    /// So many brackets and `!` are open.
+    depth: usize,
     program: &'a Program,
 }
 
 impl Reader<'_> {
     fn take(&mut self, sign: &str) -> bool {
-        let found = self.tokens.first().is_some_and(|token| token == sign);
+        let found = self.tokens.front().is_some_and(|token| token == sign);
         if found {
-            self.tokens.remove(0);
+            self.tokens.pop_front();
         }
         found
     }
 
     fn word(&mut self) -> Result<String, String> {
-        match self.tokens.first() {
-            Some(token) if token.starts_with(|c: char| c.is_ascii_alphanumeric() || "_-".contains(c)) => {
-                Ok(self.tokens.remove(0))
-            }
+        match self.tokens.pop_front() {
+            Some(token) if token.starts_with(|c: char| c.is_ascii_alphanumeric() || "_-".contains(c)) => Ok(token),
             Some(token) => Err(format!("a location, a register or a number is expected, not {token}")),
             None => Err("a location, a register or a number is missing".to_string()),
         }
     }
 
     fn either(&mut self) -> Result<Condition, String> {
-        let mut left = self.both()?;
+        let mut all = vec![self.both()?];
         while self.take("|") {
-            left = Condition::Or(Box::new(left), Box::new(self.both()?));
+            all.push(self.both()?);
         }
-        Ok(left)
+        Ok(if all.len() == 1 { all.remove(0) } else { Condition::Any(all) })
     }
 
     fn both(&mut self) -> Result<Condition, String> {
-        let mut left = self.single()?;
+        let mut all = vec![self.single()?];
         while self.take("&") {
-            left = Condition::And(Box::new(left), Box::new(self.single()?));
+            all.push(self.single()?);
         }
-        Ok(left)
+        Ok(if all.len() == 1 { all.remove(0) } else { Condition::All(all) })
     }
 
     fn single(&mut self) -> Result<Condition, String> {
         if self.take("!") {
-            return Ok(Condition::Not(Box::new(self.single()?)));
+            return Ok(Condition::Not(Box::new(self.inside(Reader::single)?)));
         }
         if self.take("(") {
-            let inner = self.either()?;
+            let inner = self.inside(Reader::either)?;
             return if self.take(")") { Ok(inner) } else { Err(") is missing".to_string()) };
         }
+        self.comparison()
+    }
+
+    /// What stands behind a bracket or a `!`.
+    fn inside(&mut self, read: fn(&mut Self) -> Result<Condition, String>) -> Result<Condition, String> {
+        if self.depth == DEEPEST {
+            return Err(format!("more than {DEEPEST} brackets and ! stand inside each other"));
+        }
+        self.depth += 1;
+        let inner = read(self);
+        self.depth -= 1;
+        inner
+    }
+
+    fn comparison(&mut self) -> Result<Condition, String> {
         let word = self.word()?;
-        let compared = self.tokens.first().is_some_and(|token| ["=", "==", "!="].contains(&token.as_str()));
+        let compared = self.tokens.front().is_some_and(|token| ["=", "==", "!="].contains(&token.as_str()));
         if !compared {
             if let Some(condition) = self.by_itself(&word)? {
                 return Ok(condition);

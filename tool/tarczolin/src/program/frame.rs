@@ -57,6 +57,15 @@ impl Frame {
         }
     }
 
+    /// The same with its location moved, if it names one.
+    pub fn moved(self, to: impl Fn(u8) -> u8) -> Frame {
+        match self {
+            Frame::Start(l, value) => Frame::Start(to(l), value),
+            Frame::Instruction(instruction) => Frame::Instruction(instruction.moved(to)),
+            Frame::Thread | Frame::Alike(_) => self,
+        }
+    }
+
     /// The frame of these bytes, or none: of no kind, or a field out of range.
     pub fn of_bytes(bytes: &[u8]) -> Option<Frame> {
         let (kind, rest) = bytes.split_first()?;

@@ -62,6 +62,17 @@ impl Instruction {
         }
     }
 
+    /// The same at another location, where it is an access.
+    pub fn moved(self, to: impl Fn(u8) -> u8) -> Instruction {
+        match self {
+            Store { l, p } => Store { l: to(l), p },
+            Load { r, l } => Load { r, l: to(l) },
+            FetchAdd { r, l, p } => FetchAdd { r, l: to(l), p },
+            CompareSwap { r, l, e, v } => CompareSwap { r, l: to(l), e, v },
+            Set { .. } | Add { .. } | SkipUnless { .. } | Assert { .. } => self,
+        }
+    }
+
     /// The registers that it names.
     pub fn registers(&self) -> Vec<u8> {
         let (own, operands) = match *self {
@@ -77,6 +88,34 @@ impl Instruction {
             Operand::Constant(_) => None,
         });
         own.into_iter().chain(named).collect()
+    }
+
+    /// The register that it gives a value, whatever that was before; `Add` reads it.
+    pub fn target(&self) -> Option<u8> {
+        match *self {
+            Load { r, .. } | FetchAdd { r, .. } | CompareSwap { r, .. } | Set { r, .. } | Add { r, .. } => Some(r),
+            Store { .. } | SkipUnless { .. } | Assert { .. } => None,
+        }
+    }
+
+    /// Does it read this register?
+    pub fn reads(&self, r: u8) -> bool {
+        let named = |p: Operand| p == Operand::Register(r);
+        match *self {
+            Store { p, .. } | FetchAdd { p, .. } | Set { p, .. } => named(p),
+            Load { .. } => false,
+            CompareSwap { e, v, .. } => named(e) || named(v),
+            Add { r: own, p } | SkipUnless { r: own, p, .. } | Assert { r: own, p, .. } => own == r || named(p),
+        }
+    }
+
+    /// Can it write its location? Adding zero only reads.
+    pub fn may_write(&self) -> bool {
+        match *self {
+            Store { .. } | CompareSwap { .. } => true,
+            FetchAdd { p, .. } => p != Operand::Constant(0),
+            _ => false,
+        }
     }
 
     /// The name of an access, or none for an instruction on registers only.

@@ -3,6 +3,7 @@ mod frame;
 mod instruction;
 mod limits;
 mod names;
+mod used;
 
 use crate::model::Model;
 use std::collections::BTreeSet;
@@ -10,7 +11,8 @@ use std::collections::BTreeSet;
 pub use frame::Frame;
 pub use instruction::{number, Comparison, Instruction, Operand};
 pub use limits::*;
-pub use names::{Names, ThreadNames};
+pub use names::{Called, Names, ThreadNames, FENCE};
+pub use used::Used;
 
 /// The code of each thread, the threads that each `02` line declares alike, what each `03` line lets a location start with, and the names
 /// of the text form.
@@ -75,15 +77,35 @@ impl Program {
         all
     }
 
-    /// The locations that its code or a `03` line names, ascending.
+    /// The locations that its code or a `03` line names, ascending; where a fence reads is no matter of the program.
     pub fn locations(&self) -> BTreeSet<u8> {
         let started = self.starts.iter().map(|(l, _)| *l);
-        self.threads.iter().flatten().filter_map(Instruction::location).chain(started).collect()
+        self.numbers().flat_map(|t| self.meant(t)).filter_map(Instruction::location).chain(started).collect()
     }
 
-    /// The registers that a thread's code names, ascending.
+    /// How much it uses of what there is.
+    pub fn used(&self) -> Used {
+        let longest = self.threads.iter().map(Vec::len).max();
+        let accesses = self.threads.iter().flatten().filter(|instruction| instruction.access().is_some());
+        let registers = self.numbers().map(|t| self.registers(t).len()).max();
+        Used {
+            threads: self.threads.len(),
+            instructions: longest.unwrap_or(0),
+            accesses: accesses.count(),
+            locations: self.locations().len(),
+            registers: registers.unwrap_or(0),
+        }
+    }
+
+    /// The registers that a thread's code names, ascending; what a fence changes is no matter of the program.
     pub fn registers(&self, t: u8) -> BTreeSet<u8> {
-        self.threads[t as usize].iter().flat_map(Instruction::registers).collect()
+        self.meant(t).flat_map(Instruction::registers).collect()
+    }
+
+    /// The instructions of a thread that are no fences.
+    fn meant(&self, t: u8) -> impl Iterator<Item = &Instruction> + '_ {
+        let code = self.threads[t as usize].iter().enumerate();
+        code.filter(move |(at, _)| !self.names.is_fence(t, *at)).map(|(_, instruction)| instruction)
     }
 }
 

@@ -3,10 +3,16 @@ use super::instruction::{number, Comparison, Instruction, Operand};
 use super::limits::{LOCATIONS, REGISTERS};
 use Instruction::*;
 
+/// The statement of an instruction that is a fence.
+pub const FENCE: &str = "fence";
+
+/// What the locations are called, by their numbers, where they have names.
+pub type Called = [Option<String>; LOCATIONS as usize];
+
 /// Names, where there are any: `x3`, `T1` and `r0` stand in place of those that are missing.
 #[derive(Clone, Debug, Default, PartialEq, Eq)]
 pub struct Names {
-    pub locations: [Option<String>; LOCATIONS as usize],
+    pub locations: Called,
     pub threads: Vec<ThreadNames>,
 }
 
@@ -52,6 +58,34 @@ impl Names {
     /// The statement that a thread's instruction was made of, where that is another one.
     pub fn statement(&self, t: u8, at: usize) -> Option<&str> {
         self.threads.get(t as usize)?.statements.get(at)?.as_deref()
+    }
+
+    /// Is a thread's instruction a fence? Then its register holds nothing that the program means, and its location is any.
+    pub fn is_fence(&self, t: u8, at: usize) -> bool {
+        self.statement(t, at) == Some(FENCE)
+    }
+
+    /// The names of a thread; none yet of a thread that is new.
+    pub fn of_thread(&mut self, t: u8) -> &mut ThreadNames {
+        if self.threads.len() <= t as usize {
+            self.threads.resize_with(t as usize + 1, ThreadNames::default);
+        }
+        &mut self.threads[t as usize]
+    }
+
+    /// The fences of all threads: each by its thread and its place among the instructions.
+    pub fn fences(&self) -> impl Iterator<Item = (u8, usize)> + '_ {
+        let places = |t: u8| self.threads[t as usize].statements.len();
+        let all = (0..self.threads.len() as u8).flat_map(move |t| (0..places(t)).map(move |at| (t, at)));
+        all.filter(|(t, at)| self.is_fence(*t, *at))
+    }
+
+    /// A thread's instruction at a place in the text form, where a fence is one.
+    pub fn statement_at(&self, t: u8, at: usize, instruction: &Instruction) -> String {
+        match self.is_fence(t, at) {
+            true => FENCE.to_string(),
+            false => self.instruction(t, instruction),
+        }
     }
 
     /// An instruction of a thread in the text form.

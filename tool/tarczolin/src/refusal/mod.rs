@@ -6,7 +6,7 @@ mod program;
 mod schedule;
 
 use crate::ask::Refusal;
-use crate::error::{called, Error, Refused, Subject};
+use crate::error::{Error, Refused, Subject};
 use crate::program::Program;
 use line::line_at;
 pub use program::sentence;
@@ -24,7 +24,7 @@ fn shown(line: &[u8]) -> String {
 /// The message about a refusal at a line of a file.
 fn at_line(name: &str, file: &[u8], refusal: Refusal, sentence: String) -> Error {
     let shown = if refusal.place == 0 { String::new() } else { shown(line_at(file, refusal.place)) };
-    Error::Refused(Refused { subject: Subject::File(called(name).to_string()), refusal, sentence, shown })
+    Error::Refused(Refused { subject: Subject::File(name.to_string()), refusal, sentence, shown })
 }
 
 /// The message about a refused program file.
@@ -60,7 +60,7 @@ pub fn of_graph([name, graph]: [&str; 2], file: &[u8], text: &[u8], refusal: Ref
 
 /// The message about a refused set of threads, or about its refused program.
 pub fn of_threads(name: &str, file: &[u8], threads: usize, refusal: Refusal) -> Error {
-    if refusal.number < 20 {
+    if of_the_program(refusal) {
         return of_program(name, file, refusal);
     }
     let sentence = format!("there is no thread {}; the program has {threads}, numbered from 0", refusal.place);

@@ -1,7 +1,7 @@
 //! What is wrong with a schedule.
 use crate::ask::Refusal;
 use crate::machine::Machine;
-use crate::model::{thread, Model, MOVE};
+use crate::model::{is_move, thread, Model, MOVE};
 use crate::program::Program;
 
 /// The sentence about a refusal of a schedule of an accepted program.
@@ -13,7 +13,7 @@ pub fn sentence(program: &Program, schedule: &[u8], refusal: Refusal) -> String 
     }
     match (refusal.number, schedule.get(place)) {
         (20, Some(&byte)) => no_step(program, &machine, byte),
-        _ => too_early(program, &machine),
+        _ => too_early(program, &machine) + other_model(program, schedule, &machine),
     }
 }
 
@@ -27,6 +27,10 @@ fn no_step(program: &Program, machine: &Machine, byte: u8) -> String {
     let threads = program.threads.len();
     let t = thread(byte);
     let moves = program.model == Model::Tso && byte / MOVE == 1;
+    if program.model == Model::Sc && is_move(byte) {
+        let what = format!("{byte:02x} moves a pending store of thread {t} to memory");
+        return format!("{what}, and under sequential consistency none is pending; this is a schedule under --model tso");
+    }
     if (!moves && byte >= MOVE) || t as usize >= threads {
         let t = if moves { t } else { byte };
         return format!("there is no thread {t}; the program has {threads}, numbered from 0");
@@ -37,6 +41,15 @@ fn no_step(program: &Program, machine: &Machine, byte: u8) -> String {
         Some(_) => format!("thread {name} has pending stores by then, and its next access needs an empty queue"),
         None => format!("thread {name} has ended by then and has no further step"),
     }
+}
+
+/// What is said of a schedule whose stores are all left pending: it may come from the other model.
+fn other_model(program: &Program, schedule: &[u8], machine: &Machine) -> &'static str {
+    let pending = program.numbers().any(|t| machine.pends(t));
+    if pending && !schedule.iter().any(|byte| is_move(*byte)) {
+        return "; it has no step from 10 to 15, as schedules without --model tso";
+    }
+    ""
 }
 
 /// What is left to do behind the schedule.

@@ -5,19 +5,23 @@ use super::said::Said;
 use crate::ask::Refusal;
 use crate::error::Error;
 use crate::input;
+use crate::model::Model;
+use crate::output;
 use crate::schedule::Schedule;
+use std::ffi::OsStr;
 use tarczolin_sys::users::{self, Shared};
 use tarczolin_sys::{Answer, Caller, Served, SCHEDULE};
 
 pub struct Host {
     callers: Box<[Caller; 4]>,
     last: u64,
+    notes: Vec<String>,
 }
 
 impl Default for Host {
     /// Four fresh records; before any serve the last caller is 3.
     fn default() -> Host {
-        Host { callers: Box::new([Caller::FRESH; 4]), last: 3 }
+        Host { callers: Box::new([Caller::FRESH; 4]), last: 3, notes: Vec::new() }
     }
 }
 
@@ -37,7 +41,7 @@ impl Host {
     /// Carries a call out. A file that cannot be read, or a text form that is wrong, is an error; all else is answered.
     pub fn call(&mut self, call: &Call) -> Result<Said, Error> {
         Ok(match call {
-            Call::Open(caller, name) => done(users::open(self.lent(), *caller, &input::program(name)?.file)),
+            Call::Open(caller, name) => self.open(*caller, name)?,
             Call::Ask(caller) => done(users::ask(self.lent(), *caller)),
             Call::Serve => self.serve(),
             Call::Close(caller) => done(users::close(self.lent(), *caller)),
@@ -47,6 +51,18 @@ impl Host {
             Call::Count(caller) => Said::Count(*caller, self.callers.get(*caller).map_or(0, |record| record.count)),
             Call::Raw(field, bytes) => self.raw(*field, bytes),
         })
+    }
+
+    /// What has to be known of how the last call's file was read; once.
+    pub fn notes(&mut self) -> Vec<String> {
+        std::mem::take(&mut self.notes)
+    }
+
+    fn open(&mut self, caller: usize, name: &str) -> Result<Said, Error> {
+        let source = input::program(OsStr::new(name), Some(Model::Sc))?;
+        source.notes.iter().for_each(|note| output::tell(&format!("{}: {note}", source.name)));
+        self.notes = source.notes;
+        Ok(done(users::open(self.lent(), caller, &source.file)))
     }
 
     fn serve(&mut self) -> Said {

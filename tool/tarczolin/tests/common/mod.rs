@@ -34,6 +34,13 @@ pub fn run_with(words: &[&str], input: &[u8]) -> Ran {
     Ran { status: output.status.code().expect("an exit status"), out: text(output.stdout), err: text(output.stderr) }
 }
 
+impl Ran {
+    /// A check that found a program and nothing to warn of.
+    pub fn is_accepted(&self) -> bool {
+        self.status == 0 && self.out.starts_with("accepted: ") && self.out.lines().count() == 1 && self.err.is_empty()
+    }
+}
+
 pub fn run(words: &[&str]) -> Ran {
     run_with(words, b"")
 }

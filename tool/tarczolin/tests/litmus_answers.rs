@@ -1,0 +1,52 @@
+//! The litmus tests of tests/litmus: what each asks for is allowed or forbidden as it says, under both memory models. Which of the answers are
+//! published stands in tests/litmus/INDEX.md; the others are by the models' definitions.
+mod common;
+
+use common::{run, run_with};
+use tarczolin_tests::files::path;
+
+/// The answers that a test's own remark tells: under sequential consistency, and under total store order.
+fn said(text: &str) -> [&str; 2] {
+    let line = text.lines().nth(1).unwrap_or("");
+    let inner = line.strip_prefix("(* sc: ").and_then(|line| line.strip_suffix(" *)")).unwrap_or_else(|| panic!("{line}"));
+    let (sc, tso) = inner.split_once("; tso: ").unwrap_or_else(|| panic!("{line}"));
+    [sc, tso]
+}
+
+/// What the command answers, as a user asks it.
+fn answered(form: &str, condition: &str, model: &str) -> &'static str {
+    let ran = run_with(&["outcomes", "-", "--where", condition, "--model", model], form.as_bytes());
+    match ran.status {
+        0 => "forbidden",
+        1 => "allowed",
+        _ => panic!("{form}{}", ran.err),
+    }
+}
+
+#[test]
+fn answers_as_each_says() {
+    let (mut tests, mut fenced, mut allowed) = (0, 0, 0);
+    let index = std::fs::read_to_string(path("tests/litmus/INDEX.md")).unwrap();
+    let folder = std::fs::read_dir(path("tests/litmus")).unwrap();
+    for file in folder.map(|entry| entry.unwrap().path()).filter(|file| file.extension().is_some_and(|end| end == "litmus")) {
+        let text = std::fs::read_to_string(&file).unwrap();
+        let imported = run(&["import-litmus", &file.display().to_string()]);
+        assert_eq!((imported.status, imported.err.as_str()), (0, ""), "{text}");
+        let form = imported.out;
+        let condition = form.lines().find_map(|line| line.strip_prefix("# exists: ")).unwrap();
+        assert_eq!(["sc", "tso"].map(|model| answered(&form, condition, model)), said(&text), "{text}{form}");
+        assert_eq!(form.matches("  fence\n").count(), text.matches("MFENCE").count(), "no fence is dropped: {form}");
+        let name = file.file_stem().unwrap().to_str().unwrap();
+        let [sc, tso] = said(&text);
+        let row = index.lines().find_map(|line| line.strip_prefix(&format!("| {name} | {sc} | {tso} | ")));
+        let row = row.unwrap_or_else(|| panic!("INDEX.md has no row of {name}"));
+        let from = text.lines().nth(2).unwrap();
+        assert_eq!(row.starts_with("known: "), from.starts_with("(* Owens, Sarkar, Sewell: x86-TSO; "), "{name}: {row} {from}");
+        assert_eq!(row == "classic |", from == "(* classic shape; answer by the model's definition *)", "{name}: {row} {from}");
+        tests += 1;
+        fenced += text.contains("MFENCE") as usize;
+        allowed += (said(&text)[1] == "allowed") as usize;
+    }
+    assert_eq!(index.lines().filter(|line| line.contains(" | forbidden | ") || line.contains(" | allowed | ")).count(), tests);
+    assert!(tests >= 45 && fenced >= 9 && allowed >= 9, "{tests} {fenced} {allowed}");
+}
