@@ -91,7 +91,8 @@ fn every_command_fits_the_schema() {
 
 /// How many of these lines fit the schema by python3-jsonschema, and how many do not; none where that is not installed.
 fn validated(lines: &str) -> Option<String> {
-    let has = |python: &&&str| Process::new(python).args(["-c", "import jsonschema"]).output().is_ok_and(|ran| ran.status.success());
+    let has =
+        |python: &&&str| Process::new(python).args(["-c", "import jsonschema"]).output().is_ok_and(|ran| ran.status.success());
     // Debian's package belongs to Debian's Python, which need not be the first one
     let python = ["python3", "/usr/bin/python3"].iter().find(has)?;
     let words = ["tool/tarczolin/tests/schema.py", "docs/schema.json"].map(path);

@@ -58,9 +58,13 @@ fn make_install_and_uninstall() {
     let words = format!("DESTDIR={} PREFIX=/usr PYTHONDIR=/usr/lib/python3/dist-packages", to.display());
     assert_eq!(make(&format!("install {words}")), (true, String::new()));
     let package = modules().into_iter().map(|name| format!("lib/python3/dist-packages/tarczolin/{name}"));
-    let wanted: BTreeSet<String> = FILES.map(str::to_string).into_iter().chain(package).map(|name| format!("usr/{name}")).collect();
+    let wanted: BTreeSet<String> =
+        FILES.map(str::to_string).into_iter().chain(package).map(|name| format!("usr/{name}")).collect();
     assert_eq!(files(&to), wanted);
-    assert!(wanted.len() > 18 && files(&to).iter().all(|name| std::fs::metadata(to.join(name)).unwrap().len() > 0 || name.ends_with("py.typed")));
+    assert!(
+        wanted.len() > 18
+            && files(&to).iter().all(|name| std::fs::metadata(to.join(name)).unwrap().len() > 0 || name.ends_with("py.typed"))
+    );
     let config = std::fs::read_to_string(to.join("usr/lib/pkgconfig/tarczolin.pc")).unwrap();
     assert!(config.contains("Libs: -L${prefix}/lib -ltarczolin\n") && config.contains("prefix=/usr\n"), "{config}");
     assert!(config.contains(concat!("Version: ", env!("CARGO_PKG_VERSION"), "\n")), "{config}");

@@ -187,7 +187,10 @@ fn completions_of_other_shells() {
         };
         assert!(read.status.success() && read.stderr.is_empty(), "{}", String::from_utf8_lossy(&read.stderr));
         if shell == "fish" {
-            let tried = format!("source {}; complete -C 'tarczolin list --model '; complete -C 'tarczolin show --by t'", script.display());
+            let tried = format!(
+                "source {}; complete -C 'tarczolin list --model '; complete -C 'tarczolin show --by t'",
+                script.display()
+            );
             let said = Command::new(shell).args(["-N", "-c", &tried]).env("HOME", &folder).output().unwrap();
             let said = String::from_utf8_lossy(&said.stdout).into_owned();
             let words: Vec<&str> = said.lines().map(|line| line.split('\t').next().unwrap()).collect();

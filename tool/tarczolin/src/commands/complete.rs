@@ -56,7 +56,8 @@ const BASH_FRONT: &str = "_tarczolin() {
 fn bash(commands: &[&Command]) -> String {
     let words = |known: &str| format!("COMPREPLY=($(compgen -W '{known}' -- \"$word\"))");
     let values = behind_options(commands, &words, "COMPREPLY=($(compgen -f -- \"$word\"))");
-    let mut text = format!("{BASH_FRONT}  case \"${{COMP_WORDS[1]}} $before\" in\n{values}  esac\n  case ${{COMP_WORDS[1]}} in\n");
+    let mut text =
+        format!("{BASH_FRONT}  case \"${{COMP_WORDS[1]}} $before\" in\n{values}  esac\n  case ${{COMP_WORDS[1]}} in\n");
     for command in commands {
         writeln!(text, "    {}) words='{}' ;;", command.name, followers(command, commands)).expect("text grows");
     }
