@@ -83,7 +83,11 @@ class Asked(unittest.TestCase):
 
     def test_failed_threads(self):
         fails = [one for one in Program.read(EXAMPLES / 'queue-broken.asm').outcomes() if one.fails]
-        self.assertEqual([one.failed for one in fails], [{'consumer': 7}] * len(fails))
+        told = [one['failures'] for one in answers('outcomes', 'examples/queue-broken.asm')[:-1] if one['fails']]
+        self.assertEqual(len(fails), 3)
+        for one, (failure,) in zip(fails, told):
+            ((thread, at),) = one.failed.items()
+            self.assertTrue(failure.startswith(f'{thread}: ') and failure.endswith(f'(instruction {at})'), failure)
         self.assertEqual(fails[0].registers['consumer.item'], 0)
 
     def test_judge(self):

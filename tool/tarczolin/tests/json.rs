@@ -149,7 +149,7 @@ fn warnings() {
 /// What words tell on standard error of fences that are left out is an object in front of the answers of its file.
 #[test]
 fn fences_that_are_left_out() {
-    let text = b"thread\n  store x0 1\n  fence\n  r0 = load x1\nthread\n  r0 = load x0\n";
+    let text = b"init x1 1\nthread\n  store x0 1\n  fence\n  r0 = load x1\nthread\n  r0 = load x0\n";
     let note = note("note", [Value::Null, Value::Null], "1 fence is left out: under sequential consistency it means nothing");
     let cases: [(&[&str], usize); 9] = [
         (&["list", "-"], 4),

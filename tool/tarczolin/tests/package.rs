@@ -90,7 +90,8 @@ fn used(root: &Path, page: &str) {
     assert_eq!(shell(&format!("{build} && {run}")), (true, "00000102020201\n".to_string()));
     // nothing of the repository is beside it: the package finds the library and the command below its own prefix
     let python = format!(
-        "cd / && env -u TARCZOLIN_LIBRARY -u TARCZOLIN_COMMAND PYTHONPATH={usr}/lib/python3/dist-packages python3 -c \
+        "cd / && unset TARCZOLIN_LIBRARY TARCZOLIN_COMMAND PYTHONDONTWRITEBYTECODE PYTHONPYCACHEPREFIX; \
+         PYTHONPATH={usr}/lib/python3/dist-packages python3 -c \
          'import tarczolin as t; print(t.library_path()); print(t.Program.read(\"{queue}\").violation())'"
     );
     assert_eq!(shell(&python), (true, format!("{usr}/lib/libtarczolin.so\n00000102020201\n")));
