@@ -65,7 +65,7 @@ class Code:
         return f'{self.thread(thread)}.{self.register_names[thread][number] or f"r{number}"}'
 
     def meant(self, thread: int) -> Iterator[Instruction]:
-        """The instructions of a thread that are no fences: where a fence reads, and into which register, is no matter of the program."""
+        """The instructions of a thread that are no fences: what a fence reads and changes is no matter of the program."""
         return (one for at, one in enumerate(self.threads[thread]) if (thread, at) not in self.fences)
 
     def used_locations(self) -> List[int]:
@@ -145,7 +145,7 @@ def _number(word: str, letter: str, most: int) -> Optional[int]:
 
 
 def _named(code: Code, things: List[str], name: str) -> None:
-    """Gives a name, unless the thing has one or the name could be taken for another's: a statement's word is a location or a register."""
+    """Gives a name, unless the thing has one or the name is another's: a word of a statement is a location or a register."""
     thread = _number(things[0], 'T', THREADS) if things else None
     location = _number(things[0], 'x', LOCATIONS) if len(things) == 1 else None
     register = _number(things[1], 'r', REGISTERS) if len(things) == 2 else None

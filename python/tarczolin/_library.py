@@ -23,7 +23,9 @@ _COUNTS = [POINTER(c_uint64), POINTER(c_uint64)]
 class MarkRecord(ctypes.Structure):
     """struct tarczolin_mark."""
 
-    _fields_ = [('name', c_uint8 * 8), ('length', c_uint8), ('place', c_uint8), ('steps', c_uint8), ('schedule', c_uint8 * SCHEDULE)]
+    _fields_ = [
+        ('name', c_uint8 * 8), ('length', c_uint8), ('place', c_uint8), ('steps', c_uint8), ('schedule', c_uint8 * SCHEDULE),
+    ]
 
 
 class CallerRecord(ctypes.Structure):

@@ -3,7 +3,8 @@ from __future__ import annotations
 
 from typing import List, Tuple
 
-from ._frames import ADD, ASSERT, ASSERT_SIGNED, CAS, FETCH_ADD, LOCATIONS, REGISTERS, SET, SKIP, SKIP_SIGNED, STORE, Code, Instruction, Operand
+from ._frames import ADD, ASSERT, ASSERT_SIGNED, CAS, FETCH_ADD, SET, SKIP, SKIP_SIGNED, STORE
+from ._frames import LOCATIONS, REGISTERS, Code, Instruction, Operand
 
 WORD = 1 << 32
 MOVE = 0x10

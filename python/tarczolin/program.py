@@ -125,8 +125,9 @@ class Program:
             answer = self._call('rows', rows) if last is None else self._call('rows_after', last, rows)
             page = rows.raw[:answer.value * size]
             for at in range(0, len(page), size):
-                last = page[at + 2:at + 2 + page[at]]
-                yield Execution(self, last, page[at + 1] == 1)
+                steps = page[at + 2:at + 2 + page[at]]
+                last = steps
+                yield Execution(self, steps, page[at + 1] == 1)
             if answer.value < PAGE:
                 return
 

@@ -64,7 +64,7 @@ class Service:
         if not 0 <= caller < CALLERS:
             raise Refused('caller', 42, 0)
         with self._lock:
-            return self._records[caller].count
+            return int(self._records[caller].count)
 
     def set(self, caller: int, name: Name) -> None:
         """Sets a mark of 1 to 8 bytes: the last schedule handed to the caller, or the beginning."""

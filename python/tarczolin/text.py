@@ -11,7 +11,7 @@ from typing import Any, Dict, List, NamedTuple, Optional, Tuple
 
 from .errors import CommandMissing, Error, Mark, Refused, TextError
 
-_DIGITS = re.compile(rb'(?:[0-9A-Fa-f]*|#[^\n]*)\n')
+_DIGITS = re.compile(rb'(?:[0-9A-Fa-f]*|#[^\n]*)\n?')
 
 
 class Note(NamedTuple):

@@ -20,6 +20,7 @@ class Refusals(unittest.TestCase):
         self.assertEqual(self.refused(lambda: Program('01\n110400\n')), ('program', 4, 2, '110400'))
         self.assertEqual(self.refused(lambda: Program(b'#' * 5000)), ('program', 1, 0, None))
         self.assertEqual(self.refused(lambda: Program(b'01')), ('program', 2, 1, '01'))
+        self.assertEqual(self.refused(lambda: Program('01')), ('program', 2, 1, '01'))
         self.assertEqual(self.refused(lambda: Program(file('accesses-24.hex'), 'tso'))[:3], ('program', 41, 0))
         self.assertEqual(self.refused(lambda: Program(b'01\n\xff\n')), ('program', 2, 2, '\\xff'))
 

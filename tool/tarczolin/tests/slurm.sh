@@ -1,6 +1,7 @@
 #!/bin/bash
 # slurm.sh FOLDER COMMAND: runs the command with a Slurm of its own on this machine, a controller, a node and munge, which keep all
 # that they write in FOLDER and are stopped behind it. FOLDER's path must be short: munge's socket lies there.
+# The node says that it has twelve processors, whatever it has: sbatch --wait looks after 2, 10, 42 seconds whether all tasks have ended.
 set -u
 folder=$1 command=$2
 host=$(hostname -s)
@@ -45,7 +46,8 @@ AccountingStorageType=accounting_storage/none
 SelectType=select/cons_tres
 SelectTypeParameters=CR_CPU
 ReturnToService=2
-NodeName=$host NodeAddr=127.0.0.1 CPUs=2 State=UNKNOWN
+SlurmdParameters=config_overrides
+NodeName=$host NodeAddr=127.0.0.1 CPUs=12 State=UNKNOWN
 PartitionName=all Nodes=$host Default=YES MaxTime=INFINITE State=UP
 CONF
 # no control groups are needed, and not every machine lets a node make them
