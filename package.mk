@@ -54,10 +54,8 @@ deb: tool $(SHARED)
 	@rm -rf $(DEBROOT)
 	$(INSTALL)
 	@gzip -9n $(TO)/share/man/man1/tarczolin.1
-	@install -d $(DEBROOT)/DEBIAN $(DOCS)/docs
-	@install -m 644 README.md CHANGELOG.md $(DOCS)
-	@install -m 644 $(wildcard docs/*.md docs/*.svg) docs/schema.json $(DOCS)/docs
-	@cp -r examples $(DOCS)/examples
+	@install -d $(DEBROOT)/DEBIAN $(DOCS)
+	@cp -r README.md CHANGELOG.md docs examples $(DOCS)
 	@chmod -R u=rwX,go=rX $(DEBROOT)
 	@echo 'activate-noawait ldconfig' > $(DEBROOT)/DEBIAN/triggers
 	@printf '%s\n' '#!/bin/sh' '# what Python adds beside its files' 'rm -rf "$$DPKG_ROOT$(PYTHONDIR)/tarczolin/__pycache__"' \

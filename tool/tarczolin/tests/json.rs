@@ -1,27 +1,22 @@
 //! Every command's answers as JSON fit docs/schema.json, and say what the words say.
 mod common;
 
-use common::json::{fits, parse, Value};
+use common::json::{fits_the_schema, parse, Value};
 use common::{folder, run, run_with};
 use std::collections::BTreeSet;
 use std::io::Write;
 use std::process::{Command as Process, Stdio};
 use tarczolin::commands::{all, Command};
-use tarczolin_tests::files::{path, read};
+use tarczolin_tests::files::path;
 
 const QUEUE: &str = "examples/queue-broken.asm";
 
-fn schema() -> Value {
-    parse(&String::from_utf8(read("docs/schema.json")).unwrap())
-}
-
 /// The objects of an answer, each held to the schema.
 fn held(words: &[&str], input: &[u8]) -> (i32, Vec<Value>) {
-    let schema = schema();
     let ran = run_with(&[words, &["--json"]].concat(), input);
     let objects: Vec<Value> = ran.out.lines().map(parse).collect();
     for object in &objects {
-        assert!(fits(object, &schema, schema.get("$defs").unwrap()), "{words:?}: {object:?}");
+        assert!(fits_the_schema(object), "{words:?}: {object:?}");
     }
     assert!(!objects.is_empty(), "{words:?}: {}", ran.err);
     (ran.status, objects)

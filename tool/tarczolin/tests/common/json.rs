@@ -1,4 +1,5 @@
 //! Reads JSON, and holds it to docs/schema.json.
+use tarczolin_tests::files::read;
 
 #[derive(Clone, Debug, PartialEq)]
 pub enum Value {
@@ -116,8 +117,14 @@ impl Reader<'_> {
     }
 }
 
+/// Does a value fit docs/schema.json?
+pub fn fits_the_schema(value: &Value) -> bool {
+    let schema = parse(&String::from_utf8(read("docs/schema.json")).expect("text"));
+    fits(value, &schema, schema.get("$defs").expect("definitions"))
+}
+
 /// Does a value fit a schema, by the words of JSON Schema that docs/schema.json uses?
-pub fn fits(value: &Value, schema: &Value, definitions: &Value) -> bool {
+fn fits(value: &Value, schema: &Value, definitions: &Value) -> bool {
     if let Some(Value::Text(name)) = schema.get("$ref") {
         let name = name.strip_prefix("#/$defs/").expect("a definition's place");
         return fits(value, definitions.get(name).expect("a definition"), definitions);
