@@ -53,11 +53,13 @@ deb: override PYTHONDIR = /usr/lib/python3/dist-packages
 deb: tool $(SHARED)
 	@rm -rf $(DEBROOT)
 	$(INSTALL)
+	@strip --strip-unneeded $(TO)/bin/tarczolin $(TO)/lib/libtarczolin.so.0
 	@gzip -9n $(TO)/share/man/man1/tarczolin.1
 	@install -d $(DEBROOT)/DEBIAN $(DOCS)
 	@cp -r README.md CHANGELOG.md docs examples $(DOCS)
 	@chmod -R u=rwX,go=rX $(DEBROOT)
 	@echo 'activate-noawait ldconfig' > $(DEBROOT)/DEBIAN/triggers
+	@echo 'libtarczolin 0 tarczolin' > $(DEBROOT)/DEBIAN/shlibs
 	@printf '%s\n' '#!/bin/sh' '# what Python adds beside its files' 'rm -rf "$$DPKG_ROOT$(PYTHONDIR)/tarczolin/__pycache__"' \
 	  > $(DEBROOT)/DEBIAN/prerm
 	@chmod 755 $(DEBROOT)/DEBIAN/prerm
