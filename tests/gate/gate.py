@@ -269,8 +269,8 @@ def python_tests(tally):
 
 def validator(tally):
     """Whether the test of docs/schema.json could ask a validator: a Rust test does where there is one."""
-    found = [one for one in ('python3', '/usr/bin/python3') if run([one, '-c', 'import jsonschema'])[0] == 0]
-    if not found:
+    pythons = [one for one in ('python3', '/usr/bin/python3') if shutil.which(one)]
+    if not any(subprocess.run([one, '-c', 'import jsonschema'], capture_output=True).returncode == 0 for one in pythons):
         tally.note('not run: docs/schema.json by a validator, since there is no python3-jsonschema here')
 
 

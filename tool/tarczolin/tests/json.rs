@@ -22,15 +22,18 @@ fn held(words: &[&str], input: &[u8]) -> (i32, Vec<Value>) {
     (ran.status, objects)
 }
 
+/// An answer in words, kept in a file of this name.
+fn kept(at: &str, (name, words): (&str, &[&str])) -> String {
+    let path = folder(at).join(name);
+    std::fs::write(&path, run(words).out).unwrap();
+    path.display().to_string()
+}
+
 /// Every kind of answer: the words, standard input, the exit status and how many objects there are. Gives the commands back.
 fn every_answer(at: &str, mut each: impl FnMut(&[&str], &[u8], i32, usize)) -> BTreeSet<String> {
-    let folder = folder(at);
-    let (graph, piece) = (folder.join("graph"), folder.join("piece"));
-    std::fs::write(&graph, run(&["graph", QUEUE, "00000102020201"]).out).unwrap();
-    std::fs::write(&piece, run(&["list", QUEUE]).out).unwrap();
-    let (graph, piece) = (graph.display().to_string(), piece.display().to_string());
-    let no = b"400001ffff\n400101ffff\n41000000\n41010100\n";
-    let pair = "examples/store-load-pair.hex";
+    let [graph, piece] =
+        [("graph", &["graph", QUEUE, "00000102020201"][..]), ("piece", &["list", QUEUE])].map(|one| kept(at, one));
+    let (no, pair) = (b"400001ffff\n400101ffff\n41000000\n41010100\n", "examples/store-load-pair.hex");
     let cases: [(&[&str], &[u8], i32, usize); 33] = [
         (&["list", QUEUE], b"", 1, 7),
         (&["count", QUEUE], b"", 1, 1),
