@@ -4,18 +4,20 @@
 # make list FILE=F       the list of F, or its refusal, as the listing program prints it
 # make explorer          the listing program itself: target/bin/explorer
 # make tool              builds the command: target/cargo/release/tarczolin; LIBRARY_FROM=L takes the library L, proved elsewhere
-# make library           builds and proves the static library: target/staticlib/libtarczolin.a
-# make install PREFIX=P  the command, the library, the header, pkg-config, the manual page, completions, below P (DESTDIR before it)
+# make library           builds and proves the static library, target/staticlib/libtarczolin.a, and links libtarczolin.so of it
+# make install PREFIX=P  the command, the libraries, the header, pkg-config, the manual page, completions, Python's package, below P
+# make uninstall         takes them away again: the same PREFIX and DESTDIR
+# make deb               a Debian package of them, with the documents and examples: target/tarczolin_VERSION_ARCHITECTURE.deb
 # make bench             times of the library beside plain Rust; draws docs/listing-time.svg
 # make walk              the list beside a walk over all schedules in plain Rust: equal byte for byte? both times; PROGRAMS='F ..': of these
 # make fuzz SECONDS=N    random bytes to every call, for so long
 # make valgrind          the Rust tests, few cases each, under valgrind
 FILE ?= examples/whole.hex
-PREFIX ?= /usr/local
 SECONDS ?= 600
 CARGO = cargo
 QUIET = --quiet --release --offline --locked
 LIBRARY = target/staticlib/libtarczolin.a
+SHARED = $(LIBRARY:.a=.so)
 # the crates whose functions C and Rust call: their archives become one
 EXPORTED = tarczolin tarczolin_list tarczolin_beside tarczolin_tso tarczolin_users
 EXPLORER = target/bin/explorer
@@ -23,7 +25,7 @@ SOURCES = crates.txt $(shell find crates -name '*.rt' -o -name '*.antt')
 VALGRIND = valgrind --quiet --error-exitcode=9 --leak-check=full --show-leak-kinds=definite --errors-for-leak-kinds=definite \
   --trace-children=yes --log-file=$(CURDIR)/target/valgrind/%p.log
 
-.PHONY: help test check list explorer tool library install bench walk fuzz valgrind
+.PHONY: help test check list explorer tool library bench walk fuzz valgrind
 
 help:
 	@sed -n 's/^# make/make/p' Makefile
@@ -40,27 +42,12 @@ list: $(EXPLORER)
 
 explorer: $(EXPLORER)
 
-library: $(LIBRARY)
+library: $(LIBRARY) $(SHARED)
 
 tool: $(LIBRARY)
 	@$(CARGO) build $(QUIET) --bin tarczolin
 
-TOOL = target/cargo/release/tarczolin
-TO = $(DESTDIR)$(PREFIX)
-
-install: tool
-	@install -d $(TO)/bin $(TO)/lib/pkgconfig $(TO)/include $(TO)/share/man/man1
-	@install -d $(TO)/share/bash-completion/completions $(TO)/share/zsh/site-functions $(TO)/share/fish/vendor_completions.d
-	@install -m 755 $(TOOL) $(TO)/bin/tarczolin
-	@install -m 644 $(LIBRARY) $(TO)/lib/libtarczolin.a
-	@install -m 644 include/tarczolin.h $(TO)/include/tarczolin.h
-	@$(TOOL) man > $(TO)/share/man/man1/tarczolin.1
-	@$(TOOL) completions bash > $(TO)/share/bash-completion/completions/tarczolin
-	@$(TOOL) completions zsh > $(TO)/share/zsh/site-functions/_tarczolin
-	@$(TOOL) completions fish > $(TO)/share/fish/vendor_completions.d/tarczolin.fish
-	@printf '%s\n' 'prefix=$(PREFIX)' 'Name: tarczolin' 'Description: explores the executions of small concurrent programs' \
-	  "Version: $$($(TOOL) --version | cut -d ' ' -f 2)" 'Cflags: -I$${prefix}/include' 'Libs: -L$${prefix}/lib -ltarczolin' \
-	  > $(TO)/lib/pkgconfig/tarczolin.pc
+include package.mk
 
 bench: $(LIBRARY)
 	@$(CARGO) run $(QUIET) --bin bench
@@ -90,6 +77,12 @@ $(LIBRARY): $(SOURCES)
 	@cd target/objects && for crate in $(EXPORTED); do ar x ../staticlib/lib$$crate.a || exit 1; done
 	@rm $(LIBRARY) && ar rcs $(LIBRARY) target/objects/*.o
 endif
+
+# the same code for programs that load it, as Python does: only the calls that the header declares are seen from outside
+$(SHARED): $(LIBRARY) include/tarczolin.h
+	@{ echo '{ global:'; sed -n 's/^uint64_t \(tarczolin_[a-z_]*\)(.*/\1;/p' include/tarczolin.h; echo 'local: *; };'; } > $@.names
+	@$(CC) -shared -o $@ -Wl,--whole-archive $(LIBRARY) -Wl,--no-whole-archive -Wl,--version-script=$@.names \
+	  -Wl,-soname,libtarczolin.so.0 -Wl,-z,defs
 
 $(EXPLORER): $(SOURCES)
 	@rt check explorer

@@ -2,8 +2,9 @@
 """The gate: every check of the repository, one after the other. A failed check does not stop the later ones.
 
 The very last line is `N passed, M failed`; the exit status is 0 exactly when M is 0. N counts what rt proves and refuses,
-the must-fail edits that were refused for the right reason, that the crates of laws_only.txt cite only laws of others, and the
-Rust tests. pins.txt says how many tests and edits there must be at least, and on which axioms the proofs may rest.
+the must-fail edits that were refused for the right reason, that the crates of laws_only.txt cite only laws of others, the
+Rust tests and the Python tests. pins.txt says how many tests and edits there must be at least, and on which axioms the proofs
+may rest.
 """
 import os
 import re
@@ -227,19 +228,55 @@ def cargo_tests(tally, words):
     return tests
 
 
+def passed_over(tally, file, ending):
+    """Runs the tests of a file that the others pass over: those that pins.txt names with this ending."""
+    tests = cargo_tests(tally, CARGO_TEST[:-1] + ['--package', 'tarczolin', '--test', file, '--', '--ignored'])
+    pinned = [name for name in tally.pins['ignored'] if name.endswith(ending)]
+    if tests.passed + tests.failed != len(pinned):
+        tally.fail(f'{tests.passed + tests.failed} tests of {file} are passed over, and pins.txt names {len(pinned)}')
+
+
 def browser(tally):
-    """The tests that the others pass over: the tool's page laid out by a browser, where there is one."""
+    """The tool's page laid out by a browser, where there is one."""
     if shutil.which('chromium') is None:
         tally.note('not run: the page in a browser, since there is no chromium here')
         return
-    tests = cargo_tests(tally, CARGO_TEST[:-1] + ['--package', 'tarczolin', '--test', 'browser', '--', '--ignored'])
-    if tests.passed + tests.failed != len(tally.pins['ignored']):
-        tally.fail(f'{tests.passed + tests.failed} tests in a browser, and pins.txt names {len(tally.pins["ignored"])}')
+    passed_over(tally, 'browser', '_browser')
+
+
+def slurm(tally):
+    """The recipe by Slurm, where it is installed."""
+    missing = [name for name in ('slurmctld', 'slurmd', 'sbatch', 'munged') if shutil.which(name) is None]
+    if missing:
+        tally.note(f'not run: the recipe by Slurm, since there is no {", ".join(missing)} here (slurm-wlm, munge)')
+        return
+    passed_over(tally, 'cluster', '_slurm')
+
+
+def python_tests(tally):
+    """The tests of the Python package, over the shared library and the command that the Rust tests left."""
+    status, _ = run(['make', '--no-print-directory', 'library', 'tool'])
+    if status != 0:
+        tally.fail('make library tool made no shared library or no command, so the Python tests were not run')
+        return
+    status, lines = run([sys.executable, '-B', '-m', 'unittest', 'discover', '-s', 'python/tests'])
+    passed, failed, skipped = printed.unittests(lines)
+    tally.add(passed, failed)
+    if skipped or passed == 0 or (status != 0 and failed == 0):
+        tally.fail(f'the Python tests ended with status {status}: {passed} passed, {skipped} skipped')
+    tally.at_least('python-tests', passed + failed)
+
+
+def validator(tally):
+    """Whether the test of docs/schema.json could ask a validator: a Rust test does where there is one."""
+    pythons = [one for one in ('python3', '/usr/bin/python3') if shutil.which(one)]
+    if not any(subprocess.run([one, '-c', 'import jsonschema'], capture_output=True).returncode == 0 for one in pythons):
+        tally.note('not run: docs/schema.json by a validator, since there is no python3-jsonschema here')
 
 
 # what takes no time: `gate.py quick` runs only these, and counts for nothing
 QUICK = (samples, every_crate_is_listed, only_laws, claimed, edits)
-CHECKS = (*QUICK, formatting, rust_formatting, proofs, reasons, rust_tests, rust_lints, browser)
+CHECKS = (*QUICK, formatting, rust_formatting, proofs, reasons, rust_tests, python_tests, rust_lints, browser, slurm, validator)
 
 def main(quick):
     os.environ.setdefault('RT_JOBS', '2')

@@ -5,6 +5,7 @@ RESULT = re.compile(r'test result: \w+\. (\d+) passed; (\d+) failed; (\d+) ignor
 IGNORED = re.compile(r'test (?:\S+::)*(\S+?) \.\.\. ignored')
 AXIOMS = re.compile(r'axioms \S+: (.*?)(?: \(\d+ of the \d+ declared\))?$')
 AXIOM_COUNT = re.compile(r'logic=proved .*\baxioms=(\d+)')
+UNITTESTS = re.compile(r'Ran (\d+) tests? in ')
 PROVED = re.compile(r'rt: (\S+) proved \((\d+) s\)$')
 
 
@@ -27,6 +28,15 @@ class Tests:
         if self.filtered:
             said.append(f'{self.filtered} tests are filtered out')
         return said
+
+
+def unittests(lines):
+    """What Python's unittest says: how many passed, failed (errors too) and were skipped."""
+    ran = next((int(match[1]) for match in map(UNITTESTS.match, lines) if match), 0)
+    ended = next((line for line in reversed(lines) if line.startswith(('OK', 'FAILED'))), '')
+    count = {name: int(number) for name, number in re.findall(r'(\w+)=(\d+)', ended)}
+    failed, skipped = count.get('failures', 0) + count.get('errors', 0), count.get('skipped', 0)
+    return max(ran - failed - skipped, 0) if ended else 0, failed, skipped
 
 
 def axioms(lines):
@@ -82,6 +92,8 @@ def wrong_sample():
         'axioms': axioms(SAMPLE) == (['libc::read', 'libc::write'], 2),
         'seconds': seconds(SAMPLE) == {'lines': 6, 'sc': 21},
         'table': len(rows) == 2 and 'ABOVE' in rows[0] and slow == ['the check of sc took 21 s, more than twice 10 s'],
+        'unittests': [unittests(['Ran 9 tests in 1.2s', '', last]) for last in ('OK', 'OK (skipped=2)', 'FAILED (failures=1, errors=2)', '')]
+        == [(9, 0, 0), (7, 0, 2), (6, 3, 0), (0, 0, 0)],
         'pins': pins('# a remark\na: 1\n\nb-c: x y\n') == {'a': ['1'], 'b-c': ['x', 'y']},
     }
     return [f'printed.py reads its sample wrongly: {name}' for name, right in parts.items() if not right]

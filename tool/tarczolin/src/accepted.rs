@@ -3,6 +3,7 @@ use crate::asm::Remarks;
 use crate::error::Error;
 use crate::input::{self, Source};
 use crate::model::Model;
+use crate::note::Note;
 use crate::program::{self, Called, Names, Program};
 use crate::{ask, refusal};
 use std::ffi::OsStr;
@@ -16,7 +17,7 @@ pub struct Accepted {
     pub program: Program,
     pub remarks: Remarks,
     /// What has to be known of how it was read.
-    pub notes: Vec<String>,
+    pub notes: Vec<Note>,
 }
 
 impl Accepted {

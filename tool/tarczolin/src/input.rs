@@ -3,7 +3,7 @@ use crate::asm::{self, Assembled, Remarks};
 use crate::called::called;
 use crate::error::{Error, Mark};
 use crate::model::Model;
-use crate::output;
+use crate::note::Note;
 use crate::program::{Names, FILE_LIMIT};
 use std::ffi::OsStr;
 use std::fs::{File, Metadata};
@@ -23,7 +23,7 @@ pub struct Source {
     pub names: Names,
     pub remarks: Remarks,
     /// What has to be known of how it was read.
-    pub notes: Vec<String>,
+    pub notes: Vec<Note>,
     /// Whether the library accepts it is known already: it was asked where a text was made a file.
     pub asked: bool,
 }
@@ -67,25 +67,17 @@ pub fn program(name: &OsStr, model: Option<Model>) -> Result<Source, Error> {
     let text = limited(name, file)?;
     let made = asm::assemble_for(&text, model).map_err(|marks| Error::Text { name: known.clone(), marks })?;
     let Assembled { file, names, remarks, warnings, left_out } = made;
-    warn(&known, warnings);
-    Ok(Source { name: known, file, names, remarks, notes: notes(left_out), asked: true })
+    Ok(Source { name: known, file, names, remarks, notes: notes(warnings, left_out), asked: true })
 }
 
-/// Tells on standard error what looks like a slip.
-pub fn warn(name: &str, warnings: Vec<Mark>) {
-    for mut warning in warnings {
-        warning.message = format!("warning: {}", warning.message);
-        output::tell(&warning.told(name));
-    }
-}
-
-/// What has to be known of a text of which so many fences are left out, and why they may be.
-pub fn notes(left_out: usize) -> Vec<String> {
-    match left_out {
-        0 => Vec::new(),
-        1 => vec!["1 fence is left out: under sequential consistency it means nothing".to_string()],
-        _ => vec![format!("{left_out} fences are left out: under sequential consistency they mean nothing")],
-    }
+/// What has to be known of a text: what looks like a slip, and that so many fences are left out, and why they may be.
+pub fn notes(warnings: Vec<Mark>, left_out: usize) -> Vec<Note> {
+    let fences = match left_out {
+        0 => None,
+        1 => Some("1 fence is left out: under sequential consistency it means nothing".to_string()),
+        _ => Some(format!("{left_out} fences are left out: under sequential consistency they mean nothing")),
+    };
+    warnings.into_iter().map(Note::Warning).chain(fences.map(Note::Note)).collect()
 }
 
 /// A graph text, a schedule, or a program in the text form.

@@ -22,6 +22,7 @@ pub mod machine;
 pub mod matching;
 pub mod model;
 pub mod near;
+pub mod note;
 pub mod outcome;
 pub mod output;
 pub mod play;

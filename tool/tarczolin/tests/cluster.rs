@@ -2,48 +2,88 @@
 mod common;
 
 use common::{folder, run, run_with};
+use std::path::{Path, PathBuf};
 use std::process::Command;
-use tarczolin_tests::files::{lines, read};
+use tarczolin_tests::files::{lines, path, read};
 
-/// The script of docs/CLUSTER.md.
-fn script() -> String {
-    let document = String::from_utf8(read("docs/CLUSTER.md")).unwrap();
-    let code = document.split("    #!/bin/sh\n    # piece K").nth(1).expect("the script").split("\n\n").next().unwrap();
-    format!("#!/bin/sh\n# piece K{code}\n").replace("\n    ", "\n")
+/// The recipes of docs/CLUSTER.md, which are files.
+const RECIPES: [&str; 3] = ["piece", "by-parallel", "by-slurm"];
+
+/// A folder with the recipes, a program and nothing of an earlier run.
+fn recipes(name: &str, program: &[u8]) -> PathBuf {
+    let folder = folder(&format!("cluster-{name}"));
+    std::fs::remove_dir_all(&folder).unwrap();
+    std::fs::create_dir_all(&folder).unwrap();
+    for recipe in RECIPES {
+        std::fs::copy(path(&format!("examples/cluster/{recipe}")), folder.join(recipe)).unwrap();
+    }
+    std::fs::write(folder.join("program.hex"), program).unwrap();
+    folder
 }
 
-/// Makes the pieces by a shell command in a folder of its own, and joins them.
-fn joined(name: &str, program: &[u8], pieces: usize, make: &str) -> (String, String) {
-    let folder = folder(&format!("cluster-{name}"));
-    std::fs::write(folder.join("program.hex"), program).unwrap();
-    std::fs::write(folder.join("piece"), script()).unwrap();
-    let tool = std::path::Path::new(env!("CARGO_BIN_EXE_tarczolin")).parent().unwrap().display();
-    let script = format!(
-        "export PATH=\"{tool}:$PATH\"; chmod +x piece; rm -f piece-*; tarczolin cuts program.hex {pieces} > cuts\n{make}\n\
-         tarczolin join $(seq -f piece-%g $(wc -l < cuts)) > list; tarczolin list program.hex > whole"
-    );
-    let done = Command::new("bash").args(["-c", &script]).current_dir(&folder).output().unwrap();
+/// Runs a shell command in a folder, where `tarczolin` is the command: its exit status, and what it tells on standard error.
+fn shell(folder: &Path, script: &str) -> (Option<i32>, String) {
+    let tool = Path::new(env!("CARGO_BIN_EXE_tarczolin")).parent().unwrap().display();
+    let script = format!("export PATH=\"{tool}:$PATH\" PARALLEL=--will-cite; {script}");
+    let done = Command::new("bash").args(["-c", &script]).current_dir(folder).output().unwrap();
     // here nothing has to be fetched from another machine, and GNU parallel says so
     let told = String::from_utf8_lossy(&done.stderr)
         .replace("parallel: Warning: --return ignored as there are no remote --sshlogin.\n", "");
-    assert!(told.trim().is_empty(), "{told}");
-    let text = |name: &str| std::fs::read_to_string(folder.join(name)).unwrap();
-    (text("list"), text("whole"))
+    (done.status.code(), told.trim().to_string())
+}
+
+/// The list that a recipe leaves is the list, and its status that of the list.
+fn made(folder: &Path, script: &str) {
+    assert_eq!(shell(folder, script), (Some(1), String::new()), "the list has a violation, and nothing is told");
+    let list = std::fs::read_to_string(folder.join("list")).unwrap();
+    let whole = run_with(&["list", "-"], &program()).out;
+    assert!(list == whole && whole.lines().count() == 3_433);
+    let pieces = std::fs::read_to_string(folder.join("cuts")).unwrap().lines().count();
+    assert!(pieces == 12 && folder.join("piece-12").exists());
+}
+
+/// Where a piece cannot be made the recipe fails, and nothing is joined.
+fn not_made(folder: &Path, script: &str) {
+    std::fs::write(folder.join("piece"), "#!/bin/sh\n[ \"$1\" -ne 2 ] || exit 2\n").unwrap();
+    std::fs::remove_file(folder.join("list")).unwrap();
+    let (status, _) = shell(folder, script);
+    assert!(status != Some(0) && !folder.join("list").exists(), "{status:?}");
 }
 
 fn program() -> Vec<u8> {
     lines(&format!("01 {} 01 {} 23000000000001", "10000000000001 ".repeat(7), "110000 ".repeat(7)))
 }
 
+#[test]
+fn the_document_shows_the_recipes() {
+    let document = String::from_utf8(read("docs/CLUSTER.md")).unwrap();
+    for recipe in RECIPES {
+        let file = String::from_utf8(read(&format!("examples/cluster/{recipe}"))).unwrap();
+        assert!(document.contains(&format!("```sh\n{file}```")), "{recipe}");
+    }
+}
+
 /// The pieces by xargs, which is everywhere.
 #[test]
 fn pieces_by_xargs() {
-    let make = "seq $(wc -l < cuts) | xargs -P 2 -I{} sh -c './piece {} > piece-{}; true'";
-    let (list, whole) = joined("xargs", &program(), 12, make);
-    assert!(list == whole && whole.lines().count() == 3_433);
+    let folder = recipes("xargs", &program());
+    let make = "seq 12 | xargs -P 2 -I{} ./piece {}";
+    made(&folder, &format!("tarczolin cuts program.hex 12 > cuts; {make} && tarczolin join $(seq -f piece-%g 12) > list"));
 }
 
-/// The pieces by GNU parallel, as docs/CLUSTER.md has it, on this machine.
+/// A violation is an answer, and what is refused is none.
+#[test]
+fn the_status_of_a_piece() {
+    let folder = recipes("status", &read("examples/queue-broken.hex"));
+    let ends = |script: &str| shell(&folder, script).0;
+    assert_eq!(ends("tarczolin cuts program.hex 1 > cuts; ./piece 1"), Some(0));
+    assert_eq!(ends("tarczolin list program.hex > whole"), Some(1), "the piece has violations");
+    assert_eq!(std::fs::read(folder.join("piece-1")).unwrap(), std::fs::read(folder.join("whole")).unwrap());
+    assert_eq!(ends("echo zz > program.hex; ./piece 1"), Some(2));
+    assert_eq!(ends("rm program.hex; ./piece 1"), Some(2));
+}
+
+/// The pieces by GNU parallel, on this machine.
 #[test]
 fn pieces_by_gnu_parallel() {
     let there = Command::new("parallel").arg("--version").output().is_ok_and(|out| out.stdout.starts_with(b"GNU parallel"));
@@ -51,12 +91,23 @@ fn pieces_by_gnu_parallel() {
         println!("not run: GNU parallel is not installed here");
         return;
     }
-    let document = String::from_utf8(read("docs/CLUSTER.md")).unwrap();
-    let line = document.lines().find_map(|line| line.strip_prefix("    seq 64 | parallel ")).expect("the line");
-    let here = line.replace("host1,host2", "2/:");
-    let make = format!("export PARALLEL=--will-cite; seq $(wc -l < cuts) | parallel {here}");
-    let (list, whole) = joined("parallel", &program(), 12, &make);
-    assert!(list == whole && line.contains("host1,host2"));
+    let folder = recipes("parallel", &program());
+    made(&folder, "./by-parallel 12 2/:");
+    not_made(&folder, "./by-parallel 12 2/:");
+}
+
+/// The pieces by a Slurm that is started for this and stopped behind it.
+#[test]
+#[ignore = "needs slurm-wlm and munge"]
+fn pieces_by_slurm() {
+    let folder = recipes("slurm", &program());
+    let own = std::env::temp_dir().join(format!("slurm-{}", std::process::id()));
+    let under = |command: &str| format!("{} {} '{command}'", path("tool/tarczolin/tests/slurm.sh").display(), own.display());
+    made(&folder, &under("./by-slurm 12 > said"));
+    let said = std::fs::read_to_string(folder.join("said")).unwrap();
+    assert!(said.starts_with("Submitted batch job "), "{said}");
+    not_made(&folder, &under("./by-slurm 12 > said"));
+    std::fs::remove_dir_all(&own).unwrap();
 }
 
 #[test]

@@ -3,11 +3,10 @@ mod common;
 #[path = "common/fenced.rs"]
 mod fenced;
 
-use common::json::{fits, parse, Value};
+use common::json::{fits_the_schema, parse, Value};
 use common::{run_with, Ran};
 use fenced::{asserted, random, End, Fenced};
 use std::collections::BTreeSet;
-use tarczolin_tests::files::read;
 use tarczolin_tests::random::Random;
 use tarczolin_tests::share;
 
@@ -52,10 +51,8 @@ fn store_buffering() {
     assert!(shown.ends_with("memory     x = 1, y = 1\nregisters  a.n = 0, b.n = 1\n"), "{shown}");
     let page = under("tso", &["show", "-", "0010000001110101", "--html", "-"], BUFFERED).out;
     assert!(page.contains("#1 fence") && !page.contains("fetch_add") && !page.contains("x7"), "nothing of what it becomes");
-    let document = String::from_utf8(read("docs/JSON.md")).unwrap();
-    let schema = parse(document.split("```json").nth(1).expect("a schema").split("```").next().unwrap());
     let object = parse(under("tso", &["show", "-", "0010000001110101", "--json"], BUFFERED).out.trim_end());
-    assert!(fits(&object, &schema, schema.get("definitions").unwrap()), "{object:?}");
+    assert!(fits_the_schema(&object), "{object:?}");
     let dot = under("tso", &["graph", "-", "0010000001110101", "--dot"], BUFFERED).out;
     assert!(dot.contains("t0_1 [label=\"#1 fence\"]") && !dot.contains("initial -> t0_1"), "{dot}");
 }

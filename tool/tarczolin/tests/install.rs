@@ -2,7 +2,6 @@
 mod common;
 
 use common::folder;
-use std::path::Path;
 use std::process::{Command, Output};
 use tarczolin_tests::files::{path, read};
 
@@ -79,32 +78,6 @@ fn the_header_fits() {
         assert!(header.contains(&format!("#define TARCZOLIN_{name} {value}\n")), "{name}");
     }
     assert!(header.contains(concat!("#define TARCZOLIN_VERSION \"", env!("CARGO_PKG_VERSION"), "\"")));
-}
-
-/// `make install`, with the build left out: what cargo built is there already.
-#[test]
-fn make_install() {
-    let to = folder("installed").display().to_string();
-    let tool = env!("CARGO_BIN_EXE_tarczolin");
-    let script =
-        format!("make -s install -o tool DESTDIR={to} PREFIX=/usr TOOL={tool} LIBRARY=target/staticlib/libtarczolin.a SOURCES=");
-    let done = shell(&script);
-    assert!(done.status.success(), "{}", String::from_utf8_lossy(&done.stderr));
-    for name in [
-        "bin/tarczolin",
-        "lib/libtarczolin.a",
-        "include/tarczolin.h",
-        "lib/pkgconfig/tarczolin.pc",
-        "share/man/man1/tarczolin.1",
-        "share/bash-completion/completions/tarczolin",
-        "share/zsh/site-functions/_tarczolin",
-        "share/fish/vendor_completions.d/tarczolin.fish",
-    ] {
-        assert!(std::fs::metadata(Path::new(&to).join("usr").join(name)).is_ok_and(|file| file.len() > 0), "{name}");
-    }
-    let config = std::fs::read_to_string(format!("{to}/usr/lib/pkgconfig/tarczolin.pc")).unwrap();
-    assert!(config.contains("Libs: -L${prefix}/lib -ltarczolin\n") && config.contains("prefix=/usr\n"), "{config}");
-    assert!(config.contains(concat!("Version: ", env!("CARGO_PKG_VERSION"), "\n")), "{config}");
 }
 
 /// A library that was built elsewhere is taken as it is: nothing is proved, and the kit is not called.

@@ -1,40 +1,39 @@
-//! Every command's answers as JSON fit the schema of docs/JSON.md, and say what the words say.
+//! Every command's answers as JSON fit docs/schema.json, and say what the words say.
 mod common;
 
-use common::json::{fits, parse, Value};
+use common::json::{fits_the_schema, parse, Value};
 use common::{folder, run, run_with};
 use std::collections::BTreeSet;
+use std::io::Write;
+use std::process::{Command as Process, Stdio};
 use tarczolin::commands::{all, Command};
-use tarczolin_tests::files::read;
+use tarczolin_tests::files::path;
 
 const QUEUE: &str = "examples/queue-broken.asm";
 
-fn schema() -> Value {
-    let document = String::from_utf8(read("docs/JSON.md")).unwrap();
-    parse(document.split("```json").nth(1).expect("a schema").split("```").next().unwrap())
-}
-
 /// The objects of an answer, each held to the schema.
 fn held(words: &[&str], input: &[u8]) -> (i32, Vec<Value>) {
-    let schema = schema();
     let ran = run_with(&[words, &["--json"]].concat(), input);
     let objects: Vec<Value> = ran.out.lines().map(parse).collect();
     for object in &objects {
-        assert!(fits(object, &schema, schema.get("definitions").unwrap()), "{words:?}: {object:?}");
+        assert!(fits_the_schema(object), "{words:?}: {object:?}");
     }
     assert!(!objects.is_empty(), "{words:?}: {}", ran.err);
     (ran.status, objects)
 }
 
-#[test]
-fn every_command_fits_the_schema() {
-    let folder = folder("json");
-    let (graph, piece) = (folder.join("graph"), folder.join("piece"));
-    std::fs::write(&graph, run(&["graph", QUEUE, "00000102020201"]).out).unwrap();
-    std::fs::write(&piece, run(&["list", QUEUE]).out).unwrap();
-    let (graph, piece) = (graph.display().to_string(), piece.display().to_string());
-    let no = b"400001ffff\n400101ffff\n41000000\n41010100\n";
-    let pair = "examples/store-load-pair.hex";
+/// An answer in words, kept in a file of this name.
+fn kept(at: &str, (name, words): (&str, &[&str])) -> String {
+    let path = folder(at).join(name);
+    std::fs::write(&path, run(words).out).unwrap();
+    path.display().to_string()
+}
+
+/// Every kind of answer: the words, standard input, the exit status and how many objects there are. Gives the commands back.
+fn every_answer(at: &str, mut each: impl FnMut(&[&str], &[u8], i32, usize)) -> BTreeSet<String> {
+    let [graph, piece] =
+        [("graph", &["graph", QUEUE, "00000102020201"][..]), ("piece", &["list", QUEUE])].map(|one| kept(at, one));
+    let (no, pair) = (b"400001ffff\n400101ffff\n41000000\n41010100\n", "examples/store-load-pair.hex");
     let cases: [(&[&str], &[u8], i32, usize); 33] = [
         (&["list", QUEUE], b"", 1, 7),
         (&["count", QUEUE], b"", 1, 1),
@@ -70,21 +69,86 @@ fn every_command_fits_the_schema() {
         (&["outcomes", pair, "--model", "tso"], b"", 0, 5),
         (&["count", "examples/accesses-24.hex", "--model", "tso"], b"", 2, 1),
     ];
-    for (words, input, status, objects) in cases {
+    cases.iter().for_each(|(words, input, status, objects)| each(words, input, *status, *objects));
+    cases.iter().map(|(words, ..)| words[0].to_string()).collect()
+}
+
+#[test]
+fn every_command_fits_the_schema() {
+    let mut commands = every_answer("json", |words, input, status, objects| {
         let (ended, found) = held(words, input);
         assert_eq!((ended, found.len()), (status, objects), "{words:?}: {found:?}");
-    }
-    let commands: BTreeSet<&str> = cases.iter().map(|(words, ..)| words[0]).chain(TEXTS).collect();
+    });
+    commands.extend(TEXTS.map(str::to_string));
     let has_json = |command: &&&Command| command.options.iter().any(|option| option.name == "--json");
-    assert_eq!(commands, all().iter().filter(has_json).map(|command| command.name).collect(), "every command that has --json");
+    let known: BTreeSet<String> = all().iter().filter(has_json).map(|command| command.name.to_string()).collect();
+    assert_eq!(commands, known, "every command that has --json");
+    let pair = "examples/store-load-pair.hex";
     assert!(held(&["judge", pair, "-"], b"400001ffff\n41000000\n41010100\n").1[0].get("why").is_some());
+}
+
+/// How many of these lines fit the schema by python3-jsonschema, and how many do not; none where that is not installed.
+fn validated(lines: &str) -> Option<String> {
+    let has =
+        |python: &&&str| Process::new(python).args(["-c", "import jsonschema"]).output().is_ok_and(|ran| ran.status.success());
+    // Debian's package belongs to Debian's Python, which need not be the first one
+    let python = ["python3", "/usr/bin/python3"].iter().find(has)?;
+    let words = ["tool/tarczolin/tests/schema.py", "docs/schema.json"].map(path);
+    let mut child = Process::new(python).args(words).stdin(Stdio::piped()).stdout(Stdio::piped()).spawn().unwrap();
+    child.stdin.take().unwrap().write_all(lines.as_bytes()).unwrap();
+    Some(String::from_utf8(child.wait_with_output().unwrap().stdout).unwrap())
+}
+
+/// An off-the-shelf validator says the same, and sees what does not fit.
+#[test]
+fn by_a_validator() {
+    let mut lines = String::new();
+    every_answer("json-validated", |words, input, _, _| lines += &run_with(&[words, &["--json"]].concat(), input).out);
+    lines += &run_with(&["count", "-", "--json"], b"thread\n  fence\n  n = load slto\n").out;
+    lines += &run_with(&["show", "-", "--model", "tso", "--json"], b"thread\n  store x 1\n  fence\n").out;
+    let Some(said) = validated(&lines) else {
+        println!("not run: python3-jsonschema is not installed here");
+        return;
+    };
+    assert_eq!(said, format!("{} fit, 0 do not\n", lines.lines().count()));
+    assert!(lines.contains("\"kind\":\"fence\",\"location\":null") && lines.contains("\"kind\":\"warning\""), "{lines}");
+    let right = "{\"command\":\"count\",\"file\":\"-\",\"listed\":3,\"failing\":0,\"interrupted\":false}\n";
+    let wrong = [right.replace("3", "\"3\""), right.replace(",\"interrupted\":false", ""), right.replace("count", "list")];
+    assert_eq!(validated(&(right.to_string() + &wrong.concat())).unwrap(), "1 fit, 3 do not\n");
+}
+
+/// The notes of one warning or note.
+fn note(kind: &str, [line, column]: [Value; 2], message: &str) -> Value {
+    let text = |text: &str| Value::Text(text.to_string());
+    let fields = [("kind", text(kind)), ("line", line), ("column", column), ("message", text(message))];
+    Value::List(vec![Value::Object(fields.map(|(name, value)| (name.to_string(), value)).into())])
+}
+
+/// What looks like a slip is told under the same name, with its place; with a fence left out both stand in one object.
+#[test]
+fn warnings() {
+    let text = b"thread\n  store slot 7\n  n = load slto\n";
+    let slip = note("warning", [3, 12].map(Value::Number), "slto is read and never written; is it slot?");
+    for words in [&["check", "-"][..], &["count", "-"], &["asm", "-"], &["violation", "-", "--model", "tso"]] {
+        let (_, found) = held(words, text);
+        assert_eq!((found.len(), found[0].get("notes")), (2, Some(&slip)), "{words:?}: {found:?}");
+    }
+    let both = [&text[..], b"  fence\n"].concat();
+    let (_, found) = held(&["count", "-"], &both);
+    let Some(Value::List(notes)) = found[0].get("notes") else { panic!("{found:?}") };
+    let kinds: Vec<_> = notes.iter().map(|note| note.get("kind").cloned()).collect();
+    assert_eq!(kinds, ["warning", "note"].map(|kind| Some(Value::Text(kind.to_string()))));
+    let path = folder("json-warnings").join("slip.asm");
+    std::fs::write(&path, text).unwrap();
+    let (_, found) = held(&["users"], format!("open 0 {}\n", path.display()).as_bytes());
+    assert_eq!((found.len(), found[0].get("notes")), (2, Some(&slip)));
 }
 
 /// What words tell on standard error of fences that are left out is an object in front of the answers of its file.
 #[test]
 fn fences_that_are_left_out() {
-    let text = b"thread\n  store x0 1\n  fence\n  r0 = load x1\nthread\n  r0 = load x0\n";
-    let note = Value::List(vec![Value::Text("1 fence is left out: under sequential consistency it means nothing".to_string())]);
+    let text = b"init x1 1\nthread\n  store x0 1\n  fence\n  r0 = load x1\nthread\n  r0 = load x0\n";
+    let note = note("note", [Value::Null, Value::Null], "1 fence is left out: under sequential consistency it means nothing");
     let cases: [(&[&str], usize); 9] = [
         (&["list", "-"], 4),
         (&["count", "-"], 2),

@@ -44,7 +44,7 @@ fn shown(text: &str) -> Vec<Shown> {
 fn folder() -> String {
     let folder = Path::new(env!("CARGO_TARGET_TMPDIR")).join("readme");
     std::fs::create_dir_all(&folder).unwrap();
-    for name in ["examples", "Makefile", "crates", "crates.txt", "tests"] {
+    for name in ["examples", "Makefile", "package.mk", "crates", "crates.txt", "tests", "python"] {
         let _ = std::os::unix::fs::symlink(path(name), folder.join(name));
     }
     folder.display().to_string()

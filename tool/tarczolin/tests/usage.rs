@@ -3,7 +3,7 @@ mod common;
 
 use common::{run, run_with};
 use std::process::Command;
-use tarczolin::commands::all;
+use tarczolin::commands::{all, Values};
 
 /// The names in the parser's table.
 fn names() -> Vec<&'static str> {
@@ -143,9 +143,58 @@ fn completions_complete() {
     let bash = run(&["completions", "bash"]).out;
     let script = format!(
         "{bash}\ntried() {{ COMP_WORDS=(tarczolin $1); COMP_CWORD=$((${{#COMP_WORDS[@]}} - 1)); _tarczolin; echo \"${{COMPREPLY[*]}}\"; }}\n\
-         tried li; tried 'list --j'; tried 'completions z'; tried 'help outc'"
+         tried li; tried 'list --j'; tried 'completions z'; tried 'help outc'\n\
+         tried 'list --model s'; tried 'show x --by t'; tried 'covers --by n'; tried 'show --only f'; tried 'list --model = t'\n\
+         tried 'list --model ='; tried 'show --html us'; tried 'list --jobs us'; tried 'graph --svg us'"
     );
     let done = Command::new("bash").args(["-c", &script]).current_dir("/").output().unwrap();
-    assert_eq!(String::from_utf8_lossy(&done.stdout), "list\n--jobs --json\nzsh\noutcomes\n");
+    let words = "list\n--jobs --json\nzsh\noutcomes\n";
+    let values = "sc\ntime thread\nname number\nfailing\ntso\nsc tso\nusr\n\nusr\n";
+    assert_eq!(String::from_utf8_lossy(&done.stdout), [words, values].concat());
     assert!(run(&["completions", "zsh"]).out.starts_with("#compdef tarczolin\n"));
+}
+
+/// Every value behind an option that is one of a few words is proposed by each shell's script.
+#[test]
+fn completions_know_values() {
+    let [bash, zsh, fish] = ["bash", "zsh", "fish"].map(|shell| run(&["completions", shell]).out);
+    let mut number = 0;
+    for command in all() {
+        for option in command.all_options() {
+            let Some(Values::Words(known)) = option.values() else { continue };
+            let (known, at) = (known.join(" "), format!("'{} {}') ", command.name, option.name));
+            assert!(bash.contains(&format!("{at}COMPREPLY=($(compgen -W '{known}' -- \"$word\")); return ;;")), "{at}");
+            assert!(zsh.contains(&format!("{at}compadd -- {known}; return ;;")), "{at}");
+            let name = option.name.trim_start_matches('-');
+            let line = format!("'__fish_seen_subcommand_from {}' -l {name} -x -a '{known}' ", command.name);
+            assert!(fish.contains(&line), "{line}");
+            number += 1;
+        }
+    }
+    assert!(number >= 10, "{number}");
+}
+
+/// The scripts of zsh and fish are read by these shells, where they are installed, and fish proposes by its own.
+#[test]
+fn completions_of_other_shells() {
+    let folder = common::folder("completions");
+    for shell in ["zsh", "fish"] {
+        let script = folder.join(format!("tarczolin.{shell}"));
+        std::fs::write(&script, run(&["completions", shell]).out).unwrap();
+        let Ok(read) = Command::new(shell).arg("-n").arg(&script).output() else {
+            println!("not run: {shell} is not installed here");
+            continue;
+        };
+        assert!(read.status.success() && read.stderr.is_empty(), "{}", String::from_utf8_lossy(&read.stderr));
+        if shell == "fish" {
+            let tried = format!(
+                "source {}; complete -C 'tarczolin list --model '; complete -C 'tarczolin show --by t'",
+                script.display()
+            );
+            let said = Command::new(shell).args(["-N", "-c", &tried]).env("HOME", &folder).output().unwrap();
+            let said = String::from_utf8_lossy(&said.stdout).into_owned();
+            let words: Vec<&str> = said.lines().map(|line| line.split('\t').next().unwrap()).collect();
+            assert_eq!(words, ["sc", "tso", "thread", "time"]);
+        }
+    }
 }

@@ -24,8 +24,7 @@ fn assembled(question: &Question, remarks: bool, model: Option<Model>) -> Result
     let made = asm::assemble_for(&text, model).map_err(|marks| Error::Text { name: name.clone(), marks })?;
     let accepted = ask::accepted(model.unwrap_or_default(), &made.file);
     accepted.map_err(|refused| refusal::of_program(&name, &made.file, refused))?;
-    input::warn(&name, made.warnings);
-    question.noted(&name, &input::notes(made.left_out))?;
+    question.noted(&name, &input::notes(made.warnings, made.left_out))?;
     let mut file = made.file;
     if remarks {
         let frames = program::frames(&file).expect("frames only");

@@ -1,5 +1,6 @@
 //! Completions for shells, made of the table of commands.
 use super::command::Command;
+use super::opt::Values;
 use std::fmt::Write;
 
 /// The script for a shell, if it is one of the three.
@@ -27,8 +28,36 @@ fn followers(command: &Command, commands: &[&Command]) -> String {
     format!("{words} {options}").trim_start().to_string()
 }
 
+/// A line of a case for each option of a command that takes a value: what is proposed behind it, as a shell says that.
+fn behind_options(commands: &[&Command], words: &dyn Fn(&str) -> String, files: &str) -> String {
+    let mut text = String::new();
+    for command in commands {
+        for option in command.all_options() {
+            let proposed = match option.values() {
+                None => continue,
+                Some(Values::Words(known)) => words(&known.join(" ")),
+                Some(Values::Files) => files.to_string(),
+                Some(Values::Other) => ":".to_string(),
+            };
+            writeln!(text, "    '{} {}') {proposed}; return ;;", command.name, option.name).expect("text grows");
+        }
+    }
+    text
+}
+
+/// The words of a line before the one that is completed: --model=tso is three words to bash.
+const BASH_FRONT: &str = "_tarczolin() {
+  local word=${COMP_WORDS[COMP_CWORD]} before=${COMP_WORDS[COMP_CWORD-1]} words
+  COMPREPLY=()
+  [ \"$word\" = = ] && word=
+  [ \"$before\" = = ] && [ \"$COMP_CWORD\" -gt 2 ] && before=${COMP_WORDS[COMP_CWORD-2]}
+";
+
 fn bash(commands: &[&Command]) -> String {
-    let mut text = String::from("_tarczolin() {\n  local word=${COMP_WORDS[COMP_CWORD]} words\n  case ${COMP_WORDS[1]} in\n");
+    let words = |known: &str| format!("COMPREPLY=($(compgen -W '{known}' -- \"$word\"))");
+    let values = behind_options(commands, &words, "COMPREPLY=($(compgen -f -- \"$word\"))");
+    let mut text =
+        format!("{BASH_FRONT}  case \"${{COMP_WORDS[1]}} $before\" in\n{values}  esac\n  case ${{COMP_WORDS[1]}} in\n");
     for command in commands {
         writeln!(text, "    {}) words='{}' ;;", command.name, followers(command, commands)).expect("text grows");
     }
@@ -43,7 +72,10 @@ fn zsh(commands: &[&Command]) -> String {
     for command in commands {
         writeln!(text, "  '{}:{}'", command.name, command.about.replace(['\'', ':'], "")).expect("text grows");
     }
-    text += ")\nif (( CURRENT == 2 )); then\n  _describe command commands\n  return\nfi\ncase $words[2] in\n";
+    text += ")\nif (( CURRENT == 2 )); then\n  _describe command commands\n  return\nfi\n";
+    text += "local before=$words[CURRENT-1]\n[[ $PREFIX == --*=* ]] && before=${PREFIX%%=*} && compset -P '*='\n";
+    let values = behind_options(commands, &|known| format!("compadd -- {known}"), "_files");
+    write!(text, "case \"$words[2] $before\" in\n{values}esac\ncase $words[2] in\n").expect("text grows");
     for command in commands {
         writeln!(text, "  {}) compadd -- {} ;;", command.name, followers(command, commands)).expect("text grows");
     }
@@ -57,7 +89,12 @@ fn fish(commands: &[&Command]) -> String {
         writeln!(text, "complete -c tarczolin -n __fish_use_subcommand -a {} -d '{about}'", command.name).expect("text grows");
         for option in command.all_options() {
             let (name, about) = (option.name.trim_start_matches('-'), option.about.replace('\'', ""));
-            let value = if option.value.is_some() { " -r" } else { "" };
+            let value = match option.values() {
+                None => String::new(),
+                Some(Values::Words(known)) => format!(" -x -a '{}'", known.join(" ")),
+                Some(Values::Files) => " -r -F".to_string(),
+                Some(Values::Other) => " -x".to_string(),
+            };
             let seen = format!("'__fish_seen_subcommand_from {}'", command.name);
             writeln!(text, "complete -c tarczolin -n {seen} -l {name}{value} -d '{about}'").expect("text grows");
         }

@@ -40,7 +40,7 @@ use std::ffi::{OsStr, OsString};
 use std::process::ExitCode;
 
 pub use command::Command;
-pub use opt::{Opt, EVERYWHERE};
+pub use opt::{Opt, Values, EVERYWHERE};
 pub use own::all;
 
 pub const VERSION: &str = concat!("tarczolin ", env!("CARGO_PKG_VERSION"), "\n");

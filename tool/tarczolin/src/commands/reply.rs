@@ -5,8 +5,9 @@ use crate::accepted::Accepted;
 use crate::called::{called, recorded};
 use crate::end::End;
 use crate::error::Error;
-use crate::json::{list, Json};
+use crate::json::Json;
 use crate::model::Model;
+use crate::note::{self, Note};
 use crate::output;
 use std::ffi::OsStr;
 
@@ -87,10 +88,10 @@ impl<'a> Question<'a> {
     }
 
     /// Tells what has to be known of how its file was read: in front of the answer, in an object too.
-    pub fn noted(&self, name: &str, notes: &[String]) -> Result<(), Error> {
-        notes.iter().for_each(|note| output::tell(&format!("{name}: {note}")));
+    pub fn noted(&self, name: &str, notes: &[Note]) -> Result<(), Error> {
+        notes.iter().for_each(|note| output::tell(&note.told(name)));
         if self.json && !notes.is_empty() {
-            output::answer(self.object([("notes", list(notes.iter().map(String::as_str)))]), End::Answered)?;
+            output::answer(self.object([note::field(notes)]), End::Answered)?;
         }
         Ok(())
     }

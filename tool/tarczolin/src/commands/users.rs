@@ -4,7 +4,8 @@ use crate::called::{called, visible};
 use crate::end::End;
 use crate::error::Error;
 use crate::input;
-use crate::json::{list, Json};
+use crate::json::Json;
+use crate::note::{self, Note};
 use crate::output;
 use crate::users::{Call, Host, Said};
 use std::ffi::OsStr;
@@ -59,9 +60,9 @@ fn told(json: bool, place: u64, said: &Result<Said, String>) -> String {
 }
 
 /// What has to be known of how a file was read, which words tell on standard error only.
-fn noted(json: bool, place: u64, notes: &[String]) -> String {
+fn noted(json: bool, place: u64, notes: &[Note]) -> String {
     match json && !notes.is_empty() {
-        true => object(place, vec![("notes", list(notes.iter().map(String::as_str)))]),
+        true => object(place, vec![note::field(notes)]),
         false => String::new(),
     }
 }

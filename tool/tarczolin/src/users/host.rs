@@ -6,6 +6,7 @@ use crate::ask::Refusal;
 use crate::error::Error;
 use crate::input;
 use crate::model::Model;
+use crate::note::Note;
 use crate::output;
 use crate::schedule::Schedule;
 use std::ffi::OsStr;
@@ -15,7 +16,7 @@ use tarczolin_sys::{Answer, Caller, Served, SCHEDULE};
 pub struct Host {
     callers: Box<[Caller; 4]>,
     last: u64,
-    notes: Vec<String>,
+    notes: Vec<Note>,
 }
 
 impl Default for Host {
@@ -54,13 +55,13 @@ impl Host {
     }
 
     /// What has to be known of how the last call's file was read; once.
-    pub fn notes(&mut self) -> Vec<String> {
+    pub fn notes(&mut self) -> Vec<Note> {
         std::mem::take(&mut self.notes)
     }
 
     fn open(&mut self, caller: usize, name: &str) -> Result<Said, Error> {
         let source = input::program(OsStr::new(name), Some(Model::Sc))?;
-        source.notes.iter().for_each(|note| output::tell(&format!("{}: {note}", source.name)));
+        source.notes.iter().for_each(|note| output::tell(&note.told(&source.name)));
         self.notes = source.notes;
         Ok(done(users::open(self.lent(), caller, &source.file)))
     }

@@ -1,4 +1,5 @@
-//! Reads JSON, and holds it to the schema of docs/JSON.md.
+//! Reads JSON, and holds it to docs/schema.json.
+use tarczolin_tests::files::read;
 
 #[derive(Clone, Debug, PartialEq)]
 pub enum Value {
@@ -116,9 +117,16 @@ impl Reader<'_> {
     }
 }
 
-/// Does a value fit a schema? Properties are all there, and no others.
-pub fn fits(value: &Value, schema: &Value, definitions: &Value) -> bool {
+/// Does a value fit docs/schema.json?
+pub fn fits_the_schema(value: &Value) -> bool {
+    let schema = parse(&String::from_utf8(read("docs/schema.json")).expect("text"));
+    fits(value, &schema, schema.get("$defs").expect("definitions"))
+}
+
+/// Does a value fit a schema, by the words of JSON Schema that docs/schema.json uses?
+fn fits(value: &Value, schema: &Value, definitions: &Value) -> bool {
     if let Some(Value::Text(name)) = schema.get("$ref") {
+        let name = name.strip_prefix("#/$defs/").expect("a definition's place");
         return fits(value, definitions.get(name).expect("a definition"), definitions);
     }
     if let Some(Value::List(all)) = schema.get("oneOf") {
@@ -133,14 +141,18 @@ pub fn fits(value: &Value, schema: &Value, definitions: &Value) -> bool {
     }
     match value {
         Value::List(values) => values.iter().all(|one| fits(one, schema.get("items").expect("items"), definitions)),
-        Value::Object(fields) => match (schema.get("properties"), schema.get("additionalProperties")) {
-            (Some(Value::Object(wanted)), _) => {
-                wanted.len() == fields.len()
-                    && wanted.iter().all(|(name, inner)| value.get(name).is_some_and(|one| fits(one, inner, definitions)))
-            }
-            (_, Some(inner)) => fields.iter().all(|(_, one)| fits(one, inner, definitions)),
-            _ => panic!("an object without properties"),
-        },
+        Value::Object(fields) => {
+            let required = schema.get("required").map_or(&[][..], Value::items);
+            let there = |name: &Value| matches!(name, Value::Text(name) if value.get(name).is_some());
+            required.iter().all(there)
+                && fields.iter().all(|(name, one)| {
+                    let known = schema.get("properties").and_then(|all| all.get(name));
+                    match known.or(schema.get("additionalProperties")).expect("every object says what else it may have") {
+                        Value::Bool(allowed) => *allowed,
+                        inner => fits(one, inner, definitions),
+                    }
+                })
+        }
         _ => true,
     }
 }

@@ -1,0 +1,233 @@
+"""Programs, and what can be asked of them."""
+from __future__ import annotations
+
+import os
+from ctypes import byref, c_uint64
+from dataclasses import dataclass
+from functools import cached_property
+from typing import Dict, Iterable, Iterator, List, NamedTuple, Optional, Tuple, Union
+
+from . import _frames
+from ._library import ANSWERED, GRAPH, REFUSED, SCHEDULE, SECOND_REFUSED, TSO_SCHEDULE, Answer, call, room
+from ._matching import matched
+from .errors import Refused, Unfit, line_at
+from .execution import Execution
+from .text import Note, is_file, translated
+
+Schedule = Union[bytes, str]
+PAGE = 1024
+
+
+class Count(NamedTuple):
+    """How many schedules are listed, and how many of these fail."""
+
+    listed: int
+    failing: int
+
+
+@dataclass(frozen=True)
+class Judgement:
+    """Whether a graph can happen, which is also its truth value, and the least schedule that makes it."""
+
+    possible: bool
+    schedule: Optional[bytes]
+
+    def __bool__(self) -> bool:
+        return self.possible
+
+
+@dataclass(frozen=True)
+class Covering:
+    """Whether a program covers another, which is also its truth value, and else the first execution of the other that it lacks."""
+
+    covered: bool
+    execution: Optional[Execution]
+
+    def __bool__(self) -> bool:
+        return self.covered
+
+
+@dataclass(frozen=True)
+class Force:
+    """Who can force its end, `hostile` or `friendly`, and the hostile side's least first step that keeps its win, if it has one."""
+
+    winner: str
+    first: Optional[int]
+
+
+@dataclass(frozen=True)
+class Outcome:
+    """An end of executions: how many listed ones end so, how many executions these stand for, and the first of them."""
+
+    memory: Dict[str, int]
+    registers: Dict[str, int]
+    failed: Dict[str, int]
+    listed: int
+    executions: int
+    first: Execution
+
+    @property
+    def fails(self) -> bool:
+        """Whether an assertion fails."""
+        return bool(self.failed)
+
+
+def _steps(schedule: Schedule) -> bytes:
+    """A schedule from its bytes or its digits."""
+    return bytes.fromhex(schedule) if isinstance(schedule, str) else bytes(schedule)
+
+
+class Program:
+    """A program that the library accepts, under sequential consistency (`sc`) or total store order (`tso`).
+
+    `source` is a program file as `bytes`, or a text: of digits, as a file has them, or in the text form, which the command
+    `tarczolin` translates. Fences of a text are left out under sequential consistency, where they mean nothing; `notes` says so.
+    A file that is refused raises `Refused`, a wrong text `TextError`.
+    """
+
+    def __init__(self, source: Union[bytes, str], model: str = 'sc'):
+        if model not in ('sc', 'tso'):
+            raise ValueError(f'a model is sc or tso, not {model!r}')
+        self.model = model
+        self.notes: Tuple[Note, ...] = ()
+        if isinstance(source, str) and not is_file(source.encode('utf-8')):
+            self.file, self.notes = translated(source, model)
+        else:
+            self.file = source.encode('utf-8') if isinstance(source, str) else bytes(source)
+        # with no output at all 22 refuses what the file does not, behind all that the file is refused by
+        answer = call('check', self.file) if model == 'sc' else call('tso_start', self.file, room(0))
+        if answer.number != 22:
+            self._done(answer)
+
+    @classmethod
+    def read(cls, path: Union[str, 'os.PathLike[str]'], model: str = 'sc') -> 'Program':
+        """The program of a file: a program file, or a text where its name ends in `.asm` or it has other lines than digits."""
+        with open(path, 'rb') as file:
+            # of a program file no more is read than shows that it is too long, of a text what the command reads
+            source = file.read((1 << 20) + 1)
+        is_text = os.fspath(path).endswith('.asm') or not is_file(source)
+        return cls(source.decode('utf-8', 'replace') if is_text else source, model)
+
+    def __repr__(self) -> str:
+        return f'Program({self.file!r}, model={self.model!r})'
+
+    @cached_property
+    def code(self) -> _frames.Code:
+        """What the file says, taken apart: for names and final values."""
+        return _frames.decoded(self.file)
+
+    def executions(self, after: Optional[Schedule] = None) -> Iterator[Execution]:
+        """The listed executions in order, one of each class; or those behind a schedule, which need not be listed nor full."""
+        size = 2 + self._size
+        rows = room(PAGE * size)
+        last = None if after is None else _steps(after)
+        while True:
+            answer = self._call('rows', rows) if last is None else self._call('rows_after', last, rows)
+            page = rows.raw[:answer.value * size]
+            for at in range(0, len(page), size):
+                steps = page[at + 2:at + 2 + page[at]]
+                last = steps
+                yield Execution(self, steps, page[at + 1] == 1)
+            if answer.value < PAGE:
+                return
+
+    def count(self) -> Count:
+        """How many schedules are listed, and how many of these fail; under total store order modulo 2^64."""
+        listed, failing = c_uint64(), c_uint64()
+        self._call('count', byref(listed), byref(failing))
+        return Count(listed.value, failing.value)
+
+    def violation(self) -> Optional[Execution]:
+        """The first listed execution in which an assertion fails; None where none does, and then none at all does."""
+        out = room(self._size)
+        answer = self._call('violation', out)
+        return Execution(self, out.raw[:answer.value], True) if answer.kind == ANSWERED else None
+
+    def outcomes(self) -> List[Outcome]:
+        """Each different end of the listed executions, in the order of the first ones. The values are not proved."""
+        all_: Dict[Tuple[object, ...], Outcome] = {}
+        for one in self.executions():
+            end = one.memory(), one.registers(), one.failed()
+            key = tuple(tuple(values.items()) for values in end)
+            known = all_.get(key) or Outcome(*end, listed=0, executions=0, first=one)
+            all_[key] = Outcome(*end, listed=known.listed + 1, executions=known.executions + one.size(), first=known.first)
+        return list(all_.values())
+
+    def graph(self, schedule: Schedule) -> str:
+        """The text of the graph of a full schedule, listed or not."""
+        out = room(GRAPH)
+        answer = self._call('graph', _steps(schedule), out, subject='schedule')
+        return str(out.raw[:answer.value], 'ascii')
+
+    def class_size(self, schedule: Schedule) -> int:
+        """How many executions a full schedule stands for, listed or not: those alike to its own, itself counted."""
+        return self._call('class', _steps(schedule), subject='schedule').value
+
+    def judge(self, graph: Union[bytes, str]) -> Judgement:
+        """Whether this graph can happen under sequential consistency, and the least schedule that makes it."""
+        self._only_sc('judge')
+        text = graph.encode('utf-8') if isinstance(graph, str) else bytes(graph)
+        out = room(SCHEDULE)
+        answer = call('judge', self.file, text, out)
+        if answer.kind == REFUSED and 30 <= answer.number <= 33:
+            raise Refused('graph', answer.number, answer.value, line_at(text, answer.value))
+        self._done(answer)
+        possible = answer.kind == ANSWERED
+        return Judgement(possible, out.raw[:answer.value] if possible else None)
+
+    def covers(self, new: 'Program', by: str = 'name') -> Covering:
+        """Whether each end of the other program, its final memory and whether it fails, is one of this program.
+
+        Locations are the same by name where they have names, else by number, or by number in any case (`by='number'`).
+        """
+        self._only_sc('covers')
+        new._only_sc('covers')
+        if by not in ('name', 'number'):
+            raise ValueError(f'locations are the same by name or by number, not by {by!r}')
+        other = _frames.moved(new.file, matched(self.code, new.code, by))
+        out = room(SCHEDULE)
+        answer = call('covers', self.file, other, out)
+        if answer.kind != ANSWERED:
+            self._done(answer)
+            return Covering(True, None)
+        schedule = out.raw[:answer.value]
+        fails = bool(Execution(new, schedule, False).failed())
+        return Covering(False, Execution(new, schedule, fails))
+
+    def force(self, hostile: Iterable[Union[int, str]]) -> Force:
+        """Which side can force its end, where these threads, by number or name, are hostile and step in turn with the others."""
+        self._only_sc('force')
+        threads = [self._thread(one) for one in hostile]
+        answer = call('force', self.file, sum({1 << thread for thread in threads}))
+        self._done(answer, 'threads')
+        if answer.kind != ANSWERED:
+            return Force('friendly', None)
+        return Force('hostile', answer.value - 1 if answer.value else None)
+
+    def _thread(self, one: Union[int, str]) -> int:
+        known = {self.code.thread(number): number for number in range(len(self.code.threads))}
+        number = known.get(one) if isinstance(one, str) else one
+        if number is None or not 0 <= number < 8:
+            raise ValueError(f'there is no thread {one}; the program has {", ".join(known) or "none"}')
+        return number
+
+    @property
+    def _size(self) -> int:
+        return SCHEDULE if self.model == 'sc' else TSO_SCHEDULE
+
+    def _only_sc(self, name: str) -> None:
+        if self.model != 'sc':
+            raise Unfit(f'{name} stays with sequential consistency, and this program is under total store order')
+
+    def _call(self, name: str, *arguments: object, subject: str = 'program') -> Answer:
+        """A call of this model on this file, by its answer or its refusal."""
+        answer = call(name if self.model == 'sc' else f'tso_{name}', self.file, *arguments)
+        self._done(answer, subject)
+        return answer
+
+    def _done(self, answer: Answer, subject: str = 'program') -> None:
+        """Raises what an answer refuses: the file's own refusals come first."""
+        if answer.kind in (REFUSED, SECOND_REFUSED):
+            of_file = answer.number < 20 or answer.number in (40, 41)
+            line = line_at(self.file, answer.value) if of_file and answer.value else None
+            raise Refused('program' if of_file else subject, answer.number, answer.value, line)

@@ -1,0 +1,157 @@
+"""What a program answers, beside the command's answers and the oracle's known ones."""
+import itertools
+import unittest
+
+from here import EXAMPLES, ROOT, answers, file, programs
+from tarczolin import Count, Execution, Force, Program, Refused, Unfit
+
+QUEUE = file('queue-broken.hex')
+PAIR = file('store-load-pair.hex')
+
+
+class Listing(unittest.TestCase):
+    def test_executions_are_the_command_s(self):
+        for name in programs():
+            with self.subTest(name):
+                found = [(str(one), one.fails) for one in Program.read(EXAMPLES / name).executions()]
+                told = [(one['schedule'], one['fails']) for one in answers('list', f'examples/{name}') if 'schedule' in one]
+                self.assertEqual(found, told)
+
+    def test_pages_go_on(self):
+        # 3,432 schedules and one more: more than three pages
+        text = '01\n' + '10000000000001\n' * 7 + '01\n' + '110000\n' * 7 + '23000000000001\n'
+        program = Program(text)
+        found = list(program.executions())
+        self.assertEqual(len(found), program.count().listed)
+        self.assertEqual(len(found), len({one.schedule for one in found}))
+        self.assertEqual(found, sorted(found, key=lambda one: one.schedule))
+        behind = list(program.executions(after=found[1999].schedule))
+        self.assertEqual(behind, found[2000:])
+        self.assertEqual(list(program.executions(after=str(found[-1]))), [])
+
+    def test_count(self):
+        self.assertEqual(Program(QUEUE).count(), Count(listed=6, failing=3))
+        self.assertEqual(Program(PAIR, 'tso').count(), (4, 0))
+        self.assertEqual(Program(b'').count(), (1, 0))
+
+    def test_violation(self):
+        found = Program(QUEUE).violation()
+        self.assertEqual((str(found), found.fails), ('00000102020201', True))
+        self.assertIsNone(Program(file('queue-repaired.hex')).violation())
+        # an execution of no steps is one: that none fails is None alone
+        self.assertEqual(str(Program('01\n23000000000001\n').violation()), '')
+        self.assertTrue(Program('01\n23000000000001\n').violation())
+
+    def test_total_store_order(self):
+        program = Program(PAIR, 'tso')
+        self.assertIn('000001011011', [str(one) for one in program.executions()])
+        told = [one['schedule'] for one in answers('list', 'examples/store-load-pair.hex', '--model', 'tso') if 'schedule' in one]
+        self.assertEqual([str(one) for one in program.executions()], told)
+
+    def test_graph_and_class(self):
+        program = Program(PAIR)
+        self.assertEqual(program.graph('00000101'), '400001ffff\n4001010000\n41000000\n41010100\n')
+        self.assertEqual(Program(file('whole.hex')).class_size('010002'), 2)
+        whole = Program(file('whole.hex'))
+        self.assertEqual(sum(one.size() for one in whole.executions()), Program(file('whole-without-02.hex')).count().listed)
+
+
+class Asked(unittest.TestCase):
+    def test_outcomes_are_the_command_s(self):
+        cases = [(name, model) for name in programs() for model in ('sc', 'tso')]
+        compared = 0
+        for name, model in cases:
+            told = answers('outcomes', f'examples/{name}', '--model', model)
+            if 'error' in told[0]:
+                continue
+            with self.subTest(name=name, model=model):
+                found = Program.read(EXAMPLES / name, model).outcomes()
+                keys = ['memory', 'registers', 'fails', 'listed', 'executions']
+                self.assertEqual([[getattr(one, key) for key in keys] + [str(one.first)] for one in found],
+                                 [[one[key] for key in keys] + [one['schedule']] for one in told[:-1]])
+                compared += 1
+        self.assertGreater(compared, 25)
+
+    def test_outcomes_with_fences(self):
+        for path in sorted((ROOT / 'tests' / 'litmus').glob('*mfence*.litmus')):
+            text = answers('import-litmus', str(path))[0]['text']
+            for model in ('sc', 'tso'):
+                told = answers('outcomes', '-', '--model', model, text=text.encode())
+                found = Program(text, model).outcomes()
+                self.assertEqual([(one.memory, one.registers) for one in found],
+                                 [(one['memory'], one['registers']) for one in told[:-1]], path.name)
+
+    def test_failed_threads(self):
+        fails = [one for one in Program.read(EXAMPLES / 'queue-broken.asm').outcomes() if one.fails]
+        told = [one['failures'] for one in answers('outcomes', 'examples/queue-broken.asm')[:-1] if one['fails']]
+        self.assertEqual(len(fails), 3)
+        for one, (failure,) in zip(fails, told):
+            ((thread, at),) = one.failed.items()
+            self.assertTrue(failure.startswith(f'{thread}: ') and failure.endswith(f'(instruction {at})'), failure)
+        self.assertEqual(fails[0].registers['consumer.item'], 0)
+
+    def test_judge(self):
+        program = Program(PAIR)
+        for one in program.executions():
+            judged = program.judge(one.graph())
+            self.assertTrue(judged)
+            self.assertEqual(program.graph(judged.schedule), one.graph())
+        no = program.judge('400001ffff\n400101ffff\n41000000\n41010100\n')
+        self.assertFalse(no)
+        self.assertEqual((no.possible, no.schedule), (False, None))
+        # a graph of nothing is made by the schedule of no steps, and that is a yes
+        self.assertTrue(Program(b'').judge(b''))
+
+    def test_covers(self):
+        added = Program('01\n1200000000000001\n01\n1200000000000001\n')
+        loaded = Program(file('load-add-store.hex'))
+        self.assertTrue(loaded.covers(added))
+        found = added.covers(loaded)
+        self.assertFalse(found)
+        self.assertEqual((str(found.execution), found.execution.memory()), ('00010001', {'x0': 1}))
+
+    def test_covers_by_name(self):
+        old = Program('thread\n  store head 1\n  store tail 2\n')
+        new = Program('thread\n  store tail 2\n  store head 1\n')
+        self.assertTrue(old.covers(new))
+        self.assertFalse(old.covers(new, by='number'))
+        self.assertFalse(old.covers(Program('thread\n  store tail 1\n  store head 2\n')))
+        with self.assertRaises(Unfit):
+            old.covers(Program(file('whole.hex')))
+        for one, other in itertools.product(['queue-broken.asm', 'queue-repaired.asm'], repeat=2):
+            told = answers('covers', f'examples/{one}', f'examples/{other}')[0]
+            if 'error' not in told:
+                found = Program.read(EXAMPLES / one).covers(Program.read(EXAMPLES / other))
+                self.assertEqual(found.covered, told['covered'])
+                self.assertEqual(str(found.execution) if found.execution else None, told.get('schedule'))
+
+    def test_force(self):
+        program = Program.read(EXAMPLES / 'queue-broken.asm')
+        self.assertEqual(program.force(['first', 'second']), Force('hostile', 0))
+        self.assertEqual(program.force([0, 1]), Force('hostile', 0))
+        self.assertEqual(program.force(['consumer']), Force('friendly', None))
+        # a hostile side without a first step before the failure
+        self.assertEqual(Program('01\n23000000000001\n').force([]), Force('hostile', None))
+        with self.assertRaises(ValueError):
+            program.force(['nobody'])
+        with self.assertRaises(Refused) as caught:
+            program.force([0, 5])
+        self.assertEqual((caught.exception.number, caught.exception.place), (48, 5))
+
+    def test_only_sequential_consistency(self):
+        program = Program(PAIR, 'tso')
+        for ask in (lambda: program.judge(b''), lambda: program.covers(program), lambda: program.force([0]),
+                    lambda: Program(PAIR).covers(program)):
+            with self.assertRaises(Unfit):
+                ask()
+        with self.assertRaises(ValueError):
+            Program(PAIR, 'pso')
+
+    def test_an_execution_is_a_value(self):
+        program = Program(QUEUE)
+        self.assertEqual(Execution(program, b'\x00', False), Execution(program, b'\x00', False))
+        self.assertEqual(repr(Execution(program, b'\x00', False)), "Execution(schedule=b'\\x00', fails=False)")
+
+
+if __name__ == '__main__':
+    unittest.main()
