@@ -12,13 +12,8 @@ use Rattle.lines.specs.Text.{digits, text}
 use Rattle.lines.specs.TextLines.{prepend, before, split}
 use Rattle.lines.specs.Meaning.{remark, spelt, meaning}
 use Rattle.program.specs.Kinds.{kinds, lookup, kindOf}
-use Rattle.program.specs.Frames.{word, kind, known, registerFits, locationFits, skipFits, operandFits, inRange}
-use Rattle.program.specs.Frames.{opens, declares, starts, isAccess}
-use Rattle.program.specs.Frames.{skipOf, operand, buildOwn, build, instruction}
-use Rattle.program.specs.Decode.{fresh, threadAt, lastThread, inPlace, accessesIn, allAccessesIn, withinLimits}
-use Rattle.program.specs.Decode.{isGiven, valueAt, startFits, sameBytes, sameCode, among}
-use Rattle.program.specs.Decode.{grouped, memberFits, followersFit, membersFit, alikeFits, frameRefusal, after, farSkip, firstFarSkip}
-use Rattle.program.specs.Decode.{programIn, finish, readLines, decode}
+use Rattle.program.specs.Frames.{word, kind, known, registerFits, locationFits, skipFits, operandFits, inRange, opens, declares, starts, isAccess, skipOf, operand, buildOwn, build, instruction}
+use Rattle.program.specs.Decode.{fresh, threadAt, lastThread, inPlace, accessesIn, allAccessesIn, withinLimits, isGiven, valueAt, startFits, sameBytes, sameCode, among, grouped, memberFits, followersFit, membersFit, alikeFits, frameRefusal, after, farSkip, firstFarSkip, programIn, finish, readLines, decode}
 use Rattle.program.specs.WellFormed.{accesses}
 use Rattle.schedules.specs.Lists.{all}
 use Rattle.schedules.specs.Computing.{computing}
@@ -30,16 +25,17 @@ use Rattle.consistent.specs.Same.{sameEvent, sameRead, sameList}
 use Rattle.consistent.specs.Answer.{Answer, consistent, inconsistent, refusing}
 use Rattle.consistent.proofs.ByWalk.{answerOn, answerFile}
 use Rattle.consistent.proofs.TextExamples.{answering}
-use Rattle.list.specs.ListOf.{together, permits, permitted, renames, alikeBy, alike, listOf}
-use Rattle.list.specs.Answers.{failing, countOf}
+use Rattle.sc_model.specs.Renamed.{renames}
+use Rattle.model.specs.Exchange.{together, permits, permitted}
+use Rattle.model.specs.Alike.{alikeBy, alike, listOf}
+use Rattle.model.specs.Answers.{countOf}
 use Rattle.listing.specs.Printed.{bytesOf, flag, scheduleFrame, countFrame, printedFrames, printed}
-use Rattle.cases.specs.Rows.{Row, empty, nothing, whole, wholeApart, increments, incrementsAlike, swaps, swapsAlike, adds, addsAlike}
-use Rattle.cases.specs.Rows.{buffering, asserting, passing, negative, sentinel, addsZero}
+use Rattle.cases.specs.Rows.{Row, empty, nothing, whole, wholeApart, increments, incrementsAlike, swaps, swapsAlike, adds, addsAlike, buffering, asserting, passing, negative, sentinel, addsZero}
 use Rattle.cases.specs.Graphs.{Graph, neither, one, blank, carried, zeroWritten}
 
 -- what a proof names to compute what is printed
 unfoldable pub computed : List ℕ → List ℕ
-unfolding computing seen lower digit value digitOf hexadecimal pairs frame digits text prepend before split remark spelt meaning kinds lookup kindOf word kind known registerFits locationFits skipFits operandFits inRange opens declares starts isAccess skipOf operand buildOwn build instruction fresh threadAt lastThread inPlace accessesIn allAccessesIn withinLimits isGiven valueAt startFits sameBytes sameList sameCode among grouped memberFits followersFit membersFit alikeFits frameRefusal after farSkip firstFarSkip programIn finish readLines decode accesses size accessesLeft movedEvent movedRead movedReads movedWrites together permits permitted sameEvent sameRead renames alikeBy alike listOf failing countOf bytesOf flag scheduleFrame countFrame printedFrames textOf printed
+unfolding computing seen lower digit value digitOf hexadecimal pairs frame digits text prepend before split remark spelt meaning kinds lookup kindOf word kind known registerFits locationFits skipFits operandFits inRange opens declares starts isAccess skipOf operand buildOwn build instruction fresh threadAt lastThread inPlace accessesIn allAccessesIn withinLimits isGiven valueAt startFits sameBytes sameList sameCode among grouped memberFits followersFit membersFit alikeFits frameRefusal after farSkip firstFarSkip programIn finish readLines decode accesses size accessesLeft movedEvent movedRead movedReads movedWrites together permits permitted sameEvent sameRead renames alikeBy alike listOf countOf bytesOf flag scheduleFrame countFrame printedFrames textOf printed
 computed file = printed file
 
 -- a row: a program with its list, or a graph text with the judge's answer

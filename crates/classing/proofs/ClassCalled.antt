@@ -1,9 +1,8 @@
 -- What the class call answers, by what carrying out the schedule left.
 use Prim.Native.Nat.{ℕ, _/_, _%_, _<_, _≤_}
 use native.Mathlib.Omega.{arith}
-use mathlib.Core.Path.{_≡_, refl, sym, ap, subst, _∙_}
+use mathlib.Core.Path.{_≡_, sym, ap, subst, _∙_}
 use mathlib.Core.Bool.{Bool, false, _&&_}
-use mathlib.Core.Option.{Option, none, some}
 use mathlib.Core.List.{List}
 use lib.ListN.{length, getD, take}
 use Rattle.program.specs.Program.{Program}
@@ -17,15 +16,13 @@ use Rattle.schedules.specs.Lists.{filter}
 use Rattle.schedules.specs.Order.{Schedule}
 use Rattle.schedules.specs.System.{run}
 use Rattle.schedules.specs.Permutations.{permutations}
-use Rattle.model.specs.Answers.{refusesFrom}
-use Rattle.model.specs.OnFile.{admit}
-use Rattle.model.specs.ClassSize.{classSize, Class, sized, refused-class, classBy, classOf, classOn, classFile}
+use Rattle.model.specs.ClassSize.{sized, refused-class, classBy, classOf, classOn, classFile}
 use Rattle.sc.specs.State.{SC, start}
 use Rattle.sc.specs.Graph.{Full}
 use Rattle.sc.specs.Replay.{Replayed, whole, refused, replay}
 use Rattle.sc.proofs.Replay.{replay-whole}
 use Rattle.sc_model.specs.Sequential.{sc}
-use Rattle.sc_model.proofs.Demand3.{sc-admits}
+use Rattle.sc_model.proofs.Admits.{sc-admits}
 use Rattle.sc_model.proofs.Refused.{refusalOf, refuses-replayed}
 use Rattle.graph_writer.specs.Notes.{Note, notes, Noted}
 use Rattle.graph_writer.specs.NoteText.{notesAt}

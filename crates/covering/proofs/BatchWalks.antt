@@ -7,23 +7,23 @@ use native.Mathlib.Omega.{arith}
 use lib.ListN.{length, getD, set, take, drop, length-take, take-append-drop}
 use lib.Seq.{take-suc, take-all}
 use Rattle.program.specs.Program.{Program}
-use Rattle.program.specs.WellFormed.{WellFormed}
 use Rattle.schedules.specs.Lists.{any, find}
 use Rattle.schedules.specs.Order.{Schedule}
-use Rattle.list.specs.Answers.{failing}
-use Rattle.list.specs.ListOf.{listOf}
-use Rattle.list.specs.Search.{sought}
+use Rattle.model.specs.Model.{failing}
+use Rattle.model.specs.Alike.{listOf}
+use Rattle.model.specs.Search.{sought}
+use Rattle.sc_model.specs.Sequential.{sc}
 use Rattle.outcomes.specs.declared.outcome.Outcome.{Outcome}
 use Rattle.outcomes.specs.Covers.{outcomeOf}
 use Rattle.outcomes.specs.Same.{comesTo}
 use Rattle.pages.specs.declared.cursor.Cursor.{Cursor}
 use Rattle.pages.specs.declared.cursor.Page.{Page}
-use Rattle.walker.specs.Cursor.{remaining, isEnd, pages, Paged}
+use Rattle.pages.specs.ListRows.{remaining, pages, Paged}
+use Rattle.pages.specs.Cursor.{isEnd}
 use Rattle.pages.proofs.PageLaws.{page-split, page-size, page-less}
 use Rattle.pages.proofs.CursorLaws.{from-end, of-from}
 use Rattle.covering.specs.declared.batch.Found.{Found}
 use Rattle.covering.specs.declared.batch.Batch.{Batch}
-use Rattle.covering.specs.declared.collecting.Collected.{Collected}
 use Rattle.covering.specs.Batches.{Entry, Held, Rows, ByOutcome, SameFirsts, Gathers, Collects}
 use Rattle.covering.proofs.Firsts.{firsts-trans, firsts-append, firsts-known}
 use Rattle.covering.proofs.BatchLaws.{held-none, held-more}
@@ -102,18 +102,18 @@ gathering-over p rows n a b k g h ss r = record {
 
 -- ---- the list walked
 -- what a cursor has yet to come is listed
-pub remaining-listed : (p : Program) (c : Cursor) (s : Schedule) → List·Memᴰ s (remaining p false c) → List·Memᴰ s (listOf p)
+pub remaining-listed : (p : Program) (c : Cursor) (s : Schedule) → List·Memᴰ s (remaining sc p false c) → List·Memᴰ s (listOf sc p)
 unfolding sought
-remaining-listed p c s m = of-from (sought false p) c s m
+remaining-listed p c s m = of-from (sought sc false p) c s m
 
 of-take : (n : ℕ) (l : List Schedule) (s : Schedule) → List·Memᴰ s (take n l) → List·Memᴰ s l
 of-take n l s m = subst (List·Memᴰ s) (take-append-drop n l) (Memᴰ·append-left (drop n l) m)
 
-ended-pages : (p : Program) (c : Cursor) → isEnd (c .position) ≡ true → pages p false c ≡ 0
-ended-pages p c e = ap₂ (λ (l : List Schedule) (b : Bool). length l + cond b 0 1) (from-end (sought false p) c e) e
+ended-pages : (p : Program) (c : Cursor) → isEnd (c .position) ≡ true → pages sc p false c ≡ 0
+ended-pages p c e = ap₂ (λ (l : List Schedule) (b : Bool). length l + cond b 0 1) (from-end (sought sc false p) c e) e
 
-some-pages : (p : Program) (c : Cursor) → isEnd (c .position) ≡ false → pages p false c ≡ length (remaining p false c) + 1
-some-pages p c e = ap (λ (b : Bool). length (remaining p false c) + cond b 0 1) e
+some-pages : (p : Program) (c : Cursor) → isEnd (c .position) ≡ false → pages sc p false c ≡ length (remaining sc p false c) + 1
+some-pages p c e = ap (λ (b : Bool). length (remaining sc p false c) + cond b 0 1) e
 
 -- behind the cursor c, up to the cursor d, these outcomes are collected
 pub record Collecting (p : Program) (c : Cursor) (rows : List ℕ) (b : Batch) (d : Cursor) : Type 0 where
@@ -122,9 +122,9 @@ pub record Collecting (p : Program) (c : Cursor) (rows : List ℕ) (b : Batch) (
   pub room : length (b .table) ≡ 128
   pub schedules : List Schedule
   pub held : Held p schedules b
-  pub firsts : (f : Schedule → Bool) → ByOutcome p f → find f (remaining p false c) ≡ find f (schedules ++ remaining p false d)
-  pub back : pages p false d ≤ pages p false c
-  pub onward : 0 < b .size → pages p false d < pages p false c
+  pub firsts : (f : Schedule → Bool) → ByOutcome p f → find f (remaining sc p false c) ≡ find f (schedules ++ remaining sc p false d)
+  pub back : pages sc p false d ≤ pages sc p false c
+  pub onward : 0 < b .size → pages sc p false d < pages sc p false c
 
 pub collecting-start : (p : Program) (c : Cursor) (rows : List ℕ) (b : Batch) → length rows ≡ 1664 → (b .size ≡ 0) × (length (b .table) ≡ 128) → Collecting p c rows b c
 collecting-start p c rows b n k = let e = k .0 in record {
@@ -159,41 +159,41 @@ collecting-end p c rows b d k e = record {
   onward = λ q. less q;
 }
   where
-    less : isEnd (c .position) ≡ false → pages p false d < pages p false c
+    less : isEnd (c .position) ≡ false → pages sc p false d < pages sc p false c
     less q = omega (arith, ended-pages p d e, some-pages p c q)
 
 -- a page more
 module _ (p : Program) (c : Cursor) (rows : List ℕ) (b : Batch) (d : Cursor) (k : Collecting p c rows b d) (rows' : List ℕ) (r : Page)
-    (page : Paged p false d rows rows' r) where
+    (page : Paged sc p false d rows rows' r) where
   abbrev shown-now : List Schedule
-  shown-now = take (length rows / 26) (remaining p false d)
+  shown-now = take (length rows / 26) (remaining sc p false d)
 
   page-room : length rows / 26 ≡ 64
   page-room = rw (k .size) refl
 
   pub collecting-64 : r .rows ≤ 64
-  collecting-64 = omega (arith, page .shown .counted, length-take (length rows / 26) (remaining p false d), page-room)
+  collecting-64 = omega (arith, page .shown .counted, length-take (length rows / 26) (remaining sc p false d), page-room)
 
   pub collecting-size : length rows' ≡ 1664
-  collecting-size = page-size 24 (failing p) (sought false p) d rows rows' r page ∙ k .size
+  collecting-size = page-size 24 (failing sc p) (sought sc false p) d rows rows' r page ∙ k .size
 
   pub collecting-rows : Rows p shown-now rows' (r .rows)
   collecting-rows = record {
     held = rows;
     shown = page .shown;
     room = collecting-size;
-    listed = λ s m. remaining-listed p d s (of-take (length rows / 26) (remaining p false d) s m);
+    listed = λ s m. remaining-listed p d s (of-take (length rows / 26) (remaining sc p false d) s m);
   }
 
-  pub collecting-less : isEnd (d .position) ≡ false → pages p false (r .cursor) < pages p false d
-  collecting-less e = page-less 24 (failing p) (sought false p) d rows rows' r page (omega (arith, page-room)) e
+  pub collecting-less : isEnd (d .position) ≡ false → pages sc p false (r .cursor) < pages sc p false d
+  collecting-less e = page-less 24 (failing sc p) (sought sc false p) d rows rows' r page (omega (arith, page-room)) e
 
   pub collecting-next : isEnd (d .position) ≡ false → b .size ≤ 64 → (b' : Batch)
       → ((ss : List Schedule) → Rows p ss rows' (r .rows) → Gathers p ss b b') → Collecting p c rows' b' (r .cursor)
   collecting-next e few b' gathers =
       let g = gathers shown-now collecting-rows in
       let x = g .held (k .schedules) (k .held) in
-      let rest : List Schedule = remaining p false (r .cursor) in
+      let rest : List Schedule = remaining sc p false (r .cursor) in
       record {
         size = collecting-size;
         few = omega (arith, g .few, few, collecting-64, page .shown .counted);
@@ -201,7 +201,7 @@ module _ (p : Program) (c : Cursor) (rows : List ℕ) (b : Batch) (d : Cursor) (
         schedules = x .0;
         held = x .1;
         firsts = λ f y.
-            k .firsts f y ∙ ap (λ (l : List Schedule). find f (k .schedules ++ l)) (page-split 24 (failing p) (sought false p) d rows rows' r page)
+            k .firsts f y ∙ ap (λ (l : List Schedule). find f (k .schedules ++ l)) (page-split 24 (failing sc p) (sought sc false p) d rows rows' r page)
             ∙ ap (find f) (sym (append-assoc (k .schedules) shown-now rest)) ∙ x .2 f y rest;
         back = omega (arith, k .back, collecting-less e);
         onward = λ h. omega (arith, k .back, collecting-less e);

@@ -1,8 +1,8 @@
 -- The answer by batches: what is found behind a cursor is found in its batch, or behind the next cursor.
 use Prim.Native.Nat.{ℕ, zero, suc, _<_, _≤_}
-use mathlib.Core.Path.{_≡_, refl, sym, ap, ap₂, subst, _∙_}
+use mathlib.Core.Path.{_≡_, refl, sym, ap, ap₂, _∙_}
 use mathlib.Core.Bool.{Bool, true, false, not}
-use mathlib.Core.Option.{Option, none, some}
+use mathlib.Core.Option.{none, some}
 use mathlib.Core.List.{List, [], _∷_, _++_, List·Memᴰ·not-nil}
 use native.Mathlib.Omega.{arith}
 use lib.ListN.{length, getD, take}
@@ -13,20 +13,21 @@ use Rattle.schedules.specs.Lists.{find}
 use Rattle.schedules.specs.Order.{Schedule}
 use Rattle.schedules.proofs.Lists.{find-yes, find-no}
 use Rattle.schedules.proofs.First.{find-none}
-use Rattle.list.specs.ListOf.{listOf}
-use Rattle.list.specs.Search.{sought}
-use Rattle.outcomes.specs.Covers.{outcomeOf}
+use Rattle.model.specs.Alike.{listOf}
+use Rattle.model.specs.Search.{sought}
+use Rattle.sc_model.specs.Sequential.{sc}
 use Rattle.outcomes.specs.Answer.{Answer, covered, lacking, first-refused, second-refused, output-refused, Accepted, Comparison, by-first, by-second, by-output, outputAfter}
 use Rattle.outcomes.proofs.Attained.{attained, lacksOf, lacks-same}
 use Rattle.outcomes.proofs.Comparisons.{answerBy, compared}
 use Rattle.pages.specs.declared.cursor.Cursor.{Cursor}
-use Rattle.walker.specs.Cursor.{remaining, isEnd}
+use Rattle.pages.specs.ListRows.{remaining}
+use Rattle.pages.specs.Cursor.{isEnd}
 use Rattle.pages.proofs.CursorLaws.{from-end}
 use Rattle.covering.specs.declared.covers_call.CoversAnswer.{CoversAnswer}
 use Rattle.covering.specs.declared.covers_call.CoversAnswer.the-variants.{Covered, Lacking, RefusedFirst, RefusedSecond, RefusedOutput}
 use Rattle.covering.specs.declared.batch.Found.{Found}
 use Rattle.covering.specs.declared.collecting.Collected.{Collected}
-use Rattle.covering.specs.Batches.{nothing, Entry, Held, Collects, Lacks}
+use Rattle.covering.specs.Batches.{nothing, Entry, Collects, Lacks}
 use Rattle.covering.specs.AnswerOf.{coversAnswerOf}
 
 -- none of the first list passes, or its member k is the first that does
@@ -43,18 +44,18 @@ find-at f (x ∷ l) rest (suc k) h n e =
 
 -- what is looked for is yet to come
 abbrev pub ToCome : Program → Program → Cursor → Type 0
-ToCome p q c = find (lacksOf p q) (listOf q) ≡ find (lacksOf p q) (remaining q false c)
+ToCome p q c = find (lacksOf p q) (listOf sc q) ≡ find (lacksOf p q) (remaining sc q false c)
 
 module _ (p q : Program) where
-  pub to-come-start : (c : Cursor) → remaining q false c ≡ sought false q → ToCome p q c
+  pub to-come-start : (c : Cursor) → remaining sc q false c ≡ sought sc false q → ToCome p q c
   unfolding sought
   to-come-start c e = ap (find (lacksOf p q)) (sym e)
 
-  pub to-come-end : (c : Cursor) → ToCome p q c → isEnd (c .position) ≡ true → find (lacksOf p q) (listOf q) ≡ none
-  to-come-end c t e = t ∙ ap (find (lacksOf p q)) (from-end (sought false q) c e) ∙ find-none (lacksOf p q) [] (λ s m. absurd (List·Memᴰ·not-nil m))
+  pub to-come-end : (c : Cursor) → ToCome p q c → isEnd (c .position) ≡ true → find (lacksOf p q) (listOf sc q) ≡ none
+  to-come-end c t e = t ∙ ap (find (lacksOf p q)) (from-end (sought sc false q) c e) ∙ find-none (lacksOf p q) [] (λ s m. absurd (List·Memᴰ·not-nil m))
 
   module _ (c : Cursor) (t : ToCome p q c) (r : Collected) (x : Collects q c r) (k : ℕ) (l : Lacks p q (x .schedules) k) where
-    whole : find (lacksOf p q) (listOf q) ≡ find (lacksOf p q) (x .schedules ++ remaining q false (r .cursor))
+    whole : find (lacksOf p q) (listOf sc q) ≡ find (lacksOf p q) (x .schedules ++ remaining sc q false (r .cursor))
     whole = t ∙ x .firsts (lacksOf p q) (lacks-same p q)
 
     there : (i : ℕ) → i < k → lacksOf p q (getD (x .schedules) i []) ≡ false
@@ -63,13 +64,13 @@ module _ (p q : Program) where
 
     pub to-come-next : r .batch .size ≤ k → ToCome p q (r .cursor)
     to-come-next h =
-        whole ∙ find-behind (lacksOf p q) (x .schedules) (remaining q false (r .cursor)) (λ i j. there i (omega (arith, h, j, x .held .size)))
+        whole ∙ find-behind (lacksOf p q) (x .schedules) (remaining sc q false (r .cursor)) (λ i j. there i (omega (arith, h, j, x .held .size)))
 
-    pub to-come-here : k < r .batch .size → find (lacksOf p q) (listOf q) ≡ some (getD (x .schedules) k [])
+    pub to-come-here : k < r .batch .size → find (lacksOf p q) (listOf sc q) ≡ some (getD (x .schedules) k [])
     unfolding lacksOf attained
     to-come-here h =
         let j : k < length (x .schedules) = omega (arith, h, x .held .size) in
-        whole ∙ find-at (lacksOf p q) (x .schedules) (remaining q false (r .cursor)) k j there (ap not (l .at j))
+        whole ∙ find-at (lacksOf p q) (x .schedules) (remaining sc q false (r .cursor)) k j there (ap not (l .at j))
 
     pub here-entry : k < r .batch .size → Entry q (getD (x .schedules) k []) (getD (r .batch .table) k nothing)
     here-entry h = x .held .entries k (omega (arith, h, x .held .size))
@@ -104,11 +105,11 @@ module _ (first second out : List ℕ) (p q : Program) (one : decode first ≡ a
   unfolding coversAnswerOf outputAfter
   answered-short h = (output-refused 22 0, by-output p q both h, refl, refl)
 
-  pub answered-covered : 24 ≤ length out → find (lacksOf p q) (listOf q) ≡ none → Answered first second out out Covered
+  pub answered-covered : 24 ≤ length out → find (lacksOf p q) (listOf sc q) ≡ none → Answered first second out out Covered
   unfolding coversAnswerOf outputAfter answerBy
   answered-covered h e = (covered, compared first second (length out) p q both h none e, refl, refl)
 
-  pub answered-lacking : 24 ≤ length out → (s : Schedule) → find (lacksOf p q) (listOf q) ≡ some s → (out' : List ℕ) → out' ≡ over s out → (n : ℕ) → n ≡ length s
+  pub answered-lacking : 24 ≤ length out → (s : Schedule) → find (lacksOf p q) (listOf sc q) ≡ some s → (out' : List ℕ) → out' ≡ over s out → (n : ℕ) → n ≡ length s
       → Answered first second out out' (Lacking n)
   unfolding coversAnswerOf outputAfter answerBy
   answered-lacking h s e out' o n m = (lacking s, compared first second (length out) p q both h (some s) e, ap {B = CoversAnswer} (λ k. Lacking k) m, o)

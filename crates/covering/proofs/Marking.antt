@@ -12,14 +12,16 @@ use Rattle.program.specs.Program.{Program}
 use Rattle.schedules.specs.Lists.{any}
 use Rattle.schedules.specs.Order.{Schedule}
 use Rattle.schedules.proofs.Loops.{any-nil}
-use Rattle.list.specs.ListOf.{listOf}
-use Rattle.list.specs.Search.{sought}
+use Rattle.model.specs.Alike.{listOf}
+use Rattle.model.specs.Search.{sought}
+use Rattle.sc_model.specs.Sequential.{sc}
 use Rattle.outcomes.specs.declared.outcome.Outcome.{Outcome}
 use Rattle.outcomes.specs.Covers.{outcomeOf}
 use Rattle.outcomes.specs.Same.{comesTo}
 use Rattle.outcomes.proofs.Attained.{comes-same}
 use Rattle.pages.specs.declared.cursor.Cursor.{Cursor}
-use Rattle.walker.specs.Cursor.{remaining, isEnd}
+use Rattle.pages.specs.ListRows.{remaining}
+use Rattle.pages.specs.Cursor.{isEnd}
 use Rattle.pages.proofs.CursorLaws.{from-end}
 use Rattle.covering.specs.declared.batch.Batch.{Batch}
 use Rattle.covering.specs.declared.collecting.Collected.{Collected}
@@ -101,7 +103,7 @@ module _ (wanted others : Batch) (before behind : List Bool) (k : ℕ) (m : Mark
 pub record Attaining (p : Program) (wanted : Batch) (marks : List Bool) (c : Cursor) : Type 0 where
   pub size : length marks ≡ 128
   pub all : (q : Program) (ss : List Schedule) → Held q ss wanted → (k : ℕ) → k < wanted .size
-      → met p q ss (listOf p) k ≡ (getD marks k false || met p q ss (remaining p false c) k)
+      → met p q ss (listOf sc p) k ≡ (getD marks k false || met p q ss (remaining sc p false c) k)
 
 -- no mark
 pub unmarked : (k : ℕ) → getD (replicate 128 false) k false ≡ false
@@ -113,7 +115,7 @@ unmarked k = none 128 k
     none (suc n) (suc k) = none n k
 
 pub attaining-start : (p : Program) (wanted : Batch) (marks : List Bool) (c : Cursor) → length marks ≡ 128 → ((k : ℕ) → getD marks k false ≡ false)
-    → remaining p false c ≡ sought false p → Attaining p wanted marks c
+    → remaining sc p false c ≡ sought sc false p → Attaining p wanted marks c
 unfolding sought
 attaining-start p wanted marks c n none e = record {
   size = n;
@@ -128,9 +130,9 @@ attaining-next p wanted marks c k r x marks' n tells = record {
   size = n;
   all = λ q ss a i h.
       let o : Outcome = outcomeOf q (getD ss i []) in
-      let rest : List Schedule = remaining p false (r .cursor) in
-      let split : met p q ss (remaining p false c) i ≡ (met p q ss (x .schedules) i || met p q ss rest i) =
-      any-same (comesTo p o) (remaining p false c) (x .schedules ++ rest) (x .firsts (comesTo p o) (comes-same p o)) ∙ any-append (comesTo p o) (x .schedules) rest in
+      let rest : List Schedule = remaining sc p false (r .cursor) in
+      let split : met p q ss (remaining sc p false c) i ≡ (met p q ss (x .schedules) i || met p q ss rest i) =
+      any-same (comesTo p o) (remaining sc p false c) (x .schedules ++ rest) (x .firsts (comesTo p o) (comes-same p o)) ∙ any-append (comesTo p o) (x .schedules) rest in
       k .all q ss a i h ∙ ap (λ (b : Bool). getD marks i false || b) split
       ∙ sym (or-assoc (getD marks i false) (met p q ss (x .schedules) i) (met p q ss rest i))
       ∙ ap (λ (b : Bool). b || met p q ss rest i) (sym (tells p q ss (x .schedules) a (x .held) i h));
@@ -145,8 +147,8 @@ attaining-end p wanted marks c k e j f q ss a = record {
   at = λ h. marked j (omega (arith, h, a .size)) ∙ f .2 (omega (arith, h, a .size));
 }
   where
-    marked : (i : ℕ) → i < wanted .size → met p q ss (listOf p) i ≡ getD marks i false
+    marked : (i : ℕ) → i < wanted .size → met p q ss (listOf sc p) i ≡ getD marks i false
     marked i h =
         k .all q ss a i h ∙ ap (λ (b : Bool). getD marks i false || b)
-        (ap (λ (l : List Schedule). met p q ss l i) (from-end (sought false p) c e) ∙ any-nil (comesTo p (outcomeOf q (getD ss i []))))
+        (ap (λ (l : List Schedule). met p q ss l i) (from-end (sought sc false p) c e) ∙ any-nil (comesTo p (outcomeOf q (getD ss i []))))
         ∙ or-false (getD marks i false)

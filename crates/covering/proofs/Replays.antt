@@ -19,7 +19,6 @@ use Rattle.replay.specs.declared.replaying.Verdict.the-variants.{Whole, Refused
 use Rattle.replay.specs.declared.replaying.Run.{Run}
 use Rattle.replay.specs.Carried.{HoldsRun}
 use Rattle.replay.proofs.Verdicts.{verdict-refused}
-use Rattle.list.specs.Answers.{failing}
 use Rattle.outcomes.specs.declared.outcome.Outcome.{Outcome}
 use Rattle.outcomes.specs.Covers.{outcomeOf}
 use Rattle.outcomes.proofs.Values.{values-memory}
@@ -39,6 +38,6 @@ module _ (code lengths : List ℕ) (p : Program) (s : Schedule) (r : Run) (held 
   end-held = subst (λ (x : Schedule). Holds code lengths (r .machine) (run SC (start p) x)) (held .all (goes-whole (r .verdict) refl)) (held .holds)
 
   pub outcome-held : (f : Bool) → f ≡ failsBy (r .machine) → outcome (r .machine .memory) f ≡ outcomeOf p s
-  unfolding outcomeOf failing
+  unfolding outcomeOf
   outcome-held f e =
       ap₂ outcome (values-memory (endOf p s) (r .machine .memory) (end-held .eight) (end-held .sizes .1) (end-held .values)) (e ∙ fails-by end-held)

@@ -9,8 +9,10 @@ use Rattle.program.specs.WellFormed.{WellFormed}
 use Rattle.schedules.specs.Order.{Schedule}
 use Rattle.sc.specs.Graph.{Full}
 use Rattle.sc.proofs.Lawful.{at-most-24}
-use Rattle.list.proofs.TheList.{list-exact}
-use Rattle.list.specs.Answers.{failing}
+use Rattle.model.proofs.TheList.{list-exact}
+use Rattle.model.specs.Model.{failing}
+use Rattle.sc_model.proofs.Laws.{sc-laws}
+use Rattle.sc_model.specs.Sequential.{sc}
 use Rattle.pages.proofs.RowsRead.{shown-length, shown-steps}
 use Rattle.covering.specs.declared.batch.Found.{Found}
 use Rattle.covering.specs.Batches.{Entry, Rows}
@@ -21,7 +23,7 @@ module _ (p : Program) (w : WellFormed p) (ss : List Schedule) (rows : List ℕ)
   row-within = omega (arith, h, r .shown .counted)
 
   pub row-full : Full p (getD ss k [])
-  row-full = list-exact p (getD ss k []) .0 (r .listed (getD ss k []) (getD-in ss k [] row-within)) .0
+  row-full = list-exact sc sc-laws p (getD ss k []) .0 (r .listed (getD ss k []) (getD-in ss k [] row-within)) .0
 
   row-24 : length (getD ss k []) ≤ 24
   row-24 = at-most-24 p w (getD ss k []) row-full
@@ -29,7 +31,7 @@ module _ (p : Program) (w : WellFormed p) (ss : List Schedule) (rows : List ℕ)
   row-count : (m : ℕ) → m ≡ getD rows (k * 26 + 2 - 2) 0 → m ≡ length (getD ss k [])
   row-count m e =
       let i : k * 26 + 2 - 2 ≡ k * 26 = omega arith in
-      e ∙ ap (λ (j : ℕ). getD rows j 0) i ∙ shown-length 24 (failing p) ss (r .held) rows n (r .shown) k h
+      e ∙ ap (λ (j : ℕ). getD rows j 0) i ∙ shown-length 24 (failing sc p) ss (r .held) rows n (r .shown) k h
 
   pub row-few : (m : ℕ) → m ≡ getD rows (k * 26 + 2 - 2) 0 → m ≤ 24
   row-few m e = omega (arith, row-count m e, row-24)
@@ -37,7 +39,7 @@ module _ (p : Program) (w : WellFormed p) (ss : List Schedule) (rows : List ℕ)
   pub row-steps : (m : ℕ) → m ≡ getD rows (k * 26 + 2 - 2) 0 → take (k * 26 + 2 + m - (k * 26 + 2)) (drop (k * 26 + 2) rows) ≡ getD ss k []
   row-steps m e =
       let i : k * 26 + 2 + m - (k * 26 + 2) ≡ length (getD ss k []) = omega (arith, row-count m e) in
-      ap (λ (j : ℕ). take j (drop (k * 26 + 2) rows)) i ∙ shown-steps 24 (failing p) ss (r .held) rows n (r .shown) k h row-24
+      ap (λ (j : ℕ). take j (drop (k * 26 + 2) rows)) i ∙ shown-steps 24 (failing sc p) ss (r .held) rows n (r .shown) k h row-24
 
   pub row-length : (m : ℕ) → m ≡ getD rows (k * 26 + 2 - 2) 0 → length (take (k * 26 + 2 + m - (k * 26 + 2)) (drop (k * 26 + 2) rows)) ≤ 24
   row-length m e = omega (arith, ap length (row-steps m e), row-24)

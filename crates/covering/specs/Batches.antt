@@ -8,13 +8,14 @@ use lib.ListN.{length, getD, take}
 use Rattle.program.specs.Program.{Program}
 use Rattle.schedules.specs.Lists.{any, find}
 use Rattle.schedules.specs.Order.{Schedule}
-use Rattle.list.specs.ListOf.{listOf}
-use Rattle.outcomes.specs.declared.outcome.Outcome.{Outcome}
+use Rattle.model.specs.Alike.{listOf}
+use Rattle.sc_model.specs.Sequential.{sc}
 use Rattle.outcomes.specs.Covers.{outcomeOf}
 use Rattle.outcomes.specs.Same.{comesTo}
 use Rattle.pages.specs.declared.cursor.Cursor.{Cursor}
-use Rattle.walker.specs.Rows.{Shown}
-use Rattle.walker.specs.Cursor.{remaining, isEnd, pages}
+use Rattle.pages.specs.ListRows.{Shown}
+use Rattle.pages.specs.ListRows.{remaining, pages}
+use Rattle.pages.specs.Cursor.{isEnd}
 use Rattle.covering.specs.declared.batch.Found.{Found}
 use Rattle.covering.specs.declared.batch.Batch.{Batch}
 use Rattle.covering.specs.declared.collecting.Collected.{Collected}
@@ -38,9 +39,9 @@ pub record Held (p : Program) (ss : List Schedule) (b : Batch) : Type 0 where
 -- so many rows of these listed schedules stand in front of the buffer
 pub record Rows (p : Program) (ss : List Schedule) (rows : List ℕ) (n : ℕ) : Type 0 where
   pub held : List ℕ
-  pub shown : Shown p ss held rows n
+  pub shown : Shown sc p ss held rows n
   pub room : length rows ≡ 1664
-  pub listed : (s : Schedule) → List·Memᴰ s ss → List·Memᴰ s (listOf p)
+  pub listed : (s : Schedule) → List·Memᴰ s ss → List·Memᴰ s (listOf sc p)
 
 -- a test that goes by outcomes alone
 abbrev pub ByOutcome : Program → (Schedule → Bool) → Type 0
@@ -61,8 +62,8 @@ pub record Collects (p : Program) (c : Cursor) (r : Collected) : Type 0 where
   pub few : r .batch .size ≤ 128
   pub schedules : List Schedule
   pub held : Held p schedules (r .batch)
-  pub firsts : (f : Schedule → Bool) → ByOutcome p f → find f (remaining p false c) ≡ find f (schedules ++ remaining p false (r .cursor))
-  pub onward : isEnd (c .position) ≡ false → pages p false (r .cursor) < pages p false c
+  pub firsts : (f : Schedule → Bool) → ByOutcome p f → find f (remaining sc p false c) ≡ find f (schedules ++ remaining sc p false (r .cursor))
+  pub onward : isEnd (c .position) ≡ false → pages sc p false (r .cursor) < pages sc p false c
 
 -- of q's schedules, so many, those are marked that were marked, and those whose outcome one of these schedules of p has
 abbrev pub Marks : Program → Program → List Schedule → List Schedule → ℕ → List Bool → List Bool → Type 0
@@ -72,5 +73,5 @@ Marks p q ss rs n before behind =
 -- the first of q's schedules with an outcome that no listed one of p has, or their number
 pub record Lacks (p q : Program) (ss : List Schedule) (k : ℕ) : Type 0 where
   pub within : k ≤ length ss
-  pub before : (i : ℕ) → i < k → any (comesTo p (outcomeOf q (getD ss i []))) (listOf p) ≡ true
-  pub at : k < length ss → any (comesTo p (outcomeOf q (getD ss k []))) (listOf p) ≡ false
+  pub before : (i : ℕ) → i < k → any (comesTo p (outcomeOf q (getD ss i []))) (listOf sc p) ≡ true
+  pub at : k < length ss → any (comesTo p (outcomeOf q (getD ss k []))) (listOf sc p) ≡ false

@@ -5,7 +5,7 @@ use decoder::Compiled;
 use lines::wide;
 use outcomes::Outcome;
 use program::STEPS;
-use walker::ROW;
+use ending::ROW;
 ghost use mathlib.Core.Path.{_≡_};
 ghost use mathlib.Core.List.{List};
 ghost use Prim.Native.Nat.{ℕ, _+_, _≤_};

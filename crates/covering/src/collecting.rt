@@ -5,7 +5,8 @@ use crate::batch::gathered;
 use decoder::Compiled;
 use pages::Cursor;
 use pages::is_end;
-use walker::next_page;
+use listing_model::Model;
+use listing_pages::next_page;
 ghost use Rattle.program.specs.WellFormed.{WellFormed};
 ghost use Rattle.decoder.specs.Compiled.{programOf};
 ghost use Rattle.covering.specs.Batches.{Collects};
@@ -31,7 +32,7 @@ pub(crate) fn collect(program: Compiled, cursor: Cursor) -> Collected
                 cursor: at,
             };
         }
-        let page = next_page(program, at, false, &mut rows);
+        let page = next_page(Model::Sequential, program, at, false, &mut rows);
         let more = gathered(program, &rows, page.rows, batch);
         batch = more;
         at = page.cursor;

@@ -22,7 +22,8 @@ use Rattle.machine.specs.Held.{idle, threadAt, Holds, ReadyThread, HoldsMoved}
 use Rattle.machine.specs.declared.state.Machine.{Machine}
 use Rattle.machine.specs.declared.stepping.Moved.{Moved}
 use Rattle.machine.proofs.HeldAsking.{enabled-none, held-ended, fails-by, fails-yes, fails-not}
-use Rattle.list.specs.Answers.{failing}
+use Rattle.model.specs.Model.{failing}
+use Rattle.sc_model.specs.Sequential.{sc}
 use Rattle.survivors.specs.Sets.{has, setOf}
 use Rattle.survivors.specs.LateSet.{lateSet}
 use Rattle.survivors.specs.Sleepers.{sleepers}
@@ -173,8 +174,7 @@ module _ (code lengths class : List ℕ) (threads groups : ℕ) (x : Place) (p :
           go false e false q = sym (fails-by (run .reached .holds)) ∙ fails-not (machineOf y (run .reached .last)) (λ u h. each e q u h (ℕ-discrete u t))
 
       module _ (f : Bool) (ef : f ≡ (r .thread .failed || r .failed)) (before : r .failed ≡ fails (endOf p v)) where
-        pub run-failing : failing p (run .prefix) ≡ f
-        unfolding failing
+        pub run-failing : failing sc p (run .prefix) ≡ f
         run-failing = run-fails ∙ ap (λ (b : Bool). r .thread .failed || b) (sym before) ∙ sym ef
 
         module _ (settled : Settled p v t false) where

@@ -3,9 +3,10 @@ use Prim.Native.Nat.{ℕ}
 use mathlib.Core.List.{List}
 use Rattle.program.specs.Program.{Program}
 use Rattle.schedules.specs.Order.{Schedule}
-use Rattle.list.specs.Answers.{failing}
+use Rattle.model.specs.Model.{failing}
+use Rattle.sc_model.specs.Sequential.{sc}
 use Rattle.pages.specs.Walked as Pages
 
 -- the rows of these schedules are added behind those that stand in the output, as far as there is room
 abbrev pub Adds : Program → ℕ → List Schedule → List ℕ → ℕ → List ℕ → ℕ → Type 0
-Adds p room found out rows out' rows' = Pages.Adds 24 (failing p) room found out rows out' rows'
+Adds p room found out rows out' rows' = Pages.Adds 24 (failing sc p) room found out rows out' rows'

@@ -8,8 +8,9 @@ use Rattle.lines.specs.Over.{over}
 use Rattle.program.specs.Program.{Program}
 use Rattle.schedules.specs.Order.{Schedule}
 use Rattle.sc.specs.State.{start}
-use Rattle.list.specs.Answers.{fails-first}
-use Rattle.listing.specs.OnFile.{violationFile}
+use Rattle.model.specs.Answers.{fails-first}
+use Rattle.model.specs.OnFile.{violationFile}
+use Rattle.sc_model.specs.Sequential.{sc}
 use Rattle.game.specs.Game.{hostile, ExactlyOne}
 use Rattle.game.specs.Forced.{gameOf, CanForce, Answer, Forced}
 
@@ -18,6 +19,6 @@ pub record Forcing (file : List ℕ) (set : ℕ) (p : Program) : Type 0 where
   pub exactly-one : ExactlyOne (gameOf set) hostile (start p)
   -- IF THE HOSTILE SIDE CAN, the violation call, with an output that is not too short, reports a schedule
   pub violation : CanForce hostile set p → (out : List ℕ) → 24 ≤ length out
-      → (s : Schedule) × (violationFile file out ≡ (fails-first s, over s out))
+      → (s : Schedule) × (violationFile sc file out ≡ (fails-first s, over s out))
   -- ONLY ONE ANSWER is right: what the call's contract equates its answer with
   pub only : (a b : Answer) → Forced file set a → Forced file set b → a ≡ b

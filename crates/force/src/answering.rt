@@ -1,6 +1,7 @@
 // Who can force the failure, asked of a program file and a set.
 use decoder::Compiled;
 use listing::ListAnswer;
+use listing_model::Model;
 use machine::started;
 use moves::friendly_move;
 use moves::has_step;
@@ -84,7 +85,7 @@ fn played(file: &[u8], program: Compiled, set: u8) -> ForceAnswer
         return decided(program, set);
     }
     let mut out = [0u8; STEPS];
-    let v = listing::violation(file, &mut out);
+    let v = listing::violation(Model::Sequential, file, &mut out);
     match v {
         ListAnswer::NoMore => ForceAnswer::Friendly,
         ListAnswer::Found(n) => decided(program, set),

@@ -9,18 +9,17 @@ use native.Mathlib.Decide.{ℕ-discrete}
 use Rattle.program.specs.Program.{Program}
 use Rattle.program.specs.WellFormed.{WellFormed}
 use Rattle.schedules.specs.Order.{Schedule}
-use Rattle.schedules.specs.System.{run}
 use Rattle.schedules.proofs.Front.{Free}
 use Rattle.schedules.proofs.Runs.{run-append}
 use Rattle.model.proofs.Passing.{Passed}
 use Rattle.model.proofs.Late as Model
-use Rattle.sc.specs.State.{State, place, step, SC}
+use Rattle.sc.specs.State.{State, step, SC}
 use Rattle.sc.specs.Graph.{endOf, Full}
 use Rattle.sc.specs.Actions.{Action, action, actions, who, conflict}
 use Rattle.sc.proofs.Swap.{Independent, action-after}
 use Rattle.sc.proofs.Trails.{who-is, conflict-elsewhere, conflict-read}
 use Rattle.sc.proofs.FreeSteps.{action-thread, action-location, action-wrote, free-action, actions-nil, actions-cons}
-use Rattle.list.specs.Alike.{Smaller}
+use Rattle.model.specs.Alike.{Smaller}
 use Rattle.list.specs.Rules.{late, taken}
 use Rattle.sc_model.specs.Sequential.{sc}
 use Rattle.sc_model.proofs.Laws.{sc-laws}
@@ -46,14 +45,14 @@ free-passes (a ∷ z) σ t f =
 
 module _ (p : Program) (w : WellFormed p) where
   -- R1
-  pub late-smaller : (v : Schedule) (t : ℕ) (z : Schedule) → late (taken p v) (action (endOf p v) t) ≡ true → Full p (v ++ (t ∷ z)) → Smaller p (v ++ (t ∷ z))
+  pub late-smaller : (v : Schedule) (t : ℕ) (z : Schedule) → late (taken p v) (action (endOf p v) t) ≡ true → Full p (v ++ (t ∷ z)) → Smaller sc p (v ++ (t ∷ z))
   late-smaller v t z e f = Model.late-smaller sc sc-laws p (w, refl) v t z e f
 
   -- it stays late behind steps that it is free of
-  pub late-still-smaller : (v f : Schedule) (t : ℕ) (z : Schedule) → late (taken p v) (action (endOf p v) t) ≡ true → Free SC Independent (endOf p v) f t → Full p (v ++ (f ++ (t ∷ z))) → Smaller p (v ++ (f ++ (t ∷ z)))
+  pub late-still-smaller : (v f : Schedule) (t : ℕ) (z : Schedule) → late (taken p v) (action (endOf p v) t) ≡ true → Free SC Independent (endOf p v) f t → Full p (v ++ (f ++ (t ∷ z))) → Smaller sc p (v ++ (f ++ (t ∷ z)))
   late-still-smaller v f t z e free full =
       let same : action (endOf p v) t ≡ action (endOf p (v ++ f)) t = sym (free-action f (endOf p v) t free) ∙ ap (λ (τ : State). action τ t) (sym (run-append SC _ v f)) in
       let whole = append-assoc v f (t ∷ z) in
-      subst (Smaller p) whole
+      subst (Smaller sc p) whole
       (Model.passing-smaller sc sc-laws p (w, refl) v f t z (subst (λ (d : Action). late (taken p v) d ≡ true) same e)
       (subst (Passed who conflict (actions (endOf p v) f)) same (free-passes f (endOf p v) t free)) (subst (Full p) (sym whole) full))

@@ -1,7 +1,7 @@
 -- R2 is sound: where a smaller twin u stands as t stands, exchanging the two leaves the state as it is, so that every full schedule that takes t
 -- now has an exchanged one that takes u.
 use Prim.Native.Nat.{ℕ, _<_}
-use mathlib.Core.Path.{_≡_, sym, ap, ap₂, subst, _∙_}
+use mathlib.Core.Path.{_≡_, refl, sym, ap, ap₂, subst, _∙_}
 use mathlib.Core.Logic.{_≢_}
 use mathlib.Core.Bool.{true}
 use mathlib.Core.List.{List, _∷_, _++_}
@@ -29,14 +29,15 @@ use Rattle.sc.proofs.ExchangedActions.{moved-cons}
 use Rattle.sc.proofs.ProgramGraphs.{graph-moved-end}
 use Rattle.consistent.specs.Same.{sameRead}
 use Rattle.consistent.proofs.Tests.{same-read-is, same-list-is}
-use Rattle.list.specs.Alike.{Smaller}
-use Rattle.list.specs.ListOf.{together}
+use Rattle.model.specs.Alike.{Smaller}
+use Rattle.model.specs.Exchange.{together, Together}
 use Rattle.list.specs.Rules.{sameLocal, sameHistory, silent, twin}
-use Rattle.model.specs.Exchange.{Together}
-use Rattle.list.proofs.Equivalence.{alike-sym}
-use Rattle.list.proofs.Tests.{together-true}
+use Rattle.model.proofs.Alike.{alike-sym}
+use Rattle.model.proofs.Permitted.{together-true}
 -- two members of one `02` line exist and have one code; a thread that has written nothing
 pub use Rattle.model.proofs.Exchanges.{members}
+use Rattle.sc_model.proofs.Laws.{sc-laws}
+use Rattle.sc_model.specs.Sequential.{sc}
 pub use Rattle.sc.proofs.Standing.{silent-true}
 use Rattle.sc.proofs.Standing.{same-local}
 use Rattle.list.proofs.Swapped.{swapped, swapped-high, swapped-exchange, swapped-state}
@@ -56,7 +57,7 @@ module _ (p : Program) (w : WellFormed p) where
       (same-local _ _ (λ n. suffix-equal (codeOf p t) _ _ (subst (Suffix _) (r .2) (rest-code p v a u)) (rest-code p v a t) n) e) (same-history _ _ f)
 
   -- R2
-  pub twin-smaller : (v : Schedule) (u t : ℕ) (z : Schedule) → u < t → twin p (endOf p v) t u ≡ true → Full p (v ++ (t ∷ z)) → Smaller p (v ++ (t ∷ z))
+  pub twin-smaller : (v : Schedule) (u t : ℕ) (z : Schedule) → u < t → twin p (endOf p v) t u ≡ true → Full p (v ++ (t ∷ z)) → Smaller sc p (v ++ (t ∷ z))
   unfolding twin
   twin-smaller v u t z h e f =
       let σ : State = endOf p v in
@@ -81,5 +82,5 @@ module _ (p : Program) (w : WellFormed p) where
         v ++ rest,
         full-join SC (start p) v rest (s .0) (r .0),
         less-behind v rest (t ∷ z) ∙ ap (λ (y : Schedule). less y (t ∷ z)) first ∙ less-heads u t (movedSchedule (swapped u t) z) z h,
-        alike-sym p w (v ++ (t ∷ z)) (v ++ rest) (swapped u t, x, graph-moved-end p (swapped u t) (v ++ (t ∷ z)) (v ++ rest) ends),
+        alike-sym sc sc-laws p (w, refl) (v ++ (t ∷ z)) (v ++ rest) (swapped u t, x, graph-moved-end p (swapped u t) (v ++ (t ∷ z)) (v ++ rest) ends),
       )

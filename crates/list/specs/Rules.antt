@@ -12,7 +12,7 @@ use Rattle.sc.specs.State.{History, State, threadOf}
 use Rattle.sc.specs.Actions.{Action, who, conflict}
 use Rattle.consistent.specs.Same.{sameRead, sameList}
 use Rattle.sc_model.specs.Sequential.{sc}
-use Rattle.list.specs.ListOf.{together}
+use Rattle.model.specs.Exchange.{together}
 -- local states compared, and whether a thread has written nothing
 unfoldable pub use Rattle.sc.specs.Standing.{sameFlag, sameLocal, silent}
 

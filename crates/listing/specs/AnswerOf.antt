@@ -4,7 +4,7 @@ use lib.ListN.{length}
 use Rattle.schedules.specs.Calls.{Answer, found, nomore, refused}
 use Rattle.listing.specs.declared.calling.ListAnswer.{ListAnswer}
 use Rattle.listing.specs.declared.calling.ListAnswer.the-variants.{Found, NoMore, Refused}
-use Rattle.list.specs.Answers.{Violation, fails-first, none-fails, refused-by}
+use Rattle.model.specs.Answers.{Violation, fails-first, none-fails, refused-by}
 
 -- of start and continue
 unfoldable pub listAnswerOf : Answer → ListAnswer

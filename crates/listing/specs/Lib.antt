@@ -1,8 +1,8 @@
--- What a reader of this crate must believe, in reading order.
--- the four calls on a program file
-pub mod OnFile
--- the promise as a whole
+-- What a reader of this crate must believe, in reading order. The four calls on a program file stand in `model` (`OnFile`).
+-- the promise as a whole, in any memory model
 pub mod Demand3
+-- and what is promised of sequential consistency beside it
+pub mod Sequential
 -- what the listing program prints
 pub mod Printed
 -- the answers as the code gives them

@@ -7,8 +7,10 @@ use Rattle.program.specs.Program.{Program}
 use Rattle.program.specs.Decode.{Decoded, accepted, refused, decode}
 use Rattle.schedules.specs.Order.{Schedule}
 use Rattle.sc.specs.Text.{textOf}
-use Rattle.list.specs.ListOf.{listOf}
-use Rattle.list.specs.Answers.{failing, Counts, countOf}
+use Rattle.model.specs.Alike.{listOf}
+use Rattle.model.specs.Model.{failing}
+use Rattle.model.specs.Answers.{Counts, countOf}
+use Rattle.sc_model.specs.Sequential.{sc}
 
 -- so many bytes of a number, most significant first
 unfoldable pub bytesOf : ℕ → ℕ → List ℕ
@@ -20,13 +22,13 @@ flag true = 1
 flag false = 0
 
 unfoldable pub scheduleFrame : Program → Schedule → List ℕ
-scheduleFrame p s = 0x50 ∷ flag (failing p s) ∷ s
+scheduleFrame p s = 0x50 ∷ flag (failing sc p s) ∷ s
 
 unfoldable pub countFrame : Counts → List ℕ
 countFrame c = 0x51 ∷ (bytesOf 8 (c .listed) ++ bytesOf 8 (c .failed))
 
 unfoldable pub printedFrames : Decoded → List (List ℕ)
-printedFrames (accepted p) = map (scheduleFrame p) (listOf p) ++ (countFrame (countOf p) ∷ [])
+printedFrames (accepted p) = map (scheduleFrame p) (listOf sc p) ++ (countFrame (countOf sc p) ∷ [])
 printedFrames (refused n k) = (0x52 ∷ n ∷ bytesOf 2 k) ∷ []
 
 -- from the file's bytes to the printed bytes

@@ -1,7 +1,7 @@
--- A list of calls on one file that the model lists is a walk through its list: a schedule that was answered is listed, so full, and a
--- continue from a full schedule is not refused for it.
+-- Start and continue on a file that the model lists: a continue from a full schedule is not refused for it, and gives the least member of
+-- the list after it.
 use Prim.Native.Nat.{ℕ, suc, _≤_}
-use mathlib.Core.Path.{_≡_, refl, sym, ap, subst, _∙_}
+use mathlib.Core.Path.{_≡_, refl, sym, ap, _∙_}
 use mathlib.Core.Logic.{_↔_}
 use mathlib.Core.Bool.{Bool, true, false}
 use mathlib.Core.Option.{Option, none, some}
@@ -14,9 +14,9 @@ use Rattle.program.specs.Decode.{Decoded, accepted, decode}
 use Rattle.schedules.specs.Lists.{find}
 use Rattle.schedules.specs.Order.{Schedule, less}
 use Rattle.schedules.specs.System.{System, FullFrom}
-use Rattle.schedules.specs.Calls.{Answer, found, nomore, offer, answerTo, short, Result, result, called, last, Dialogue, due}
-use Rattle.schedules.proofs.Calls.{called-found, called-nomore, dialogue-answers}
-use Rattle.schedules.proofs.Offered.{offer-in, offer-next, answer-short, last-answer}
+use Rattle.schedules.specs.Calls.{Answer, found, nomore, offer, answerTo, short, Result, result, called}
+use Rattle.schedules.proofs.Calls.{called-found, called-nomore}
+use Rattle.schedules.proofs.Offered.{offer-next, answer-short}
 use Rattle.schedules.proofs.First.{find-none, next-find}
 use Rattle.schedules.proofs.FirstIn.{FirstIn, find-in, in-find, none-find}
 use Rattle.model.specs.Model.{Model, Full}
@@ -24,8 +24,7 @@ use Rattle.model.specs.Laws.{Laws}
 use Rattle.model.specs.Alike.{listOf}
 use Rattle.model.specs.Answers.{startOf, refusesFrom, continued, continueOf}
 use Rattle.model.specs.OnFile.{admit, startOn, continueOn, startFile, continueFile}
-use Rattle.model.specs.Demand3.{call, Called}
-use Rattle.model.proofs.TheList.{list-ascends, list-exact}
+use Rattle.model.proofs.TheList.{list-ascends}
 
 -- a full schedule is not refused
 full-goes : (M : System) (s : Schedule) (k : ℕ) (σ : M .State) → FullFrom M σ s → refusesFrom M k σ s ≡ none
@@ -65,39 +64,14 @@ module _ (M : Model) (p : Program) where
       go true e = let k = answer-short (offer (listOf M p) (some s)) in ap (λ (a : Answer). result a out) (rw (e, k))
       go false e = ap (λ (a : Answer). result a out) (rw (e, given))
 
-  -- nothing answered yet, or a full schedule
-  abbrev Known : Option Schedule → Type 0
-  Known none = Unit {0}
-  Known (some s) = Full M p s
-
 module _ (M : Model) (L : Laws M) (file : List ℕ) (p : Program) (e : admit M (decode file) ≡ accepted p) where
-  -- behind an answer too
-  known-next : (o : Option Schedule) → Known M p o → (out : List ℕ) → Known M p (last o (called (M .need) (listOf M p) o out .0))
-  known-next o k out = last-answer (Full M p) (Known M p) (λ s f. f) (short (M .need) out) (offer (listOf M p) o) o k (λ s q. list-exact M L p s .0 (offer-in (listOf M p) o s q) .0)
-
   pub continue-file : (s : Schedule) → Full M p s → (out : List ℕ) → continueFile M file s out ≡ called (M .need) (listOf M p) (some s) out
   unfolding continueOn
   continue-file s f out = ap (λ (d : Decoded). continueOn M d s out) e ∙ continue-full M p s f out
 
-  start-file : (out : List ℕ) → startFile M file out ≡ called (M .need) (listOf M p) none out
+  pub start-file : (out : List ℕ) → startFile M file out ≡ called (M .need) (listOf M p) none out
   unfolding startOn startOf
   start-file out = ap (λ (d : Decoded). startOn M d out) e
-
-  call-called : (o : Option Schedule) → Known M p o → (out : List ℕ) → call M file o out ≡ called (M .need) (listOf M p) o out
-  call-called none k out = start-file out
-  call-called (some s) k out = continue-file s k out
-
-  dialogue : (outs : List (List ℕ)) (o : Option Schedule) (rs : List Result) → Known M p o → Called M file o outs rs → Dialogue (M .need) (listOf M p) o outs rs
-  dialogue [] o [] k d = tt
-  dialogue [] o (r ∷ rs) k d = d
-  dialogue (out ∷ outs) o [] k d = d
-  dialogue (out ∷ outs) o (r ∷ rs) k d =
-      let q = d .0 ∙ call-called o k out in
-      (q, dialogue outs (last o (r .0)) rs (subst (λ (x : Result). Known M p (last o (x .0))) (sym q) (known-next o k out)) (d .1))
-
-  -- THE CALLS give what is due
-  pub calls-due : (outs : List (List ℕ)) (rs : List Result) → Called M file none outs rs → rs ≡ due (M .need) (listOf M p) outs
-  calls-due outs rs d = dialogue-answers (M .need) (listOf M p) (list-ascends M L p) outs rs (dialogue outs none rs tt d)
 
   -- a continue from a full schedule, with enough room: the least listed one after it, or no more
   pub continue-least : (s : Schedule) → Full M p s → (out : List ℕ) → M .need ≤ length out → (r : Schedule) → (continueFile M file s out ≡ (found r, over r out)) ↔ FirstIn (less s) (listOf M p) r

@@ -1,12 +1,11 @@
 -- WHAT IS PROMISED OF THE SIZES OF CLASSES holds of every memory model with its laws that does not see groups, and every file that it lists.
 use Prim.Native.Nat.{ℕ, _^_, _%_}
-use mathlib.Core.Path.{_≡_, refl, sym, ap, fun-ext, _∙_}
-use mathlib.Core.Option.{Option, none}
+use mathlib.Core.Path.{_≡_, sym, ap, fun-ext, _∙_}
 use mathlib.Core.Bool.{Bool}
 use mathlib.Core.List.{List}
 use lib.ListN.{length}
 use Rattle.program.specs.Program.{Program}
-use Rattle.program.specs.Decode.{Decoded, accepted, decode}
+use Rattle.program.specs.Decode.{accepted, decode}
 use Rattle.program.specs.Ungrouped.{ungrouped, withoutAlike}
 use Rattle.program.proofs.Ungrouped.{without-alike}
 use Rattle.schedules.specs.Lists.{filter}
@@ -14,11 +13,11 @@ use Rattle.schedules.specs.Order.{Schedule}
 use Rattle.model.specs.Model.{Model, failing}
 use Rattle.model.specs.Laws.{Admitted, Laws}
 use Rattle.model.specs.Alike.{listOf}
-use Rattle.model.specs.OnFile.{unless, admit, Count, counted, countFile}
+use Rattle.model.specs.OnFile.{unless, admit, counted, countFile}
 use Rattle.model.specs.ClassSize.{total, classSize}
 use Rattle.model.specs.Classes.{GroupsUnseen, Classes}
 use Rattle.model.proofs.Outcome.{same-outcome}
-use Rattle.model.proofs.Demand3.{admitted, listed-program, demand-3}
+use Rattle.model.proofs.Admitted.{admitted, listed-program, same-count}
 use Rattle.model.proofs.ClassSize.{class-distinct, class-exact, class-own, class-alike, class-times, class-few}
 use Rattle.model.proofs.ClassSum.{same-end, class-sum-of, class-sum}
 
@@ -45,7 +44,7 @@ module _ (M : Model) (L : Laws M) (U : GroupsUnseen M) (file : List ℕ) (p : Pr
       let some : total (classSize M p) (filter (failing M p) (listOf M p)) ≡ length (filter (failing M (ungrouped p)) (listOf M (ungrouped p))) =
       class-sum-of M L U p w (failing M p) (λ r s f g l. same-outcome M L p w r s f g l .0)
       ∙ ap (λ (f : Schedule → Bool). length (filter f (listOf M (ungrouped p)))) (sym failing-too) in
-      demand-3 M L (withoutAlike file) (ungrouped p) listed-too .counts
+      same-count M L (withoutAlike file) (ungrouped p) listed-too
       ∙ ap (λ (n : ℕ). counted (record { listed = n % 2 ^ 64; failed = length (filter (failing M (ungrouped p)) (listOf M (ungrouped p))) % 2 ^ 64 })) (sym all)
       ∙ ap (λ (n : ℕ). counted (record { listed = total (classSize M p) (listOf M p) % 2 ^ 64; failed = n % 2 ^ 64 })) (sym some)
 

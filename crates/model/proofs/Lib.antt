@@ -35,12 +35,14 @@ pub mod Twins
 pub mod Representative
 -- what the search finds, for every sound rule
 pub mod Search
--- a list of calls walks the list
+-- the programs that the model lists
+pub mod Admitted
+-- start and continue on a file
 pub mod Calls
 -- violation
 pub mod Violations
--- DEMAND 3
-pub mod Demand3
+-- what the calls can answer: members of the list, and small refusals
+pub mod Answered
 -- counting over lists
 pub mod Counting
 -- the size of a class: exactly the graphs alike; orbit and stabilizer

@@ -1,11 +1,10 @@
 -- THE SEARCH FINDS what the list has above the bound, or those of it that fail, for every sound rule: with the test at a full schedule, and
 -- without it where the rules alone leave listed schedules only.
-use Prim.Native.Nat.{ℕ}
 use mathlib.Core.Path.{_≡_, refl, sym, ap, _∙_}
 use mathlib.Core.Logic.{_⊎_, inl, inr}
 use mathlib.Core.Bool.{Bool, true, false, _||_}
-use mathlib.Core.Option.{Option}
-use mathlib.Core.List.{[], _∷_, _++_}
+use mathlib.Core.Option.{Option, some}
+use mathlib.Core.List.{List, _∷_, _++_}
 use Rattle.program.specs.Program.{Program}
 use Rattle.program.proofs.Tests.{either}
 use Rattle.schedules.specs.Lists.{both, filter, Ascends}
@@ -15,6 +14,7 @@ use Rattle.schedules.specs.Listed as Schedules
 use Rattle.schedules.specs.Search.{SoundCut, Uncut}
 use Rattle.schedules.specs.Found.{after}
 use Rattle.schedules.proofs.Lists.{both-false, ascends-filter}
+use Rattle.schedules.proofs.After.{after-on}
 use Rattle.schedules.proofs.Kept.{filter-same, filter-filter}
 use Rattle.schedules.proofs.Search.{found-above}
 use Rattle.schedules.proofs.SameFound.{found-same}
@@ -92,3 +92,8 @@ pub sought-ascends : (M : Model) (L : Laws M) (failures : Bool) (p : Program) �
 unfolding sought
 sought-ascends M L false p = list-ascends M L p
 sought-ascends M L true p = ascends-filter less (failing M p) (listOf M p) (list-ascends M L p)
+
+-- behind a member of what is above a bound stands the rest
+pub sought-on : (M : Model) (L : Laws M) (p : Program) (failures : Bool) (o : Option Schedule) (xs : List Schedule) (s : Schedule) (ys : List Schedule) →
+    after o (sought M failures p) ≡ xs ++ (s ∷ ys) → after (some s) (sought M failures p) ≡ ys
+sought-on M L p failures o xs s ys e = after-on o (sought M failures p) xs s ys (sought-ascends M L failures p) e

@@ -21,5 +21,3 @@ pub mod OnFile
 pub mod ClassSize
 -- and what is promised of it
 pub mod Classes
--- DEMAND 3
-pub mod Demand3

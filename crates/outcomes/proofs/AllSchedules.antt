@@ -1,6 +1,6 @@
 -- The answer says the same of all full schedules, listed or not: the schedule answered is the least of all full schedules of the second with
 -- an outcome that the first lacks.
-use mathlib.Core.Path.{_≡_, refl, sym, ap, subst, _∙_}
+use mathlib.Core.Path.{_≡_, refl, ap, subst, _∙_}
 use mathlib.Core.Logic.{⊎-elim}
 use mathlib.Core.Bool.{Bool, true, false}
 use Rattle.program.specs.Program.{Program}
@@ -8,18 +8,20 @@ use Rattle.program.specs.WellFormed.{WellFormed}
 use Rattle.schedules.specs.Order.{Schedule, less}
 use Rattle.schedules.proofs.Order.{less-transitive, not-less-at-most}
 use Rattle.sc.specs.Graph.{Full}
-use Rattle.list.specs.Alike.{Alike, Listed}
-use Rattle.list.proofs.Equivalence.{alike-sym}
-use Rattle.list.proofs.TheList.{list-exact}
+use Rattle.model.specs.Alike.{Alike, Listed}
+use Rattle.sc_model.specs.Sequential.{sc}
+use Rattle.model.proofs.Alike.{alike-sym}
+use Rattle.model.proofs.TheList.{list-exact}
+use Rattle.sc_model.proofs.Laws.{sc-laws}
 use Rattle.outcomes.specs.Covers.{outcomeOf, Attains, FirstLacking}
 use Rattle.outcomes.proofs.Listed.{listed-outcome}
 
 -- a listed schedule is not greater than a full one that is alike to it
-at-most : (q : Program) → WellFormed q → (m r s : Schedule) → Listed q m → Full q r → Alike q m r → less r s ≡ true → less m s ≡ true
+at-most : (q : Program) → WellFormed q → (m r s : Schedule) → Listed sc q m → Full q r → Alike sc q m r → less r s ≡ true → less m s ≡ true
 at-most q w m r s l full k h = go (less r m) refl
   where
     go : (b : Bool) → less r m ≡ b → less m s ≡ true
-    go true e = absurd (l .1 (r, full, e, alike-sym q w m r k))
+    go true e = absurd (l .1 (r, full, e, alike-sym sc sc-laws q (w, refl) m r k))
     go false e = ⊎-elim (λ (i : m ≡ r). ap (λ (x : Schedule). less x s) i ∙ h) (λ (i : less m r ≡ true). less-transitive m r s i h) (not-less-at-most m r e)
 
 module _ (p q : Program) (w : WellFormed q) (s : Schedule) (f : FirstLacking p q s) where
@@ -27,5 +29,5 @@ module _ (p q : Program) (w : WellFormed q) (s : Schedule) (f : FirstLacking p q
   pub first-of-all : (r : Schedule) → Full q r → less r s ≡ true → Attains p (outcomeOf q r)
   first-of-all r full h =
       let m = listed-outcome q w r full in
-      let l = list-exact q (m .0) .0 (m .1) in
+      let l = list-exact sc sc-laws q (m .0) .0 (m .1) in
       subst (Attains p) (m .3) (f .first (m .0) l (at-most q w (m .0) r s l full (m .2) h))

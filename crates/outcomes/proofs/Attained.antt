@@ -3,7 +3,6 @@
 use mathlib.Core.Path.{_≡_, refl, sym, ap, subst, _∙_}
 use mathlib.Core.Bool.{Bool, true, false, not, true≢false}
 use mathlib.Core.Option.{none, some}
-use mathlib.Core.List.{List, List·Memᴰ}
 use borrow.Author.Tests.{not-true, not-false}
 use Rattle.program.specs.Program.{Program}
 use Rattle.program.specs.WellFormed.{WellFormed}
@@ -11,8 +10,10 @@ use Rattle.schedules.specs.Lists.{any, find}
 use Rattle.schedules.specs.Order.{Schedule}
 use Rattle.schedules.proofs.Lists.{any-yes, any-of}
 use Rattle.schedules.proofs.FirstIn.{find-in, none-find}
-use Rattle.list.specs.ListOf.{listOf}
-use Rattle.list.proofs.TheList.{list-exact, list-ascends}
+use Rattle.model.specs.Alike.{listOf}
+use Rattle.sc_model.specs.Sequential.{sc}
+use Rattle.model.proofs.TheList.{list-exact, list-ascends}
+use Rattle.sc_model.proofs.Laws.{sc-laws}
 use Rattle.outcomes.specs.declared.outcome.Outcome.{Outcome}
 use Rattle.outcomes.specs.Covers.{outcomeOf, Attains, Covers, FirstLacking}
 use Rattle.outcomes.specs.Same.{sameOutcome, comesTo}
@@ -21,7 +22,7 @@ use Rattle.outcomes.proofs.Same.{same-is, is-same}
 
 -- whether some listed schedule of p has it
 unfoldable pub attained : Program → Outcome → Bool
-attained p o = any (comesTo p o) (listOf p)
+attained p o = any (comesTo p o) (listOf sc p)
 
 -- whether p lacks the outcome of q's schedule s
 unfoldable pub lacksOf : Program → Program → Schedule → Bool
@@ -48,30 +49,30 @@ comes-by p o s = refl
 pub attained-yes : (p : Program) (o : Outcome) → attained p o ≡ true → Attains p o
 unfolding attained comesTo
 attained-yes p o e =
-    let r = any-yes (comesTo p o) (listOf p) e in
-    (r .0, list-exact p (r .0) .0 (r .1) .0, same-is (outcomeOf p (r .0)) o (r .2))
+    let r = any-yes (comesTo p o) (listOf sc p) e in
+    (r .0, list-exact sc sc-laws p (r .0) .0 (r .1) .0, same-is (outcomeOf p (r .0)) o (r .2))
 
 pub attained-of : (p : Program) → WellFormed p → (o : Outcome) → Attains p o → attained p o ≡ true
 unfolding attained comesTo
 attained-of p w o a =
     let r = listed-outcome p w (a .0) (a .1) in
-    any-of (comesTo p o) (listOf p) (r .0) (r .1) (is-same (outcomeOf p (r .0)) o (r .3 ∙ a .2))
+    any-of (comesTo p o) (listOf sc p) (r .0) (r .1) (is-same (outcomeOf p (r .0)) o (r .3 ∙ a .2))
 
 module _ (p q : Program) (wp : WellFormed p) (wq : WellFormed q) where
   -- NONE IS FOUND: p covers q
-  pub none-covers : find (lacksOf p q) (listOf q) ≡ none → Covers p q
+  pub none-covers : find (lacksOf p q) (listOf sc q) ≡ none → Covers p q
   unfolding lacksOf
   none-covers e o a =
       let r = listed-outcome q wq (a .0) (a .1) in
-      attained-yes p o (subst (λ (x : Outcome). attained p x ≡ true) (r .3 ∙ a .2) (not-false _ (none-find (lacksOf p q) (listOf q) e (r .0) (r .1))))
+      attained-yes p o (subst (λ (x : Outcome). attained p x ≡ true) (r .3 ∙ a .2) (not-false _ (none-find (lacksOf p q) (listOf sc q) e (r .0) (r .1))))
 
   -- ONE IS FOUND: it is the first that p lacks
-  pub some-first : (s : Schedule) → find (lacksOf p q) (listOf q) ≡ some s → FirstLacking p q s
+  pub some-first : (s : Schedule) → find (lacksOf p q) (listOf sc q) ≡ some s → FirstLacking p q s
   unfolding lacksOf
   some-first s e =
-      let f = find-in (lacksOf p q) (listOf q) (list-ascends q) s e in
+      let f = find-in (lacksOf p q) (listOf sc q) (list-ascends sc sc-laws q) s e in
       record {
-        listed = list-exact q s .0 (f .0);
+        listed = list-exact sc sc-laws q s .0 (f .0);
         lacks = λ a. true≢false (sym (attained-of p wp (outcomeOf q s) a) ∙ not-true _ (f .1));
-        first = λ r l h. attained-yes p (outcomeOf q r) (not-false _ (f .2 r (list-exact q r .1 l) h));
+        first = λ r l h. attained-yes p (outcomeOf q r) (not-false _ (f .2 r (list-exact sc sc-laws q r .1 l) h));
       }

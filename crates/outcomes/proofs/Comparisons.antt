@@ -1,10 +1,10 @@
 -- Every two files and room have exactly one answer: what is found in the second's list is one, and every one is what is found.
 use Prim.Native.Nat.{ℕ, _<_, _≤_}
-use mathlib.Core.Path.{_≡_, refl, sym, ap, subst, _∙_}
+use mathlib.Core.Path.{_≡_, refl, sym, ap, _∙_}
 use mathlib.Core.Logic.{_↔_}
-use mathlib.Core.Bool.{Bool, true, false, not, true≢false, cond}
+use mathlib.Core.Bool.{Bool, true, false, not, cond}
 use mathlib.Core.Option.{Option, none, some}
-use mathlib.Core.List.{List, List·Memᴰ}
+use mathlib.Core.List.{List}
 use native.Mathlib.Omega.{arith}
 use native.Mathlib.Decide.{decLt}
 use lib.Dec.{ltb}
@@ -14,11 +14,13 @@ use Rattle.program.specs.WellFormed.{WellFormed}
 use Rattle.program.specs.Decode.{Decoded, accepted, refused, decode}
 use Rattle.program.proofs.AcceptedWellFormed.{accepted-well-formed}
 use Rattle.schedules.specs.Lists.{find}
-use Rattle.schedules.specs.Order.{Schedule, less}
+use Rattle.schedules.specs.Order.{Schedule}
 use Rattle.schedules.proofs.First.{find-none}
 use Rattle.schedules.proofs.FirstIn.{in-find}
-use Rattle.list.specs.ListOf.{listOf}
-use Rattle.list.proofs.TheList.{list-exact, list-ascends}
+use Rattle.model.specs.Alike.{listOf}
+use Rattle.sc_model.specs.Sequential.{sc}
+use Rattle.model.proofs.TheList.{list-exact, list-ascends}
+use Rattle.sc_model.proofs.Laws.{sc-laws}
 use Rattle.outcomes.specs.Covers.{outcomeOf, Attains, Covers, FirstLacking}
 use Rattle.outcomes.specs.Answer.{Answer, covered, lacking, first-refused, second-refused, output-refused, Accepted, Comparison, by-first, by-second, by-output, covering, exceeding}
 use Rattle.outcomes.proofs.Attained.{attained, lacksOf, attained-yes, attained-of, none-covers, some-first}
@@ -29,7 +31,7 @@ answerBy none = covered
 answerBy (some s) = lacking s
 
 unfoldable pub answerOf : Program → Program → ℕ → Answer
-answerOf p q room = cond (ltb room 24) (output-refused 22 0) (answerBy (find (lacksOf p q) (listOf q)))
+answerOf p q room = cond (ltb room 24) (output-refused 22 0) (answerBy (find (lacksOf p q) (listOf sc q)))
 
 unfoldable pub answerAgainst : Program → Decoded → ℕ → Answer
 answerAgainst p (accepted q) room = answerOf p q room
@@ -53,20 +55,20 @@ module _ (p q : Program) (wp : WellFormed p) (wq : WellFormed q) where
       go true e = absurd (n (attained-yes p (outcomeOf q s) e))
       go false e = refl
 
-  pub covers-none : Covers p q → find (lacksOf p q) (listOf q) ≡ none
-  covers-none c = find-none (lacksOf p q) (listOf q) (λ s m. lacks-not s (c (outcomeOf q s) (s, list-exact q s .0 m .0, refl)))
+  pub covers-none : Covers p q → find (lacksOf p q) (listOf sc q) ≡ none
+  covers-none c = find-none (lacksOf p q) (listOf sc q) (λ s m. lacks-not s (c (outcomeOf q s) (s, list-exact sc sc-laws q s .0 m .0, refl)))
 
-  pub first-some : (s : Schedule) → FirstLacking p q s → find (lacksOf p q) (listOf q) ≡ some s
+  pub first-some : (s : Schedule) → FirstLacking p q s → find (lacksOf p q) (listOf sc q) ≡ some s
   first-some s f =
-      in-find (lacksOf p q) (listOf q) (list-ascends q) s
-      (list-exact q s .1 (f .listed), lacks-yes s (f .lacks), λ r m h. lacks-not r (f .first r (list-exact q r .0 m) h))
+      in-find (lacksOf p q) (listOf sc q) (list-ascends sc sc-laws q) s
+      (list-exact sc sc-laws q s .1 (f .listed), lacks-yes s (f .lacks), λ r m h. lacks-not r (f .first r (list-exact sc sc-laws q r .0 m) h))
 
 module _ (first second : List ℕ) (room : ℕ) where
   abbrev C : Answer → Type 0
   C = Comparison first second room
 
   -- to two programs
-  pub compared : (p q : Program) → Accepted first second p q → 24 ≤ room → (o : Option Schedule) → find (lacksOf p q) (listOf q) ≡ o → C (answerBy o)
+  pub compared : (p q : Program) → Accepted first second p q → 24 ≤ room → (o : Option Schedule) → find (lacksOf p q) (listOf sc q) ≡ o → C (answerBy o)
   unfolding answerBy
   compared p q a h none e =
       covering p q a h (none-covers p q (accepted-well-formed first p (a .one)) (accepted-well-formed second q (a .other)) e)
@@ -78,7 +80,7 @@ module _ (first second : List ℕ) (room : ℕ) where
   room-compared p q a (yes h) = rw (lt-ltb room 24 h) (by-output p q a h)
   room-compared p q a (no h) =
       let enough : 24 ≤ room = omega (arith, h) in
-      rw (le-ltb room 24 enough) (compared p q a enough (find (lacksOf p q) (listOf q)) refl)
+      rw (le-ltb room 24 enough) (compared p q a enough (find (lacksOf p q) (listOf sc q)) refl)
 
   against-compared : (p : Program) → decode first ≡ accepted p → (d : Decoded) → decode second ≡ d → C (answerAgainst p d room)
   unfolding answerAgainst
@@ -118,9 +120,9 @@ module _ (first second : List ℕ) (room : ℕ) where
   -- COVERED EXACTLY WHEN IT IS, on two accepted files with an output that is not too short
   pub covered-exactly : (p q : Program) → Accepted first second p q → 24 ≤ room → C covered ↔ Covers p q
   unfolding answerBy
-  covered-exactly p q a h = ((λ c. go c (find (lacksOf p q) (listOf q)) refl), covering p q a h)
+  covered-exactly p q a h = ((λ c. go c (find (lacksOf p q) (listOf sc q)) refl), covering p q a h)
     where
-      go : C covered → (o : Option Schedule) → find (lacksOf p q) (listOf q) ≡ o → Covers p q
+      go : C covered → (o : Option Schedule) → find (lacksOf p q) (listOf sc q) ≡ o → Covers p q
       go c none e = none-covers p q (accepted-well-formed first p (a .one)) (accepted-well-formed second q (a .other)) e
       go c (some s) e = absurd (
           let z : covered ≡ lacking s = comparison-unique covered (lacking s) c (compared p q a h (some s) e) in

@@ -7,15 +7,11 @@ use Rattle.program.specs.Program.{Program}
 use Rattle.program.specs.WellFormed.{WellFormed}
 use Rattle.schedules.specs.Order.{Schedule}
 use Rattle.sc.specs.Graph.{Full}
-use Rattle.model.specs.Alike as Model
 use Rattle.model.proofs.Outcome.{same-outcome}
-use Rattle.model.proofs.TheList.{one-each}
+use Rattle.model.proofs.TheList.{one-each, list-exact}
 use Rattle.sc_model.specs.Sequential.{sc}
 use Rattle.sc_model.proofs.Laws.{sc-laws}
-use Rattle.list.specs.Alike.{Alike}
-use Rattle.list.specs.ListOf.{alikeBy, listOf}
-use Rattle.list.specs.Answers.{failing}
-use Rattle.list.proofs.TheList.{list-exact}
+use Rattle.model.specs.Alike.{Alike, listOf}
 use Rattle.outcomes.specs.declared.outcome.Outcome.{Outcome}
 use Rattle.outcomes.specs.Covers.{outcomeOf}
 
@@ -24,13 +20,12 @@ outcome m f = record { memory = m; fails = f }
 
 module _ (p : Program) (w : WellFormed p) where
   -- ALIKE ONES HAVE ONE OUTCOME
-  pub alike-outcome : (r s : Schedule) → Full p r → Full p s → Alike p r s → outcomeOf p r ≡ outcomeOf p s
-  unfolding outcomeOf failing
+  pub alike-outcome : (r s : Schedule) → Full p r → Full p s → Alike sc p r s → outcomeOf p r ≡ outcomeOf p s
+  unfolding outcomeOf
   alike-outcome r s fr fs l = let e = same-outcome sc sc-laws p (w, refl) r s fr fs l in ap₂ outcome (e .1) (e .0)
 
   -- EACH FULL SCHEDULE HAS A LISTED ONE WITH ITS OUTCOME
-  pub listed-outcome : (s : Schedule) → Full p s → (r : Schedule) × List·Memᴰ r (listOf p) × Alike p r s × (outcomeOf p r ≡ outcomeOf p s)
-  unfolding Model.listOf Model.alikeBy listOf alikeBy
+  pub listed-outcome : (s : Schedule) → Full p s → (r : Schedule) × List·Memᴰ r (listOf sc p) × Alike sc p r s × (outcomeOf p r ≡ outcomeOf p s)
   listed-outcome s f =
       let c = one-each sc sc-laws p (w, refl) s f in
-      (c .0, c .1, c .2, alike-outcome (c .0) s (list-exact p (c .0) .0 (c .1) .0) f (c .2))
+      (c .0, c .1, c .2, alike-outcome (c .0) s (list-exact sc sc-laws p (c .0) .0 (c .1) .0) f (c .2))

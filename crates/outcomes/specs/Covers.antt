@@ -6,12 +6,13 @@ use Rattle.program.specs.Program.{Program}
 use Rattle.schedules.specs.Order.{Schedule, less}
 use Rattle.sc.specs.State.{memoryOf}
 use Rattle.sc.specs.Graph.{endOf, Full}
-use Rattle.list.specs.Alike.{Listed}
-use Rattle.list.specs.Answers.{failing}
+use Rattle.model.specs.Alike.{Listed}
+use Rattle.model.specs.Model.{failing}
+use Rattle.sc_model.specs.Sequential.{sc}
 use Rattle.outcomes.specs.declared.outcome.Outcome.{Outcome}
 
 unfoldable pub outcomeOf : Program → Schedule → Outcome
-outcomeOf p s = record { memory = memoryOf (endOf p s); fails = failing p s }
+outcomeOf p s = record { memory = memoryOf (endOf p s); fails = failing sc p s }
 
 -- it is the outcome of some full schedule of p
 abbrev pub Attains : Program → Outcome → Type 0
@@ -23,6 +24,6 @@ Covers p q = (o : Outcome) → Attains q o → Attains p o
 
 -- s is the first listed schedule of q with an outcome that p lacks
 pub record FirstLacking (p q : Program) (s : Schedule) : Type 0 where
-  pub listed : Listed q s
+  pub listed : Listed sc q s
   pub lacks : Attains p (outcomeOf q s) → ⊥
-  pub first : (r : Schedule) → Listed q r → less r s ≡ true → Attains p (outcomeOf q r)
+  pub first : (r : Schedule) → Listed sc q r → less r s ≡ true → Attains p (outcomeOf q r)

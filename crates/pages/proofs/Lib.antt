@@ -19,3 +19,5 @@ pub mod FirstRow
 pub mod CountedRows
 -- what a call answers with an output of so many bytes
 pub mod Answered
+-- a listed schedule fits a row
+pub mod ListPages

@@ -7,3 +7,5 @@ pub mod Cursor
 pub mod Bounds
 -- what a search adds to the rows in its output; for the code
 pub mod Walked
+-- the list by rows and by pages, in any memory model
+pub mod ListRows

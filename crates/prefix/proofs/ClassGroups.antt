@@ -15,9 +15,9 @@ use Rattle.rows.specs.Rows.{tabulate}
 use Rattle.rows.proofs.Tabulate.{in-tabulate, of-tabulate}
 use Rattle.decoder.proofs.Classes.{in-members, of-members}
 use Rattle.decoder.proofs.Decoded.{decoded-groups}
-use Rattle.list.specs.ListOf.{together}
+use Rattle.model.specs.Exchange.{together}
 use Rattle.prefix.specs.ClassGroups.{groupsOf}
-use Rattle.list.proofs.Tests.{together-true, true-together}
+use Rattle.model.proofs.Permitted.{together-true, true-together}
 
 -- the groups of a decoded program
 pub program-groups : (c : Compiled) → programOf c .groups ≡ groupsOf (c .class) (c .groups)

@@ -16,9 +16,11 @@ use Rattle.schedules.specs.Lists.{filter}
 use Rattle.schedules.specs.Order.{Schedule}
 use Rattle.sc.specs.Text.{textOf}
 use Rattle.sc.proofs.Lawful.{fits-64-bits}
-use Rattle.list.specs.ListOf.{listOf}
-use Rattle.list.specs.Answers.{failing, Counts, countOf}
-use Rattle.list.specs.Search.{sought}
+use Rattle.model.specs.Alike.{listOf}
+use Rattle.model.specs.Model.{failing}
+use Rattle.model.specs.Answers.{Counts, countOf}
+use Rattle.model.specs.Search.{sought}
+use Rattle.sc_model.specs.Sequential.{sc}
 use Rattle.pages.specs.Cursor.{from}
 use Rattle.listing.specs.Printed.{scheduleFrame, countFrame, printedFrames, printed}
 use Rattle.list.proofs.TheList.{list-length}
@@ -44,18 +46,18 @@ module _ (file : List ℕ) (a : Answer) (s : Listing) (e : answerOf a ≡ decode
     abbrev p : Program
     p = programOf (a .program)
 
-    left-all : left s ≡ listOf p
+    left-all : left s ≡ listOf sc p
     unfolding left sought
-    left-all = all (sought false (programOf (s .program))) ∙ ap (λ (c : Compiled). listOf (programOf c)) program
+    left-all = all (sought sc false (programOf (s .program))) ∙ ap (λ (c : Compiled). listOf sc (programOf c)) program
 
-    counts-all : counts s ≡ countOf p
+    counts-all : counts s ≡ countOf sc p
     unfolding counts countOf
     counts-all =
-        let f : failing (programOf (s .program)) ≡ failing p = ap (λ (c : Compiled). failing (programOf c)) program in
-        let a : s .listed + length (left s) ≡ length (listOf p) = omega (arith, listed, ap length left-all) in
-        let b : s .failed + length (filter (failing (programOf (s .program))) (left s)) ≡ length (filter (failing p) (listOf p)) =
-        omega (arith, failed, ap (λ (g : Schedule → Bool). length (filter g (left s))) f, ap (λ (l : List Schedule). length (filter (failing p) l)) left-all) in
-        ap (λ (i : ℕ). record { listed = i; failed = s .failed + length (filter (failing (programOf (s .program))) (left s)) }) a ∙ ap (λ (j : ℕ). record { listed = length (listOf p); failed = j }) b
+        let f : failing sc (programOf (s .program)) ≡ failing sc p = ap (λ (c : Compiled). failing sc (programOf c)) program in
+        let a : s .listed + length (left s) ≡ length (listOf sc p) = omega (arith, listed, ap length left-all) in
+        let b : s .failed + length (filter (failing sc (programOf (s .program))) (left s)) ≡ length (filter (failing sc p) (listOf sc p)) =
+        omega (arith, failed, ap (λ (g : Schedule → Bool). length (filter g (left s))) f, ap (λ (l : List Schedule). length (filter (failing sc p) l)) left-all) in
+        ap (λ (i : ℕ). record { listed = i; failed = s .failed + length (filter (failing sc (programOf (s .program))) (left s)) }) a ∙ ap (λ (j : ℕ). record { listed = length (listOf sc p); failed = j }) b
 
     well-formed : WellFormed p
     well-formed = decoded-well-formed a file e v
@@ -71,6 +73,6 @@ module _ (file : List ℕ) (a : Answer) (s : Listing) (e : answerOf a ≡ decode
       whole = ap (λ (t : Stage). textOf (framesLeft t s)) g
           ∙ ap (λ (c : Compiled). textOf (map (scheduleFrame (programOf c)) (left s) ++ (countFrame (counts s) ∷ []))) program
           ∙ ap (λ (l : List Schedule). textOf (map (scheduleFrame p) l ++ (countFrame (counts s) ∷ []))) left-all
-          ∙ ap (λ (c : Counts). textOf (map (scheduleFrame p) (listOf p) ++ (countFrame c ∷ []))) counts-all
+          ∙ ap (λ (c : Counts). textOf (map (scheduleFrame p) (listOf sc p) ++ (countFrame c ∷ []))) counts-all
           ∙ ap (λ (d : Decoded). textOf (printedFrames d)) (sym (decoded-accepted a file e v));
     }

@@ -20,9 +20,12 @@ use Rattle.schedules.proofs.Kept.{filter-append}
 use Rattle.sc.specs.Text.{textOf}
 use Rattle.graph_writer.specs.NoteText.{Wrote}
 use Rattle.graph_writer.proofs.WrittenLines.{wrote-one, wrote-more}
-use Rattle.list.specs.Answers.{failing, Counts}
+use Rattle.model.specs.Model.{failing}
+use Rattle.model.specs.Answers.{Counts}
+use Rattle.sc_model.specs.Sequential.{sc}
 use Rattle.pages.specs.Rows.{rowOf}
-use Rattle.walker.specs.Rows.{rowBytes, Shown}
+use Rattle.pages.specs.ListRows.{Shown}
+use Rattle.pages.specs.Rows.{rowBytes}
 use Rattle.listing.specs.Printed.{bytesOf, scheduleFrame, countFrame, printedFrames}
 use Rattle.printing.specs.Pieces.{Short}
 use Rattle.pages.proofs.RowsRead.{row-shown}
@@ -45,27 +48,27 @@ module _ (p : Program) (ss : List Schedule) where
   kept-one g s true e = rw (e, filter)
   kept-one g s false e = rw (e, filter)
 
-  next-failed : (k : ℕ) → k < length ss → length (filter (failing p) (take (k + 1) ss)) ≡ length (filter (failing p) (take k ss)) + cond (failing p (getD ss k [])) 1 0
+  next-failed : (k : ℕ) → k < length ss → length (filter (failing sc p) (take (k + 1) ss)) ≡ length (filter (failing sc p) (take k ss)) + cond (failing sc p (getD ss k [])) 1 0
   next-failed k h =
-      ap (λ (l : List Schedule). length (filter (failing p) l)) (next-schedule k h)
-      ∙ ap length (filter-append (failing p) (take k ss) (getD ss k [] ∷ []))
-      ∙ length-append (filter (failing p) (take k ss)) (filter (failing p) (getD ss k [] ∷ []))
-      ∙ ap (λ (j : ℕ). length (filter (failing p) (take k ss)) + j) (kept-one (failing p) (getD ss k []) (failing p (getD ss k [])) refl)
+      ap (λ (l : List Schedule). length (filter (failing sc p) l)) (next-schedule k h)
+      ∙ ap length (filter-append (failing sc p) (take k ss) (getD ss k [] ∷ []))
+      ∙ length-append (filter (failing sc p) (take k ss)) (filter (failing sc p) (getD ss k [] ∷ []))
+      ∙ ap (λ (j : ℕ). length (filter (failing sc p) (take k ss)) + j) (kept-one (failing sc p) (getD ss k []) (failing sc p (getD ss k [])) refl)
 
-  pub lines-more : (held rows out xs ys row : List ℕ) (n k at m failed : ℕ) → Shown p ss held rows n → Short ss → k < n
-      → (Wrote (map (scheduleFrame p) (take k ss)) out xs at) × (failed ≡ length (filter (failing p) (take k ss)))
+  pub lines-more : (held rows out xs ys row : List ℕ) (n k at m failed : ℕ) → Shown sc p ss held rows n → Short ss → k < n
+      → (Wrote (map (scheduleFrame p) (take k ss)) out xs at) × (failed ≡ length (filter (failing sc p) (take k ss)))
       → row ≡ take 26 (drop (k * 26) rows)
-      → ((s : Schedule) (f : Bool) → row ≡ rowBytes s f → length s ≤ 24 → Wrote ((0x50 ∷ cond f 1 0 ∷ s) ∷ []) (midOf at (length xs - at) xs) ys m)
-      → (Wrote (map (scheduleFrame p) (take (k + 1) ss)) out (putMid at (length xs - at) xs ys) (at + m)) × (failed + getD row 1 0 ≡ length (filter (failing p) (take (k + 1) ss)))
+      → ((s : Schedule) (f : Bool) → row ≡ rowBytes 24 s f → length s ≤ 24 → Wrote ((0x50 ∷ cond f 1 0 ∷ s) ∷ []) (midOf at (length xs - at) xs) ys m)
+      → (Wrote (map (scheduleFrame p) (take (k + 1) ss)) out (putMid at (length xs - at) xs ys) (at + m)) × (failed + getD row 1 0 ≡ length (filter (failing sc p) (take (k + 1) ss)))
   unfolding rowOf
   lines-more held rows out xs ys row n k at m failed w short h so e line =
       let s : Schedule = getD ss k [] in
       let b : k < length ss = omega (arith, w .counted) in
-      let r : row ≡ rowBytes s (failing p s) = e ∙ row-shown 24 (failing p) ss held rows n w k h in
-      let wrote = line s (failing p s) r (everywhere-getD (λ s. length s ≤ 24) ss k [] short (omega arith)) in (
+      let r : row ≡ rowBytes 24 s (failing sc p s) = e ∙ row-shown 24 (failing sc p) ss held rows n w k h in
+      let wrote = line s (failing sc p s) r (everywhere-getD (λ s. length s ≤ 24) ss k [] short (omega arith)) in (
         wrote-more (map (scheduleFrame p) (take k ss)) (scheduleFrame p s ∷ []) (map (scheduleFrame p) (take (k + 1) ss)) out xs ys at m (next-frames k b) (so .0)
             (subst (λ (f : List ℕ). Wrote (f ∷ []) (midOf at (length xs - at) xs) ys m) (frame-is p s) wrote),
-        ap (λ (j : ℕ). j + getD row 1 0) (so .1) ∙ ap (λ (j : ℕ). length (filter (failing p) (take k ss)) + j) (row-failed s (failing p s) row r) ∙ sym (next-failed k b),
+        ap (λ (j : ℕ). j + getD row 1 0) (so .1) ∙ ap (λ (j : ℕ). length (filter (failing sc p) (take k ss)) + j) (row-failed s (failing sc p s) row r) ∙ sym (next-failed k b),
       )
 
 -- ---- how long the lines are

@@ -19,13 +19,16 @@ use Rattle.schedules.proofs.Kept.{filter-length, filter-append}
 use Rattle.sc.specs.Text.{textOf}
 use Rattle.graph_writer.specs.NoteText.{Wrote}
 use Rattle.graph_writer.proofs.WrittenLines.{wrote-whole, wrote-more}
-use Rattle.list.specs.Answers.{failing, Counts}
-use Rattle.list.specs.Search.{sought}
+use Rattle.model.specs.Model.{failing}
+use Rattle.model.specs.Answers.{Counts}
+use Rattle.model.specs.Search.{sought}
+use Rattle.sc_model.specs.Sequential.{sc}
 use Rattle.pages.specs.declared.cursor.Cursor.{Cursor}
 use Rattle.pages.specs.declared.cursor.Page.{Page}
-use Rattle.walker.specs.Rows.{Shown}
-use Rattle.walker.specs.Cursor.{remaining, isEnd, Paged}
-use Rattle.walker.proofs.Pages.{remaining-24}
+use Rattle.pages.specs.ListRows.{Shown}
+use Rattle.pages.specs.ListRows.{remaining, Paged}
+use Rattle.pages.specs.Cursor.{isEnd}
+use Rattle.pages.proofs.ListPages.{remaining-fits}
 use Rattle.pages.proofs.CursorLaws.{from-end}
 use Rattle.pages.proofs.PageLaws.{page-split}
 use Rattle.listing.specs.Printed.{scheduleFrame, countFrame, printedFrames}
@@ -80,11 +83,11 @@ everywhere-take P (suc n) (x ∷ l) h = (h .0, everywhere-take P n l (h .1))
 pub short-left : (s : Listing) → Ready s → Short (take 256 (left s))
 unfolding left
 short-left s r =
-    let l : List Schedule = remaining (programOf (s .program)) false (s .cursor) in
-    everywhere-take (λ x. length x ≤ 24) 256 l (everywhere-all (λ x. length x ≤ 24) l (remaining-24 (programOf (s .program)) (r .wellFormed) false (s .cursor)))
+    let l : List Schedule = remaining sc (programOf (s .program)) false (s .cursor) in
+    everywhere-take (λ x. length x ≤ 24) 256 l (everywhere-all (λ x. length x ≤ 24) l (remaining-fits sc sc-laws (programOf (s .program)) (r .wellFormed, refl) false (s .cursor)))
 
 module _ (s : Listing) (r : Ready s) (held rows : List ℕ) (page : Page) (size : length held ≡ 6656)
-    (paged : Paged (programOf (s .program)) false (s .cursor) held rows page) where
+    (paged : Paged sc (programOf (s .program)) false (s .cursor) held rows page) where
   abbrev p : Program
   p = programOf (s .program)
 
@@ -98,16 +101,16 @@ module _ (s : Listing) (r : Ready s) (held rows : List ℕ) (page : Page) (size 
   most = rw size refl
 
   -- the rows are of the next 256 that are left
-  pub shown-left : Shown p next256 held rows n
+  pub shown-left : Shown sc p next256 held rows n
   unfolding left
-  shown-left = subst (λ (k : ℕ). Shown p (take k (remaining p false (s .cursor))) held rows n) most (paged .shown)
+  shown-left = subst (λ (k : ℕ). Shown sc p (take k (remaining sc p false (s .cursor))) held rows n) most (paged .shown)
 
   -- and then what the next cursor has yet to come
-  split-left : left s ≡ next256 ++ remaining p false (page .cursor)
+  split-left : left s ≡ next256 ++ remaining sc p false (page .cursor)
   unfolding left
   split-left =
-      page-split 24 (failing p) (sought false p) (s .cursor) held rows page paged
-      ∙ ap (λ (k : ℕ). take k (remaining p false (s .cursor)) ++ remaining p false (page .cursor)) most
+      page-split 24 (failing sc p) (sought sc false p) (s .cursor) held rows page paged
+      ∙ ap (λ (k : ℕ). take k (remaining sc p false (s .cursor)) ++ remaining sc p false (page .cursor)) most
 
   pub few-rows : n ≤ 256
   few-rows = omega (arith, shown-left .counted, length-take 256 (left s))
@@ -115,8 +118,8 @@ module _ (s : Listing) (r : Ready s) (held rows : List ℕ) (page : Page) (size 
   pub listed-fits : s .listed + n < 2 ^ 64
   listed-fits = omega (arith, shown-left .counted, length-take 256 (left s), r .fits)
 
-  pub failed-fits : (m : ℕ) → m ≡ length (filter (failing p) next256) → s .failed + m ≤ s .listed + n
-  failed-fits m e = omega (arith, shown-left .counted, r .few, filter-length (failing p) next256)
+  pub failed-fits : (m : ℕ) → m ≡ length (filter (failing sc p) next256) → s .failed + m ≤ s .listed + n
+  failed-fits m e = omega (arith, shown-left .counted, r .few, filter-length (failing sc p) next256)
 
   -- the frames left, while schedules are listed
   rest-walking : s .stage ≡ Walking → rest s ≡ textOf (map (scheduleFrame p) (left s) ++ (countFrame (counts s) ∷ []))
@@ -125,10 +128,10 @@ module _ (s : Listing) (r : Ready s) (held rows : List ℕ) (page : Page) (size 
 
   -- at the end these are all that are left, and the counts come behind them
   all-left : isEnd (page .cursor .position) ≡ true → next256 ≡ left s
-  all-left e = sym (split-left ∙ ap (λ (l : List Schedule). next256 ++ l) (from-end (sought false p) (page .cursor) e) ∙ append-nil next256)
+  all-left e = sym (split-left ∙ ap (λ (l : List Schedule). next256 ++ l) (from-end (sought sc false p) (page .cursor) e) ∙ append-nil next256)
 
   pub next-counts : (s' : Listing) (out xs ys : List ℕ) (at m failed : ℕ) → s .stage ≡ Walking → s' .stage ≡ Ended → 13603 ≤ length out → isEnd (page .cursor .position) ≡ true
-      → Wrote (map (scheduleFrame p) next256) out xs at → failed ≡ length (filter (failing p) next256)
+      → Wrote (map (scheduleFrame p) next256) out xs at → failed ≡ length (filter (failing sc p) next256)
       → Wrote (countFrame (record { listed = s .listed + n; failed = s .failed + failed }) ∷ []) (midOf at (length xs - at) xs) ys m
       → (at + m ≤ length (putMid at (length xs - at) xs ys)) × Next s (take (at + m) (putMid at (length xs - at) xs ys)) s'
   unfolding counts
@@ -136,7 +139,7 @@ module _ (s : Listing) (r : Ready s) (held rows : List ℕ) (page : Page) (size 
       let a = all-left h in
       let en : n ≡ length (left s) = shown-left .counted ∙ ap length a in
       let c : countFrame (record { listed = s .listed + n; failed = s .failed + failed }) ≡ countFrame (counts s) =
-      ap₂ (λ (i j : ℕ). countFrame (record { listed = s .listed + i; failed = s .failed + j })) en (ef ∙ ap (λ (l : List Schedule). length (filter (failing p) l)) a) in
+      ap₂ (λ (i j : ℕ). countFrame (record { listed = s .listed + i; failed = s .failed + j })) en (ef ∙ ap (λ (l : List Schedule). length (filter (failing sc p) l)) a) in
       let fs : List (List ℕ) = map (scheduleFrame p) next256 ++ (countFrame (counts s) ∷ []) in
       let all : Wrote fs out (putMid at (length xs - at) xs ys) (at + m) =
       wrote-more (map (scheduleFrame p) next256) (countFrame (counts s) ∷ []) fs out xs ys at m refl wrote
@@ -156,23 +159,23 @@ module _ (s : Listing) (r : Ready s) (held rows : List ℕ) (page : Page) (size 
         let full : (n < length held / 26) → ⊥ = λ h. false≢true (sym more ∙ paged .ends h) in
         omega (arith, shown-left .counted, few-rows, full, most)
 
-    module _ (s' : Listing) (failed : ℕ) (ef : failed ≡ length (filter (failing p) next256)) (program : s' .program ≡ s .program)
+    module _ (s' : Listing) (failed : ℕ) (ef : failed ≡ length (filter (failing sc p) next256)) (program : s' .program ≡ s .program)
         (cursor : s' .cursor ≡ page .cursor) (listed : s' .listed ≡ s .listed + n) (fails : s' .failed ≡ s .failed + failed) where
       abbrev behind : List Schedule
-      behind = remaining p false (page .cursor)
+      behind = remaining sc p false (page .cursor)
 
       left-is : left s' ≡ behind
       unfolding left
-      left-is = ap₂ (λ (c : Compiled) (d : Cursor). remaining (programOf c) false d) program cursor
+      left-is = ap₂ (λ (c : Compiled) (d : Cursor). remaining sc (programOf c) false d) program cursor
 
       counts-same : counts s' ≡ counts s
       unfolding counts
       counts-same =
           let a : length (left s) ≡ n + length (left s') = ap length split-left ∙ length-append next256 behind ∙ omega (arith, shown-left .counted, ap length left-is) in
-          let b : length (filter (failing p) (left s)) ≡ failed + length (filter (failing (programOf (s' .program))) (left s')) =
-          ap (λ (l : List Schedule). length (filter (failing p) l)) split-left ∙ ap length (filter-append (failing p) next256 behind)
-          ∙ length-append (filter (failing p) next256) (filter (failing p) behind)
-          ∙ ap₂ (λ (i j : ℕ). i + j) (sym ef) (ap₂ (λ (c : Compiled) (l : List Schedule). length (filter (failing (programOf c)) l)) (sym program) (sym left-is)) in
+          let b : length (filter (failing sc p) (left s)) ≡ failed + length (filter (failing sc (programOf (s' .program))) (left s')) =
+          ap (λ (l : List Schedule). length (filter (failing sc p) l)) split-left ∙ ap length (filter-append (failing sc p) next256 behind)
+          ∙ length-append (filter (failing sc p) next256) (filter (failing sc p) behind)
+          ∙ ap₂ (λ (i j : ℕ). i + j) (sym ef) (ap₂ (λ (c : Compiled) (l : List Schedule). length (filter (failing sc (programOf c)) l)) (sym program) (sym left-is)) in
           ap₂ (λ (i j : ℕ). record { listed = i; failed = j }) (omega (arith, a, listed)) (omega (arith, b, fails))
 
       listed-same : s' .listed + length (left s') ≡ s .listed + length (left s)

@@ -10,15 +10,16 @@ use Rattle.lines.specs.Over.{over}
 use Rattle.lines.proofs.Over.{over-whole}
 use Rattle.program.specs.Program.{Program}
 use Rattle.schedules.specs.Order.{Schedule}
-use Rattle.list.specs.Answers.{failing}
+use Rattle.model.specs.Model.{failing}
+use Rattle.sc_model.specs.Sequential.{sc}
 use Rattle.pages.specs.Rows as Pages
-use Rattle.walker.specs.Rows.{rowBytes}
+use Rattle.pages.specs.Rows.{rowBytes}
 use Rattle.listing.specs.Printed.{flag, scheduleFrame}
 use Rattle.pages.proofs.RowsRead.{row-steps}
 
 -- ---- one row
 -- with 50 in place of the number of steps
-pub row-frame : (s : Schedule) (f : Bool) (row : List ℕ) (n : ℕ) → row ≡ rowBytes s f → length s ≤ 24 → n ≡ length s → take (n + 2) (set row 0 0x50) ≡ 0x50 ∷ cond f 1 0 ∷ s
+pub row-frame : (s : Schedule) (f : Bool) (row : List ℕ) (n : ℕ) → row ≡ rowBytes 24 s f → length s ≤ 24 → n ≡ length s → take (n + 2) (set row 0 0x50) ≡ 0x50 ∷ cond f 1 0 ∷ s
 unfolding Pages.rowBytes
 row-frame s f row n e h c =
     let k : n + 2 ≡ suc (suc n) = omega arith in
@@ -27,7 +28,7 @@ row-frame s f row n e h c =
     ∙ ap (λ (l : List ℕ). 0x50 ∷ cond f 1 0 ∷ l) (row-steps 24 s f h)
 
 -- whether the schedule fails
-pub row-failed : (s : Schedule) (f : Bool) (row : List ℕ) → row ≡ rowBytes s f → getD row 1 0 ≡ cond f 1 0
+pub row-failed : (s : Schedule) (f : Bool) (row : List ℕ) → row ≡ rowBytes 24 s f → getD row 1 0 ≡ cond f 1 0
 unfolding Pages.rowBytes
 row-failed s f row e = ap (λ (l : List ℕ). getD l 1 0) e
 
@@ -36,9 +37,9 @@ unfolding flag
 flagged true = refl
 flagged false = refl
 
-pub frame-is : (p : Program) (s : Schedule) → 0x50 ∷ cond (failing p s) 1 0 ∷ s ≡ scheduleFrame p s
+pub frame-is : (p : Program) (s : Schedule) → 0x50 ∷ cond (failing sc p s) 1 0 ∷ s ≡ scheduleFrame p s
 unfolding scheduleFrame
-frame-is p s = ap (λ (b : ℕ). 0x50 ∷ b ∷ s) (sym (flagged (failing p s)))
+frame-is p s = ap (λ (b : ℕ). 0x50 ∷ b ∷ s) (sym (flagged (failing sc p s)))
 
 -- ---- a row copied byte by byte
 -- all of it

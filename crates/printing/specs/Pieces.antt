@@ -10,8 +10,10 @@ use Rattle.program.specs.Decode.{refused}
 use Rattle.schedules.specs.Lists.{filter}
 use Rattle.schedules.specs.Order.{Schedule}
 use Rattle.sc.specs.Text.{textOf}
-use Rattle.list.specs.Answers.{failing, Counts}
-use Rattle.walker.specs.Cursor.{remaining}
+use Rattle.model.specs.Model.{failing}
+use Rattle.model.specs.Answers.{Counts}
+use Rattle.sc_model.specs.Sequential.{sc}
+use Rattle.pages.specs.ListRows.{remaining}
 use Rattle.listing.specs.Printed.{scheduleFrame, countFrame, printedFrames, printed}
 use Rattle.printing.specs.declared.pieces.Stage.{Stage}
 use Rattle.printing.specs.declared.pieces.Stage.the-variants.{Refused, Walking, Ended}
@@ -23,11 +25,11 @@ Short ss = Everywhere (λ s. length s ≤ 24) ss
 
 -- the listed schedules that are not printed yet
 unfoldable pub left : Listing → List Schedule
-left s = remaining (programOf (s .program)) false (s .cursor)
+left s = remaining sc (programOf (s .program)) false (s .cursor)
 
 -- what the two counts come to, with those that are not printed yet
 unfoldable pub counts : Listing → Counts
-counts s = record { listed = s .listed + length (left s); failed = s .failed + length (filter (failing (programOf (s .program))) (left s)) }
+counts s = record { listed = s .listed + length (left s); failed = s .failed + length (filter (failing sc (programOf (s .program))) (left s)) }
 
 -- the frames that are left to print
 unfoldable pub framesLeft : Stage → Listing → List (List ℕ)

@@ -2,7 +2,7 @@
 use lines::wide;
 use lines::write;
 use program::STEPS;
-use walker::ROW;
+use ending::ROW;
 ghost use mathlib.Core.Path.{_≡_};
 ghost use mathlib.Core.Bool.{Bool, cond};
 ghost use mathlib.Core.List.{List, [], _∷_, map};
@@ -13,8 +13,10 @@ ghost use Rattle.program.specs.Decode.{refused};
 ghost use Rattle.schedules.specs.Lists.{filter};
 ghost use Rattle.schedules.specs.Order.{Schedule};
 ghost use Rattle.graph_writer.specs.NoteText.{Wrote};
-ghost use Rattle.list.specs.Answers.{failing};
-ghost use Rattle.walker.specs.Rows.{rowBytes, Shown};
+ghost use Rattle.model.specs.Model.{failing};
+ghost use Rattle.sc_model.specs.Sequential.{sc};
+ghost use Rattle.pages.specs.ListRows.{Shown};
+ghost use Rattle.pages.specs.Rows.{rowBytes};
 ghost use Rattle.listing.specs.Printed.{scheduleFrame, countFrame, printedFrames};
 ghost use Rattle.printing.specs.Pieces.{Short};
 
@@ -42,7 +44,7 @@ fn row_at(rows: &[u8; 6656], k: usize) -> [u8; ROW]
 // How many steps the schedule of this row has.
 fn steps_of(row: [u8; ROW]) -> usize
     ensures most { λ r. ⌜ r ≤ 24 ⌝ }
-    ensures steps { λ r. ⌜ ((s : Schedule) (f : Bool) → row ≡ rowBytes s f → length s ≤ 24 → r ≡ length s) ⌝ }
+    ensures steps { λ r. ⌜ ((s : Schedule) (f : Bool) → row ≡ rowBytes 24 s f → length s ≤ 24 → r ≡ length s) ⌝ }
 {
     let n = wide(row[0]);
     if STEPS < n { STEPS } else { n }
@@ -51,7 +53,7 @@ fn steps_of(row: [u8; ROW]) -> usize
 // The line of the schedule in this row.
 fn schedule_line(out: &mut [u8], row: [u8; ROW]) -> usize
     ensures within { λ r. ⌜ r ≤ length (now (out .entry)) ⌝ }
-    ensures line { λ r. ⌜ ((s : Schedule) (f : Bool) → row ≡ rowBytes s f → length s ≤ 24
+    ensures line { λ r. ⌜ ((s : Schedule) (f : Bool) → row ≡ rowBytes 24 s f → length s ≤ 24
         → Wrote ((0x50 ∷ cond f 1 0 ∷ s) ∷ []) (now (out .entry)) (now (out .exit)) r) ⌝ }
 {
     let n = steps_of(row);
@@ -63,9 +65,9 @@ fn schedule_line(out: &mut [u8], row: [u8; ROW]) -> usize
 // The lines of the schedules in the first n rows.
 pub(crate) fn schedule_lines(out: &mut [u8], rows: &[u8; 6656], n: usize) -> Lines
     requires { ⌜ (n ≤ 256) × (length (now rows) ≡ 6656) ⌝ }
-    ensures { λ r. ⌜ ((p : Program) (ss : List Schedule) (held : List ℕ) → Shown p ss held (now (rows .entry)) n → Short ss →
+    ensures { λ r. ⌜ ((p : Program) (ss : List Schedule) (held : List ℕ) → Shown sc p ss held (now (rows .entry)) n → Short ss →
         Wrote (map (scheduleFrame p) ss) (now (out .entry)) (now (out .exit)) (r .length)
-        × (r .failed ≡ length (filter (failing p) ss))) ⌝ }
+        × (r .failed ≡ length (filter (failing sc p) ss))) ⌝ }
 {
     let mut at = 0;
     let mut failed = 0;

@@ -7,7 +7,8 @@ use decoder::Verdict;
 use pages::Cursor;
 use pages::beginning;
 use pages::is_end;
-use walker::next_page;
+use listing_model::Model;
+use listing_pages::next_page;
 ghost use mathlib.Core.Path.{_≡_};
 ghost use mathlib.Core.List.{List};
 ghost use Prim.Native.Nat.{_≤_};
@@ -86,7 +87,7 @@ fn walk_on(s: Listing, out: &mut [u8]) -> Piece
 {
     let program = s.program;
     let mut rows = [0u8; 6656];
-    let page = next_page(program, s.cursor, false, &mut rows);
+    let page = next_page(Model::Sequential, program, s.cursor, false, &mut rows);
     let n = page.rows;
     let cursor = page.cursor;
     let lines = schedule_lines(out, &rows, n);

@@ -21,9 +21,12 @@ use Rattle.schedules.proofs.After.{offer-after}
 use Rattle.sc.specs.Replay.{Replayed, whole, replay}
 use Rattle.sc.specs.Replay as Replay
 use Rattle.sc.proofs.Lawful.{at-most-24}
-use Rattle.list.specs.ListOf.{listOf}
-use Rattle.list.specs.Answers.{startOf, continued, continueOf}
-use Rattle.listing.specs.OnFile.{startOn, startFile, continueOn, continueFile}
+use Rattle.model.specs.Alike.{listOf}
+use Rattle.model.specs.Answers.{startOf, continued, continueOf, refusesFrom}
+use Rattle.model.specs.OnFile.{admit, startOn, startFile, continueOn, continueFile}
+use Rattle.sc_model.specs.Sequential.{sc}
+use Rattle.sc_model.proofs.Admits.{sc-admits}
+use Rattle.sc_model.proofs.Refused.{refusalOf, refuses-replayed}
 use Rattle.listing.specs.AnswerOf.{listAnswerOf}
 use Rattle.listing.specs.declared.calling.ListAnswer.the-variants.{Found, NoMore, Refused}
 use Rattle.sharing.specs.declared.caller.Caller.{Caller}
@@ -101,19 +104,19 @@ by-refused n k nomore e = let z : _≡_ {A = ℕ} 0 1 = cc in absurd (omega arit
 by-refused n k (refused m j) e = refl
 
 -- the output behind start and continue is what their answer leaves
-pub start-content : (file out : List ℕ) → startFile file out .1 ≡ content (startFile file out .0) out
+pub start-content : (file out : List ℕ) → startFile sc file out .1 ≡ content (startFile sc file out .0) out
 unfolding startOn startOf
-start-content file out = go (decode file)
+start-content file out = go (admit sc (decode file))
   where
-    go : (d : Decoded) → startOn d out .1 ≡ content (startOn d out .0) out
+    go : (d : Decoded) → startOn sc d out .1 ≡ content (startOn sc d out .0) out
     go (accepted p) = refl
     go (File.refused n k) = refl
 
-pub continue-content : (file : List ℕ) (s : Schedule) (out : List ℕ) → continueFile file s out .1 ≡ content (continueFile file s out .0) out
+pub continue-content : (file : List ℕ) (s : Schedule) (out : List ℕ) → continueFile sc file s out .1 ≡ content (continueFile sc file s out .0) out
 unfolding continueOn continueOf
-continue-content file s out = go (decode file)
+continue-content file s out = go (admit sc (decode file))
   where
-    go : (d : Decoded) → continueOn d s out .1 ≡ content (continueOn d s out .0) out
+    go : (d : Decoded) → continueOn sc d s out .1 ≡ content (continueOn sc d s out .0) out
     go (accepted p) = refl
     go (File.refused n k) = refl
 
@@ -170,15 +173,15 @@ module _ (c : Caller) (l : c .length ≤ 4096) (file out : List ℕ) (part : fil
   wide = ap (short 24) room
 
   -- ---- at the beginning
-  pub start-given : c .place ≡ 1 → Gives c (startFile file out .0)
+  pub start-given : c .place ≡ 1 → Gives c (startFile sc file out .0)
   unfolding startOn startOf toCome placeOf offer
-  start-given e = go (decode file) refl
+  start-given e = subst (λ (d : Decoded). Gives c (startOn sc d out .0)) (sym (sc-admits (decode file))) (go (decode file) refl)
     where
-      go : (d : Decoded) → decode file ≡ d → Gives c (startOn d out .0)
+      go : (d : Decoded) → decode file ≡ d → Gives c (startOn sc d out .0)
       go (accepted p) q =
           let r : fileRead c ≡ accepted p = read-part ∙ q in
-          subst (λ (b : Bool). Gives c (answerTo b (headOf (listOf p)))) (sym wide)
-          (gives-head c p beginning (headOf (listOf p)) (accepted-well-formed file p q) (seat-at c p beginning r (rw (eq-eqb (c .place) 1 e))) refl)
+          subst (λ (b : Bool). Gives c (answerTo b (headOf (listOf sc p)))) (sym wide)
+          (gives-head c p beginning (headOf (listOf sc p)) (accepted-well-formed file p q) (seat-at c p beginning r (rw (eq-eqb (c .place) 1 e))) refl)
       go (File.refused n k) q = gives-none c n k (seat-refused c n k (read-part ∙ q))
 
   -- ---- behind a schedule
@@ -187,19 +190,20 @@ module _ (c : Caller) (l : c .length ≤ 4096) (file out : List ℕ) (part : fil
     unfolding placeOf
     placed p = rw (ne-eqb (c .place) 1 d₁, eq-eqb (c .place) 2 e₂, le-ltb 24 (c .steps) few) (ap (λ (t : Schedule). behindFull (replay p t) t) (sym is))
 
-    pub continue-given : Gives c (continueFile file s out .0)
-    unfolding continueOn continueOf toCome behindFull continued
-    continue-given = go (decode file) refl
+    pub continue-given : Gives c (continueFile sc file s out .0)
+    unfolding continueOn continueOf toCome behindFull continued refusalOf
+    continue-given = subst (λ (d : Decoded). Gives c (continueOn sc d s out .0)) (sym (sc-admits (decode file))) (go (decode file) refl)
       where
-        carried : (p : Program) → decode file ≡ accepted p → (r : Replayed) → replay p s ≡ r → Gives c (continued r (offer (listOf p) (some s)))
+        carried : (p : Program) → decode file ≡ accepted p → (r : Replayed) → replay p s ≡ r → Gives c (continued (refusalOf r) (offer (listOf sc p) (some s)))
         carried p q (whole σ) h =
             let r : fileRead c ≡ accepted p = read-part ∙ q in
-            gives-head c p (behind s) (offer (listOf p) (some s)) (accepted-well-formed file p q) (seat-at c p (behind s) r (placed p ∙ ap (λ (y : Replayed). behindFull y s) h)) (offer-after (some s) (listOf p))
+            gives-head c p (behind s) (offer (listOf sc p) (some s)) (accepted-well-formed file p q) (seat-at c p (behind s) r (placed p ∙ ap (λ (y : Replayed). behindFull y s) h)) (offer-after (some s) (listOf sc p))
         carried p q (Replay.refused n k) h = gives-none c n k (seat-none c p (read-part ∙ q) (placed p ∙ ap (λ (y : Replayed). behindFull y s) h))
 
-        go : (d : Decoded) → decode file ≡ d → Gives c (continueOn d s out .0)
+        go : (d : Decoded) → decode file ≡ d → Gives c (continueOn sc d s out .0)
         go (accepted p) q =
-            subst (λ (b : Bool). Gives c (elim b [ true ↦ refused 22 0 | false ↦ continued (replay p s) (offer (listOf p) (some s)) ])) (sym wide) (carried p q (replay p s) refl)
+            subst (λ (b : Bool). Gives c (elim b [ true ↦ refused 22 0 | false ↦ continued (refusesFrom SC 0 (start p) s) (offer (listOf sc p) (some s)) ])) (sym wide)
+            (subst (λ (r : Option (ℕ × ℕ)). Gives c (continued r (offer (listOf sc p) (some s)))) (sym (refuses-replayed p s)) (carried p q (replay p s) refl))
         go (File.refused n k) q = gives-none c n k (seat-refused c n k (read-part ∙ q))
 
 -- ---- where there is nothing

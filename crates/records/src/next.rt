@@ -3,6 +3,7 @@ use lines::wide;
 use listing::ListAnswer;
 use listing::continue_from;
 use listing::start;
+use listing_model::Model;
 use program::STEPS;
 use sharing::Caller;
 ghost use mathlib.Core.Path.{_≡_};
@@ -58,7 +59,7 @@ pub fn next_of(c: Caller) -> Next
     let file = c.file;
     let mut out = [0u8; STEPS];
     if c.place == 1 {
-        let a = start(&file[0..n], &mut out);
+        let a = start(Model::Sequential, &file[0..n], &mut out);
         return next_by(a, out);
     }
     if c.place == 2 {
@@ -67,7 +68,7 @@ pub fn next_of(c: Caller) -> Next
         }
         let k = wide(c.steps);
         let schedule = c.schedule;
-        let b = continue_from(&file[0..n], &schedule[0..k], &mut out);
+        let b = continue_from(Model::Sequential, &file[0..n], &schedule[0..k], &mut out);
         return next_by(b, out);
     }
     no_more()

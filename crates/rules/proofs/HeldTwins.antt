@@ -12,7 +12,7 @@ use Rattle.schedules.specs.Lists.{range, any}
 use Rattle.schedules.specs.Order.{Schedule}
 use Rattle.schedules.proofs.Lists.{in-range, of-range, any-yes, any-of}
 use Rattle.sc.specs.Graph.{endOf}
-use Rattle.list.specs.ListOf.{together}
+use Rattle.model.specs.Exchange.{together}
 use Rattle.list.specs.Rules.{twin}
 use Rattle.survivors.specs.ReadWords.{twinByWord}
 use Rattle.survivors.proofs.TwinWords.{twins-by-word}

@@ -10,7 +10,7 @@ use Rattle.model.proofs.Classes.{classes}
 use Rattle.sc.specs.State.{start}
 use Rattle.sc_model.specs.Sequential.{sc}
 use Rattle.sc_model.proofs.Laws.{sc-laws}
-use Rattle.sc_model.proofs.Demand3.{sc-admits}
+use Rattle.sc_model.proofs.Admits.{sc-admits}
 
 -- a run begins with the program's threads and memory alone
 pub sc-unseen : GroupsUnseen sc

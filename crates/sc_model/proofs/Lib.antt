@@ -2,8 +2,8 @@
 pub mod Renamed
 -- the laws of a memory model
 pub mod Laws
--- DEMAND 3
-pub mod Demand3
+-- nothing is turned away
+pub mod Admits
 -- the sizes of classes
 pub mod Classes
 -- what refuses a schedule is what its replay says

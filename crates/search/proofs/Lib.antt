@@ -3,3 +3,5 @@
 pub mod TriedSteps
 -- the search with one next step, and over the next steps in turn
 pub mod WalkLoop
+-- the walk from the start finds what is listed
+pub mod ListedRows

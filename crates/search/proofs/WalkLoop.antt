@@ -1,28 +1,26 @@
 -- The search as the code walks it: with one next step, over the next steps in turn, and at a full schedule.
 use Prim.Native.Nat.{ℕ, _+_, _-_, _<_, _≤_}
-use mathlib.Core.Path.{_≡_, refl, sym, ap, subst, _∙_}
+use mathlib.Core.Path.{_≡_, sym, ap, subst, _∙_}
 use mathlib.Core.Bool.{Bool, true, false, not}
-use mathlib.Core.Option.{Option, none}
+use mathlib.Core.Option.{Option}
 use mathlib.Core.List.{List, [], _∷_, _++_}
 use native.Mathlib.Omega.{arith}
 use lib.Dec.{eqb}
-use lib.ListN.{length, getD, drop, length-append}
+use lib.ListN.{length, getD, length-append}
 use borrow.Author.Tests.{eqb-true, eqb-false, not-true, not-false}
 use Rattle.program.specs.Program.{Program}
-use Rattle.schedules.specs.Lists.{range, any}
 use Rattle.schedules.specs.Order.{Schedule}
 use Rattle.schedules.specs.System.{ended}
 use Rattle.schedules.specs.Search.{low, past}
 use Rattle.schedules.specs.Found.{concatRange}
 use Rattle.sc.specs.State.{SC, enabled}
 use Rattle.sc.specs.Graph.{endOf}
-use Rattle.list.specs.Rules.{twin}
-use Rattle.list.specs.Answers.{failing}
-use Rattle.survivors.specs.Sets.{has}
+use Rattle.model.specs.Model.{failing}
+use Rattle.sc_model.specs.Sequential.{sc}
 use Rattle.survivors.specs.LateSet.{lateSet}
 use Rattle.survivors.specs.Sleepers.{sleepers}
 use Rattle.survivors.specs.Search.{foundBehind, foundWith}
-use Rattle.survivors.proofs.Search.{up-asleep, up-not, with-given-up, with-live, behind-bound, behind-branches}
+use Rattle.survivors.proofs.Search.{up-asleep, up-not, with-given-up, with-live, behind-branches}
 use Rattle.prefix.specs.Reached.{Reached}
 use Rattle.prefix.specs.declared.place.Place.{Place}
 use Rattle.prefix.proofs.ReachedStep.{reached-room}
@@ -72,7 +70,7 @@ module _ (code lengths class : List ℕ) (threads groups : ℕ) (x : Place) (p :
           → (out out' : List ℕ) (n : ℕ) → Adds p (b .room) (foundBehind (b .failures) p (y .steps) (boundAt (b .tight) bound (y .steps)) (v ++ (t ∷ []))) out (b .rows) out' n
           → Adds p room (foundWith failures p (x .steps) o v t) out rows out' n
       visit-adds c room rows b bound ef em er e out out' n adds =
-          adds-same 24 (failing p) room _ _ out out' rows n (visit-on c (b .tight) bound e)
+          adds-same 24 (failing sc p) room _ _ out out' rows n (visit-on c (b .tight) bound e)
           (subst (λ (f : Bool). Adds p room (foundBehind f p (y .steps) (boundAt (b .tight) bound (y .steps)) (v ++ (t ∷ []))) out rows out' n) ef
           (subst (λ (k : ℕ). Adds p k (foundBehind (b .failures) p (y .steps) (boundAt (b .tight) bound (y .steps)) (v ++ (t ∷ []))) out rows out' n) em
           (subst (λ (k : ℕ). Adds p (b .room) (foundBehind (b .failures) p (y .steps) (boundAt (b .tight) bound (y .steps)) (v ++ (t ∷ []))) out k out' n) er adds)))
@@ -109,7 +107,7 @@ Cases code lengths class x = (threads : ℕ) × (groups : ℕ) × (p : Program) 
 -- what is left to the loop: what the next steps from t on add completes the whole
 abbrev pub Rest : (code lengths class : List ℕ) (failures : Bool) (x : Place) (o : Option Schedule) (out₀ : List ℕ) (room rows : ℕ) (out : List ℕ) (n t : ℕ) → Type 0
 Rest code lengths class failures x o out₀ room rows out n t =
-    Loop.Rest 24 (Cases code lengths class x) (λ k. failing (k .2)) 6 room (λ k d. foundWith failures (k .2) (x .steps) o (k .3) d) (λ k. foundBehind failures (k .2) (x .steps) o (k .3)) out₀ rows out n t
+    Loop.Rest 24 (Cases code lengths class x) (λ k. failing sc (k .2)) 6 room (λ k d. foundWith failures (k .2) (x .steps) o (k .3) d) (λ k. foundBehind failures (k .2) (x .steps) o (k .3)) out₀ rows out n t
 
 module _ (code lengths class : List ℕ) (failures : Bool) (x : Place) (o : Option Schedule) (out₀ : List ℕ) (room rows : ℕ) where
   abbrev each : Cases code lengths class x → ℕ → List Schedule
@@ -124,7 +122,7 @@ module _ (code lengths class : List ℕ) (failures : Bool) (x : Place) (o : Opti
   pub rest-start : (t : ℕ) → ((threads groups : ℕ) (p : Program) (v : Schedule) → Reached code lengths class threads groups x p v → ended SC (endOf p v) ≡ false)
       → x .steps < 24 → t ≡ low o → Still out₀ rows t
   rest-start t e h q =
-      Loop.rest-start 24 (Cases code lengths class x) (λ k. failing (k .2)) 6 room each whole out₀ rows t
+      Loop.rest-start 24 (Cases code lengths class x) (λ k. failing sc (k .2)) 6 room each whole out₀ rows t
       (λ k. behind-branches failures (k .2) (x .steps) (k .3) o (e (k .0) (k .1) (k .2) (k .3) (k .4)) h ∙ ap (λ (d : ℕ). concatRange (each k) (6 - d) d) (sym q))
 
   pub iteration-tried : (out out' behind : List ℕ) (n n' k t : ℕ) → t < 6 → length out ≡ length out₀ → Still out n t
@@ -132,7 +130,7 @@ module _ (code lengths class : List ℕ) (failures : Bool) (x : Place) (o : Opti
       → ((threads groups : ℕ) (p : Program) (v : Schedule) → Reached code lengths class threads groups x p v → Adds p room (foundWith failures p (x .steps) o v t) out n out' n')
       → behind ≡ out' → k ≡ n' → (k ≤ room) × (length behind ≡ length out₀) × Still behind k (t + 1)
   iteration-tried out out' behind n n' k t h same rest fits long adds eo en =
-      Loop.iteration-tried 24 (Cases code lengths class x) (λ k. failing (k .2)) 6 room each whole out₀ rows out out' behind n n' k t h same rest fits long
+      Loop.iteration-tried 24 (Cases code lengths class x) (λ k. failing sc (k .2)) 6 room each whole out₀ rows out out' behind n n' k t h same rest fits long
       (λ k. adds (k .0) (k .1) (k .2) (k .3) (k .4)) eo en
 
   -- one that is not tried
@@ -140,17 +138,17 @@ module _ (code lengths class : List ℕ) (failures : Bool) (x : Place) (o : Opti
       → ((threads groups : ℕ) (p : Program) (v : Schedule) → Reached code lengths class threads groups x p v → tried p v t ≡ false)
       → behind ≡ out → k ≡ n → (k ≤ room) × (length behind ≡ length out₀) × Still behind k (t + 1)
   iteration-skipped out behind n k t h fits same rest not-tried eo en =
-      Loop.iteration-skipped 24 (Cases code lengths class x) (λ k. failing (k .2)) 6 room each whole out₀ rows out behind n k t h fits same rest
+      Loop.iteration-skipped 24 (Cases code lengths class x) (λ k. failing sc (k .2)) 6 room each whole out₀ rows out behind n k t h fits same rest
       (λ k. untried-none (k .2) (k .3) t failures (x .steps) o (not-tried (k .0) (k .1) (k .2) (k .3) (k .4))) eo en
 
   -- no step is left
   pub rest-over : (out : List ℕ) (n t : ℕ) → 6 ≤ t → Still out n t → (threads groups : ℕ) (p : Program) (v : Schedule)
       → Reached code lengths class threads groups x p v → Adds p room (foundBehind failures p (x .steps) o v) out₀ rows out n
   rest-over out n t h rest threads groups p v at =
-      Loop.rest-over 24 (Cases code lengths class x) (λ k. failing (k .2)) 6 room each whole out₀ rows out n t h rest (threads, groups, p, v, at)
+      Loop.rest-over 24 (Cases code lengths class x) (λ k. failing sc (k .2)) 6 room each whole out₀ rows out n t h rest (threads, groups, p, v, at)
 
   -- no room is left
   pub rest-full : (out : List ℕ) (n t : ℕ) → room ≤ n → Still out n t → (threads groups : ℕ) (p : Program) (v : Schedule)
       → Reached code lengths class threads groups x p v → Adds p room (foundBehind failures p (x .steps) o v) out₀ rows out n
   rest-full out n t h rest threads groups p v at =
-      Loop.rest-full 24 (Cases code lengths class x) (λ k. failing (k .2)) 6 room each whole out₀ rows out n t h rest (threads, groups, p, v, at)
+      Loop.rest-full 24 (Cases code lengths class x) (λ k. failing sc (k .2)) 6 room each whole out₀ rows out n t h rest (threads, groups, p, v, at)

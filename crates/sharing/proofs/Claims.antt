@@ -9,15 +9,16 @@ use native.Mathlib.Omega.{arith}
 use lib.ListN.{length, getD}
 use Rattle.program.specs.Program.{Program}
 use Rattle.program.specs.Decode.{accepted, decode}
-use Rattle.list.specs.ListOf.{listOf}
+use Rattle.model.specs.Alike.{listOf}
+use Rattle.sc_model.specs.Sequential.{sc}
 use Rattle.sharing.specs.declared.caller.Caller.{Caller}
 use Rattle.sharing.specs.Seat.{Place, beginning, Seat, closed, active, toCome, isOpen, asks}
-use Rattle.sharing.specs.Record.{reading, noMark, fresh, opened, plain, asked}
+use Rattle.sharing.specs.Record.{reading, noMark, fresh, opened, plain}
 use Rattle.sharing.specs.Marks.{nameFits}
 use Rattle.sharing.specs.Call.{Call, open-for, ask-for, close-for, return-to, forget, done, refused, Shared, start, seatOf, openAnswer, openOnly, answerTo, after}
 use Rattle.sharing.specs.Play.{answers, behindAll, received, schedulesOf}
 use Rattle.sharing.specs.Noted.{Noted, nothingNoted}
-use Rattle.sharing.specs.Concerns.{Event, concerns}
+use Rattle.sharing.specs.Concerns.{Event}
 use Rattle.sharing.specs.Claims.{Sharing}
 use Rattle.sharing.proofs.Readings.{reading-fresh, reading-opened, reading-asked, reading-returned}
 use Rattle.sharing.proofs.Seats.{Four, Opens, open-either, only-either, four-after}
@@ -126,7 +127,7 @@ sharing = record {
       let σ = behindAll before start in
       let h = four-all before start four-start in
       let q = opened-seat σ k f p h d e in
-      order-from k (q .0) p (listOf p) later (after (open-for k f) σ) 0 beginning false (four-after (open-for k f) σ h) (q .1) refl st nr;
+      order-from k (q .0) p (listOf sc p) later (after (open-for k f) σ) 0 beginning false (four-after (open-for k f) σ h) (q .1) refl st nr;
   behind-mark = λ before later k n p x a e s st nr.
       let σ = behindAll before start in
       let h = four-all before start four-start in

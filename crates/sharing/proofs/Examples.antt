@@ -2,7 +2,7 @@
 use Prim.Native.Nat.{ℕ}
 use mathlib.Core.Path.{_≡_, refl}
 use mathlib.Core.List.{List, [], _∷_, _++_}
-use lib.ListN.{length, replicate, getD}
+use lib.ListN.{replicate, getD}
 use Rattle.lines.specs.Over.{over}
 use Rattle.lines.specs.Digit.{lower, digit, value, digitOf}
 use Rattle.lines.specs.Frame.{hexadecimal, pairs, frame}
@@ -10,28 +10,23 @@ use Rattle.lines.specs.Text.{digits, text}
 use Rattle.lines.specs.TextLines.{prepend, before, split}
 use Rattle.lines.specs.Meaning.{remark, spelt, meaning}
 use Rattle.program.specs.Kinds.{kinds, lookup, kindOf}
-use Rattle.program.specs.Frames.{word, kind, known, registerFits, locationFits, skipFits, operandFits, inRange}
-use Rattle.program.specs.Frames.{opens, declares, starts, isAccess}
-use Rattle.program.specs.Frames.{skipOf, operand, buildOwn, build, instruction}
+use Rattle.program.specs.Frames.{word, kind, known, registerFits, locationFits, skipFits, operandFits, inRange, opens, declares, starts, isAccess, skipOf, operand, buildOwn, build, instruction}
 use Rattle.lines.specs.Lists.{sameList}
 use Rattle.program.specs.Decode as D
-use Rattle.program.specs.Decode.{threadAt, lastThread, inPlace, accessesIn, allAccessesIn, withinLimits}
-use Rattle.program.specs.Decode.{isGiven, valueAt, startFits, sameBytes, sameCode, among}
-use Rattle.program.specs.Decode.{grouped, memberFits, followersFit, membersFit, alikeFits, frameRefusal, farSkip, firstFarSkip}
-use Rattle.program.specs.Decode.{programIn, finish, readLines, decode}
+use Rattle.program.specs.Decode.{threadAt, lastThread, inPlace, accessesIn, allAccessesIn, withinLimits, isGiven, valueAt, startFits, sameBytes, sameCode, among, grouped, memberFits, followersFit, membersFit, alikeFits, frameRefusal, farSkip, firstFarSkip, programIn, finish, readLines, decode}
 use Rattle.program.specs.WellFormed.{accesses}
 use Rattle.schedules.specs.Computing.{computing}
 use Rattle.sc.specs.State.{size, accessesLeft}
 use Rattle.sc.specs.Replay.{replayFrom, replay}
 use Rattle.sc.specs.Exchange.{movedEvent, movedRead, movedReads, movedWrites}
-use Rattle.sc.specs.Text.{textOf}
 use Rattle.sc.proofs.Examples.{seen}
-use Rattle.list.specs.ListOf.{together, permits, permitted, renames, alikeBy, alike, listOf}
-use Rattle.sharing.specs.declared.caller.Mark.{Mark}
+use Rattle.sc_model.specs.Renamed.{renames}
+use Rattle.model.specs.Exchange.{together, permits, permitted}
+use Rattle.model.specs.Alike.{alikeBy, alike, listOf}
 use Rattle.sharing.specs.Seat.{toCome, isOpen, asks}
 use Rattle.sharing.specs.Record.{fileRead, behindFull, placeOf, seated, seatBy, reading, noMark, plain, standing, handing, counting, withMarks, fresh, opened, asked, served, returned}
 use Rattle.sharing.specs.Marks.{isSome, nameFits, markPlace, nameOf, bears, slotOf, isFree, slotFor, lastHanded, markAt, newMark, emptied, markSet, markForgotten, markReturned}
-use Rattle.sharing.specs.Call.{Call, open-for, ask-for, serve, close-for, set-mark, return-to, forget, Answer, done, given, ended, idle, refused, start, seatOf, checked, openedBy, openAnswer, openOnly, byProgram, marksOnly, doneIf, marksOf, setAnswer, knownOnly, lastRead, inTurn, nextAsking, forSeat, handedTo, servedTo, serveAnswer, answerTo, changed, callersDone, callersAfter, lastAfter, after, Shared}
+use Rattle.sharing.specs.Call.{Call, open-for, ask-for, serve, close-for, set-mark, return-to, forget, Answer, done, given, ended, refused, start, seatOf, checked, openedBy, openAnswer, openOnly, byProgram, marksOnly, doneIf, marksOf, setAnswer, knownOnly, lastRead, inTurn, nextAsking, forSeat, handedTo, servedTo, serveAnswer, answerTo, changed, callersDone, callersAfter, lastAfter, after, Shared}
 use Rattle.sharing.specs.Play.{answers, behindAll}
 
 -- what a proof names on its `unfolding` line to compute the answers to a list of calls

@@ -4,11 +4,10 @@ use Prim.Native.Nat.{ℕ, _<_}
 use mathlib.Core.Path.{_≡_, refl, sym, ap, subst, _∙_}
 use mathlib.Core.Logic.{_≢_, _⊎_, inl, inr, ⊎-elim}
 use mathlib.Core.Bool.{Bool, true, false, cond, _&&_, false≢true}
-use mathlib.Core.Option.{Option, none, some}
+use mathlib.Core.Option.{some}
 use mathlib.Core.List.{List, [], _∷_, tail, List·Memᴰ, List·Memᴰ·head}
 use native.Mathlib.Omega.{arith}
-use native.Mathlib.Decide.{ℕ-discrete}
-use borrow.Author.Tests.{eq-eqb, ne-eqb}
+use borrow.Author.Tests.{eq-eqb}
 use lib.Dec.{eqb}
 use lib.ListN.{length, getD, set}
 use Rattle.program.specs.Program.{Program}
@@ -17,14 +16,16 @@ use Rattle.schedules.specs.Order.{Schedule, less}
 use Rattle.schedules.specs.Found.{after}
 use Rattle.schedules.proofs.After.{of-after, after-behind, after-on}
 use Rattle.sc.specs.Graph.{Full}
-use Rattle.list.specs.ListOf.{listOf}
-use Rattle.list.proofs.TheList.{list-ascends, list-exact}
+use Rattle.model.specs.Alike.{listOf}
+use Rattle.sc_model.specs.Sequential.{sc}
+use Rattle.model.proofs.TheList.{list-ascends, list-exact}
+use Rattle.sc_model.proofs.Laws.{sc-laws}
 use Rattle.sharing.specs.declared.caller.Caller.{Caller}
-use Rattle.sharing.specs.Seat.{Place, beginning, behind, end, Seat, closed, active, toCome, isOpen, asks}
-use Rattle.sharing.specs.Record.{reading, noMark, fresh, opened, asked, served, withMarks, returned}
-use Rattle.sharing.specs.Marks.{isSome, nameFits, markPlace, bears, slotOf, slotFor, lastHanded, newMark, emptied, markSet, markReturned, markForgotten}
+use Rattle.sharing.specs.Seat.{Place, beginning, behind, end, Seat, active, toCome, isOpen}
+use Rattle.sharing.specs.Record.{reading, noMark, served, withMarks, returned}
+use Rattle.sharing.specs.Marks.{isSome, nameFits, markPlace, slotOf, slotFor, lastHanded, newMark, emptied, markSet, markReturned, markForgotten}
 use Rattle.sharing.specs.Call as Calls
-use Rattle.sharing.specs.Call.{Call, open-for, ask-for, serve, close-for, set-mark, return-to, forget, Answer, done, given, ended, idle, refused, Shared, seatOf, forSeat, handedTo, openAnswer, byProgram, doneIf, marksOf, setAnswer, knownOnly, answerTo}
+use Rattle.sharing.specs.Call.{Call, open-for, ask-for, serve, close-for, set-mark, return-to, forget, done, refused, Shared, seatOf, forSeat, handedTo, openAnswer, byProgram, doneIf, marksOf, setAnswer, knownOnly, answerTo}
 use Rattle.sharing.specs.Play.{handsTo, isDone, isReturn}
 use Rattle.sharing.proofs.Readings.{reading-asked, reading-given, reading-ended, reading-marks, reading-returned}
 use Rattle.sharing.proofs.Seats.{Four, Opens, open-either, marks-open}
@@ -34,15 +35,15 @@ use Rattle.sharing.proofs.Marks.{is-some, bears-place, slot-of}
 -- ---- what is yet to come behind the first of it
 pub come-next : (p : Program) (x : Place) (s : Schedule) (l : List Schedule) → toCome p x ≡ s ∷ l → toCome p (behind s) ≡ l
 unfolding toCome
-come-next p beginning s l e = ap (after (some s)) e ∙ after-behind [] s l (subst (λ k. Ascends less k) e (list-ascends p))
-come-next p (behind b) s l e = after-on (some b) (listOf p) [] s l (list-ascends p) e
+come-next p beginning s l e = ap (after (some s)) e ∙ after-behind [] s l (subst (λ k. Ascends less k) e (list-ascends sc sc-laws p))
+come-next p (behind b) s l e = after-on (some b) (listOf sc p) [] s l (list-ascends sc sc-laws p) e
 come-next p end s l e = absurd (let z : _≡_ {A = ℕ} 0 1 = cc in omega arith)
 
 -- the first of it is full
 pub come-full : (p : Program) (x : Place) (s : Schedule) (l : List Schedule) → toCome p x ≡ s ∷ l → Full p s
 unfolding toCome
-come-full p beginning s l e = list-exact p s .0 (subst (List·Memᴰ s) (sym e) (List·Memᴰ·head refl)) .0
-come-full p (behind b) s l e = list-exact p s .0 (of-after (some b) (listOf p) s (subst (List·Memᴰ s) (sym e) (List·Memᴰ·head refl))) .0
+come-full p beginning s l e = list-exact sc sc-laws p s .0 (subst (List·Memᴰ s) (sym e) (List·Memᴰ·head refl)) .0
+come-full p (behind b) s l e = list-exact sc sc-laws p s .0 (of-after (some b) (listOf sc p) s (subst (List·Memᴰ s) (sym e) (List·Memᴰ·head refl))) .0
 come-full p end s l e = absurd (let z : _≡_ {A = ℕ} 0 1 = cc in omega arith)
 
 module _ (σ : Shared) (four : Four (σ .callers)) (k : ℕ) (small : k < 4) (p : Program) (x : Place) (a : Bool) (seat : seatOf (σ .callers) k ≡ active p x a) where

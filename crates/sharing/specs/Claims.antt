@@ -10,12 +10,12 @@ use Rattle.program.specs.Decode.{accepted, decode}
 use Rattle.schedules.specs.Lists.{range}
 use Rattle.schedules.specs.Order.{Schedule}
 use Rattle.schedules.specs.Calls.{member}
-use Rattle.list.specs.ListOf.{listOf}
+use Rattle.model.specs.Alike.{listOf}
+use Rattle.sc_model.specs.Sequential.{sc}
 use Rattle.sharing.specs.Seat.{Place, closed, active, toCome, asks}
 use Rattle.sharing.specs.Record.{fresh}
 use Rattle.sharing.specs.Marks.{nameFits}
-use Rattle.sharing.specs.Call.{Call, open-for, ask-for, close-for, return-to, forget}
-use Rattle.sharing.specs.Call.{done, refused, Shared, seatOf, answerTo, after, start}
+use Rattle.sharing.specs.Call.{Call, open-for, ask-for, close-for, return-to, forget, done, refused, Shared, seatOf, answerTo, after, start}
 use Rattle.sharing.specs.Play.{answers, behindAll, received, serves, schedulesOf, returns, Stays}
 use Rattle.sharing.specs.Noted.{nothingNoted, noted}
 use Rattle.sharing.specs.Concerns.{concerns}
@@ -35,7 +35,7 @@ pub record Sharing : Type 0 where
   pub in-order : (before later : List Call) (k : ℕ) (f : List ℕ) (p : Program) → decode f ≡ accepted p →
       let opening = after (open-for k f) (behindAll before start) in
       answerTo (open-for k f) (behindAll before start) ≡ done → Stays k later → returns k later opening ≡ false →
-      InOrder k (listOf p) later opening
+      InOrder k (listOf sc p) later opening
   -- BEHIND A MARK: after each return, up to the next or the closing, they give what the list holds behind the place so set
   pub behind-mark : (before later : List Call) (k : ℕ) (n : List ℕ) (p : Program) (x : Place) (a : Bool) →
       let back = after (return-to k n) (behindAll before start) in

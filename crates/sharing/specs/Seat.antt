@@ -5,7 +5,8 @@ use mathlib.Core.List.{List, []}
 use Rattle.program.specs.Program.{Program}
 use Rattle.schedules.specs.Order.{Schedule}
 use Rattle.schedules.specs.Found.{after}
-use Rattle.list.specs.ListOf.{listOf}
+use Rattle.model.specs.Alike.{listOf}
+use Rattle.sc_model.specs.Sequential.{sc}
 
 -- a place in a program's list: the beginning, behind a full schedule, or the end
 pub data Place : Type 0 where
@@ -19,8 +20,8 @@ pub data Seat : Type 0 where
 
 -- what of the program's list is yet to come
 unfoldable pub toCome : Program → Place → List Schedule
-toCome p beginning = listOf p
-toCome p (behind s) = after (some s) (listOf p)
+toCome p beginning = listOf sc p
+toCome p (behind s) = after (some s) (listOf sc p)
 toCome p end = []
 
 -- whether somebody is there, and whether a schedule is asked for

@@ -5,20 +5,18 @@ use Prim.Native.Nat.{ℕ, _<_}
 use mathlib.Core.Path.{_≡_, refl, sym, ap, ap₂, subst, _∙_}
 use mathlib.Core.Logic.{_≢_, _⊎_, inl, inr, _↔_}
 use mathlib.Core.Bool.{Bool, true, false}
-use mathlib.Core.List.{List, [], _∷_, _++_, reverse, List·Memᴰ}
+use mathlib.Core.List.{List, _∷_, _++_, reverse, List·Memᴰ}
 use native.Mathlib.Omega.{arith}
 use lib.ListN.{length}
 use Rattle.program.specs.Program.{Program}
 use Rattle.program.specs.WellFormed.{WellFormed}
 use Rattle.schedules.specs.Lists.{range, any}
 use Rattle.schedules.specs.Order.{Schedule}
-use Rattle.schedules.specs.System.{run}
-use Rattle.schedules.specs.Orders.{trace}
 use Rattle.schedules.specs.Permutations.{permutations, moved}
 use Rattle.schedules.proofs.Lists.{of-filter, of-range, any-yes}
 use Rattle.schedules.proofs.Order.{AtMost}
 use Rattle.schedules.proofs.Runs.{full-allowed}
-use Rattle.sc.specs.State.{Event, Cell, State, threadOf, opened, step, start, SC}
+use Rattle.sc.specs.State.{Event, Cell, State, threadOf, opened, start, SC}
 use Rattle.sc.specs.Graph.{graphOf, graph, Full, endOf}
 use Rattle.sc.specs.Exchange.{movedSchedule, Moves, Renames}
 use Rattle.sc.specs.Actions.{Action, action, actions, who, conflict}
@@ -29,22 +27,20 @@ use Rattle.sc.proofs.FixedState.{fixed-state}
 use Rattle.sc.proofs.Permitted.{exchanged, exchanged-graph}
 use Rattle.sc.proofs.ProgramGraphs.{graph-rows, graph-moved-end}
 use Rattle.sc.proofs.Renaming.{renames-back}
-use Rattle.list.specs.Alike.{Exchange, Alike, Smaller, Listed}
-use Rattle.list.specs.ListOf.{permits, permitted}
+use Rattle.model.specs.Exchange.{Exchange, permits, permitted, Together}
+use Rattle.model.specs.Alike.{Alike, Smaller, Listed}
 use Rattle.list.specs.Rules.{late, taken, twin}
-use Rattle.model.specs.Exchange.{Together}
 use Rattle.model.specs.Late.{Timely}
 use Rattle.model.proofs.Exchanges.{exchange-back}
 use Rattle.model.proofs.Traces.{stands}
 use Rattle.model.proofs.OnTime.{on-time-least}
-use Rattle.list.proofs.Equivalence.{alike-sym, exchanged-once}
+use Rattle.model.proofs.Alike.{alike-sym}
 use Rattle.sc_model.specs.Sequential.{sc}
 use Rattle.sc_model.proofs.Laws.{within, sc-laws}
-use Rattle.list.proofs.Tests.{tabled, permitted-exchange, exchange-permitted}
+use Rattle.model.proofs.Permitted.{tabled, permitted-exchange, exchange-permitted}
 use Rattle.list.proofs.Late.{late-smaller}
 use Rattle.list.proofs.Twins.{members, twin-smaller}
-use Rattle.list.proofs.TheList.{list-exact}
-use Rattle.list.proofs.AsModel.{one-each}
+use Rattle.model.proofs.TheList.{list-exact, one-each}
 use Rattle.survivors.specs.Survivor.{Survives}
 use Rattle.survivors.proofs.GoesFirst.{Quiet}
 use Rattle.survivors.proofs.Inverted.{inverted-equal, inverted-quiet}
@@ -65,7 +61,7 @@ module _ (p : Program) (wf : WellFormed p) where
   renames-back-here π x a b t = renames-back π (x .0) (graph p a) (graph p b)
       (λ u h. let i = graph-rows p a in let j = graph-rows p b in let k = within p wf (x .0 .inverse) (exchange-back p π x) u (omega arith) in omega arith) t
 
-  module _ (w m : Schedule) (fw : Full p w) (s : Survives p w) (lm : Listed p m) (π : List ℕ) (mem : List·Memᴰ π (permitted p)) (t : Renames (moved π) (graph p m) (graph p w)) where
+  module _ (w m : Schedule) (fw : Full p w) (s : Survives p w) (lm : Listed sc p m) (π : List ℕ) (mem : List·Memᴰ π (permitted p)) (t : Renames (moved π) (graph p m) (graph p w)) where
     x : Exchange p (moved π)
     x = permitted-exchange p π mem
 
@@ -79,7 +75,7 @@ module _ (p : Program) (wf : WellFormed p) where
     E = endOf p w
 
     same : graphOf (endOf p v) ≡ graphOf E
-    same = exchanged-once p wf (moved π) x m v w (exchanged-graph p wf (moved π) (x .1) (x .0) m (lm .0)) t
+    same = sc-laws .program p (wf, refl) .renamed-once (moved π) x m v w (exchanged-graph p wf (moved π) (x .1) (x .0) m (lm .0)) t
 
     -- one thread, or two that end alike and write nothing
     abbrev Tied : ℕ → ℕ → Type 0
@@ -157,39 +153,39 @@ module _ (p : Program) (wf : WellFormed p) where
 
     -- ONE GRAPH
     one-graph : graph p m ≡ graph p w
-    one-graph = exchanged-once p wf (x .0 .inverse) (exchange-back p (moved π) x) w m w (renames-back-here (moved π) x m w t) (renames-back-here (moved π) x w w (graph-moved-end p (moved π) w w fixed))
+    one-graph = sc-laws .program p (wf, refl) .renamed-once (x .0 .inverse) (exchange-back p (moved π) x) w m w (renames-back-here (moved π) x m w t) (renames-back-here (moved π) x w w (graph-moved-end p (moved π) w w fixed))
 
-  alike-survivor : (w m : Schedule) → Full p w → Survives p w → Listed p m → Alike p m w → graph p m ≡ graph p w
+  alike-survivor : (w m : Schedule) → Full p w → Survives p w → Listed sc p m → Alike sc p m w → graph p m ≡ graph p w
   alike-survivor w m fw s lm l =
       let k = exchange-permitted p (l .0) (l .1) in
       one-graph w m fw s lm (tabled (l .0)) (k .0) (subst (λ (ρ : ℕ → ℕ). Renames ρ (graph p m) (graph p w)) (sym (k .1)) (l .2))
 
   -- THE RULES ARE EXACT
-  pub survivor-listed : (w : Schedule) → Full p w → Survives p w → Listed p w
+  pub survivor-listed : (w : Schedule) → Full p w → Survives p w → Listed sc p w
   survivor-listed w f s =
-      let c = one-each p wf w f in
-      let lm = list-exact p (c .0) .0 (c .1) in
+      let c = one-each sc sc-laws p (wf, refl) w f in
+      let lm = list-exact sc sc-laws p (c .0) .0 (c .1) in
       go (c .0) lm (c .2) (survivor-least p wf w f s (c .0) (lm .0) (alike-survivor w (c .0) f s lm (c .2)))
     where
-      go : (m : Schedule) → Listed p m → Alike p m w → AtMost w m → Listed p w
-      go m l a (inl e) = subst (Listed p) (sym e) l
-      go m l a (inr e) = absurd (l .1 (w, f, e, alike-sym p wf m w a))
+      go : (m : Schedule) → Listed sc p m → Alike sc p m w → AtMost w m → Listed sc p w
+      go m l a (inl e) = subst (Listed sc p) (sym e) l
+      go m l a (inr e) = absurd (l .1 (w, f, e, alike-sym sc sc-laws p (wf, refl) m w a))
 
   -- and sound: a listed schedule survives
-  pub listed-survives : (w : Schedule) → Listed p w → Survives p w
+  pub listed-survives : (w : Schedule) → Listed sc p w → Survives p w
   listed-survives w l v t z e = (go (late (taken p v) (action (endOf p v) t)) refl, at (any (twin p (endOf p v) t) (range 0 t)) refl)
     where
       go : (b : Bool) → late (taken p v) (action (endOf p v) t) ≡ b → late (taken p v) (action (endOf p v) t) ≡ false
-      go true q = absurd (l .1 (subst (Smaller p) (sym e) (late-smaller p wf v t z q (subst (Full p) e (l .0)))))
+      go true q = absurd (l .1 (subst (Smaller sc p) (sym e) (late-smaller p wf v t z q (subst (Full p) e (l .0)))))
       go false q = q
 
       at : (b : Bool) → any (twin p (endOf p v) t) (range 0 t) ≡ b → any (twin p (endOf p v) t) (range 0 t) ≡ false
       at true q =
           let r = any-yes (twin p (endOf p v) t) (range 0 t) q in
           let h = of-range 0 t (r .0) (r .1) .1 in
-          absurd (l .1 (subst (Smaller p) (sym e) (twin-smaller p wf v (r .0) t z (omega arith) (r .2) (subst (Full p) e (l .0)))))
+          absurd (l .1 (subst (Smaller sc p) (sym e) (twin-smaller p wf v (r .0) t z (omega arith) (r .2) (subst (Full p) e (l .0)))))
       at false q = q
 
   -- LISTED EXACTLY WHERE NEITHER RULE CUTS
-  pub listed-exactly : (w : Schedule) → Full p w → Survives p w ↔ Listed p w
+  pub listed-exactly : (w : Schedule) → Full p w → Survives p w ↔ Listed sc p w
   listed-exactly w f = ((λ s. survivor-listed w f s), λ l. listed-survives w l)

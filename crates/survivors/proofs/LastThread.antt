@@ -3,7 +3,7 @@
 use Prim.Native.Nat.{ℕ, zero, suc, _+_, _-_, _<_, _≤_}
 use mathlib.Core.Path.{_≡_, refl, sym, ap, _∙_}
 use mathlib.Core.Logic.{_≢_, _⊎_, inl, inr}
-use mathlib.Core.Bool.{Bool, true, false, not, true≢false, false≢true}
+use mathlib.Core.Bool.{Bool, true, false, true≢false, false≢true}
 use mathlib.Core.Option.{Option, none}
 use mathlib.Core.List.{List, [], _∷_, _++_, append-nil}
 use native.Mathlib.Omega.{arith}
@@ -31,7 +31,7 @@ use Rattle.sc.proofs.Steps.{enabled-small, enabled-pending, enabled-of, enabled
 use Rattle.sc.proofs.Lawful.{lawful}
 use Rattle.sc.proofs.Access.{Settled}
 use Rattle.sc.proofs.Regular.{Regular, regular-start, regular-run}
-use Rattle.list.specs.ListOf.{together}
+use Rattle.model.specs.Exchange.{together}
 use Rattle.list.specs.Rules.{sameLocal, twin}
 use Rattle.survivors.specs.Sets.{has}
 use Rattle.survivors.specs.LateSet.{lateNow, lateBehind, lateSet}

@@ -24,11 +24,12 @@ use Rattle.sc.proofs.Exchange.{injective, moves-cell, moves-step}
 use Rattle.sc.proofs.Permitted.{moves-start}
 use Rattle.consistent.specs.Same.{sameRead}
 use Rattle.consistent.proofs.Tests.{both-and, same-read, same-list}
-use Rattle.list.specs.Alike.{Exchange, Smaller, Listed}
+use Rattle.model.specs.Exchange.{Exchange, Together}
+use Rattle.model.specs.Alike.{Smaller, Listed}
 use Rattle.list.specs.Rules.{sameFlag, sameLocal, sameHistory, silent, twin}
-use Rattle.model.specs.Exchange.{Together}
 use Rattle.model.proofs.Exchanges.{one-group}
-use Rattle.list.proofs.Tests.{true-together}
+use Rattle.sc_model.specs.Sequential.{sc}
+use Rattle.model.proofs.Permitted.{true-together}
 use Rattle.list.proofs.Twins.{silent-true, twin-smaller}
 use Rattle.survivors.specs.Survivor.{Survives}
 use Rattle.survivors.proofs.GoesFirst.{Quiet, Never}
@@ -84,8 +85,8 @@ pub never-survivor : (p : Program) (w : Schedule) → Survives p w → (y z : �
 never-survivor p w s y z h k a b e th q r =
     true≢false (sym (twin-of p (endOf p a) y z k th q r) ∙ any-no (twin p (endOf p a) z) _ y (s a z b e .1) (in-range 0 z y (omega arith) (omega (arith, h))))
 
-pub never-listed : (p : Program) → WellFormed p → (m : Schedule) → Listed p m → (y z : ℕ) → y < z → Together p y z → Never (start p) m y z
-never-listed p w m l y z h k a b e th q r = l .1 (subst (Smaller p) (sym e) (twin-smaller p w a y z b h (twin-of p (endOf p a) y z k th q r) (subst (Full p) e (l .0))))
+pub never-listed : (p : Program) → WellFormed p → (m : Schedule) → Listed sc p m → (y z : ℕ) → y < z → Together p y z → Never (start p) m y z
+never-listed p w m l y z h k a b e th q r = l .1 (subst (Smaller sc p) (sym e) (twin-smaller p w a y z b h (twin-of p (endOf p a) y z k th q r) (subst (Full p) e (l .0))))
 
 -- an exchanged schedule, cut
 split-moved : (π : ℕ → ℕ) (m a : Schedule) (x : ℕ) (b : Schedule) → movedSchedule π m ≡ a ++ (x ∷ b) → (f : Schedule) × (c : ℕ) × (g : Schedule) × (m ≡ f ++ (c ∷ g)) × (movedSchedule π f ≡ a) × (π c ≡ x)

@@ -14,7 +14,7 @@ use Rattle.program.specs.WellFormed.{WellFormed}
 use Rattle.program.proofs.Tests.{both, either, neither}
 use Rattle.schedules.specs.Lists.{range, any}
 use Rattle.schedules.specs.Order.{Schedule}
-use Rattle.schedules.specs.System.{run, ended}
+use Rattle.schedules.specs.System.{ended}
 use Rattle.schedules.specs.Search.{low, past}
 use Rattle.schedules.specs.Found.{after, concatRange, foundFrom}
 use Rattle.schedules.proofs.Lists.{of-range, any-yes}
@@ -23,14 +23,16 @@ use Rattle.schedules.proofs.After.{after-none}
 use Rattle.schedules.proofs.Found.{at-bound, at-listed, at-unlisted, by-not, by-cut, by-live, found-ended, found-stuck, found-branches}
 use Rattle.sc.specs.State.{State, SC, enabled, step, start}
 use Rattle.sc.specs.Graph.{Full, endOf}
-use Rattle.list.specs.Alike.{Smaller}
+use Rattle.model.specs.Alike.{Smaller}
 use Rattle.list.specs.Rules.{twin}
-use Rattle.list.specs.Answers.{failing}
-use Rattle.list.specs.Search.{sought}
-use Rattle.list.proofs.Tests.{or-left, or-right}
+use Rattle.model.specs.Model.{failing}
+use Rattle.model.specs.Search.{sought}
+use Rattle.sc_model.specs.Sequential.{sc}
+use Rattle.model.proofs.Permitted.{or-left, or-right}
 use Rattle.list.proofs.Late.{late-smaller}
 use Rattle.list.proofs.Twins.{twin-smaller}
-use Rattle.list.proofs.Walk.{sought-on}
+use Rattle.model.proofs.Search.{sought-on}
+use Rattle.sc_model.proofs.Laws.{sc-laws}
 use Rattle.survivors.specs.Sets.{has}
 use Rattle.survivors.specs.LateSet.{lateSet}
 use Rattle.survivors.specs.Sleepers.{sleepers}
@@ -87,13 +89,13 @@ module _ (p : Program) (v : Schedule) (t : ℕ) where
 
 module _ (p : Program) (w : WellFormed p) where
   -- THE RULES ARE SOUND
-  pub given-up-smaller : (v : Schedule) (t : ℕ) (z : Schedule) → givenUp p v (endOf p v) t ≡ true → Full p (v ++ (t ∷ z)) → Smaller p (v ++ (t ∷ z))
+  pub given-up-smaller : (v : Schedule) (t : ℕ) (z : Schedule) → givenUp p v (endOf p v) t ≡ true → Full p (v ++ (t ∷ z)) → Smaller sc p (v ++ (t ∷ z))
   given-up-smaller v t z e f = go (cases p v t e)
     where
-      go : (has (lateSet p v) t ≡ true) ⊎ ((any (twin p (endOf p v) t) (range 0 t) ≡ true) ⊎ (asleep p v t ≢ 0)) → Smaller p (v ++ (t ∷ z))
+      go : (has (lateSet p v) t ≡ true) ⊎ ((any (twin p (endOf p v) t) (range 0 t) ≡ true) ⊎ (asleep p v t ≢ 0)) → Smaller sc p (v ++ (t ∷ z))
       go (inl q) = late-smaller p w v t z (both (enabled (endOf p v) t) _ (sym (late-set p v t) ∙ q) .1) f
       go (inr (inl q)) = let r = any-yes (twin p (endOf p v) t) (range 0 t) q in let h = of-range 0 t (r .0) (r .1) .1 in twin-smaller p w v (r .0) t z (omega arith) (r .2) f
-      go (inr (inr n)) = let whole = append-assoc v (t ∷ []) z in subst (Smaller p) whole (sleepers-smaller p w (v ++ (t ∷ [])) z n (subst (Full p) (sym whole) f))
+      go (inr (inr n)) = let whole = append-assoc v (t ∷ []) z in subst (Smaller sc p) whole (sleepers-smaller p w (v ++ (t ∷ [])) z n (subst (Full p) (sym whole) f))
 
   fair : Fair p (givenUp p)
   fair = record {
@@ -103,16 +105,16 @@ module _ (p : Program) (w : WellFormed p) where
   }
 
   -- THE SEARCH FINDS what the list has above the bound, in order, or those of it that fail
-  pub found-exactly : (failures : Bool) (o : Option Schedule) → found failures p o ≡ after o (sought failures p)
+  pub found-exactly : (failures : Bool) (o : Option Schedule) → found failures p o ≡ after o (sought sc failures p)
   unfolding found
   found-exactly failures o = ap (λ (τ : State). foundFrom SC 6 (givenUp p) (lookedFor failures p) 24 o [] τ) (run-nil SC (start p)) ∙ untested-is p w (givenUp p) fair failures o
 
   -- the list by pieces: without a bound all is found, and from the last schedule of a piece what stands behind it
-  pub found-all : (failures : Bool) → found failures p none ≡ sought failures p
-  found-all failures = found-exactly failures none ∙ after-none (sought failures p)
+  pub found-all : (failures : Bool) → found failures p none ≡ sought sc failures p
+  found-all failures = found-exactly failures none ∙ after-none (sought sc failures p)
 
   pub found-on : (failures : Bool) (o : Option Schedule) (xs : List Schedule) (s : Schedule) (ys : List Schedule) → found failures p o ≡ xs ++ (s ∷ ys) → found failures p (some s) ≡ ys
-  found-on failures o xs s ys e = found-exactly failures (some s) ∙ sought-on p failures o xs s ys (sym (found-exactly failures o) ∙ e)
+  found-on failures o xs s ys e = found-exactly failures (some s) ∙ sought-on sc sc-laws p failures o xs s ys (sym (found-exactly failures o) ∙ e)
 
 -- ---- with one next step
 module _ (failures : Bool) (p : Program) (steps : ℕ) (o : Option Schedule) (v : Schedule) (t : ℕ) where
@@ -140,21 +142,21 @@ module _ (failures : Bool) (p : Program) (steps : ℕ) (v : Schedule) where
   pub behind-bound : (b : Schedule) → ended SC (endOf p v) ≡ true → foundBehind failures p steps (some b) v ≡ []
   behind-bound b e = found-ended SC 6 (givenUp p) (lookedFor failures p) (24 - steps) (some b) v (endOf p v) e ∙ at-bound SC 6 (givenUp p) (lookedFor failures p) b v
 
-  meant : (o f : Bool) → (not o || f) ≡ true → failing p v ≡ f → lookedFor o p v ≡ true
+  meant : (o f : Bool) → (not o || f) ≡ true → failing sc p v ≡ f → lookedFor o p v ≡ true
   unfolding lookedFor
   meant false f e q = refl
   meant true f e q = q ∙ e
 
-  unmeant : (o f : Bool) → (not o || f) ≡ false → failing p v ≡ f → lookedFor o p v ≡ false
+  unmeant : (o f : Bool) → (not o || f) ≡ false → failing sc p v ≡ f → lookedFor o p v ≡ false
   unfolding lookedFor
   unmeant false f e q = absurd (true≢false e)
   unmeant true f e q = q ∙ e
 
   -- apart from it: found, unless only failing ones are wanted and it does not fail
-  pub behind-end : (f : Bool) → ended SC (endOf p v) ≡ true → failing p v ≡ f → (not failures || f) ≡ true → foundBehind failures p steps none v ≡ v ∷ []
+  pub behind-end : (f : Bool) → ended SC (endOf p v) ≡ true → failing sc p v ≡ f → (not failures || f) ≡ true → foundBehind failures p steps none v ≡ v ∷ []
   behind-end f e q m = found-ended SC 6 (givenUp p) (lookedFor failures p) (24 - steps) none v (endOf p v) e ∙ at-listed SC 6 (givenUp p) (lookedFor failures p) v (meant failures f m q)
 
-  pub behind-passed : (f : Bool) → ended SC (endOf p v) ≡ true → failing p v ≡ f → (not failures || f) ≡ false → foundBehind failures p steps none v ≡ []
+  pub behind-passed : (f : Bool) → ended SC (endOf p v) ≡ true → failing sc p v ≡ f → (not failures || f) ≡ false → foundBehind failures p steps none v ≡ []
   behind-passed f e q m = found-ended SC 6 (givenUp p) (lookedFor failures p) (24 - steps) none v (endOf p v) e ∙ at-unlisted SC 6 (givenUp p) (lookedFor failures p) v (unmeant failures f m q)
 
   pub behind-stuck : (o : Option Schedule) → ended SC (endOf p v) ≡ false → 24 ≤ steps → foundBehind failures p steps o v ≡ []

@@ -26,9 +26,10 @@ use Rattle.sc.proofs.Regular.{place-in, regular-start, regular-run}
 use Rattle.sc.proofs.Reading.{first-step-of}
 use Rattle.sc.proofs.Remote.{Unmet, unmet-free}
 use Rattle.consistent.proofs.Tests.{both-and}
-use Rattle.list.specs.Alike.{Smaller}
+use Rattle.model.specs.Alike.{Smaller}
+use Rattle.sc_model.specs.Sequential.{sc}
 use Rattle.list.specs.Rules.{late, taken}
-use Rattle.list.proofs.Tests.{or-left, or-right}
+use Rattle.model.proofs.Permitted.{or-left, or-right}
 use Rattle.list.proofs.Late.{late-still-smaller}
 use Rattle.survivors.specs.Sets.{has}
 use Rattle.survivors.specs.LateSet.{lateSet}
@@ -209,7 +210,7 @@ module _ (p : Program) (w : WellFormed p) where
     pub unmet : (t u : ℕ) → t < 6 → u < 6 → S t ≡ true → S u ≡ false → Unmet (endOf p v) t u
 
   -- where one of them may step every full schedule has a smaller alike one
-  pub asleep-set-smaller : (v z : Schedule) (S : ℕ → Bool) (t : ℕ) → Asleep v S → S t ≡ true → enabled (endOf p v) t ≡ true → Full p (v ++ z) → Smaller p (v ++ z)
+  pub asleep-set-smaller : (v z : Schedule) (S : ℕ → Bool) (t : ℕ) → Asleep v S → S t ≡ true → enabled (endOf p v) t ≡ true → Full p (v ++ z) → Smaller sc p (v ++ z)
   asleep-set-smaller v z S t a e m f =
       let σ : State = endOf p v in
       let s = full-split SC (start p) v z f in
@@ -220,7 +221,7 @@ module _ (p : Program) (w : WellFormed p) where
       let c : r .1 < 6 = enabled-small (run SC σ (r .0)) (r .1) (y .1 .0) in
       let free = unmet-free (r .0) σ (r .1) (y .0) (λ u k. ((λ q. true≢false (sym (r .4) ∙ ap S (sym q) ∙ r .5 u k)), a .unmet (r .1) u c (steps-small (r .0) σ (y .0) u k) (r .4) (r .5 u k))) in
       let eq = ap (λ (x : Schedule). v ++ x) (r .3) in
-      subst (Smaller p) (sym eq) (late-still-smaller p w v (r .0) (r .1) (r .2) (a .late-all (r .1) c (r .4)) free (subst (Full p) eq f))
+      subst (Smaller sc p) (sym eq) (late-still-smaller p w v (r .0) (r .1) (r .2) (a .late-all (r .1) c (r .4)) free (subst (Full p) eq f))
 
   -- what the rounds leave of the late set is such a set
   sleepers-asleep : (v : Schedule) → Allowed SC (start p) v → (s : ℕ) → unwoken (endOf p v) s ≡ s → ((t : ℕ) → t < 6 → has s t ≡ true → has (lateSet p v) t ≡ true) → Asleep v (has s)
@@ -233,7 +234,7 @@ module _ (p : Program) (w : WellFormed p) where
   }
 
   -- R3: behind a prefix that leaves some asleep for good
-  pub sleepers-smaller : (v z : Schedule) → sleepers (endOf p v) (lateSet p v) ≢ 0 → Full p (v ++ z) → Smaller p (v ++ z)
+  pub sleepers-smaller : (v z : Schedule) → sleepers (endOf p v) (lateSet p v) ≢ 0 → Full p (v ++ z) → Smaller sc p (v ++ z)
   unfolding sleepers
   sleepers-smaller v z n f =
       let σ : State = endOf p v in

@@ -28,9 +28,8 @@ use Rattle.sc.proofs.Lawful.{lawful, start-24}
 use Rattle.sc.proofs.Regular.{Regular, regular-start, regular-run}
 use Rattle.consistent.specs.Same.{sameRead}
 use Rattle.consistent.proofs.Tests.{both-and, same-read-is, same-list-is}
-use Rattle.list.specs.ListOf.{together}
-use Rattle.model.specs.Exchange.{Together}
-use Rattle.list.proofs.Tests.{together-true}
+use Rattle.model.specs.Exchange.{together, Together}
+use Rattle.model.proofs.Permitted.{together-true}
 use Rattle.list.proofs.Twins.{members}
 use Rattle.list.specs.Rules.{sameLocal, sameHistory, silent, twin}
 use Rattle.survivors.specs.ReadWords.{Words, lone, wordsBehind, wordsAfter, noWords, wordsOf, twinByWord}

@@ -14,15 +14,13 @@ use Rattle.schedules.specs.System.{run, none-enabled, ended}
 use Rattle.schedules.specs.Search.{low, past}
 use Rattle.schedules.specs.Found.{concatRange, foundAt, foundBy, foundFrom}
 use Rattle.schedules.specs.Orders.{trace}
-use Rattle.sc.specs.Local.{eval, accessPlace, accessTakes, accessPuts, accessSets, settle, beginsWithAccess, firstPlace, firstTakes}
-use Rattle.sc.specs.Local.{firstPuts, firstNext, pending, placeOf, takes, puts, next, begin}
-use Rattle.sc.specs.State.{initialWrite, noThread, freshCell, threadOf, cellOf, place, latest, noted, advanced, written, met, step}
-use Rattle.sc.specs.State.{enabled, opened, start}
+use Rattle.sc.specs.Local.{eval, accessPlace, accessTakes, accessPuts, accessSets, settle, beginsWithAccess, firstPlace, firstTakes, firstPuts, firstNext, pending, placeOf, takes, puts, next, begin}
+use Rattle.sc.specs.State.{initialWrite, noThread, freshCell, threadOf, cellOf, place, latest, noted, advanced, written, met, step, enabled, opened, start}
 use Rattle.sc.specs.Graph.{endOf}
 use Rattle.sc.specs.Actions.{given, writes, action, conflict}
 use Rattle.sc.specs.Ahead.{accessMayWrite, firstMayWrite, mayWrite}
 use Rattle.consistent.specs.Same.{sameEvent, sameRead, sameList}
-use Rattle.list.specs.ListOf.{together}
+use Rattle.model.specs.Exchange.{together}
 use Rattle.list.specs.Rules.{sameFlag, sameLocal, sameHistory, silent, twin}
 use Rattle.survivors.specs.Sets.{has, addend, setOf, joined}
 use Rattle.survivors.specs.LateSet.{lateNow, lateBehind, lateAfter, lateSet}

@@ -10,7 +10,7 @@ use Rattle.program.specs.Program.{Program}
 use Rattle.schedules.specs.Order.{Schedule}
 use Rattle.sc.specs.State.{State, place, step, start}
 use Rattle.sc.specs.Actions.{writes}
-use Rattle.list.specs.ListOf.{together}
+use Rattle.model.specs.Exchange.{together}
 
 -- for each of the eight locations the number of the step that wrote it last, from 1, or 0; for each of the six threads its word
 pub record Words : Type 0 where

@@ -9,10 +9,11 @@ use Rattle.program.specs.Program.{Program}
 use Rattle.schedules.specs.Lists.{range, any}
 use Rattle.schedules.specs.Order.{Schedule}
 use Rattle.schedules.specs.Found.{foundBy, foundFrom}
-use Rattle.sc.specs.State.{State, SC, step, start}
+use Rattle.sc.specs.State.{State, SC, step}
 use Rattle.sc.specs.Graph.{endOf}
 use Rattle.list.specs.Rules.{twin}
-use Rattle.list.specs.Answers.{failing}
+use Rattle.model.specs.Model.{failing}
+use Rattle.sc_model.specs.Sequential.{sc}
 use Rattle.survivors.specs.Sets.{has}
 use Rattle.survivors.specs.LateSet.{lateSet}
 use Rattle.survivors.specs.Sleepers.{sleepers}
@@ -24,7 +25,7 @@ givenUp p v σ t = has (lateSet p v) t || (any (twin p σ t) (range 0 t) || not 
 -- what is looked for: every full schedule that is reached, or those that fail
 unfoldable pub lookedFor : Bool → Program → Schedule → Bool
 lookedFor false p w = true
-lookedFor true p w = failing p w
+lookedFor true p w = failing sc p w
 
 -- all that is found behind the prefix v, of so many steps, above what is left of the bound; a run has at most 24 steps, of six threads
 abbrev pub foundBehind : Bool → Program → ℕ → Option Schedule → Schedule → List Schedule

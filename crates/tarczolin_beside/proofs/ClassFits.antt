@@ -1,13 +1,13 @@
 -- What the class call says fits its word: at most 720 graphs, and small refusals.
 use Prim.Native.Nat.{ℕ, _^_, _<_}
-use mathlib.Core.Path.{_≡_, refl, sym, ap, subst, _∙_}
+use mathlib.Core.Path.{_≡_, refl, sym, subst, _∙_}
 use mathlib.Core.List.{List}
 use native.Mathlib.Omega.{arith}
 use Rattle.program.specs.Program.{Program}
 use Rattle.program.specs.Decode.{Decoded, accepted, refused, decode}
 use Rattle.program.proofs.AcceptedWellFormed.{accepted-well-formed}
 use Rattle.schedules.specs.Order.{Schedule}
-use Rattle.model.specs.ClassSize.{Class, classBy, classOf, classOn, classFile}
+use Rattle.model.specs.ClassSize.{classBy, classOf, classOn, classFile}
 use Rattle.model.proofs.ClassSize.{class-few}
 use Rattle.sc.specs.Replay.{Replayed, whole, replay}
 use Rattle.sc.specs.Replay as Replay
@@ -15,7 +15,7 @@ use Rattle.sc.proofs.Replay.{replay-whole}
 use Rattle.sc.proofs.SmallRefusals.{replay-within}
 use Rattle.sc_model.specs.Sequential.{sc}
 use Rattle.sc_model.proofs.Laws.{sc-laws}
-use Rattle.sc_model.proofs.Demand3.{sc-admits}
+use Rattle.sc_model.proofs.Admits.{sc-admits}
 use Rattle.sc_model.proofs.Refused.{refusalOf, refuses-replayed}
 use Rattle.words.specs.Word.{Fits}
 use Rattle.tarczolin_beside.specs.Classed.{classReply}

@@ -18,29 +18,26 @@ use Rattle.sc.specs.State.{fails}
 use Rattle.sc_model.specs.Sequential.{sc}
 use Rattle.sc_model.proofs.Laws.{sc-laws}
 use Rattle.sc_model.proofs.Classes.{sc-unseen, sc-classes}
-use Rattle.list.specs.ListOf.{listOf}
-use Rattle.list.specs.Answers.{failing}
-use Rattle.list.proofs.AsModel.{list-same}
-use Rattle.listing.specs.OnFile.{Count, counted}
-use Rattle.listing.proofs.Demand3.{demand-3}
+use Rattle.model.specs.Alike.{listOf}
+use Rattle.model.specs.Model.{failing}
+use Rattle.model.specs.OnFile.{counted}
+use Rattle.listing.proofs.Demand3.{sc-demand-3}
+use Rattle.listing.proofs.Sequential.{sequential}
 use Rattle.tarczolin_beside.specs.ClassSums.{ClassSums}
 
 pub class-sums : (file : List ℕ) (p : Program) → decode file ≡ accepted p → ClassSums file p
-unfolding failing
 class-sums file p e =
     let q = ungrouped p in
-    let there = demand-3 (withoutAlike file) q (without-alike file p e) in
+    let there = sequential (withoutAlike file) q (without-alike file p e) in
     let c = sc-classes file p e in
     let w : Admitted sc p = (accepted-well-formed file p e, refl) in
-    let all : total (classSize sc p) (listOf p) ≡ length (listOf q) = ap (total (classSize sc p)) (sym (list-same p)) ∙ c .sum ∙ ap length (list-same q) in
-    let some : total (classSize sc p) (filter (failing p) (listOf p)) ≡ length (filter (failing q) (listOf q)) =
-    ap (λ (l : List Schedule). total (classSize sc p) (filter (failing p) l)) (sym (list-same p))
-    ∙ c .sum-of (failing p) (λ r s f g l. demand-3 file p e .same-outcome r s f g l .0)
-    ∙ ap (λ (l : List Schedule). length (filter (failing p) l)) (list-same q)
-    ∙ ap (λ (f : Schedule → Bool). length (filter f (listOf q))) (sym (fun-ext (λ s. ap fails (same-end sc sc-laws sc-unseen p w s)))) in
+    let all : total (classSize sc p) (listOf sc p) ≡ length (listOf sc q) = c .sum in
+    let some : total (classSize sc p) (filter (failing sc p) (listOf sc p)) ≡ length (filter (failing sc q) (listOf sc q)) =
+    c .sum-of (failing sc p) (λ r s f g l. sc-demand-3 file p e .same-outcome r s f g l .0)
+    ∙ ap (λ (f : Schedule → Bool). length (filter f (listOf sc q))) (sym (fun-ext (λ s. ap fails (same-end sc sc-laws sc-unseen p w s)))) in
     record {
       sums = there .counts
-          ∙ ap (λ (n : ℕ). counted (record { listed = n; failed = length (filter (failing q) (listOf q)) })) (sym all)
-          ∙ ap (λ (n : ℕ). counted (record { listed = total (classSize sc p) (listOf p); failed = n })) (sym some);
+          ∙ ap (λ (n : ℕ). counted (record { listed = n; failed = length (filter (failing sc q) (listOf sc q)) })) (sym all)
+          ∙ ap (λ (n : ℕ). counted (record { listed = total (classSize sc p) (listOf sc p); failed = n })) (sym some);
       fits = subst (λ (n : ℕ). n < 2 ^ 63) (sym all) (there .fits);
     }

@@ -9,14 +9,14 @@ use Rattle.program.specs.Ungrouped.{withoutAlike}
 use Rattle.schedules.specs.Lists.{filter}
 use Rattle.model.specs.ClassSize.{total, classSize}
 use Rattle.sc_model.specs.Sequential.{sc}
-use Rattle.list.specs.ListOf.{listOf}
-use Rattle.list.specs.Answers.{failing}
-use Rattle.listing.specs.OnFile.{counted, countFile}
+use Rattle.model.specs.Alike.{listOf}
+use Rattle.model.specs.Model.{failing}
+use Rattle.model.specs.OnFile.{counted, countFile}
 
 -- of a file that is read as p
 pub record ClassSums (file : List ℕ) (p : Program) : Type 0 where
-  pub sums : countFile (withoutAlike file) ≡ counted (record {
-    listed = total (classSize sc p) (listOf p);
-    failed = total (classSize sc p) (filter (failing p) (listOf p));
+  pub sums : countFile sc (withoutAlike file) ≡ counted (record {
+    listed = total (classSize sc p) (listOf sc p);
+    failed = total (classSize sc p) (filter (failing sc p) (listOf sc p));
   })
-  pub fits : total (classSize sc p) (listOf p) < 2 ^ 63
+  pub fits : total (classSize sc p) (listOf sc p) < 2 ^ 63

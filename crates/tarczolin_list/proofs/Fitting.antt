@@ -1,87 +1,132 @@
--- What each call of the list says fits its word, whatever it is lent.
-use Prim.Native.Nat.{ℕ, _*_, _/_, _^_, _<_}
-use mathlib.Core.Path.{_≡_, refl}
+-- What each call of the list says fits its word, whatever it is lent, in both memory models.
+use Prim.Native.Nat.{ℕ, _*_, _/_, _^_, _<_, _≤_}
+use mathlib.Core.Path.{_≡_, refl, sym, ap, _∙_}
+use mathlib.Core.Bool.{Bool, true, false}
 use mathlib.Core.Option.{Option}
 use mathlib.Core.List.{List}
 use native.Mathlib.Omega.{arith}
+use lib.Dec.{ltb}
 use lib.ListN.{length, length-take}
+use borrow.Author.Tests.{ltb-true, ltb-false}
 use Rattle.program.specs.Program.{Program}
-use Rattle.program.specs.WellFormed.{WellFormed}
+use Rattle.program.specs.WellFormed.{allAccesses}
 use Rattle.program.specs.Decode.{Decoded, accepted, refused, decode}
-use Rattle.program.proofs.AcceptedWellFormed.{accepted-well-formed}
 use Rattle.schedules.specs.Order.{Schedule}
 use Rattle.schedules.specs.Found.{after}
 use Rattle.schedules.specs.Calls.{Answer, found, nomore}
 use Rattle.schedules.specs.Calls as Calls
-use Rattle.sc.proofs.Lawful.{at-most-24}
-use Rattle.list.specs.ListOf.{listOf}
-use Rattle.list.specs.Answers.{startOf, continueOf, Violation, fails-first, none-fails, refused-by, violationOf}
-use Rattle.list.proofs.TheList.{list-exact}
-use Rattle.list.proofs.Answered.{Within, ViolationWithin, start-within, continue-within, violation-within}
-use Rattle.listing.specs.OnFile.{startOn, continueOn, violationOn, countOn, startFile, continueFile, violationFile, countFile}
-use Rattle.listing.specs.RowsCall.{fitting, rowsAnswerOf}
+use Rattle.model.specs.Model as Memory
+use Rattle.model.specs.Laws.{Laws, Admitted}
+use Rattle.model.specs.Alike.{listOf}
+use Rattle.model.specs.Answers.{startOf, continueOf, Violation, fails-first, none-fails, refused-by, violationOf}
+use Rattle.model.specs.OnFile.{unless, admit, startOn, continueOn, violationOn, countOn, startFile, continueFile, violationFile, countFile}
+use Rattle.model.proofs.TheList.{list-room}
+use Rattle.model.proofs.Admitted.{listed-program}
+use Rattle.model.proofs.Answered.{Within, ViolationWithin, start-within, continue-within, violation-within}
+use Rattle.sc_model.proofs.Admits.{sc-admits}
+use Rattle.tso_model.specs.TotalStoreOrder.{tso}
+use Rattle.tso_model.proofs.Admits.{refused-41, admitted-16, refused-first}
+use Rattle.pages.specs.Rows.{rowSize}
+use Rattle.listing_model.specs.declared.memory.Model.{Model}
+use Rattle.listing_model.specs.declared.memory.Model.the-variants.{Sequential, TotalStoreOrder}
+use Rattle.listing_model.specs.ModelOf.{modelOf}
+use Rattle.listing_model.proofs.ModelLaws.{model-laws, need-48}
+use Rattle.listing.specs.RowsCall.{fitting, rowsOn, rowsFile}
 use Rattle.words.specs.Word.{Fits}
 use Rattle.words.proofs.Refusals.{refusal-fits}
 use Rattle.tarczolin_list.specs.Listed.{listed, violationReply}
 use Rattle.tarczolin_list.specs.Tallied.{countReply}
 use Rattle.tarczolin_list.specs.ByRows.{rowsReply}
 
--- a listed schedule has at most 24 steps
-module _ (p : Program) (w : WellFormed p) (out : List ℕ) where
-  answer-fits : (a : Answer) → Within p out a → Fits (listed a)
-  unfolding listed
-  answer-fits (found s) h = omega (arith, at-most-24 p w s (list-exact p s .0 (h .0) .0))
-  answer-fits nomore h = tt
-  answer-fits (Calls.refused n k) h = (omega arith, omega arith)
+-- a schedule has at most 48 steps in both
+steps-48 : (m : Model) → modelOf m .steps ≤ 48
+steps-48 Sequential = omega arith
+steps-48 TotalStoreOrder = omega arith
 
-  violation-answer-fits : (v : Violation) → ViolationWithin p out v → Fits (violationReply v)
-  unfolding violationReply
-  violation-answer-fits (fails-first s) h = omega (arith, at-most-24 p w s (list-exact p s .0 (h .0) .0))
-  violation-answer-fits none-fails h = tt
-  violation-answer-fits (refused-by n k) h = (omega arith, omega arith)
+-- rows are fewer than bytes
+rows-few : (m : Model) (n : ℕ) → n < rowSize (modelOf m .need) * 2 ^ 48 → n / rowSize (modelOf m .need) < 2 ^ 48
+rows-few Sequential n h = omega (arith, h)
+rows-few TotalStoreOrder n h = omega (arith, h)
 
-module _ (file : List ℕ) where
-  -- START
-  pub start-fits : (out : List ℕ) → Fits (listed (startFile file out .0))
-  unfolding startOn listed
-  start-fits out = go (decode file) refl
-    where
-      go : (d : Decoded) → decode file ≡ d → Fits (listed (startOn d out .0))
-      go (accepted p) e = answer-fits p (accepted-well-formed file p e) out (startOf p out .0) (start-within p out)
-      go (refused n k) e = refusal-fits file n k e
+-- a refusal before the list's own: the program's, or 41 at place 0
+refused-small : (m : Model) (file : List ℕ) (n k : ℕ) → admit (modelOf m) (decode file) ≡ refused n k → (n < 256) × (k < 2 ^ 48)
+refused-small Sequential file n k e = refusal-fits file n k (sym (sc-admits (decode file)) ∙ e)
+refused-small TotalStoreOrder file n k e = go (decode file) refl
+  where
+    away : (p : Program) → decode file ≡ accepted p → (b : Bool) → ltb 16 (allAccesses (p .threads)) ≡ b → (n < 256) × (k < 2 ^ 48)
+    away p q true h = let r : refused 41 0 ≡ refused n k = sym (refused-41 p (ltb-true 16 (allAccesses (p .threads)) h)) ∙ ap (admit tso) (sym q) ∙ e in
+        let i : n ≡ 41 = cc in
+        let j : k ≡ 0 = cc in
+        (omega (arith, i), omega (arith, j))
+    away p q false h = absurd (let r : accepted p ≡ refused n k = sym (admitted-16 p (ltb-false 16 (allAccesses (p .threads)) h)) ∙ ap (admit tso) (sym q) ∙ e in let z : _≡_ {A = ℕ} 0 1 = cc in omega arith)
 
-  -- CONTINUE, from whatever schedule
-  pub continue-fits : (s : Schedule) (out : List ℕ) → Fits (listed (continueFile file s out .0))
-  unfolding continueOn listed
-  continue-fits s out = go (decode file) refl
-    where
-      go : (d : Decoded) → decode file ≡ d → Fits (listed (continueOn d s out .0))
-      go (accepted p) e = let w = accepted-well-formed file p e in answer-fits p w out (continueOf p s out .0) (continue-within p out w s)
-      go (refused n k) e = refusal-fits file n k e
+    go : (d : Decoded) → decode file ≡ d → (n < 256) × (k < 2 ^ 48)
+    go (accepted p) q = away p q (ltb 16 (allAccesses (p .threads))) refl
+    go (refused i j) q = refusal-fits file n k (q ∙ sym (refused-first i j) ∙ ap (admit tso) (sym q) ∙ e)
 
-  -- VIOLATION
-  pub violation-fits : (out : List ℕ) → Fits (violationReply (violationFile file out .0))
-  unfolding violationOn violationReply
-  violation-fits out = go (decode file) refl
-    where
-      go : (d : Decoded) → decode file ≡ d → Fits (violationReply (violationOn d out .0))
-      go (accepted p) e = violation-answer-fits p (accepted-well-formed file p e) out (violationOf p out .0) (violation-within p out)
-      go (refused n k) e = refusal-fits file n k e
+module _ (m : Model) where
+  abbrev M : Memory.Model
+  M = modelOf m
 
-  -- COUNT
-  pub count-fits : Fits (countReply (countFile file))
-  unfolding countOn countReply
-  count-fits = go (decode file) refl
-    where
-      go : (d : Decoded) → decode file ≡ d → Fits (countReply (countOn d))
-      go (accepted p) e = omega arith
-      go (refused n k) e = refusal-fits file n k e
+  abbrev L : Laws M
+  L = model-laws m
 
-  -- THE CALLS BY ROWS: their number fits where the output is shorter than 26 times 2^48 bytes, more than addresses of 48 bits can name
-  pub rows-fit : (o : Option Schedule) (out : List ℕ) → length out < 26 * 2 ^ 48 → Fits (rowsReply (rowsAnswerOf (decode file) o out))
-  unfolding rowsAnswerOf rowsReply fitting
-  rows-fit o out h = go (decode file) refl
-    where
-      go : (d : Decoded) → decode file ≡ d → Fits (rowsReply (rowsAnswerOf d o out))
-      go (accepted p) e = omega (arith, length-take (length out / 26) (after o (listOf p)))
-      go (refused n k) e = refusal-fits file n k e
+  -- a listed schedule has at most 48 steps
+  module _ (p : Program) (a : Admitted M p) (out : List ℕ) where
+    answer-fits : (x : Answer) → Within M p out x → Fits (listed x)
+    unfolding listed
+    answer-fits (found s) h = omega (arith, list-room M L p a s (h .0), need-48 m)
+    answer-fits nomore h = tt
+    answer-fits (Calls.refused n k) h = (omega (arith, h .0), omega (arith, h .1, steps-48 m))
+
+    violation-answer-fits : (v : Violation) → ViolationWithin M p out v → Fits (violationReply v)
+    unfolding violationReply
+    violation-answer-fits (fails-first s) h = omega (arith, list-room M L p a s (h .0), need-48 m)
+    violation-answer-fits none-fails h = tt
+    violation-answer-fits (refused-by n k) h = (omega (arith, h .0), omega (arith, h .1, steps-48 m))
+
+  module _ (file : List ℕ) where
+    -- START
+    pub start-fits : (out : List ℕ) → Fits (listed (startFile M file out .0))
+    unfolding startOn listed
+    start-fits out = go (admit M (decode file)) refl
+      where
+        go : (d : Decoded) → admit M (decode file) ≡ d → Fits (listed (startOn M d out .0))
+        go (accepted p) e = answer-fits p (listed-program M L file p e) out (startOf M p out .0) (start-within M L p out)
+        go (refused n k) e = refused-small m file n k e
+
+    -- CONTINUE, from whatever schedule
+    pub continue-fits : (s : Schedule) (out : List ℕ) → Fits (listed (continueFile M file s out .0))
+    unfolding continueOn listed
+    continue-fits s out = go (admit M (decode file)) refl
+      where
+        go : (d : Decoded) → admit M (decode file) ≡ d → Fits (listed (continueOn M d s out .0))
+        go (accepted p) e = let a = listed-program M L file p e in answer-fits p a out (continueOf M p s out .0) (continue-within M L p out a s)
+        go (refused n k) e = refused-small m file n k e
+
+    -- VIOLATION
+    pub violation-fits : (out : List ℕ) → Fits (violationReply (violationFile M file out .0))
+    unfolding violationOn violationReply
+    violation-fits out = go (admit M (decode file)) refl
+      where
+        go : (d : Decoded) → admit M (decode file) ≡ d → Fits (violationReply (violationOn M d out .0))
+        go (accepted p) e = violation-answer-fits p (listed-program M L file p e) out (violationOf M p out .0) (violation-within M L p out)
+        go (refused n k) e = refused-small m file n k e
+
+    -- COUNT
+    pub count-fits : Fits (countReply (countFile M file))
+    unfolding countOn countReply
+    count-fits = go (admit M (decode file)) refl
+      where
+        go : (d : Decoded) → admit M (decode file) ≡ d → Fits (countReply (countOn M d))
+        go (accepted p) e = omega arith
+        go (refused n k) e = refused-small m file n k e
+
+    -- THE CALLS BY ROWS: their number fits where the output is shorter than 2^48 rows, which is more than addresses of 48 bits can name
+    pub rows-fit : (o : Option Schedule) (out : List ℕ) → length out < rowSize (M .need) * 2 ^ 48 → Fits (rowsReply (rowsFile M file o out))
+    unfolding rowsOn rowsReply fitting
+    rows-fit o out h = go (admit M (decode file)) refl
+      where
+        go : (d : Decoded) → admit M (decode file) ≡ d → Fits (rowsReply (rowsOn M d o out))
+        go (accepted p) e = omega (arith, length-take (length out / rowSize (M .need)) (after o (listOf M p)), rows-few m (length out) h)
+        go (refused n k) e = refused-small m file n k e

@@ -8,8 +8,11 @@ use lib.ListN.{length}
 use Rattle.schedules.specs.Order.{Schedule}
 use Rattle.schedules.specs.Calls.{Answer, found, nomore}
 use Rattle.schedules.specs.Calls as Calls
-use Rattle.list.specs.Answers.{Violation, fails-first, none-fails, refused-by}
-use Rattle.listing.specs.OnFile.{startFile, continueFile, violationFile}
+use Rattle.model.specs.Answers.{Violation, fails-first, none-fails, refused-by}
+use Rattle.model.specs.OnFile.{startFile, continueFile, violationFile}
+use Rattle.listing_model.specs.declared.memory.Model.{Model}
+use Rattle.listing_model.specs.ModelOf.{modelOf}
+use Rattle.listing_model.proofs.ModelLaws.{model-laws}
 use Rattle.listing.specs.Demand3.{InFront}
 use Rattle.listing.proofs.Standing.{start-stands, continue-stands, violation-stands}
 use Rattle.words.specs.Word.{answered, wordOf, kindIn, restIn}
@@ -33,25 +36,25 @@ violated-first (fails-first s) n e = (s, refl, cc)
 violated-first none-fails n e = absurd (let z : _≡_ {A = ℕ} 0 1 = cc in omega arith)
 violated-first (refused-by i k) n e = absurd (let z : _≡_ {A = ℕ} 0 1 = cc in omega arith)
 
-module _ (file out : List ℕ) where
+module _ (m : Model) (file out : List ℕ) where
   -- START
-  pub start-in-output : Stands (wordOf (listed (startFile file out .0))) out (startFile file out .1) (λ s. startFile file out .0 ≡ found s)
+  pub start-in-output : Stands (wordOf (listed (startFile (modelOf m) file out .0))) out (startFile (modelOf m) file out .1) (λ s. startFile (modelOf m) file out .0 ≡ found s)
   start-in-output e =
-      let k = kind-one (listed (startFile file out .0)) (start-fits file out) e in
-      let f = listed-found (startFile file out .0) _ k in
-      (f .0, f .1, f .2, start-stands file out (f .0) (f .1))
+      let k = kind-one (listed (startFile (modelOf m) file out .0)) (start-fits m file out) e in
+      let f = listed-found (startFile (modelOf m) file out .0) _ k in
+      (f .0, f .1, f .2, start-stands (modelOf m) (model-laws m) file out (f .0) (f .1))
 
   -- CONTINUE, from whatever schedule
   pub continue-in-output : (r : Schedule) →
-      Stands (wordOf (listed (continueFile file r out .0))) out (continueFile file r out .1) (λ s. continueFile file r out .0 ≡ found s)
+      Stands (wordOf (listed (continueFile (modelOf m) file r out .0))) out (continueFile (modelOf m) file r out .1) (λ s. continueFile (modelOf m) file r out .0 ≡ found s)
   continue-in-output r e =
-      let k = kind-one (listed (continueFile file r out .0)) (continue-fits file r out) e in
-      let f = listed-found (continueFile file r out .0) _ k in
-      (f .0, f .1, f .2, continue-stands file out (f .0) r (f .1))
+      let k = kind-one (listed (continueFile (modelOf m) file r out .0)) (continue-fits m file r out) e in
+      let f = listed-found (continueFile (modelOf m) file r out .0) _ k in
+      (f .0, f .1, f .2, continue-stands (modelOf m) (model-laws m) file out (f .0) r (f .1))
 
   -- VIOLATION
-  pub violation-in-output : Stands (wordOf (violationReply (violationFile file out .0))) out (violationFile file out .1) (λ s. violationFile file out .0 ≡ fails-first s)
+  pub violation-in-output : Stands (wordOf (violationReply (violationFile (modelOf m) file out .0))) out (violationFile (modelOf m) file out .1) (λ s. violationFile (modelOf m) file out .0 ≡ fails-first s)
   violation-in-output e =
-      let k = kind-one (violationReply (violationFile file out .0)) (violation-fits file out) e in
-      let f = violated-first (violationFile file out .0) _ k in
-      (f .0, f .1, f .2, violation-stands file out (f .0) (f .1))
+      let k = kind-one (violationReply (violationFile (modelOf m) file out .0)) (violation-fits m file out) e in
+      let f = violated-first (violationFile (modelOf m) file out .0) _ k in
+      (f .0, f .1, f .2, violation-stands (modelOf m) (model-laws m) file out (f .0) (f .1))

@@ -1,7 +1,7 @@
 -- What the listing's answers say.
 use mathlib.Core.Path.{_≡_, refl}
 use Rattle.schedules.specs.Calls.{Answer, found, nomore, refused}
-use Rattle.list.specs.Answers.{Violation, fails-first, none-fails, refused-by}
+use Rattle.model.specs.Answers.{Violation, fails-first, none-fails, refused-by}
 use Rattle.listing.specs.AnswerOf.{listAnswerOf, violationAnswerOf}
 use Rattle.tarczolin_list.specs.Listed.{listed, violationReply, replyOf}
 

@@ -3,7 +3,7 @@ use Prim.Native.Nat.{ℕ}
 use native.Mathlib.Omega.{arith}
 use mathlib.Core.Path.{_≡_, refl}
 use Rattle.listing.specs.declared.counting.CountAnswer.the-variants.{Counted, Refused}
-use Rattle.listing.specs.OnFile.{Count, counted, refused-count}
+use Rattle.model.specs.OnFile.{Count, counted, refused-count}
 use Rattle.listing.specs.CountWord.{countAnswerOf}
 use Rattle.words.specs.Word as word
 use Rattle.tarczolin_list.specs.Tallied.{countReply, listedLater, failingLater}

@@ -3,7 +3,7 @@ use lib.ListN.{length}
 use Rattle.schedules.specs.Calls.{Answer, found, nomore, refused}
 use Rattle.listing.specs.declared.calling.ListAnswer.{ListAnswer}
 use Rattle.listing.specs.declared.calling.ListAnswer.the-variants.{Found, NoMore, Refused}
-use Rattle.list.specs.Answers.{Violation, fails-first, none-fails, refused-by}
+use Rattle.model.specs.Answers.{Violation, fails-first, none-fails, refused-by}
 use Rattle.words.specs.Word as word
 
 -- start and continue

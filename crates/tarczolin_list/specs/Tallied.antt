@@ -1,6 +1,6 @@
 -- What count says: answered, with nothing written to an output, or the refusal; and what the two words that it is lent hold later.
 use Prim.Native.Nat.{ℕ}
-use Rattle.listing.specs.OnFile.{Count, counted, refused-count}
+use Rattle.model.specs.OnFile.{Count, counted, refused-count}
 use Rattle.words.specs.Word as word
 
 unfoldable pub countReply : Count → word.Reply

@@ -1,11 +1,12 @@
 // Many listed schedules at a time.
 use listing::RowsAnswer;
+use listing_model::Model;
 use words::answered;
 use words::refused;
 ghost use mathlib.Core.Path.{_≡_};
 ghost use mathlib.Core.Option.{none, some};
-ghost use Rattle.program.specs.Decode.{decode};
-ghost use Rattle.listing.specs.RowsCall.{rowsAnswerOf, rowsOutput};
+ghost use Rattle.sc_model.specs.Sequential.{sc};
+ghost use Rattle.listing.specs.RowsCall.{rowsFile, rowsOutput};
 ghost use Rattle.words.specs.Word.{wordOf};
 ghost use Rattle.tarczolin_list.specs.ByRows.{rowsReply};
 
@@ -23,18 +24,18 @@ pub fn rows_word(a: RowsAnswer) -> u64
 // place.
 #[no_mangle]
 pub extern "C" fn tarczolin_rows(file: &[u8], out: &mut [u8]) -> u64
-    ensures answer { λ w. ⌜ w ≡ wordOf (rowsReply (rowsAnswerOf (decode (now (file .entry))) none (now (out .entry)))) ⌝ }
-    ensures output { λ w. ⌜ now (out .exit) ≡ rowsOutput (decode (now (file .entry))) none (now (out .entry)) ⌝ }
+    ensures answer { λ w. ⌜ w ≡ wordOf (rowsReply (rowsFile sc (now (file .entry)) none (now (out .entry)))) ⌝ }
+    ensures output { λ w. ⌜ now (out .exit) ≡ rowsOutput sc (now (file .entry)) none (now (out .entry)) ⌝ }
 {
-    rows_word(listing::first_rows(file, out))
+    rows_word(listing::first_rows(Model::Sequential, file, out))
 }
 
 // The same for the listed schedules after a given one, which need not be listed nor full.
 #[no_mangle]
 pub extern "C" fn tarczolin_rows_after(file: &[u8], schedule: &[u8], out: &mut [u8]) -> u64
-    ensures answer { λ w. ⌜ w ≡ wordOf (rowsReply (rowsAnswerOf (decode (now (file .entry))) (some (now (schedule .entry)))
+    ensures answer { λ w. ⌜ w ≡ wordOf (rowsReply (rowsFile sc (now (file .entry)) (some (now (schedule .entry)))
         (now (out .entry)))) ⌝ }
-    ensures output { λ w. ⌜ now (out .exit) ≡ rowsOutput (decode (now (file .entry))) (some (now (schedule .entry))) (now (out .entry)) ⌝ }
+    ensures output { λ w. ⌜ now (out .exit) ≡ rowsOutput sc (now (file .entry)) (some (now (schedule .entry))) (now (out .entry)) ⌝ }
 {
-    rows_word(listing::next_rows(file, schedule, out))
+    rows_word(listing::next_rows(Model::Sequential, file, schedule, out))
 }

@@ -1,4 +1,5 @@
 // Listed schedules under total store order: the first one, the next one, the first one that fails.
+use listing_model::Model;
 use tarczolin_list::word_of;
 ghost use mathlib.Core.Path.{_≡_};
 ghost use Rattle.model.specs.OnFile.{startFile, continueFile, violationFile};
@@ -12,7 +13,7 @@ pub extern "C" fn tarczolin_tso_start(file: &[u8], out: &mut [u8]) -> u64
     ensures answer { λ w. ⌜ w ≡ wordOf (listed (startFile tso (now (file .entry)) (now (out .entry)) .0)) ⌝ }
     ensures output { λ w. ⌜ now (out .exit) ≡ startFile tso (now (file .entry)) (now (out .entry)) .1 ⌝ }
 {
-    word_of(tso_listing::start(file, out))
+    word_of(listing::start(Model::TotalStoreOrder, file, out))
 }
 
 // The same for the least listed schedule after a full one; kind 2 where there is no more.
@@ -21,7 +22,7 @@ pub extern "C" fn tarczolin_tso_continue(file: &[u8], schedule: &[u8], out: &mut
     ensures answer { λ w. ⌜ w ≡ wordOf (listed (continueFile tso (now (file .entry)) (now (schedule .entry)) (now (out .entry)) .0)) ⌝ }
     ensures output { λ w. ⌜ now (out .exit) ≡ continueFile tso (now (file .entry)) (now (schedule .entry)) (now (out .entry)) .1 ⌝ }
 {
-    word_of(tso_listing::continue_from(file, schedule, out))
+    word_of(listing::continue_from(Model::TotalStoreOrder, file, schedule, out))
 }
 
 // The same for the first listed schedule that fails; kind 2 where none does.
@@ -30,5 +31,5 @@ pub extern "C" fn tarczolin_tso_violation(file: &[u8], out: &mut [u8]) -> u64
     ensures answer { λ w. ⌜ w ≡ wordOf (violationReply (violationFile tso (now (file .entry)) (now (out .entry)) .0)) ⌝ }
     ensures output { λ w. ⌜ now (out .exit) ≡ violationFile tso (now (file .entry)) (now (out .entry)) .1 ⌝ }
 {
-    word_of(tso_listing::violation(file, out))
+    word_of(listing::violation(Model::TotalStoreOrder, file, out))
 }

@@ -1,11 +1,10 @@
 // Many listed schedules at a time under total store order, in rows of 50 bytes.
+use listing_model::Model;
 use tarczolin_list::rows_word;
 ghost use mathlib.Core.Path.{_≡_};
 ghost use mathlib.Core.Option.{none, some};
-ghost use Rattle.program.specs.Decode.{decode};
-ghost use Rattle.model.specs.OnFile.{admit};
 ghost use Rattle.tso_model.specs.TotalStoreOrder.{tso};
-ghost use Rattle.tso_listing.specs.RowsCall.{rowsAnswerOf, rowsOutput};
+ghost use Rattle.listing.specs.RowsCall.{rowsFile, rowsOutput};
 ghost use Rattle.words.specs.Word.{wordOf};
 ghost use Rattle.tarczolin_list.specs.ByRows.{rowsReply};
 
@@ -13,19 +12,19 @@ ghost use Rattle.tarczolin_list.specs.ByRows.{rowsReply};
 // place.
 #[no_mangle]
 pub extern "C" fn tarczolin_tso_rows(file: &[u8], out: &mut [u8]) -> u64
-    ensures answer { λ w. ⌜ w ≡ wordOf (rowsReply (rowsAnswerOf (admit tso (decode (now (file .entry)))) none (now (out .entry)))) ⌝ }
-    ensures output { λ w. ⌜ now (out .exit) ≡ rowsOutput (admit tso (decode (now (file .entry)))) none (now (out .entry)) ⌝ }
+    ensures answer { λ w. ⌜ w ≡ wordOf (rowsReply (rowsFile tso (now (file .entry)) none (now (out .entry)))) ⌝ }
+    ensures output { λ w. ⌜ now (out .exit) ≡ rowsOutput tso (now (file .entry)) none (now (out .entry)) ⌝ }
 {
-    rows_word(tso_listing::first_rows(file, out))
+    rows_word(listing::first_rows(Model::TotalStoreOrder, file, out))
 }
 
 // The same for the listed schedules after a given one, which need not be listed nor full.
 #[no_mangle]
 pub extern "C" fn tarczolin_tso_rows_after(file: &[u8], schedule: &[u8], out: &mut [u8]) -> u64
-    ensures answer { λ w. ⌜ w ≡ wordOf (rowsReply (rowsAnswerOf (admit tso (decode (now (file .entry)))) (some (now (schedule .entry)))
+    ensures answer { λ w. ⌜ w ≡ wordOf (rowsReply (rowsFile tso (now (file .entry)) (some (now (schedule .entry)))
         (now (out .entry)))) ⌝ }
-    ensures output { λ w. ⌜ now (out .exit) ≡ rowsOutput (admit tso (decode (now (file .entry)))) (some (now (schedule .entry)))
+    ensures output { λ w. ⌜ now (out .exit) ≡ rowsOutput tso (now (file .entry)) (some (now (schedule .entry)))
         (now (out .entry)) ⌝ }
 {
-    rows_word(tso_listing::next_rows(file, schedule, out))
+    rows_word(listing::next_rows(Model::TotalStoreOrder, file, schedule, out))
 }

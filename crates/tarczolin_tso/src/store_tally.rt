@@ -1,5 +1,6 @@
 // How many schedules are listed under total store order, and how many of these fail, modulo 2^64.
 use listing::CountAnswer;
+use listing_model::Model;
 use words::answered;
 use words::refused;
 ghost use mathlib.Core.Path.{_≡_};
@@ -15,7 +16,7 @@ pub extern "C" fn tarczolin_tso_count(file: &[u8], listed: &mut u64, failing: &m
     ensures listed { λ w. ⌜ now (listed .exit) ≡ listedLater (countFile tso (now (file .entry))) (now (listed .entry)) ⌝ }
     ensures failing { λ w. ⌜ now (failing .exit) ≡ failingLater (countFile tso (now (file .entry))) (now (failing .entry)) ⌝ }
 {
-    let a = tso_listing::count(file);
+    let a = listing::count(Model::TotalStoreOrder, file);
     match a {
         CountAnswer::Counted(n, f) => {
             *listed = n as u64;

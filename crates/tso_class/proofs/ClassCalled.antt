@@ -34,7 +34,7 @@ use Rattle.tso.proofs.Seen.{graph-rows}
 use Rattle.tso.proofs.OwnSources.{full-sourced}
 use Rattle.tso_model.specs.TotalStoreOrder.{tso}
 use Rattle.tso_model.proofs.Laws.{tso-laws}
-use Rattle.tso_model.proofs.Demand3.{few-none, refused-41, admitted-16, refused-first}
+use Rattle.tso_model.proofs.Admits.{few-none, refused-41, admitted-16, refused-first}
 use Rattle.tso_replay.specs.declared.replaying.Run.{Run}
 use Rattle.tso_replay.specs.Noted.{notes}
 use Rattle.tso_replay.specs.Carried.{refusalOf, HoldsRun}

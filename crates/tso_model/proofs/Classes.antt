@@ -13,7 +13,7 @@ use Rattle.sc.specs.State as SC
 use Rattle.tso.specs.State.{start, drained}
 use Rattle.tso_model.specs.TotalStoreOrder.{tooMany, tso}
 use Rattle.tso_model.proofs.Laws.{tso-laws}
-use Rattle.tso_model.proofs.Demand3.{admitted-16}
+use Rattle.tso_model.proofs.Admits.{admitted-16}
 
 -- a run begins with the program's threads and memory alone, and 41 counts accesses
 pub tso-unseen : GroupsUnseen tso

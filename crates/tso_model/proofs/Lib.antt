@@ -1,7 +1,7 @@
 -- the laws of a memory model
 pub mod Laws
--- what 41 turns away, and DEMAND 3
-pub mod Demand3
+-- which programs are turned away
+pub mod Admits
 -- how large each class is
 pub mod Classes
 -- every SC graph is one here; 48 bytes for a schedule

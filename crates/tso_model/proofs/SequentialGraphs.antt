@@ -10,7 +10,8 @@ use Rattle.program.specs.Decode.{accepted, decode}
 use Rattle.schedules.specs.Order.{Schedule}
 use Rattle.model.specs.OnFile.{admit, violationFile}
 use Rattle.model.specs.Answers.{refused-by}
-use Rattle.model.proofs.Demand3.{listed-program, demand-3}
+use Rattle.model.proofs.Admitted.{listed-program, same-answer, same-violation}
+use Rattle.model.proofs.Violations.{violation-short}
 use Rattle.sc.specs.Graph as SC
 use Rattle.tso.specs.Graph.{Full, graph}
 use Rattle.tso.proofs.Sequential.{sc-graph}
@@ -22,4 +23,4 @@ module _ (file : List ℕ) (p : Program) (e : admit tso (decode file) ≡ accept
   sc-graph-here s f = sc-graph p (listed-program tso tso-laws file p e .0) s f
 
   pub short-48 : (out : List ℕ) → (violationFile tso file out ≡ (refused-by 22 0, out)) ↔ (length out < 48)
-  short-48 out = demand-3 tso tso-laws file p e .violation-short out
+  short-48 out = same-answer (same-violation tso tso-laws file p e out) (violation-short tso p out)

@@ -31,7 +31,7 @@ use Rattle.tso.specs.State.{TSO, start}
 use Rattle.tso.specs.Graph.{graph}
 use Rattle.tso_model.specs.TotalStoreOrder.{tso}
 use Rattle.tso_model.specs.GraphCall.{textUnless, graphAnswer, graphOn, graphFile}
-use Rattle.tso_model.proofs.Demand3.{refused-41, admitted-16, refused-first}
+use Rattle.tso_model.proofs.Admits.{refused-41, admitted-16, refused-first}
 use Rattle.tso_replay.specs.declared.replaying.Run.{Run}
 use Rattle.tso_replay.specs.Noted.{notes}
 use Rattle.tso_replay.specs.Carried.{refusalOf, HoldsRun}

@@ -9,5 +9,3 @@ pub mod ReachedEnd
 pub mod WalkLoop
 -- the walk from the start finds what is listed
 pub mod ListedRows
--- how many steps a listed schedule has
-pub mod Pages

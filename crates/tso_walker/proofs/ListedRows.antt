@@ -17,7 +17,8 @@ use Rattle.tso_survivors.specs.Search.{foundBehind, found, givenUp}
 use Rattle.tso_survivors.proofs.Search.{found-exactly}
 use Rattle.pages.specs.Bounds.{boundAt}
 use Rattle.pages.specs.Rows.{rowsOf}
-use Rattle.tso_walker.specs.Rows.{Shown, Adds}
+use Rattle.pages.specs.ListRows.{Shown}
+use Rattle.tso_walker.specs.Rows.{Adds}
 
 -- from the start all is found that is listed behind the bound
 behind-none : (p : Program) (failures : Bool) (o : Option Schedule) → Admitted tso p → foundBehind givenUp failures p 0 o [] ≡ after o (sought tso failures p)
@@ -29,9 +30,9 @@ rooms n = omega arith
 
 pub walk-whole : (p : Program) (failures tight : Bool) (bound held out : List ℕ) (r : ℕ) → Admitted tso p → (n : ℕ) → 0 ≡ n
     → Adds p (length held / 50) (foundBehind givenUp failures p n (boundAt tight bound n) []) held 0 out r
-    → Shown p (take (length held / 50) (after (boundAt tight bound 0) (sought tso failures p))) held out r
+    → Shown tso p (take (length held / 50) (after (boundAt tight bound 0) (sought tso failures p))) held out r
 unfolding rowsOf flatMap
 walk-whole p failures tight bound held out r w n e a =
-    subst (λ (l : List Schedule). Shown p (take (length held / 50) l) held out r)
+    subst (λ (l : List Schedule). Shown tso p (take (length held / 50) l) held out r)
     (ap (λ (k : ℕ). foundBehind givenUp failures p k (boundAt tight bound k) []) (sym e) ∙ behind-none p failures (boundAt tight bound 0) w)
     (a .shown [] held (rooms (length held)) (omega arith) (record { counted = refl; text = sym (over-nil held) }))

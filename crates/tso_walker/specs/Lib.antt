@@ -1,3 +1,2 @@
--- What a reader of this crate must believe.
--- listed schedules as rows of bytes in a buffer, what the search adds to them, and pages of the list
+-- What the search adds to the rows in its output.
 pub mod Rows

@@ -1,4 +1,4 @@
-// The search under total store order, and its list by pages.
+// The search for the listed schedules under total store order.
 
 // What the search does at a full schedule.
 mod ending;
@@ -6,9 +6,5 @@ mod ending;
 mod walking;
 // The listed schedules behind a bound, as rows.
 mod listed;
-// The list by pages.
-mod paging;
 
-pub use listed::ROW;
-pub use listed::WIDTH;
-pub use paging::next_page;
+pub use listed::listed_rows;

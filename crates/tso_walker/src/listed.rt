@@ -13,17 +13,17 @@ ghost use Rattle.model.specs.Laws.{Admitted};
 ghost use Rattle.model.specs.Search.{sought};
 ghost use Rattle.tso_model.specs.TotalStoreOrder.{tso};
 ghost use Rattle.pages.specs.Bounds.{boundAt};
-ghost use Rattle.tso_walker.specs.Rows.{Shown};
+ghost use Rattle.pages.specs.ListRows.{Shown};
 
 // A row has room for so many steps.
-pub const WIDTH: usize = 48;
+pub(crate) const WIDTH: usize = 48;
 
 // The bytes of a listed schedule's row.
-pub const ROW: usize = 50;
+pub(crate) const ROW: usize = 50;
 
 // Writes the rows of the listed schedules (of those that fail, if only these are wanted) behind the bound, or from the first one on, as
 // many as the output has room for; answers how many.
-pub(crate) fn listed_rows(
+pub fn listed_rows(
     program: Compiled,
     failures: bool,
     bound: &[u8],
@@ -31,7 +31,7 @@ pub(crate) fn listed_rows(
     out: &mut [u8],
 ) -> usize
     requires { ⌜ Admitted tso (programOf program) ⌝ }
-    ensures { λ r. ⌜ Shown (programOf program)
+    ensures { λ r. ⌜ Shown tso (programOf program)
         (take (length (now (out .entry)) / 50) (after (boundAt tight (now (bound .entry)) 0) (sought tso failures (programOf program))))
         (now (out .entry)) (now (out .exit)) r ⌝ }
 {

@@ -5,16 +5,17 @@ use mathlib.Core.Path.{_≡_, refl, sym, _∙_}
 use mathlib.Core.Bool.{false}
 use native.Mathlib.Omega.{arith}
 use Rattle.decoder.specs.Compiled.{programOf}
-use Rattle.walker.specs.Cursor.{pages}
+use Rattle.pages.specs.ListRows.{pages}
 use Rattle.covering.proofs.BatchWalks.{Collecting, collecting-start, collecting-many, collecting-end, collecting-64, collecting-size, collecting-rows, collecting-less, collecting-next}
 use Rattle.covering.proofs.collecting.collect.Statement.{statement}
 use Rattle.covering.proofs.collecting.collect.Tie as tie
+use Rattle.sc_model.specs.Sequential.{sc}
 
 abbrev Inv-loop : tie.InvT-loop
 Inv-loop program rows₀ batch₀ at₀ rows batch at = Collecting (programOf program) at₀ rows batch at
 
 abbrev μ-loop : tie.MeasureT-loop
-μ-loop program rows₀ batch₀ at₀ rows batch at = pages (programOf program) false at
+μ-loop program rows₀ batch₀ at₀ rows batch at = pages sc (programOf program) false at
 
 loop-holds : tie.Need-loop-holds Inv-loop μ-loop
 loop-holds c = collecting-start (programOf (c .before .args .program)) (c .before .args .cursor) _ (c .empty .result) (search needs) (c .empty .ensures)
@@ -62,7 +63,7 @@ collect-spec =
     (λ c κs. search needs)
     returns
     slice-aggregate-next-page
-    (λ c κs. c .before .before .before .before .before .before .before .pre)
+    (λ c κs. (c .before .before .before .before .before .before .before .pre, refl))
     slice-aggregate-gathered
     gathered-requires
     loop-less

@@ -4,11 +4,11 @@ use borrow.Author.Tests.{not-true, not-false}
 use mathlib.Core.Path.{_≡_, refl, sym, ap, _∙_}
 use mathlib.Core.Bool.{false}
 use native.Mathlib.Omega.{arith}
-use lib.ListN.{length, take}
-use Rattle.list.specs.Search.{sought}
-use Rattle.lines.specs.Over.{over}
+use lib.ListN.{length}
+use Rattle.model.specs.Search.{sought}
+use Rattle.sc_model.specs.Sequential.{sc}
 use Rattle.decoder.specs.Compiled.{programOf}
-use Rattle.walker.specs.Cursor.{pages}
+use Rattle.pages.specs.ListRows.{pages}
 use Rattle.covering.proofs.ByBatches.{ToCome, to-come-start, to-come-end, to-come-next, to-come-here, here-entry, entry-over, kept, answered-short, answered-covered, answered-lacking}
 use Rattle.covering.proofs.covers_call.compared.Statement.{statement}
 use Rattle.covering.proofs.covers_call.compared.Tie as tie
@@ -17,7 +17,7 @@ abbrev Inv-loop : tie.InvT-loop
 Inv-loop first second out₀ cursor₀ out cursor = (out ≡ out₀) × ToCome (programOf first) (programOf second) cursor
 
 abbrev μ-loop : tie.MeasureT-loop
-μ-loop first second out₀ cursor₀ out cursor = pages (programOf second) false cursor
+μ-loop first second out₀ cursor₀ out cursor = pages sc (programOf second) false cursor
 
 returns : tie.Need-returns Inv-loop μ-loop
 returns c = λ file other one two. answered-short file other (c .before .before .args .out .now) _ _ one two (c .if1 .taken)
@@ -25,7 +25,7 @@ returns c = λ file other one two. answered-short file other (c .before .before 
 loop-holds : tie.Need-loop-holds Inv-loop μ-loop
 loop-holds c =
     let args = c .before .before .before .args in
-    (refl, to-come-start (programOf (args .first)) (programOf (args .second)) (c .beginning .result) (c .beginning .ensures (sought false (programOf (args .second)))))
+    (refl, to-come-start (programOf (args .first)) (programOf (args .second)) (c .beginning .result) (c .beginning .ensures (sought sc false (programOf (args .second)))))
 
 put-steps-requires : tie.Need-put-steps-requires Inv-loop μ-loop
 put-steps-requires c κs =

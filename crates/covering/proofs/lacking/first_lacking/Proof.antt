@@ -4,9 +4,10 @@ use borrow.Author.Tests.{not-true, not-false}
 use mathlib.Core.Path.{_≡_, refl, sym, _∙_}
 use mathlib.Core.Bool.{false}
 use native.Mathlib.Omega.{arith}
-use Rattle.list.specs.Search.{sought}
+use Rattle.model.specs.Search.{sought}
+use Rattle.sc_model.specs.Sequential.{sc}
 use Rattle.decoder.specs.Compiled.{programOf}
-use Rattle.walker.specs.Cursor.{pages}
+use Rattle.pages.specs.ListRows.{pages}
 use Rattle.covering.proofs.Marking.{Attaining, attaining-start, attaining-next, attaining-end, unmarked}
 use Rattle.covering.proofs.lacking.first_lacking.Statement.{statement}
 use Rattle.covering.proofs.lacking.first_lacking.Tie as tie
@@ -15,12 +16,12 @@ abbrev Inv-loop : tie.InvT-loop
 Inv-loop program wanted marks₀ cursor₀ marks cursor = Attaining (programOf program) wanted marks cursor
 
 abbrev μ-loop : tie.MeasureT-loop
-μ-loop program wanted marks₀ cursor₀ marks cursor = pages (programOf program) false cursor
+μ-loop program wanted marks₀ cursor₀ marks cursor = pages sc (programOf program) false cursor
 
 loop-holds : tie.Need-loop-holds Inv-loop μ-loop
 loop-holds c =
     let p = programOf (c .before .args .program) in
-    attaining-start p (c .before .args .wanted) _ (c .beginning .result) refl unmarked (c .beginning .ensures (sought false p))
+    attaining-start p (c .before .args .wanted) _ (c .beginning .result) refl unmarked (c .beginning .ensures (sought sc false p))
 
 loop-less : tie.Need-loop-less Inv-loop μ-loop
 loop-less c = c .before .before .before .collect .ensures .onward (sym (c .before .before .before .before .before .is-end .ensures) ∙ not-true _ (c .before .before .before .before .if1 .taken))

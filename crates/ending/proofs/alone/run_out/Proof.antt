@@ -10,7 +10,8 @@ use lib.ListN.{length, getD, length-set, length-take}
 use lib.Seq.{length-take-le}
 use Rattle.program.specs.Program.{Program}
 use Rattle.schedules.specs.Order.{Schedule}
-use Rattle.list.specs.Answers.{failing}
+use Rattle.model.specs.Model.{failing}
+use Rattle.sc_model.specs.Sequential.{sc}
 use Rattle.prefix.specs.Reached.{Reached}
 use Rattle.prefix.specs.declared.place.Place.{Place}
 use Rattle.pages.specs.Rows.{rowOf}
@@ -69,14 +70,14 @@ returns c =
     let a = entry .args in (
       entry .pre .2,
       λ class threads groups x p v bound at of ef s.
-          adds-none 24 (failing p) (a .a .room) _ (a .out .now) (a .a .rows) (settled-tight (a .a .failures) p (x .steps) v bound (a .a .tight) (a .t) s (c .if1 .taken)),
+          adds-none 24 (failing sc p) (a .a .room) _ (a .out .now) (a .a .rows) (settled-tight (a .a .failures) p (x .steps) v bound (a .a .tight) (a .t) s (c .if1 .taken)),
     )
 
 returns-2 : tie.Need-returns-2 Inv-loop μ-loop
 returns-2 c =
     let entry = c .before .before .before .before in
     let a = entry .args in
-    (entry .pre .2, λ class threads groups x p v bound at of ef s. adds-full 24 (failing p) (a .a .room) _ (a .out .now) (a .a .rows) (c .if2 .taken))
+    (entry .pre .2, λ class threads groups x p v bound at of ef s. adds-full 24 (failing sc p) (a .a .room) _ (a .out .now) (a .a .rows) (c .if2 .taken))
 
 loop-holds : tie.Need-loop-holds Inv-loop μ-loop
 loop-holds c =
@@ -118,7 +119,7 @@ returns-3 c =
     let apart = c .before .before .before .before .before .before .before .before .before .before .before .before .before .if1 .left in (
       entry .pre .2,
       λ class threads groups x p v bound at of ef s.
-          adds-none 24 (failing p) (a .a .room) _ (a .out .now) (a .a .rows)
+          adds-none 24 (failing sc p) (a .a .room) _ (a .out .now) (a .a .rows)
           (found-apart (a .a .failures) p (x .steps) v bound (a .a .tight) apart
           ∙ run-passed (a .code .now) (a .lengths .now) class threads groups x p v (a .t) (held (c .before .before .before .before .before)) (loop .inv .1 class threads groups x p v at of) (entry .pre .1) (over (c .before .before .before)) at
           (either .result) (either .ensures) ef (subst (Settled p v (a .t)) apart s) (a .a .failures)
@@ -137,7 +138,7 @@ put-row-requires c κs =
     (omega (arith, n, c .before .before .before .before .before .before .before .loop .inv .0), omega arith, search needs)
 
 returns-4 : tie.Need-returns-4 Inv-loop μ-loop
-unfolding failing rowOf
+unfolding rowOf
 returns-4 c =
     let entry = c .before .before .before .before .before .before .before .before .before .before .before .before .before .before .before .before .before .before .before .before in
     let a = entry .args in
@@ -150,7 +151,7 @@ returns-4 c =
           let run = loop .inv .1 class threads groups x p v at of in
           let w = running-row (a .code .now) (a .lengths .now) class threads groups x p v (a .t) (held (c .before .before .before .before .before .before .before .before .before .before)) run in
           let f = run-failing (a .code .now) (a .lengths .now) class threads groups x p v (a .t) (held (c .before .before .before .before .before .before .before .before .before .before)) run (entry .pre .1) (over (c .before .before .before .before .before .before .before .before)) at (either .result) (either .ensures) ef in
-          adds-one 24 (failing p) (a .a .room) _ (run .prefix) (a .out .now) (c .before .before .put-row .last .0) (a .a .rows)
+          adds-one 24 (failing sc p) (a .a .room) _ (run .prefix) (a .out .now) (c .before .before .put-row .last .0) (a .a .rows)
           (found-apart (a .a .failures) p (x .steps) v bound (a .a .tight) apart
           ∙ run-found (a .code .now) (a .lengths .now) class threads groups x p v (a .t) (held (c .before .before .before .before .before .before .before .before .before .before)) run (entry .pre .1) (over (c .before .before .before .before .before .before .before .before)) at
           (either .result) (either .ensures) ef (subst (Settled p v (a .t)) apart s) (a .a .failures)

@@ -6,7 +6,8 @@ use native.Mathlib.Omega.{arith}
 use lib.ListN.{length, length-take}
 use lib.Seq.{length-take-le}
 use Rattle.sc.specs.Graph.{endOf}
-use Rattle.list.specs.Answers.{failing}
+use Rattle.model.specs.Model.{failing}
+use Rattle.sc_model.specs.Sequential.{sc}
 use Rattle.survivors.proofs.Search.{behind-end, behind-passed}
 use Rattle.prefix.specs.Reached.{machineOf}
 use Rattle.pages.specs.Rows.{rowOf}
@@ -18,16 +19,15 @@ returns : tie.Need-returns
 returns c =
     let entry = c .before .before .before in
     let a = entry .args in
-    (entry .pre .1, λ code lengths class threads groups p v at e. adds-full 24 (failing p) (a .a .room) _ (a .out .now) (a .a .rows) (c .if1 .taken))
+    (entry .pre .1, λ code lengths class threads groups p v at e. adds-full 24 (failing sc p) (a .a .room) _ (a .out .now) (a .a .rows) (c .if1 .taken))
 
 returns-2 : tie.Need-returns-2
-unfolding failing
 returns-2 c =
     let entry = c .before .before .before .before .before .before .before in
     let a = entry .args in (
       entry .pre .1,
       λ code lengths class threads groups p v at e.
-          adds-none 24 (failing p) (a .a .room) _ (a .out .now) (a .a .rows)
+          adds-none 24 (failing sc p) (a .a .room) _ (a .out .now) (a .a .rows)
           (behind-passed (a .a .failures) p (a .x .steps) v (c .before .before .some-failed .result) e (sym (c .before .before .some-failed .ensures code lengths (machineOf (a .x) (at .last)) (endOf p v) refl (at .holds))) (sym (c .before .is-meant .ensures) ∙ not-true _ (c .if2 .taken))),
     )
 
@@ -51,7 +51,7 @@ put-row-requires c κs =
     (omega (arith, n, s), omega arith, search needs)
 
 returns-3 : tie.Need-returns-3
-unfolding failing rowOf
+unfolding rowOf
 returns-3 c = (
   search needs,
   λ code lengths class threads groups p v at e.
@@ -59,9 +59,9 @@ returns-3 c = (
       let a = entry .args in
       let some-failed = c .before .before .before .before .before .before .before .before .some-failed in
       let is-meant = c .before .before .before .before .before .before .before .is-meant in
-      let f : failing p v ≡ some-failed .result = sym (some-failed .ensures code lengths (machineOf (a .x) (at .last)) (endOf p v) refl (at .holds)) in
+      let f : failing sc p v ≡ some-failed .result = sym (some-failed .ensures code lengths (machineOf (a .x) (at .last)) (endOf p v) refl (at .holds)) in
       let w = at .schedule in
-      adds-one 24 (failing p) (a .a .room) _ v (a .out .now) (c .before .before .put-row .last .0) (a .a .rows)
+      adds-one 24 (failing sc p) (a .a .room) _ v (a .out .now) (c .before .before .put-row .last .0) (a .a .rows)
       (behind-end (a .a .failures) p (a .x .steps) v (some-failed .result) e f (sym (is-meant .ensures) ∙ not-false _ (c .before .before .before .before .before .before .if2 .left)))
       (c .before .before .before .before .before .before .before .before .before .before .if1 .left) (c .before .before .put-row .ensures ∙ rw (w, f)),
 )

@@ -12,8 +12,9 @@ use Rattle.schedules.specs.Lists.{filter}
 use Rattle.schedules.specs.Order.{Schedule}
 use Rattle.graph_writer.specs.NoteText.{Wrote}
 use Rattle.graph_writer.proofs.WrittenLines.{wrote-none}
-use Rattle.list.specs.Answers.{failing}
-use Rattle.walker.specs.Rows.{Shown}
+use Rattle.model.specs.Model.{failing}
+use Rattle.sc_model.specs.Sequential.{sc}
+use Rattle.pages.specs.ListRows.{Shown}
 use Rattle.listing.specs.Printed.{scheduleFrame}
 use Rattle.printing.specs.Pieces.{Short}
 use Rattle.printing.proofs.LineLoop.{lines-more}
@@ -23,8 +24,8 @@ use Rattle.printing.proofs.frames.schedule_lines.Tie as tie
 abbrev Inv-loop : tie.InvT-loop
 Inv-loop out₀ rows n at₀ failed₀ k₀ out at failed k =
     (k ≤ n) × (at ≤ length out) × (length out ≡ length out₀) × (failed ≤ k * 256)
-    × ((p : Program) (ss : List Schedule) (held : List ℕ) → Shown p ss held rows n → Short ss
-    → (Wrote (map (scheduleFrame p) (take k ss)) out₀ out at) × (failed ≡ length (filter (failing p) (take k ss))))
+    × ((p : Program) (ss : List Schedule) (held : List ℕ) → Shown sc p ss held rows n → Short ss
+    → (Wrote (map (scheduleFrame p) (take k ss)) out₀ out at) × (failed ≡ length (filter (failing sc p) (take k ss))))
 
 abbrev μ-loop : tie.MeasureT-loop
 μ-loop out₀ rows n at₀ failed₀ k₀ out at failed k = n - k
@@ -61,7 +62,7 @@ returns : tie.Need-returns Inv-loop μ-loop
 returns c p ss held w short =
     let l = c .before .loop in
     let e : take (l .k) ss ≡ ss = take-all (l .k) ss (omega (arith, w .counted, c .loop-test .left, l .inv .0)) in
-    subst (λ (ts : List Schedule). (Wrote (map (scheduleFrame p) ts) (c .before .before .before .args .out .now) (l .out) (l .at)) × (l .failed ≡ length (filter (failing p) ts))) e
+    subst (λ (ts : List Schedule). (Wrote (map (scheduleFrame p) ts) (c .before .before .before .args .out .now) (l .out) (l .at)) × (l .failed ≡ length (filter (failing sc p) ts))) e
     (l .inv .4 p ss held w short)
 
 pub schedule-lines-spec : {M : Type 1} → statement M

@@ -7,12 +7,12 @@ use mathlib.Core.List.{List}
 use native.Mathlib.Omega.{arith}
 use lib.ListN.{length, getD}
 use Rattle.schedules.specs.Order.{Schedule}
-use Rattle.walker.specs.Rows.{rowBytes}
+use Rattle.pages.specs.Rows.{rowBytes}
 use Rattle.pages.proofs.RowsRead.{row-steps-count}
 use Rattle.printing.proofs.frames.steps_of.Statement.{statement}
 use Rattle.printing.proofs.frames.steps_of.Tie as tie
 
-counted : (s : Schedule) (f : Bool) (row : List ℕ) → row ≡ rowBytes s f → getD row 0 0 ≡ length s
+counted : (s : Schedule) (f : Bool) (row : List ℕ) → row ≡ rowBytes 24 s f → getD row 0 0 ≡ length s
 counted s f row e = ap (λ (l : List ℕ). getD l 0 0) e ∙ row-steps-count 24 s f
 
 returns : tie.Need-returns

@@ -11,9 +11,10 @@ use Rattle.decoder.specs.Compiled.{programOf}
 use Rattle.schedules.specs.Lists.{filter}
 use Rattle.graph_writer.specs.NoteText.{Wrote}
 use Rattle.graph_writer.proofs.WrittenLines.{wrote-within}
-use Rattle.list.specs.Answers.{failing}
+use Rattle.model.specs.Model.{failing}
+use Rattle.sc_model.specs.Sequential.{sc}
 use Rattle.pages.specs.declared.cursor.Page.{Page}
-use Rattle.walker.specs.Cursor.{Paged}
+use Rattle.pages.specs.ListRows.{Paged}
 use Rattle.listing.specs.Printed.{scheduleFrame}
 use Rattle.printing.specs.declared.pieces.Listing.{Listing}
 use Rattle.printing.specs.Pieces.{left, Ready, Next}
@@ -40,7 +41,7 @@ rows c = c .next-page .last .1 .1 .1 .0
 abbrev page : (c : tie.After-next-page) → Page
 page c = c .next-page .result
 
-paged : (c : tie.After-next-page) → Paged (programOf (state c .program)) false (state c .cursor) empty (rows c) (page c)
+paged : (c : tie.After-next-page) → Paged sc (programOf (state c .program)) false (state c .cursor) empty (rows c) (page c)
 paged c = c .next-page .ensures
 
 schedule-lines-requires : tie.Need-schedule-lines-requires
@@ -56,7 +57,7 @@ abbrev out : (c : tie.After-slice-known2) → List ℕ
 out c = c .before .before .before .before .before .before .before .before .before .before .before .args .out .now
 
 wrote : (c : tie.After-slice-known2) → (Wrote (map (scheduleFrame (programOf (state (asked-for c) .program))) (take 256 (left (state (asked-for c))))) (out c) (c .before .before .schedule-lines .last .0) (c .before .before .schedule-lines .result .length))
-    × (c .before .before .schedule-lines .result .failed ≡ length (filter (failing (programOf (state (asked-for c) .program))) (take 256 (left (state (asked-for c))))))
+    × (c .before .before .schedule-lines .result .failed ≡ length (filter (failing sc (programOf (state (asked-for c) .program))) (take 256 (left (state (asked-for c))))))
 wrote c =
     let r = asked-for c in
     c .before .before .schedule-lines .ensures (programOf (state r .program)) (take 256 (left (state r))) empty

@@ -5,7 +5,8 @@ use mathlib.Core.Path.{_≡_, refl, ap, _∙_}
 use mathlib.Core.List.{List}
 use native.Mathlib.Omega.{arith}
 use lib.ListN.{length, take, replicate}
-use Rattle.listing.specs.OnFile.{startFile, continueFile}
+use Rattle.model.specs.OnFile.{startFile, continueFile}
+use Rattle.sc_model.specs.Sequential.{sc}
 use Rattle.records.specs.Next.{nextOf}
 use Rattle.records.proofs.Given.{start-content, start-given, continue-content, continue-given, none-long, none-steps, none-left}
 use Rattle.records.proofs.next.next_of.Statement.{statement}
@@ -29,7 +30,7 @@ returns-2 c =
     let s = c .before .before .start in
     let f = take (r .length - 0) (r .file) in
     let g = start-given r (c .before .before .before .before .before .before .before .before .before .if1 .left) f (replicate 24 0) (part (r .file) (r .length)) refl (c .before .before .before .before .before .before .if2 .taken) in
-    c .next-by .ensures (startFile f (replicate 24 0) .0) (s .ensures .0) (s .ensures .1 ∙ start-content f (replicate 24 0)) (g .1) ∙ ap nextOf (g .0)
+    c .next-by .ensures (startFile sc f (replicate 24 0) .0) (s .ensures .0) (s .ensures .1 ∙ start-content f (replicate 24 0)) (g .1) ∙ ap nextOf (g .0)
 
 returns-3 : tie.Need-returns-3
 returns-3 c =
@@ -57,7 +58,7 @@ returns-4 c =
     let g = continue-given r (c .before .before .before .before .before .before .before .before .before .before .before .before .before .before .before .before .before .if1 .left) f (replicate 24 0) (part (r .file) (r .length)) refl
     t (c .before .before .before .before .before .before .before .before .before .before .before .before .before .before .if2 .left) (c .before .before .before .before .before .before .before .before .before .before .before .before .if3 .taken)
     (c .before .before .before .before .before .before .before .before .before .before .if4 .left) (ap (λ (j : ℕ). take j (r .schedule)) k) in
-    c .next-by2 .ensures (continueFile f t (replicate 24 0) .0) (s .ensures .0) (s .ensures .1 ∙ continue-content f t (replicate 24 0)) (g .1) ∙ ap nextOf (g .0)
+    c .next-by2 .ensures (continueFile sc f t (replicate 24 0) .0) (s .ensures .0) (s .ensures .1 ∙ continue-content f t (replicate 24 0)) (g .1) ∙ ap nextOf (g .0)
 
 returns-5 : tie.Need-returns-5
 returns-5 c = c .no-more3 .ensures ∙ ap nextOf (none-left (c .before .before .before .before .before .before .before .args .c) (c .before .before .before .if2 .left) (c .before .if3 .left))

@@ -4,7 +4,7 @@ use borrow.Author.Needs.{needs}
 use Prim.Native.Nat.{ℕ, _<_, _≤_, _-_, _+_, _*_, _^_}
 use mathlib.Core.Path.{_≡_, refl, sym, ap, subst, _∙_}
 use mathlib.Core.Logic.{⊎-elim}
-use mathlib.Core.Bool.{Bool, true, false, not, cond}
+use mathlib.Core.Bool.{true, false, not, cond}
 use mathlib.Core.List.{List, [], _∷_, _++_}
 use native.Mathlib.Omega.{arith}
 use lib.Dec.{eqb, ltb}
@@ -24,7 +24,8 @@ use Rattle.machine.specs.declared.stepping.Moved.{Moved}
 use Rattle.survivors.specs.LateSet.{lateSet}
 use Rattle.survivors.specs.ReadWords.{wordBehind}
 use Rattle.survivors.specs.Sleepers.{sleepers}
-use Rattle.list.specs.Answers.{failing}
+use Rattle.model.specs.Model.{failing}
+use Rattle.sc_model.specs.Sequential.{sc}
 use Rattle.prefix.specs.Reached.{Reached, machineOf}
 use Rattle.prefix.specs.declared.place.Place.{Place}
 use Rattle.prefix.proofs.LateLoop.{LateBelow, late-below-none, late-below-fits, late-below-more, late-below-all}
@@ -278,7 +279,7 @@ module _ (t : ℕ) where
       let pre = (c .before .before .before .before .before .before .before .before .before .before .before .before .before .before .before .before .before .before .before .before .before .pre) in
       let a = (c .before .before .before .before .before .before .before .before .before .before .before .before .before .before .before .before .before .before .before .before .before .args) in (
         pre .1 .2,
-        λ count groups p v at. adds-none 24 (failing p) (a .a .room) _ (a .out .now) (a .a .rows)
+        λ count groups p v at. adds-none 24 (failing sc p) (a .a .room) _ (a .out .now) (a .a .rows)
             (visit-asleep (a .code .now) (a .lengths .now) (a .class .now) count groups (a .x) p v at (a .a .failures) (boundAt (a .a .tight) (a .bound .now) (a .x .steps)) (a .t) (pre .1 .4 count groups p v at)
             (sym (asleep (c .before) count groups p v at) ∙ (c .if1) .taken)),
       )

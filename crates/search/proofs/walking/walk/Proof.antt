@@ -7,7 +7,8 @@ use native.Mathlib.Omega.{arith}
 use lib.ListN.{length}
 use Rattle.survivors.proofs.Search.{behind-stuck}
 use Rattle.prefix.proofs.ReachedStep.{reached-most, reached-ended, reached-going}
-use Rattle.list.specs.Answers.{failing}
+use Rattle.model.specs.Model.{failing}
+use Rattle.sc_model.specs.Sequential.{sc}
 use Rattle.pages.specs.Bounds.{boundAt}
 use Rattle.pages.proofs.AddedRows.{adds-none, adds-same}
 use Rattle.ending.proofs.BoundEnd.{bound-met, bound-apart}
@@ -28,7 +29,7 @@ returns c =
     let pre = entry .pre in
     let a = entry .args in (
       pre .2,
-      λ threads groups p v at. rw (c .if2 .taken) (adds-none 24 (failing p) (a .a .room) _ (a .out .now) (a .a .rows)
+      λ threads groups p v at. rw (c .if2 .taken) (adds-none 24 (failing sc p) (a .a .room) _ (a .out .now) (a .a .rows)
           (bound-met (a .a .failures) p (a .t5 .steps) v (a .bound .now) (reached-ended (a .code .now) (a .lengths .now) (a .class .now) threads groups (a .t5) p v at (c .before .if1 .taken)))),
     )
 
@@ -47,7 +48,7 @@ returns-2 c =
     let at-end = c .before .before .at-end in (
       at-end .ensures .0,
       λ threads groups p v at.
-          rw (c .before .before .before .before .if2 .left) (adds-same 24 (failing p) (a .a .room) _ _ (a .out .now) _ (a .a .rows) _ (bound-apart (a .a .failures) p (a .t5 .steps) v (a .bound .now))
+          rw (c .before .before .before .before .if2 .left) (adds-same 24 (failing sc p) (a .a .room) _ _ (a .out .now) _ (a .a .rows) _ (bound-apart (a .a .failures) p (a .t5 .steps) v (a .bound .now))
           (at-end .ensures .1 (a .code .now) (a .lengths .now) (a .class .now) threads groups p v at (reached-ended (a .code .now) (a .lengths .now) (a .class .now) threads groups (a .t5) p v at (c .before .before .before .before .before .if1 .taken)))),
     )
 
@@ -57,7 +58,7 @@ returns-3 c =
     let pre = entry .pre in
     let a = entry .args in (
       pre .2,
-      λ threads groups p v at. adds-none 24 (failing p) (a .a .room) _ (a .out .now) (a .a .rows)
+      λ threads groups p v at. adds-none 24 (failing sc p) (a .a .room) _ (a .out .now) (a .a .rows)
           (behind-stuck (a .a .failures) p (a .t5 .steps) v (boundAt (a .a .tight) (a .bound .now) (a .t5 .steps)) (reached-going (a .code .now) (a .lengths .now) (a .class .now) threads groups (a .t5) p v at (c .before .if1 .left)) (c .if3 .taken)),
     )
 

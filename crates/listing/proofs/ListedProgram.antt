@@ -1,0 +1,52 @@
+-- The program that the memory model lists, or what refuses the file: the file's own refusal, the model's, or the program itself.
+use Prim.Native.Nat.{ℕ}
+use mathlib.Core.Path.{_≡_, refl, sym, ap, _∙_}
+use mathlib.Core.Bool.{Bool, cond, true, false}
+use mathlib.Core.Option.{Option, none, some}
+use mathlib.Core.List.{List}
+use Rattle.program.specs.Decode.{Decoded, accepted, refused, decode}
+use Rattle.decoder.specs.declared.file.Answer.{Answer}
+use Rattle.decoder.specs.declared.file.Verdict.{Verdict}
+use Rattle.decoder.specs.declared.file.Verdict.the-variants.{Accepted, Refused}
+use Rattle.decoder.specs.Compiled.{programOf, answerOf, verdictOf}
+use Rattle.model.specs.Model.{Model}
+use Rattle.model.specs.Laws.{Laws, Admitted}
+use Rattle.model.specs.OnFile.{unless, admit}
+use Rattle.model.proofs.Admitted.{listed-program}
+
+-- what the answer says, by its verdict
+module _ (a : Answer) (d : Decoded) (e : answerOf a ≡ d) where
+  pub answer-refused : (n k : ℕ) → a .verdict ≡ Refused n k → d ≡ refused n k
+  unfolding answerOf verdictOf
+  answer-refused n k v = sym e ∙ ap (λ (x : Verdict). verdictOf x (programOf (a .program))) v
+
+  pub answer-accepted : a .verdict ≡ Accepted → d ≡ accepted (programOf (a .program))
+  unfolding answerOf verdictOf
+  answer-accepted v = sym e ∙ ap (λ (x : Verdict). verdictOf x (programOf (a .program))) v
+
+module _ (M : Model) where
+  -- a program that is accepted then is listed
+  pub answer-listed : Laws M → (a : Answer) (file : List ℕ) → answerOf a ≡ admit M (decode file) → a .verdict ≡ Accepted → Admitted M (programOf (a .program))
+  answer-listed L a file e v = listed-program M L file (programOf (a .program)) (answer-accepted a (admit M (decode file)) e v)
+
+  -- ---- from the decoder's answer
+  module _ (a : Answer) (d : Decoded) (e : answerOf a ≡ d) where
+    -- the file is refused
+    pub admits-refused : (n k : ℕ) → a .verdict ≡ Refused n k → answerOf a ≡ admit M d
+    unfolding admit
+    admits-refused n k v = let q = answer-refused a d e n k v in e ∙ q ∙ sym (ap (admit M) q)
+
+    -- its program is not turned away
+    pub admits-program : a .verdict ≡ Accepted → M .away (programOf (a .program)) ≡ none → answerOf a ≡ admit M d
+    unfolding admit unless
+    admits-program v h =
+        let q = answer-accepted a d e v in
+        e ∙ q ∙ sym (ap (admit M) q ∙ ap (unless (programOf (a .program))) h)
+
+    -- or it is
+    pub turned-away : a .verdict ≡ Accepted → (n k : ℕ) → M .away (programOf (a .program)) ≡ some (n, k) → (b : Answer) → b .verdict ≡ Refused n k → answerOf b ≡ admit M d
+    unfolding answerOf verdictOf admit unless
+    turned-away v n k h b w =
+        let q = answer-accepted a d e v in
+        ap (λ (x : Verdict). verdictOf x (programOf (b .program))) w
+        ∙ sym (ap (admit M) q ∙ ap (unless (programOf (a .program))) h)

@@ -1,0 +1,1 @@
+-- The functions prove themselves from the laws of `pages`.

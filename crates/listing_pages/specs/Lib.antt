@@ -1,0 +1,1 @@
+-- Pages of the list are defined in `pages` (`ListRows`), for any memory model.
