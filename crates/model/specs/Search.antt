@@ -15,8 +15,6 @@ use Rattle.schedules.specs.Found.{foundFrom}
 use Rattle.model.specs.Exchange.{permitted}
 use Rattle.model.specs.Model.{Model, endOf, Full, failing, actions}
 use Rattle.model.specs.Alike.{Smaller, listOf}
-use Rattle.model.specs.Late.{late}
-use Rattle.model.specs.LateSet.{taken, lateSet}
 
 module _ (M : Model) where
   -- which next bytes are given up, by the prefix and the state behind it
@@ -27,13 +25,6 @@ module _ (M : Model) where
   abbrev pub Sound : Program → Rule → Type 0
   Sound p rule = (v : Schedule) (b : ℕ) (z : Schedule) → rule v (endOf M p v) b ≡ true → Full M p (v ++ (b ∷ z)) →
       Smaller M p (v ++ (b ∷ z))
-
-  -- R1: the step comes late; by the actions taken, and by the late set
-  unfoldable pub lateRule : Program → Rule
-  lateRule p v σ b = late (M .who) (M .dependent) (taken M p v) (M .act σ b)
-
-  unfoldable pub lateSetRule : Program → Rule
-  lateSetRule p v σ b = lateSet M p v b
 
   -- the least order of these actions, exchanged by π, in which dependent ones keep theirs
   unfoldable pub leastBy : List ℕ → List (M .Action) → Schedule

@@ -8,7 +8,7 @@ use Rattle.program.specs.declared.instruction.Operand.the-variants.{Constant}
 use Rattle.program.specs.declared.instruction.Access.the-variants.{Store, Load}
 use Rattle.program.specs.declared.instruction.Instruction.the-variants.{Memory}
 use Rattle.schedules.specs.Order.{Schedule}
-use Rattle.model.specs.Late as Late
+use Rattle.model.specs.Back.{back}
 use Rattle.model.specs.Search as Model
 use Rattle.sc.specs.Actions.{given}
 use Rattle.sc.specs.Ahead.{accessMayWrite, couldConflict, couldMeet}
@@ -22,7 +22,7 @@ use Rattle.tso_list.specs.Search.{found}
 
 -- what a proof names on its `unfolding` line to compute with every definition of the search
 unfoldable pub finds : Program → List Schedule
-unfolding listed Late.late Model.leastBy Model.representative Model.found Model.wanted given accessMayWrite couldConflict couldMeet sameFlag sameLocal silent moving reading locking sourceIf beforeIf actionOf action who makes empties putsFirst readsFirst dependent movedByte movedAction renamed sameSource sameEntry standsAs twin fears wakes unwoken asleep givenUp found
+unfolding listed back Model.leastBy Model.representative Model.found Model.wanted given accessMayWrite couldConflict couldMeet sameFlag sameLocal silent moving reading locking sourceIf beforeIf actionOf action who makes empties putsFirst readsFirst dependent movedByte movedAction renamed sameSource sameEntry standsAs twin fears wakes unwoken asleep givenUp found
 finds p = found false p none
 
 -- a store and a load in each of two threads: the search finds the four that are listed

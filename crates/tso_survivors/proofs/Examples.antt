@@ -9,17 +9,16 @@ use Rattle.program.specs.declared.instruction.Operand.the-variants.{Constant}
 use Rattle.program.specs.declared.instruction.Access.the-variants.{Store, Load}
 use Rattle.program.specs.declared.instruction.Instruction.the-variants.{Memory}
 use Rattle.schedules.specs.Order.{Schedule}
-use Rattle.model.specs.LateSet as LateSet
+use Rattle.model.specs.Back.{back}
 use Rattle.tso.specs.Graph.{endOf}
 use Rattle.tso_list.specs.Rules as Rules
 use Rattle.tso_list.proofs.Examples as Tested
-use Rattle.tso_survivors.specs.Back.{back, byteAt, dependentAt}
-use Rattle.tso_survivors.specs.Far.{twinMoves, startsBy, starts, far, farBehind, farAfter, farSet}
+use Rattle.tso_survivors.specs.Far.{twinMoves, startsBy, starts, far}
 use Rattle.tso_survivors.specs.Search.{lookedFor, found, givenUp}
 
 -- what a proof names on its `unfolding` line to compute with every definition of the search
 unfoldable finds : Program → List Schedule
-unfolding Tested.finds LateSet.bit LateSet.word back byteAt dependentAt twinMoves startsBy starts far farBehind farAfter farSet lookedFor found givenUp
+unfolding Tested.finds back twinMoves startsBy starts far lookedFor found givenUp
 finds p = found givenUp false p none
 
 -- threads 0 and 2 alike, each a store of location 0 and a load of location 1; thread 1 stores location 1 twice
@@ -45,10 +44,6 @@ kept-without = refl
 far-18 : far between late-twin (endOf between late-twin) 18 ≡ true
 unfolding finds between late-twin
 far-18 = refl
-
-far-set-18 : farSet between late-twin ≡ 4
-unfolding finds between late-twin
-far-set-18 = refl
 
 -- what the search finds there is what is listed
 between-found : finds between ≡
