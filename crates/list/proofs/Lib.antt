@@ -16,5 +16,3 @@ pub mod NoThread
 pub mod AsModel
 -- what the calls can answer: members of the list, and small refusals
 pub mod Answered
--- for the code: the list walked by pieces
-pub mod Walk

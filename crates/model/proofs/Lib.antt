@@ -33,8 +33,10 @@ pub mod LateSet
 pub mod Twins
 -- the test at a full schedule is exact
 pub mod Representative
--- what the search finds, for every sound rule
+-- THE SEARCH FINDS THE LIST, by every sound rule that leaves listed schedules only
 pub mod Search
+-- and as code meets it
+pub mod Searching
 -- a list of calls walks the list
 pub mod Calls
 -- violation

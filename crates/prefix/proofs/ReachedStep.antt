@@ -211,7 +211,7 @@ module _ (code lengths class : List ℕ) (threads groups : ℕ) (x : Place) (p :
       unfolding wordsBehind
       reached-next r size c =
           reached-more r size (c .threads) (c .memory) (c .schedule) (c .steps)
-          (c .late next (step σ t) refl refl (moved .holds) ∙ ap₂ (λ (s : ℕ) (a : Action). lateBehind (step σ t) s a) (at .late) did ∙ sym (late-more p v t))
+          (c .late next (step σ t) refl refl (moved .holds) ∙ ap₂ (λ (s : ℕ) (a : Action). lateBehind (step σ t) s a) (at .late) did ∙ sym (late-more p v t ok))
           (c .live ∙ ap₂ (λ (b : Bool) (s : ℕ). cond b s (s - 2 ^ t)) goes (at .live) ∙ sym (live-more σ t ok)
           ∙ ap (λ (τ : State). setOf (enabled τ) 6) (sym (run-snoc SC (start p) v t)))
           (c .stamps

@@ -11,8 +11,6 @@ pub mod Inversions
 pub mod Preferring
 -- THE RULES ARE EXACT
 pub mod Exact
--- so the search finds the same without its test at a full schedule
-pub mod Untested
 -- what is in a set
 pub mod Sets
 -- the late set has exactly the late

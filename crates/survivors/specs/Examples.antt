@@ -16,6 +16,7 @@ use Rattle.schedules.specs.Found.{concatRange, foundAt, foundBy, foundFrom}
 use Rattle.schedules.specs.Orders.{trace}
 use Rattle.model.specs.Back.{back}
 use Rattle.model.specs.LateSet.{backAt}
+use Rattle.model.specs.Search.{lookedFor}
 use Rattle.sc.specs.Local.{eval, accessPlace, accessTakes, accessPuts, accessSets, settle, beginsWithAccess, firstPlace, firstTakes}
 use Rattle.sc.specs.Local.{firstPuts, firstNext, pending, placeOf, takes, puts, next, begin}
 use Rattle.sc.specs.State.{initialWrite, noThread, freshCell, threadOf, cellOf, place, latest, noted, advanced, written, met, step}
@@ -29,7 +30,7 @@ use Rattle.list.specs.Rules.{sameFlag, sameLocal, sameHistory, silent, twin}
 use Rattle.survivors.specs.Sets.{has, addend, setOf, joined}
 use Rattle.survivors.specs.LateSet.{lateSet}
 use Rattle.survivors.specs.Sleepers.{readsLeft, writesLeft, meets, wakes, sleepsIn, unwoken, settled, sleepers}
-use Rattle.survivors.specs.Search.{givenUp, lookedFor, found}
+use Rattle.survivors.specs.Search.{givenUp, found}
 
 -- the late set behind a prefix, and what of it is asleep for good
 pub record Seen : Type 0 where

@@ -21,6 +21,7 @@ use Rattle.schedules.specs.System.{run, Allowed}
 use Rattle.schedules.proofs.Lists.{of-range, any-yes, any-of}
 use Rattle.schedules.proofs.Runs.{run-nil, run-snoc, allowed-join, allowed-length}
 use Rattle.model.specs.Exchange.{together}
+use Rattle.model.specs.LateSet.{goesOn}
 use Rattle.sc.specs.State as SC
 use Rattle.sc.specs.State.{Event}
 use Rattle.sc.specs.Local.{placeOf, takes}
@@ -52,7 +53,7 @@ use Rattle.tso_machine.specs.declared.state.QueuedMachine.{QueuedMachine}
 use Rattle.tso_machine.specs.declared.stepping.Change.{Change}
 use Rattle.tso_machine.specs.declared.stepping.Stepped.{Stepped}
 use Rattle.tso_carried.specs.Deeds.{isNone, looking, deedOf, deed, waits}
-use Rattle.tso_carried.specs.LateBytes.{bytesOf, lateAt, farAt, goesOn, lateNow, farNow}
+use Rattle.tso_carried.specs.LateBytes.{bytesOf, lateAt, farAt}
 use Rattle.tso_carried.specs.ReadWords.{sourceDigit, digits, sourcesOf, wordOf, wordBehind, twinByWord}
 use Rattle.tso_carried.specs.declared.deed.Deed.{Deed}
 use Rattle.tso_carried.proofs.Kept.{start-done}
@@ -211,9 +212,9 @@ module _ (code lengths class : List ℕ) (threads groups : ℕ) (x : Place) (p :
 
   late-behind : (k : Kind) (s r : ℕ) → s ≡ setOf (λ u. enabled (step (endOf p v) b) (byteFor k u) && (not (eqb b (byteFor k u)) && (ltb (byteFor k u) b || lateAt p v (byteFor k u)))) 6 →
       r ≡ setOf (λ u. has s u && not (waits (deed (endOf p v) b) (deed (step (endOf p v) b) (byteFor k u)))) 6 → r ≡ bytesOf (lateAt p (v ++ (b ∷ []))) k
-  unfolding lateNow goesOn bytesOf
+  unfolding bytesOf
   late-behind k s r es er = er ∙ chosen-free k (enabled τ) (eqb b) (λ c. ltb c b || lateAt p v c) (λ c. waits (deed σ b) (deed τ c)) s es
-      ∙ sym (set-same (λ u. lateAt p (v ++ (b ∷ [])) (byteFor k u)) (λ u. lateNow τ b (deed σ b) (lateAt p v) (byteFor k u)) 6 (λ u h. late-more p w v (at .allowed) b ok (byteFor k u)))
+      ∙ sym (set-same (λ u. lateAt p (v ++ (b ∷ [])) (byteFor k u)) (λ u. goesOn (enabled τ) b (λ c. ltb c b || lateAt p v c) (λ c. waits (deed σ b) (deed τ c)) (byteFor k u)) 6 (λ u h. late-more p w v (at .allowed) b ok (byteFor k u)))
 
   -- and far
   twins-word : (t : ℕ) → t < 6 → any (λ u. twinByWord p (x .words) t u && ltb (u + 16) b) (range 0 t) ≡ starts p (endOf p v, b) (byteFor move t)
@@ -235,9 +236,9 @@ module _ (code lengths class : List ℕ) (threads groups : ℕ) (x : Place) (p :
 
   far-behind : (s r : ℕ) → s ≡ setOf (λ u. enabled (step (endOf p v) b) (byteFor move u) && (not (eqb b (byteFor move u)) && (starts p (endOf p v, b) (byteFor move u) || farAt p v (byteFor move u)))) 6 →
       r ≡ setOf (λ u. has s u && not (waits (deed (endOf p v) b) (deed (step (endOf p v) b) (byteFor move u)))) 6 → r ≡ bytesOf (farAt p (v ++ (b ∷ []))) move
-  unfolding farNow goesOn bytesOf
+  unfolding bytesOf
   far-behind s r es er = er ∙ chosen-free move (enabled τ) (eqb b) (λ c. starts p (σ, b) c || farAt p v c) (λ c. waits (deed σ b) (deed τ c)) s es
-      ∙ sym (set-same (λ u. farAt p (v ++ (b ∷ [])) (byteFor move u)) (λ u. farNow p σ τ b (deed σ b) (farAt p v) (byteFor move u)) 6 (λ u h. far-more p w v (at .allowed) b ok (byteFor move u)))
+      ∙ sym (set-same (λ u. farAt p (v ++ (b ∷ [])) (byteFor move u)) (λ u. goesOn (enabled τ) b (λ c. starts p (σ, b) c || farAt p v c) (λ c. waits (deed σ b) (deed τ c)) (byteFor move u)) 6 (λ u h. far-more p w v (at .allowed) b ok (byteFor move u)))
 
   -- ---- behind the step, which gave back a
   module _ (a : Stepped) (H : HoldsStep code lengths (endOf p v) b a) where

@@ -25,7 +25,5 @@ pub mod ListedSide
 pub mod Tied
 -- THE RULES ARE EXACT
 pub mod Exact
--- so the search finds the same without its test at a full schedule
-pub mod Untested
 -- THE SEARCH FINDS THE LIST
 pub mod Search
