@@ -23,6 +23,8 @@ pub mod Sleepers
 pub mod Search
 -- and goes on with the last running thread without branching
 pub mod LastThread
+-- digits tell what they are of
+pub mod ThreadWords
 -- reads as digits
 pub mod Digits
 -- what words and stamps are along a run
