@@ -7,6 +7,7 @@ use mathlib.Core.List.{List, [], _∷_, _++_, append-assoc, append-nil, reverse,
 use lib.Dec.{eqb}
 use borrow.Author.Tests.{eqb-false, ne-eqb}
 use Rattle.model.specs.Back.{back}
+use Rattle.model.proofs.Permitted.{or-right}
 use Rattle.model.proofs.Passing.{Passed}
 
 pub and-false : (b : Bool) → (b && false) ≡ false
@@ -51,12 +52,8 @@ module _ {D : Type 0} (who : D → ℕ) (dependent : D → D → Bool) (starts :
   pub back-here : (e : D) (before : List D) (d : D) → starts e (who d) ≡ true → who e ≢ who d → dependent e d ≡ false → back who dependent starts (e ∷ before) d ≡ true
   back-here e before d o n i = back-next e before d ∙ (let q = ne-eqb (who e) (who d) n in rw (q, o, i))
 
-  or-true : (b : Bool) → (b || true) ≡ true
-  or-true true = refl
-  or-true false = refl
-
   pub back-over : (e : D) (before : List D) (d : D) → who e ≢ who d → dependent e d ≡ false → back who dependent starts before d ≡ true → back who dependent starts (e ∷ before) d ≡ true
-  back-over e before d n i k = back-next e before d ∙ (let q = ne-eqb (who e) (who d) n in let o = or-true (starts e (who d)) in rw (q, k, i, o))
+  back-over e before d n i k = back-next e before d ∙ (let q = ne-eqb (who e) (who d) n in let o = or-right (starts e (who d)) (goes before d) k in rw (q, o, i))
 
   -- as far over more steps
   pub back-longer : (xs ys : List D) (d : D) → back who dependent starts xs d ≡ true → back who dependent starts (xs ++ ys) d ≡ true

@@ -127,7 +127,7 @@ module _ (p : Program) (w : WellFormed p) (v : Schedule) (a : Allowed SC (start 
 
   -- R2 BY WORDS IS R2
   pub twin-by-word : twinByWord p (wordsOf p v .words) t u ≡ twin p (endOf p v) t u
-  unfolding twinByWord twin sameHistory
+  unfolding twin sameHistory
   twin-by-word = equal-tests _ _ there back
     where
       there : twinByWord p (wordsOf p v .words) t u ≡ true → twin p σ t u ≡ true

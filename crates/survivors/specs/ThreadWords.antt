@@ -24,5 +24,5 @@ wordBehind base room t word d true = lone t
 wordBehind base room t word d false = cond (ltb word room) (word * base + d) (lone t)
 
 -- R2, u is t's twin: of t's `02` line, with the same word
-unfoldable pub twinByWord : Program → List ℕ → ℕ → ℕ → Bool
+abbrev pub twinByWord : Program → List ℕ → ℕ → ℕ → Bool
 twinByWord p words t u = together (p .groups) u t && eqb (getD words u 0) (getD words t 0)
