@@ -1,16 +1,15 @@
--- Bits named by shifts, six of them as one number, and a word's and a stamp's cases.
+-- Bits named by shifts, six of them as one number, and a stamp's cases.
 use Prim.Native.Nat.{ℕ, zero, suc, _+_, _*_, _/_, _%_, _^_, _<_, _≤_}
 use mathlib.Core.Path.{_≡_, refl, sym, ap, _∙_}
-use mathlib.Core.Bool.{Bool, true, false, cond, true≢false, false≢true}
+use mathlib.Core.Bool.{Bool, true, false, cond}
 use mathlib.Core.List.{List, [], _∷_}
 use native.Mathlib.Omega.{arith}
 use native.Mathlib.Nat.{div-eq-of-lt, pow-le-pow-right}
-use lib.Dec.{eqb, ltb}
+use lib.Dec.{eqb}
 use lib.ListN.{getD, set}
 use lib.Seq.{set-getD}
-use borrow.Author.Tests.{lt-ltb, le-ltb}
 use Rattle.survivors.specs.Sets.{has, addend, setOf}
-use Rattle.survivors.specs.ReadWords.{lone, wordBehind, stampsBehind}
+use Rattle.survivors.specs.ReadWords.{stampsBehind}
 use Rattle.survivors.proofs.Sets.{set-more, set-none}
 
 -- ---- a bit
@@ -49,28 +48,6 @@ six-bits f b0 b1 b2 b3 b4 b5 a0 a1 a2 a3 a4 a5 p0 p1 p2 p3 p4 p5 e0 e1 e2 e3 e4 
     let s5 : setOf f 5 ≡ setOf f 4 + addend b4 16 = set-more f 4 b4 (sym e4) in
     let s6 : setOf f 6 ≡ setOf f 5 + addend b5 32 = set-more f 5 b5 (sym e5) in
     omega arith
-
--- ---- the word of a thread's reads
-pub word-wrote : (t w s : ℕ) (b : Bool) → b ≡ true → lone t ≡ wordBehind t w s b
-unfolding wordBehind
-word-wrote t w s true e = refl
-word-wrote t w s false e = absurd (false≢true e)
-
-pub word-fits : (t w s : ℕ) (b : Bool) → b ≡ false → w < 2 ^ 55 → w * 32 + (s + 1) ≡ wordBehind t w s b
-unfolding wordBehind
-word-fits t w s true e h = absurd (true≢false e)
-word-fits t w s false e h =
-    let q = lt-ltb w (2 ^ 55) h in
-    let k : wordBehind t w s false ≡ w * 32 + (s + 1) = rw (q, wordBehind) refl in
-    sym k
-
-pub word-full : (t w s : ℕ) (b : Bool) → b ≡ false → 2 ^ 55 ≤ w → lone t ≡ wordBehind t w s b
-unfolding wordBehind
-word-full t w s true e h = absurd (true≢false e)
-word-full t w s false e h =
-    let q = le-ltb w (2 ^ 55) h in
-    let k : wordBehind t w s false ≡ lone t = rw (q, wordBehind) refl in
-    sym k
 
 -- ---- a stamp, stored where it was
 pub stamp-stored : (s : List ℕ) (l n : ℕ) (w : Bool) → set s l (cond w n (getD s l 0)) ≡ stampsBehind s l n w

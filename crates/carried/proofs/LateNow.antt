@@ -22,7 +22,7 @@ use Rattle.machine.proofs.HeldNext.{next-place, next-wrote}
 use Rattle.survivors.specs.Sets.{has}
 use Rattle.survivors.specs.LateSet.{lateNow}
 use Rattle.survivors.proofs.Sets.{has-none}
-use Rattle.survivors.proofs.LateSet.{and-false}
+use Rattle.model.proofs.Back.{and-false}
 use Rattle.carried.specs.Steps.{accessingAt}
 
 -- a conflict is one of locations and writes
@@ -30,17 +30,13 @@ conflict-same : (a b c d : Action) → a .location ≡ c .location → a .wrote 
 unfolding conflict
 conflict-same a b c d p q r s = λ i. conflict (record { thread = 0; location = p i; wrote = q i }) (record { thread = 0; location = r i; wrote = s i })
 
-with-true : (b : Bool) → (b && true) ≡ b
-with-true true = refl
-with-true false = refl
-
 -- ---- where none was late, only those smaller than the thread that stepped can be
 pub late-none : (σ : State) (s t : ℕ) (a : Action) (u : ℕ) → s ≡ 0 → a .thread ≡ t → t ≤ u → lateNow σ s a u ≡ false
 unfolding lateNow
 late-none σ s t a u es et h =
     let p : ltb u (a .thread) ≡ false = le-ltb u (a .thread) (omega (arith, et, h)) in
     let q : has s u ≡ false = ap (λ (k : ℕ). has k u) es ∙ has-none u in
-    rw (p, q) (ap (λ (b : Bool). enabled σ u && (not (eqb (a .thread) u) && b)) (and-false (not (conflict a (action σ u)))) ∙ ap (λ (b : Bool). enabled σ u && b) (and-false (not (eqb (a .thread) u))) ∙ and-false (enabled σ u))
+    rw (p, q) (ap (λ (b : Bool). enabled σ u && b) (and-false (not (eqb (a .thread) u))) ∙ and-false (enabled σ u))
 
 module _ (code lengths : List ℕ) (m : Machine) (σ : State) (held : Holds code lengths m σ) (u : ℕ) (h : u < 6) (s : ℕ) (a : Action) where
   -- the thread that stepped
@@ -59,7 +55,7 @@ module _ (code lengths : List ℕ) (m : Machine) (σ : State) (held : Holds code
   -- one that is greater and was not late
   pub late-behind : (ltb u (a .thread) || has s u) ≡ false → false ≡ lateNow σ s a u
   unfolding lateNow
-  late-behind e = sym (rw e (ap (λ (b : Bool). enabled σ u && (not (eqb (a .thread) u) && b)) (and-false (not (conflict a (action σ u)))) ∙ ap (λ (b : Bool). enabled σ u && b) (and-false (not (eqb (a .thread) u))) ∙ and-false (enabled σ u)))
+  late-behind e = sym (rw e (ap (λ (b : Bool). enabled σ u && b) (and-false (not (eqb (a .thread) u))) ∙ and-false (enabled σ u)))
 
   -- any other: its next access decides
   pub late-unless : (k : ThreadState) (memory : List ℕ) → threadAt m u ≡ k → m .memory ≡ memory → k .at < getD lengths u 0 → a .thread ≢ u → (ltb u (a .thread) || has s u) ≡ true
@@ -79,4 +75,4 @@ module _ (code lengths : List ℕ) (m : Machine) (σ : State) (held : Holds code
       ∙ ap₂ (λ (y : ThreadState) (z : List ℕ). accessingAt code (u * 16 + threadAt m u .at) (y .registers) z) (sym ek) (sym em) in
       let f : b ≡ conflict a (action σ u) = eb ∙ ap (conflict (record { thread = 0; location = a .location; wrote = a .wrote })) d ∙ c in
       let g = ne-eqb (a .thread) u n in
-      ap not f ∙ sym (rw (ok, g, q) (with-true (not (conflict a (action σ u)))))
+      ap not f ∙ sym (rw (ok, g, q))

@@ -1,7 +1,8 @@
 // R2: the word of a thread's reads, and the stamp of a location, behind a step.
 ghost use mathlib.Core.Path.{_≡_};
 ghost use mathlib.Core.Bool.{cond};
-ghost use Rattle.survivors.specs.ReadWords.{lone, wordBehind};
+ghost use Rattle.survivors.specs.ThreadWords.{lone};
+ghost use Rattle.survivors.specs.ReadWords.{wordBehind};
 
 // The word of thread t when it can have no twin any more.
 fn lone(t: u8) -> u64

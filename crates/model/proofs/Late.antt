@@ -6,6 +6,8 @@ use mathlib.Core.Path.{_≡_, refl, sym, ap, ap₂, subst, _∙_}
 use mathlib.Core.Bool.{true}
 use mathlib.Core.List.{List, [], _∷_, _++_, append-assoc, append-nil, reverse}
 use native.Mathlib.Omega.{arith}
+use lib.Dec.{ltb}
+use borrow.Author.Tests.{ltb-true}
 use Rattle.program.specs.Program.{Program}
 use Rattle.schedules.specs.Order.{Schedule, less}
 use Rattle.schedules.specs.System.{run, FullFrom}
@@ -18,8 +20,8 @@ use Rattle.model.specs.Laws.{Admitted, StepLaws, Laws}
 use Rattle.model.specs.Alike.{Smaller}
 use Rattle.model.specs.Late.{late}
 use Rattle.model.specs.LateSet.{taken}
-use Rattle.model.specs.Search.{Sound, lateRule}
-use Rattle.model.proofs.Passing.{Passed, passed-append, late-passes, passed-next, passed-clear}
+use Rattle.model.proofs.Passing.{Passed, passed-append, passed-next, passed-clear}
+use Rattle.model.proofs.Back.{back-reaches}
 use Rattle.model.proofs.Traces.{stands, trace-append, trace-cons}
 use Rattle.model.proofs.Orders.{steps-commute}
 use Rattle.model.proofs.Alike.{alike-end}
@@ -47,27 +49,27 @@ module _ (M : Model) (L : StepLaws M) where
       (r : Schedule) × FullFrom (M .system) σ r × (less r ((v ++ x) ++ (b ∷ z)) ≡ true) × (run (M .system) σ r ≡ run (M .system) σ ((v ++ x) ++ (b ∷ z)))
   late-less v x σ b z d e px q f =
       let S = M .system in
-      let k = late-passes (M .who) (M .dependent) (acts σ v) d e in
-      let s = stands S (M .act) v σ (k .front) (k .greater) (k .rest) (k .split) in
+      let k = back-reaches (M .who) (M .dependent) (λ e c. ltb c (M .who e)) (acts σ v) d e in
+      let s = stands S (M .act) v σ (k .front) (k .there) (k .rest) (k .split) in
       let τ : State = run S σ v in
       let ρ : State = run S σ (s .before) in
       let tail : Schedule = s .after ++ (x ++ (b ∷ z)) in
       let own : M .who d ≡ b = ap (M .who) (sym q) ∙ L .by (run S σ (v ++ x)) b in
-      let lower : b < s .byte = omega (arith, k .above, own, ap (M .who) (s .does) ∙ L .by ρ (s .byte)) in
+      let lower : b < s .byte = omega (arith, ltb-true (M .who d) (M .who (k .there)) (k .begins), own, ap (M .who) (s .does) ∙ L .by ρ (s .byte)) in
       let whole : (v ++ x) ++ (b ∷ z) ≡ s .before ++ (s .byte ∷ tail) =
       append-assoc v x (b ∷ z) ∙ ap (λ (y : Schedule). y ++ (x ++ (b ∷ z))) (s .split) ∙ append-assoc (s .before) (s .byte ∷ s .after) (x ++ (b ∷ z)) in
       let there : run S ρ (s .byte ∷ s .after) ≡ τ = sym (run-append S σ (s .before) (s .byte ∷ s .after)) ∙ ap (run S σ) (sym (s .split)) in
       let last : acts (run S τ x) (b ∷ z) ≡ d ∷ acts (S .step (run S τ x) b) z =
       trace-cons S (M .act) b z (run S τ x) ∙ ap (λ (y : M .Action). y ∷ acts (S .step (run S τ x) b) z) (ap (λ (ω : State). M .act ω b) (sym (run-append S σ v x)) ∙ q) in
-      let passing : List (M .Action) = (k .greater ∷ k .rest) ++ acts τ x in
+      let passing : List (M .Action) = (k .there ∷ k .rest) ++ acts τ x in
       let steps : acts ρ (s .byte ∷ tail) ≡ passing ++ (d ∷ acts (S .step (run S τ x) b) z) =
       trace-append S (M .act) (s .byte ∷ s .after) (x ++ (b ∷ z)) ρ
       ∙ ap₂ (λ (y : List (M .Action)) (ω : State). y ++ acts ω (x ++ (b ∷ z))) (s .rests) there
-      ∙ ap (λ (y : List (M .Action)). (k .greater ∷ k .rest) ++ y) (trace-append S (M .act) x (b ∷ z) τ ∙ ap (λ (y : List (M .Action)). acts τ x ++ y) last)
-      ∙ sym (append-assoc (k .greater ∷ k .rest) (acts τ x) (d ∷ acts (S .step (run S τ x) b) z)) in
+      ∙ ap (λ (y : List (M .Action)). (k .there ∷ k .rest) ++ y) (trace-append S (M .act) x (b ∷ z) τ ∙ ap (λ (y : List (M .Action)). acts τ x ++ y) last)
+      ∙ sym (append-assoc (k .there ∷ k .rest) (acts τ x) (d ∷ acts (S .step (run S τ x) b) z)) in
       let g = full-split S σ (s .before) (s .byte ∷ tail) (subst (FullFrom S σ) whole f) in
       let p = front (s .byte ∷ tail) ρ passing (acts (S .step (run S τ x) b) z) b d own
-      (passed-append (M .who) (M .dependent) (k .greater ∷ k .rest) (acts τ x) d (k .passed) px) steps (g .1) in (
+      (passed-append (M .who) (M .dependent) (k .there ∷ k .rest) (acts τ x) d (k .passed) px) steps (g .1) in (
         s .before ++ (b ∷ p .0),
         full-join S σ (s .before) (b ∷ p .0) (g .0) (p .1),
         ap (less (s .before ++ (b ∷ p .0))) whole ∙ less-behind (s .before) (b ∷ p .0) (s .byte ∷ tail) ∙ less-heads b (s .byte) (p .0) tail lower,
@@ -103,7 +105,3 @@ module _ (M : Model) (L : Laws M) (p : Program) (a : Admitted M p) where
   late-smaller v b z e f =
       let r = late-now M (L .steps) v (M .start p) b z e f in
       (r .0, r .1, r .2, alike-end M L p a (r .0) (v ++ (b ∷ z)) (r .3))
-
-  pub late-sound : Sound M p (lateRule M p)
-  unfolding lateRule
-  late-sound = late-smaller

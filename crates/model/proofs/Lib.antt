@@ -15,9 +15,11 @@ pub mod Alike
 pub mod TheList
 -- alike schedules have one outcome; where no listed one fails, no run does
 pub mod Outcome
--- among any actions: what comes late passes a greater one
+-- among any actions: those that one passes
 pub mod Passing
--- and where none comes late the order is the least
+-- and the walk back over them
+pub mod Back
+-- where none comes late the order is the least
 pub mod Timely
 -- the actions of a run
 pub mod Traces
@@ -25,16 +27,16 @@ pub mod Traces
 pub mod Late
 -- R1 is exact for graphs
 pub mod OnTime
--- the late set is R1
+-- the late set is R1, and any set carried so is the walk back
 pub mod LateSet
--- and in a word
-pub mod LateWord
 -- R2 is sound
 pub mod Twins
 -- the test at a full schedule is exact
 pub mod Representative
--- what the search finds, for every sound rule
+-- THE SEARCH FINDS THE LIST, by every sound rule that leaves listed schedules only
 pub mod Search
+-- and as code meets it
+pub mod Searching
 -- the programs that the model lists
 pub mod Admitted
 -- start and continue on a file

@@ -1,10 +1,12 @@
--- THE SEARCH FINDS what the list has above the bound, or those of it that fail, for every sound rule: with the test at a full schedule, and
--- without it where the rules alone leave listed schedules only.
+-- THE SEARCH FINDS what the list has above the bound, or those of it that fail, by every sound rule that leaves listed schedules only: with a
+-- test at a full schedule it would by every sound rule, and such a rule comes to no schedule that fails the test.
+use Prim.Native.Nat.{ℕ, _-_}
 use mathlib.Core.Path.{_≡_, refl, sym, ap, _∙_}
 use mathlib.Core.Logic.{_⊎_, inl, inr}
 use mathlib.Core.Bool.{Bool, true, false, _||_}
 use mathlib.Core.Option.{Option, some}
-use mathlib.Core.List.{List, _∷_, _++_}
+use mathlib.Core.List.{List, [], _∷_, _++_}
+use native.Mathlib.Omega.{arith}
 use Rattle.program.specs.Program.{Program}
 use Rattle.program.proofs.Tests.{either}
 use Rattle.schedules.specs.Lists.{both, filter, Ascends}
@@ -12,7 +14,8 @@ use Rattle.schedules.specs.Order.{Schedule, less}
 use Rattle.schedules.specs.Fulls.{fulls}
 use Rattle.schedules.specs.Listed as Schedules
 use Rattle.schedules.specs.Search.{SoundCut, Uncut}
-use Rattle.schedules.specs.Found.{after}
+use Rattle.schedules.specs.Found.{after, foundFrom}
+use Rattle.schedules.specs.System.{run}
 use Rattle.schedules.proofs.Lists.{both-false, ascends-filter}
 use Rattle.schedules.proofs.After.{after-on}
 use Rattle.schedules.proofs.Kept.{filter-same, filter-filter}
@@ -22,7 +25,7 @@ use Rattle.schedules.proofs.Listed.{list-filter, cut-sound}
 use Rattle.model.specs.Model.{Model, endOf, Full, failing}
 use Rattle.model.specs.Laws.{Admitted, Laws}
 use Rattle.model.specs.Alike.{Smaller, alike, listOf}
-use Rattle.model.specs.Search.{Rule, Sound, representative, found, wanted, sought}
+use Rattle.model.specs.Search.{Rule, Sound, representative, lookedFor, found, sought}
 use Rattle.model.proofs.TheList.{list-is, list-ascends, tested, test-of}
 use Rattle.model.proofs.Representative.{representative-least, beaten-smaller}
 
@@ -45,47 +48,47 @@ module _ (M : Model) (L : Laws M) (p : Program) (a : Admitted M p) where
   pub list-kept : listOf M p ≡ filter (representative M p) (fulls (M .system) (M .start p))
   list-kept = list-is M L p ∙ list-filter (M .system) (L .steps .lawful) (L .steps .ascend) (M .start p) (alike M p) (representative M p) good bad
 
-  sought-kept : (failures : Bool) → filter (wanted M failures p (representative M p)) (fulls (M .system) (M .start p)) ≡ sought M failures p
-  unfolding wanted sought
-  sought-kept false = filter-same (wanted M false p (representative M p)) (representative M p) (fulls (M .system) (M .start p)) (λ x. refl) ∙ sym list-kept
+  -- with the test at a full schedule: what is looked for, and is listed
+  abbrev checked : Bool → Schedule → Bool
+  checked failures w = both (lookedFor M failures p w) (representative M p w)
+
+  sought-kept : (failures : Bool) → filter (checked failures) (fulls (M .system) (M .start p)) ≡ sought M failures p
+  unfolding lookedFor sought both
+  sought-kept false = filter-same (checked false) (representative M p) (fulls (M .system) (M .start p)) (λ x. refl) ∙ sym list-kept
   sought-kept true =
-      filter-same (wanted M true p (representative M p)) (λ x. both (failing M p x) (representative M p x)) (fulls (M .system) (M .start p)) (λ x. refl)
+      filter-same (checked true) (λ x. both (failing M p x) (representative M p x)) (fulls (M .system) (M .start p)) (λ x. refl)
       ∙ sym (filter-filter (representative M p) (failing M p) (fulls (M .system) (M .start p))) ∙ ap (filter (failing M p)) (sym list-kept)
 
-  module _ (rule : Rule M) (sound : Sound M p rule) where
-    rule-sound : SoundCut (M .system) (M .start p) rule (representative M p)
-    rule-sound = cut-sound (M .system) (L .steps .lawful) (L .steps .ascend) (M .start p) (alike M p) (representative M p) good bad rule (λ v b z c f. test-of M L p (v ++ (b ∷ z)) (sound v b z c f))
+  -- a sound rule that leaves listed schedules only
+  module _ (rule : Program → Rule M) (sound : Sound M p (rule p)) (listed : (s : Schedule) → Full M p s → Uncut (M .system) (M .start p) (rule p) s → Smaller M p s → ⊥) where
+    checked-sound : (failures : Bool) → SoundCut (M .system) (M .start p) (rule p) (checked failures)
+    checked-sound failures v b z c f =
+        ap (both (lookedFor M failures p (v ++ (b ∷ z))))
+        (cut-sound (M .system) (L .steps .lawful) (L .steps .ascend) (M .start p) (alike M p) (representative M p) good bad (rule p) (λ v b z c f. test-of M L p (v ++ (b ∷ z)) (sound v b z c f)) v b z c f)
+        ∙ both-false (lookedFor M failures p (v ++ (b ∷ z)))
 
-    -- the same of those that fail
-    wanted-sound : (failures : Bool) → SoundCut (M .system) (M .start p) rule (wanted M failures p (representative M p))
-    unfolding wanted
-    wanted-sound false v b z c f = rule-sound v b z c f
-    wanted-sound true v b z c f = ap (both (failing M p (v ++ (b ∷ z)))) (rule-sound v b z c f) ∙ both-false (failing M p (v ++ (b ∷ z)))
+    passes : (s : Schedule) → Full M p s → Uncut (M .system) (M .start p) (rule p) s → representative M p s ≡ true
+    passes s f u = go (representative M p s) refl
+      where
+        go : (b : Bool) → representative M p s ≡ b → representative M p s ≡ true
+        go true e = e
+        go false e = absurd (listed s f u (beaten-smaller M L p a s f e))
 
-    pub found-is : (failures : Bool) (o : Option Schedule) → found M p rule (wanted M failures p (representative M p)) o ≡ after o (sought M failures p)
-    unfolding found
-    found-is failures o =
-        found-above (M .system) (M .top) rule (wanted M failures p (representative M p)) (L .steps .lawful) (L .steps .ascend) (L .steps .below) (M .start p) (wanted-sound failures) (M .steps) o (L .program p a .bound)
+    both-true : (b : Bool) → b ≡ both b true
+    unfolding both
+    both-true true = refl
+    both-true false = refl
+
+    -- THE SEARCH FINDS what the list has above the bound, in order, or those of it that fail
+    pub found-exactly : (failures : Bool) (o : Option Schedule) → found M rule failures p o ≡ after o (sought M failures p)
+    unfolding run
+    found-exactly failures o =
+        let all : M .steps - 0 ≡ M .steps = omega arith in
+        ap (λ (k : ℕ). foundFrom (M .system) (M .top) (rule p) (lookedFor M failures p) k o [] (M .start p)) all
+        ∙ found-same (M .system) (M .top) (rule p) (M .start p) (lookedFor M failures p) (checked failures)
+        (λ s f u. both-true (lookedFor M failures p s) ∙ ap (both (lookedFor M failures p s)) (sym (passes s f u))) (M .steps) o
+        ∙ found-above (M .system) (M .top) (rule p) (checked failures) (L .steps .lawful) (L .steps .ascend) (L .steps .below) (M .start p) (checked-sound failures) (M .steps) o (L .program p a .bound)
         ∙ ap (after o) (sought-kept failures)
-
-    -- WITHOUT THE TEST, where what the rule leaves is listed
-    module _ (listed : (s : Schedule) → Full M p s → Uncut (M .system) (M .start p) rule s → Smaller M p s → ⊥) where
-      passes : (s : Schedule) → Full M p s → Uncut (M .system) (M .start p) rule s → representative M p s ≡ true
-      passes s f u = go (representative M p s) refl
-        where
-          go : (b : Bool) → representative M p s ≡ b → representative M p s ≡ true
-          go true e = e
-          go false e = absurd (listed s f u (beaten-smaller M L p a s f e))
-
-      agree : (failures : Bool) (s : Schedule) → Full M p s → Uncut (M .system) (M .start p) rule s → wanted M failures p (λ w. true) s ≡ wanted M failures p (representative M p) s
-      unfolding wanted
-      agree false s f u = sym (passes s f u)
-      agree true s f u = ap (both (failing M p s)) (sym (passes s f u))
-
-      pub found-untested : (failures : Bool) (o : Option Schedule) → found M p rule (wanted M failures p (λ w. true)) o ≡ after o (sought M failures p)
-      unfolding found
-      found-untested failures o =
-          found-same (M .system) (M .top) rule (M .start p) (wanted M failures p (λ w. true)) (wanted M failures p (representative M p)) (agree failures) (M .steps) o ∙ found-is failures o
 
 -- what is walked ascends
 pub sought-ascends : (M : Model) (L : Laws M) (failures : Bool) (p : Program) → Ascends less (sought M failures p)

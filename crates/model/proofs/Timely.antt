@@ -8,9 +8,9 @@ use mathlib.Core.Option.{Option, some, Option·none-ne-some}
 use mathlib.Core.List.{List, [], _∷_, _++_, map, append-assoc, reverse, reverse-cons, List·Memᴰ, List·Memᴰ·head, List·Memᴰ·tail}
 use native.Mathlib.Omega.{arith}
 use native.Mathlib.Decide.{ℕ-discrete}
-use lib.Dec.{eqb, ltb}
+use lib.Dec.{ltb}
 use lib.ListN.{length, length-append}
-use borrow.Author.Tests.{ne-eqb, lt-ltb}
+use borrow.Author.Tests.{lt-ltb}
 use Rattle.schedules.specs.Lists.{find, Ascends}
 use Rattle.schedules.specs.Order.{Schedule}
 use Rattle.schedules.specs.Orders.{nextOf, clear, ready, leastOrder}
@@ -20,38 +20,11 @@ use Rattle.schedules.proofs.Remaining.{next-nil, next-same, next-other, next-wh
 use Rattle.schedules.proofs.LeastOrder.{least-nil, least-cons}
 use Rattle.schedules.proofs.SameFound.{split-last}
 use Rattle.model.specs.Late.{late, Timely}
+use Rattle.model.proofs.Back.{back-here, back-over, back-longer}
 
 module _ {D : Type 0} (who : D → ℕ) (dependent : D → D → Bool) where
-  -- what comes late behind some steps comes late behind more before them
-  late-longer : (xs ys : List D) (b : D) → late who dependent xs b ≡ true → late who dependent (xs ++ ys) b ≡ true
-  unfolding late
-  late-longer [] ys b e = absurd (false≢true e)
-  late-longer (a ∷ xs) ys b e = go (eqb (who a) (who b)) refl (dependent a b) refl (ltb (who b) (who a)) refl e (late-longer xs ys b)
-    where
-      go : (x : Bool) → eqb (who a) (who b) ≡ x → (c : Bool) → dependent a b ≡ c → (l : Bool) → ltb (who b) (who a) ≡ l → late who dependent (a ∷ xs) b ≡ true →
-          (late who dependent xs b ≡ true → late who dependent (xs ++ ys) b ≡ true) → late who dependent (a ∷ (xs ++ ys)) b ≡ true
-      go true q c m l o k ih = absurd (false≢true (rw (q, late) at k))
-      go false q true m l o k ih = absurd (false≢true (rw (q, m, late) at k))
-      go false q false m true o k ih = rw (q, m, o, late)
-      go false q false m false o k ih = rw (q, m, o, late) (ih (rw (q, m, o, late) at k))
-
-  -- one step further back that it may pass
-  late-more : (a : D) (xs : List D) (b : D) → who a ≢ who b → dependent a b ≡ false → late who dependent xs b ≡ true → late who dependent (a ∷ xs) b ≡ true
-  unfolding late
-  late-more a xs b n c e = go (ltb (who b) (who a)) refl
-    where
-      go : (l : Bool) → ltb (who b) (who a) ≡ l → late who dependent (a ∷ xs) b ≡ true
-      go true o = let q = ne-eqb (who a) (who b) n in rw (q, c, o, late)
-      go false o = let q = ne-eqb (who a) (who b) n in rw (q, c, o, late) e
-
-  -- a greater byte's step that it may pass
-  late-behind : (a b : D) → who b < who a → dependent a b ≡ false → late who dependent (a ∷ []) b ≡ true
-  unfolding late
-  late-behind a b h c =
-      let n : who a ≢ who b = λ e. absurd (omega (arith, e)) in
-      let q = ne-eqb (who a) (who b) n in
-      let o = lt-ltb (who b) (who a) h in
-      rw (q, c, o, late)
+  abbrev greater : D → ℕ → Bool
+  greater e c = ltb c (who e)
 
   -- the first step of a byte, if it waits for none and is late behind an earlier past, is late behind all before it
   late-at : (ds : List D) (t : ℕ) (b : D) (past : List D) → nextOf who dependent ds t ≡ some b → clear who dependent ds t b ≡ true → late who dependent past b ≡ true →
@@ -71,7 +44,7 @@ module _ {D : Type 0} (who : D → ℕ) (dependent : D → D → Bool) where
           let own = next-who who dependent (d ∷ ds) t b e in
           let ne : who d ≢ who b = λ i. q (i ∙ own) in
           let k = clear-other who dependent d ds t b q c in
-          let r = ih (sym (next-other who dependent d ds t q) ∙ e) (k .1) (late-more d past b ne (k .0) l) in
+          let r = ih (sym (next-other who dependent d ds t q) ∙ e) (k .1) (back-over who dependent greater d past b ne (k .0) l) in
           let w : reverse (d ∷ r .0) ++ past ≡ reverse (r .0) ++ (d ∷ past) = ap (λ (x : List D). x ++ past) (reverse-cons d (r .0)) ∙ append-assoc (reverse (r .0)) (d ∷ []) past in
           (d ∷ r .0, r .1, ap (λ (x : List D). d ∷ x) (r .2), subst (λ (x : List D). late who dependent x b ≡ true) (sym w) (r .3))
 
@@ -87,7 +60,7 @@ module _ {D : Type 0} (who : D → ℕ) (dependent : D → D → Bool) where
       let o : who b < who a = omega (arith, h, own) in
       let n : who a ≢ t = λ e. absurd (omega (arith, e)) in
       let c = clear-other who dependent a rest t b n (k .2) in
-      let m = late-at rest t b (a ∷ []) (sym (next-other who dependent a rest t n) ∙ k .1) (c .1) (late-behind a b o (c .0)) in
+      let m = late-at rest t b (a ∷ []) (sym (next-other who dependent a rest t n) ∙ k .1) (c .1) (back-here who dependent greater a [] b (lt-ltb (who b) (who a) o) (λ e. omega (arith, o, e)) (c .0)) in
       let timely = on (a ∷ m .0) b (m .1) (ap (λ (x : List D). a ∷ x) (m .2)) in
       false≢true (sym timely ∙ ap (λ (x : List D). late who dependent x b) (reverse-cons a (m .0)) ∙ m .3)
 
@@ -99,7 +72,7 @@ module _ {D : Type 0} (who : D → ℕ) (dependent : D → D → Bool) where
       go false q = q
       go true q =
           let o = on (a ∷ u) b z (ap (λ (x : List D). a ∷ x) e) in
-          absurd (false≢true (sym o ∙ ap (λ (x : List D). late who dependent x b) (reverse-cons a u) ∙ late-longer (reverse u) (a ∷ []) b q))
+          absurd (false≢true (sym o ∙ ap (λ (x : List D). late who dependent x b) (reverse-cons a u) ∙ back-longer who dependent greater (reverse u) (a ∷ []) b q))
 
   module _ (names : List ℕ) (asc : Ascends ltb names) where
     goes-first : (a : D) (rest : List D) → Timely who dependent (a ∷ rest) → List·Memᴰ (who a) names → find (ready who dependent (a ∷ rest)) names ≡ some (who a)

@@ -2,19 +2,16 @@
 -- keep it.
 use Prim.Native.Nat.{ℕ}
 use mathlib.Core.Path.{_≡_}
-use mathlib.Core.Bool.{Bool, true, false}
-use mathlib.Core.List.{List, [], _∷_, _++_, reverse}
-use lib.Dec.{eqb, ltb}
+use mathlib.Core.Bool.{Bool, false}
+use mathlib.Core.List.{List, _∷_, _++_, reverse}
+use lib.Dec.{ltb}
+use Rattle.model.specs.Back.{back}
 
 module _ {D : Type 0} (who : D → ℕ) (dependent : D → D → Bool) where
   -- R1, d comes late: going back over actions of other bytes that need not stay before it, it passes one of a greater byte, so that it
   -- could have been taken earlier. The actions are given latest first.
-  unfoldable pub late : List D → D → Bool
-  late [] d = false
-  late (e ∷ before) d = elim (eqb (who e) (who d)) [
-    | true ↦ false
-    | false ↦ elim (dependent e d) [ true ↦ false | false ↦ elim (ltb (who d) (who e)) [ true ↦ true | false ↦ late before d ] ]
-  ]
+  abbrev pub late : List D → D → Bool
+  late = back who dependent (λ e c. ltb c (who e))
 
   -- each of these actions is on time: none comes late behind those before it
   abbrev pub Timely : List D → Type 0

@@ -1,46 +1,30 @@
--- THE LATE SET: the bytes whose next step would come late. It is carried from step to step, so that R1 needs no walk over older steps. A
--- set of bytes is given by its test. Code carries it in one word by value, with a bit for each byte below `top`.
-use Prim.Native.Nat.{ℕ, zero, suc, _+_, _*_, _/_, _%_, _^_}
-use mathlib.Core.Path.{_≡_}
-use mathlib.Core.Bool.{Bool, true, false, cond, not, _&&_, _||_}
-use mathlib.Core.List.{List, [], _∷_, reverse}
+-- THE LATE SET: the bytes that may step and whose step would come late; in general, those whose step would go back to a place where a test
+-- holds. It is carried from step to step, so that no rule looks at older steps. A set of bytes is given by its test.
+use Prim.Native.Nat.{ℕ}
+use mathlib.Core.Bool.{Bool, not, _&&_}
+use mathlib.Core.List.{List, reverse}
 use lib.Dec.{eqb, ltb}
 use Rattle.program.specs.Program.{Program}
 use Rattle.schedules.specs.Order.{Schedule}
-use Rattle.model.specs.Model.{Model, actions}
-use Rattle.model.specs.Late.{late}
+use Rattle.schedules.specs.Orders.{trace}
+use Rattle.model.specs.Model.{Model, endOf, actions}
+use Rattle.model.specs.Back.{back}
+
+-- behind a step b: the byte c may step, is not b, is among those that were in the set or begin here, and need not wait for b
+abbrev pub goesOn : (ℕ → Bool) → ℕ → (ℕ → Bool) → (ℕ → Bool) → ℕ → Bool
+goesOn may b among waits c = may c && (not (eqb b c) && (among c && not (waits c)))
 
 module _ (M : Model) where
-  -- behind the step b from σ: the bytes that were late and those below b, without b and without those whose next step must stay behind b
-  unfoldable pub lateBehind : M .system .State → ℕ → (ℕ → Bool) → ℕ → Bool
-  lateBehind σ b set c = (set c || ltb c b) && (not (eqb b c) && not (M .dependent (M .act σ b) (M .act (M .system .step σ b) c)))
-
-  -- behind all steps of a schedule
-  unfoldable pub lateAfter : M .system .State → (ℕ → Bool) → Schedule → ℕ → Bool
-  lateAfter σ set [] = set
-  lateAfter σ set (b ∷ s) = lateAfter (M .system .step σ b) (lateBehind σ b set) s
-
-  -- among the bytes that may step in σ the set has exactly those whose next step comes late behind these actions, given latest first
-  abbrev pub LateSet : M .system .State → List (M .Action) → (ℕ → Bool) → Type 0
-  LateSet σ taken set = (c : ℕ) → M .system .enabled σ c ≡ true → set c ≡ late (M .who) (M .dependent) taken (M .act σ c)
-
   -- the actions of a prefix, latest first
   abbrev pub taken : Program → Schedule → List (M .Action)
   taken p v = reverse (actions M p v)
 
-  -- behind a prefix; before the first step no byte is late
-  unfoldable pub lateSet : Program → Schedule → ℕ → Bool
-  lateSet p v = lateAfter (M .start p) (λ c. false) v
+  -- of steps that are told apart by `at`, do this and have these bytes: behind the prefix v the byte c may step, and its step goes back
+  unfoldable pub backAt : {D : Type 0} → (M .system .State → ℕ → D) → (D → M .Action) → (D → ℕ) → (D → ℕ → Bool) → Program → Schedule → ℕ → Bool
+  backAt at does who starts p v c =
+      M .system .enabled (endOf M p v) c
+      && back who (λ e d. M .dependent (does e) (does d)) starts (reverse (trace (M .system) at (M .start p) v)) (at (endOf M p v) c)
 
--- bit i of a word
-unfoldable pub bit : ℕ → ℕ → Bool
-bit i w = eqb (w / 2 ^ i % 2) 1
-
--- the word whose n bits are the test at i, i + 1, ..
-unfoldable pub word : (ℕ → Bool) → ℕ → ℕ → ℕ
-word set i zero = 0
-word set i (suc n) = cond (set i) 1 0 + 2 * word set (suc i) n
-
--- the late set behind the step b, by words
-unfoldable pub lateWord : (M : Model) → M .system .State → ℕ → ℕ → ℕ
-lateWord M σ b w = word (lateBehind M σ b (λ c. bit c w)) 0 (M .top)
+  -- R1 as a set: behind the prefix v the byte c may step, and its step would come late
+  abbrev pub lateAt : Program → Schedule → ℕ → Bool
+  lateAt = backAt (M .act) (λ d. d) (M .who) (λ e c. ltb c (M .who e))

@@ -7,6 +7,8 @@ pub mod Model
 pub mod Laws
 -- alike, listed, and the list, executable
 pub mod Alike
+-- walking back over the steps taken
+pub mod Back
 -- R1: steps that come late
 pub mod Late
 -- the late set, carried from step to step

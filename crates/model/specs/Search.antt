@@ -1,22 +1,20 @@
--- The search in any memory model: depth first from the start, bytes ascending, for the full schedules above a bound that the test at a full
--- schedule leaves. A rule gives a step up; it is sound if all that it gives up has a smaller alike schedule. Every sound rule leaves the
--- search exact.
-use Prim.Native.Nat.{ℕ}
+-- THE SEARCH in any memory model, with no test at a full schedule: depth first from the start, bytes ascending, for the full schedules above
+-- a bound none of whose steps a rule gives up. A rule is sound if all that it gives up has a smaller alike schedule. By every sound rule
+-- that leaves listed schedules only, the search finds what the list has above the bound, or those of it that fail.
+use Prim.Native.Nat.{ℕ, _-_}
 use mathlib.Core.Path.{_≡_}
 use mathlib.Core.Bool.{Bool, true, false, not}
 use mathlib.Core.Option.{Option}
 use mathlib.Core.List.{List, [], _∷_, _++_, map}
 use Rattle.program.specs.Program.{Program}
-use Rattle.schedules.specs.Lists.{both, filter, all}
+use Rattle.schedules.specs.Lists.{filter, all}
 use Rattle.schedules.specs.Order.{Schedule, less}
 use Rattle.schedules.specs.Orders.{leastOrder}
 use Rattle.schedules.specs.Permutations.{moved}
-use Rattle.schedules.specs.Found.{foundFrom}
+use Rattle.schedules.specs.Found.{foundBy, foundFrom}
 use Rattle.model.specs.Exchange.{permitted}
 use Rattle.model.specs.Model.{Model, endOf, Full, failing, actions}
 use Rattle.model.specs.Alike.{Smaller, listOf}
-use Rattle.model.specs.Late.{late}
-use Rattle.model.specs.LateSet.{taken, lateSet}
 
 module _ (M : Model) where
   -- which next bytes are given up, by the prefix and the state behind it
@@ -28,13 +26,6 @@ module _ (M : Model) where
   Sound p rule = (v : Schedule) (b : ℕ) (z : Schedule) → rule v (endOf M p v) b ≡ true → Full M p (v ++ (b ∷ z)) →
       Smaller M p (v ++ (b ∷ z))
 
-  -- R1: the step comes late; by the actions taken, and by the late set
-  unfoldable pub lateRule : Program → Rule
-  lateRule p v σ b = late (M .who) (M .dependent) (taken M p v) (M .act σ b)
-
-  unfoldable pub lateSetRule : Program → Rule
-  lateSetRule p v σ b = lateSet M p v b
-
   -- the least order of these actions, exchanged by π, in which dependent ones keep theirs
   unfoldable pub leastBy : List ℕ → List (M .Action) → Schedule
   leastBy π acts = leastOrder (M .who) (M .dependent) (M .system .names) (map (M .movedAction (moved π)) acts)
@@ -43,14 +34,25 @@ module _ (M : Model) where
   unfoldable pub representative : Program → Schedule → Bool
   representative p w = all (λ π. not (less (leastBy π (actions M p w)) w)) (permitted p)
 
-  -- all that is found above the bound by this rule and this test
-  unfoldable pub found : Program → Rule → (Schedule → Bool) → Option Schedule → List Schedule
-  found p rule test bound = foundFrom (M .system) (M .top) rule test (M .steps) bound [] (M .start p)
+  -- what is looked for: every full schedule that is reached, or those that fail
+  unfoldable pub lookedFor : Bool → Program → Schedule → Bool
+  lookedFor false p w = true
+  lookedFor true p w = failing M p w
 
-  -- what is looked for: what passes the test, and fails, if only failing ones are wanted
-  unfoldable pub wanted : Bool → Program → (Schedule → Bool) → Schedule → Bool
-  wanted false p test w = test w
-  wanted true p test w = both (failing M p w) (test w)
+  module _ (rule : Program → Rule) (failures : Bool) (p : Program) where
+    -- all that is found behind the prefix v, of so many steps, above what is left of the bound
+    abbrev pub foundBehind : ℕ → Option Schedule → Schedule → List Schedule
+    foundBehind steps o v = foundFrom (M .system) (M .top) (rule p) (lookedFor failures p) (M .steps - steps) o v (endOf M p v)
+
+    -- that with b as the next step
+    abbrev pub foundWith : ℕ → Option Schedule → Schedule → ℕ → List Schedule
+    foundWith steps o v b =
+        foundBy (M .system) (M .top) (rule p) (lookedFor failures p)
+        (λ x y z. foundFrom (M .system) (M .top) (rule p) (lookedFor failures p) (M .steps - steps - 1) x y z) o v (endOf M p v) b
+
+    -- all that is found above the bound, or all where there is no bound
+    abbrev pub found : Option Schedule → List Schedule
+    found bound = foundBehind 0 bound []
 
   -- the list that is walked: the listed schedules, or those of them that fail
   unfoldable pub sought : Bool → Program → List Schedule

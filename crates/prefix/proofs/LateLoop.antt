@@ -13,8 +13,7 @@ use Rattle.machine.specs.Held.{idle, threadAt, Holds}
 use Rattle.machine.specs.declared.state.Machine.{Machine}
 use Rattle.survivors.specs.Sets.{addend, setOf}
 use Rattle.survivors.specs.LateSet.{lateNow, lateBehind}
-use Rattle.survivors.proofs.Sets.{set-none}
-use Rattle.prefix.proofs.LiveSet.{set-grown, bound-grown, set-cut}
+use Rattle.survivors.proofs.Sets.{set-none, set-grown, bound-grown, set-cut}
 
 -- late has the late ones below w behind the step a, where those of s were late, in every state that such a machine holds
 abbrev pub LateBelow : (code lengths : List ℕ) (ts : List ThreadState) (memory : List ℕ) (s : ℕ) (a : Action) (late w : ℕ) → Type 0

@@ -34,14 +34,14 @@ use Rattle.machine.proofs.HeldNext.{held-left}
 use Rattle.survivors.specs.Sets.{has, setOf}
 use Rattle.survivors.specs.LateSet.{lateBehind, lateSet}
 use Rattle.survivors.specs.ReadWords.{Words, wordBehind, stampsBehind, wordsBehind, noWords, wordsOf}
-use Rattle.survivors.proofs.Sets.{has-none, set-has, set-none}
+use Rattle.survivors.proofs.Sets.{has-none, set-has, set-none, set-at-least}
 use Rattle.survivors.proofs.LateSet.{late-start, late-more}
 use Rattle.survivors.proofs.TwinWords.{words-start, words-more}
 use Rattle.prefix.specs.ClassGroups.{Lined}
 use Rattle.prefix.specs.Reached.{machineOf, Reached}
 use Rattle.prefix.specs.declared.place.Place.{Place}
 use Rattle.carried.proofs.Bits.{stamp-stored}
-use Rattle.prefix.proofs.LiveSet.{set-at-least, live-more}
+use Rattle.prefix.proofs.LiveSet.{live-more}
 
 -- a thread that has not ended has at most sixteen instructions
 abbrev pub Short : List ℕ → List ThreadState → Type 0
@@ -211,7 +211,7 @@ module _ (code lengths class : List ℕ) (threads groups : ℕ) (x : Place) (p :
       unfolding wordsBehind
       reached-next r size c =
           reached-more r size (c .threads) (c .memory) (c .schedule) (c .steps)
-          (c .late next (step σ t) refl refl (moved .holds) ∙ ap₂ (λ (s : ℕ) (a : Action). lateBehind (step σ t) s a) (at .late) did ∙ sym (late-more p v t))
+          (c .late next (step σ t) refl refl (moved .holds) ∙ ap₂ (λ (s : ℕ) (a : Action). lateBehind (step σ t) s a) (at .late) did ∙ sym (late-more p v t ok))
           (c .live ∙ ap₂ (λ (b : Bool) (s : ℕ). cond b s (s - 2 ^ t)) goes (at .live) ∙ sym (live-more σ t ok)
           ∙ ap (λ (τ : State). setOf (enabled τ) 6) (sym (run-snoc SC (start p) v t)))
           (c .stamps

@@ -14,7 +14,7 @@ use Rattle.schedules.proofs.Lists.{in-range, of-range, any-yes, any-of}
 use Rattle.sc.specs.Graph.{endOf}
 use Rattle.model.specs.Exchange.{together}
 use Rattle.list.specs.Rules.{twin}
-use Rattle.survivors.specs.ReadWords.{twinByWord}
+use Rattle.survivors.specs.ThreadWords.{twinByWord}
 use Rattle.survivors.proofs.TwinWords.{twins-by-word}
 use Rattle.prefix.specs.ClassGroups.{Lined}
 use Rattle.prefix.specs.Reached.{Reached}
@@ -29,34 +29,29 @@ none-below f n none = go (any f (range 0 n)) refl
     go true e = let r = any-yes f (range 0 n) e in let i = of-range 0 n (r .0) (r .1) .1 in absurd (true≢false (sym (r .2) ∙ none (r .0) (omega arith)))
     go false e = e
 
--- u is of t's `02` line and has its word
-abbrev pub sharing : Program → List ℕ → ℕ → ℕ → Bool
-sharing p words t u = together (p .groups) u t && eqb (getD words u 0) (getD words t 0)
-
 module _ (class words : List ℕ) (groups : ℕ) (p : Program) (lines : Lined class groups p) (t : ℕ) (h : t < 6) (end : ℕ) (le : end ≤ t) where
   -- one without a class is in no line
-  pub alone-held : getD class t 0 ≡ 0 → any (sharing p words t) (range 0 end) ≡ false
-  alone-held e = none-below (sharing p words t) end (λ u i. let q = ap (λ (g : List (List ℕ)). together g u t) (lines .same) ∙ alone-known class groups u t e in rw q)
+  pub alone-held : getD class t 0 ≡ 0 → any (twinByWord p words t) (range 0 end) ≡ false
+  alone-held e = none-below (twinByWord p words t) end (λ u i. let q = ap (λ (g : List (List ℕ)). together g u t) (lines .same) ∙ alone-known class groups u t e in rw q)
 
   -- what the code finds among those below `last`, t's number being own
   module _ (own last : ℕ) (e : own ≡ t) (el : last ≡ end) (some : getD class own 0 ≡ 0 → ⊥) where
     abbrev test : ℕ → ℕ → Bool
     test o u = eqb (getD class u 0) (getD class o 0) && eqb (getD words u 0) (getD words o 0)
 
-    tested : (u : ℕ) → u < last → test own u ≡ sharing p words t u
+    tested : (u : ℕ) → u < last → test own u ≡ twinByWord p words t u
     tested u i =
         ap (λ (o : ℕ). test o u) e
         ∙ ap (λ (a : Bool). a && eqb (getD words u 0) (getD words t 0))
         (together-known class groups u t (lines .known) (omega arith) h (λ q. some (ap (λ (o : ℕ). getD class o 0) e ∙ q)) ∙ ap (λ (g : List (List ℕ)). together g u t) (sym (lines .same)))
 
-    pub words-none : ((u : ℕ) → u < last → test own u ≡ false) → false ≡ any (sharing p words t) (range 0 end)
-    words-none none = sym (none-below (sharing p words t) end (λ u i. let j : u < last = omega arith in sym (tested u j) ∙ none u j))
+    pub words-none : ((u : ℕ) → u < last → test own u ≡ false) → false ≡ any (twinByWord p words t) (range 0 end)
+    words-none none = sym (none-below (twinByWord p words t) end (λ u i. let j : u < last = omega arith in sym (tested u j) ∙ none u j))
 
-    pub words-some : (u : ℕ) → u < last → test own u ≡ true → true ≡ any (sharing p words t) (range 0 end)
-    words-some u i q = sym (any-of (sharing p words t) (range 0 end) u (in-range 0 end u (omega arith) (omega arith)) (sym (tested u i) ∙ q))
+    pub words-some : (u : ℕ) → u < last → test own u ≡ true → true ≡ any (twinByWord p words t) (range 0 end)
+    words-some u i q = sym (any-of (twinByWord p words t) (range 0 end) u (in-range 0 end u (omega arith) (omega arith)) (sym (tested u i) ∙ q))
 
 -- R2, AS THE CODE TESTS IT: where a prefix is reached, these are the twins
 pub twins-held : (code lengths class : List ℕ) (threads groups : ℕ) (x : Place) (p : Program) (v : Schedule) → Reached code lengths class threads groups x p v → (t : ℕ) → t < 6 →
-    any (sharing p (x .words) t) (range 0 t) ≡ any (twin p (endOf p v) t) (range 0 t)
-unfolding twinByWord
-twins-held code lengths class threads groups x p v r t h = ap (λ (ws : List ℕ). any (sharing p ws t) (range 0 t)) (r .words) ∙ twins-by-word p (r .loaded .wellFormed) v (r .allowed) t h
+    any (twinByWord p (x .words) t) (range 0 t) ≡ any (twin p (endOf p v) t) (range 0 t)
+twins-held code lengths class threads groups x p v r t h = ap (λ (ws : List ℕ). any (twinByWord p ws t) (range 0 t)) (r .words) ∙ twins-by-word p (r .loaded .wellFormed) v (r .allowed) t h

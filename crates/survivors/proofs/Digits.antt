@@ -1,16 +1,19 @@
 -- Reads as digits: the numbers of their sources, one digit each. Threads that only read have the same reads where their
 -- digits are the same, and stand alike where they began alike.
-use Prim.Native.Nat.{ℕ, suc, _+_, _*_, _^_, _<_}
-use mathlib.Core.Path.{_≡_, refl, sym, ap, ap₂, subst, _∙_}
+use Prim.Native.Nat.{ℕ, suc, _+_, _<_}
+use mathlib.Core.Path.{_≡_, refl, sym, ap, ap₂, _∙_}
 use mathlib.Core.Logic.{_≢_}
 use mathlib.Core.Bool.{Bool, true, false}
 use mathlib.Core.List.{List, [], _∷_, List·Memᴰ, List·Memᴰ·head, List·Memᴰ·tail}
 use native.Mathlib.Omega.{arith}
-use native.Mathlib.Nat.{pow-succ'}
+use lib.ListN.{length}
 use Rattle.sc.specs.Local.{Local, placeOf, next}
 use Rattle.sc.specs.State.{Event}
 use Rattle.consistent.specs.Same.{sameEvent}
 use Rattle.consistent.proofs.Tests.{same-event-is, is-same-event}
+use Rattle.survivors.specs.ThreadWords as ThreadWords
+use Rattle.survivors.proofs.ThreadWords as Law
+use Rattle.survivors.proofs.ThreadWords.{Paired}
 
 -- ---- numbers for events
 -- one event more
@@ -31,9 +34,8 @@ numbered-else code e n x q = go (sameEvent x e) refl
 
 -- ---- digits
 -- the numbers of the sources of these reads, the latest last
-unfoldable pub digits : (Event → ℕ) → List (ℕ × Event) → ℕ
-digits code [] = 0
-digits code (r ∷ rs) = digits code rs * 32 + (code (r .1) + 1)
+abbrev pub digits : (Event → ℕ) → List (ℕ × Event) → ℕ
+digits code = ThreadWords.digits 32 (λ r. code (r .1) + 1)
 
 -- reads by all of the first n accesses, latest first
 abbrev pub Plain : List (ℕ × Event) → ℕ → Type 0
@@ -44,40 +46,27 @@ abbrev pub Sources : (Event → Type 0) → List (ℕ × Event) → Type 0
 Sources P rs = (r : ℕ × Event) → List·Memᴰ r rs → P (r .1)
 
 pub digits-same : (code code' : Event → ℕ) (rs : List (ℕ × Event)) → Sources (λ e. code' e ≡ code e) rs → digits code' rs ≡ digits code rs
-unfolding digits
-digits-same code code' [] h = refl
-digits-same code code' (r ∷ rs) h = ap₂ (λ (a b : ℕ). a * 32 + (b + 1)) (digits-same code code' rs (λ x m. h x (List·Memᴰ·tail m))) (h r (List·Memᴰ·head refl))
+digits-same code code' rs h = Law.digits-same 32 (omega arith) (λ r. code (r .1) + 1) (λ r. code' (r .1) + 1) rs (λ r m. ap (λ (n : ℕ). n + 1) (h r m))
 
--- few reads make a small number
-pub digits-below : (code : Event → ℕ) (rs : List (ℕ × Event)) (n : ℕ) → Plain rs n → Sources (λ e. code e < 31) rs → digits code rs < 32 ^ n
-unfolding digits
-digits-below code [] n q h = subst (λ (k : ℕ). 0 < 32 ^ k) (sym q) (omega arith)
-digits-below code (r ∷ rs) n q h =
-    let a = digits-below code rs (r .0) (q .1) (λ x m. h x (List·Memᴰ·tail m)) in
-    let b = h r (List·Memᴰ·head refl) in
-    let c : 32 ^ n ≡ 32 * 32 ^ r .0 = ap (λ (k : ℕ). 32 ^ k) (q .0) ∙ pow-succ' 32 (r .0) in
-    omega (arith, a, b, c)
-
-pub plain-once : (rs : List (ℕ × Event)) (a b : ℕ) → Plain rs a → Plain rs b → a ≡ b
-plain-once [] a b p q = p ∙ sym q
-plain-once (r ∷ rs) a b p q = p .0 ∙ sym (q .0)
+pub plain-length : (rs : List (ℕ × Event)) (n : ℕ) → Plain rs n → length rs ≡ n
+plain-length [] n q = sym q
+plain-length (r ∷ rs) n q = ap suc (plain-length rs (r .0) (q .1)) ∙ sym (q .0)
 
 -- reads with the same digits are the same reads
 pub digits-once : (code : Event → ℕ) (rs qs : List (ℕ × Event)) (n m : ℕ) → Plain rs n → Plain qs m → Sources (λ e. code e < 31) rs → Sources (λ e. code e < 31) qs →
     ((x y : ℕ × Event) → List·Memᴰ x rs → List·Memᴰ y qs → code (x .1) ≡ code (y .1) → x .1 ≡ y .1) → digits code rs ≡ digits code qs → rs ≡ qs
-unfolding digits
-digits-once code [] [] n m p q h k once e = refl
-digits-once code [] (y ∷ qs) n m p q h k once e = absurd (omega (arith, e))
-digits-once code (x ∷ rs) [] n m p q h k once e = absurd (omega (arith, e))
-digits-once code (x ∷ rs) (y ∷ qs) n m p q h k once e =
-    let a = h x (List·Memᴰ·head refl) in
-    let b = k y (List·Memᴰ·head refl) in
-    let heads : code (x .1) ≡ code (y .1) = omega (arith, a, b, e) in
-    let tails : digits code rs ≡ digits code qs = omega (arith, a, b, e) in
-    let rest = digits-once code rs qs (x .0) (y .0) (p .1) (q .1) (λ r m. h r (List·Memᴰ·tail m)) (λ r m. k r (List·Memᴰ·tail m)) (λ r s m l. once r s (List·Memᴰ·tail m) (List·Memᴰ·tail l)) tails in
-    ap₂ (λ (r : ℕ × Event) (l : List (ℕ × Event)). r ∷ l)
-    (ap₂ (λ (i : ℕ) (d : Event). let z : ℕ × Event = (i, d) in z) (plain-once qs (x .0) (y .0) (subst (λ (l : List (ℕ × Event)). Plain l (x .0)) rest (p .1)) (q .1)) (once x y (List·Memᴰ·head refl) (List·Memᴰ·head refl) heads))
-    rest
+digits-once code rs qs n m p q h k once e =
+    same rs qs n m p q (Law.digits-paired 32 (omega arith) (λ r. code (r .1) + 1) (λ r. code (r .1) + 1) (λ x y. x .1 ≡ y .1) rs qs
+    (λ r i. let l = h r i in (omega arith, omega arith)) (λ r i. let l = k r i in (omega arith, omega arith)) (λ x y i j z. once x y i j (omega (arith, z))) e)
+  where
+    same : (rs qs : List (ℕ × Event)) (n m : ℕ) → Plain rs n → Plain qs m → Paired (λ (x y : ℕ × Event). x .1 ≡ y .1) rs qs → rs ≡ qs
+    same [] [] n m p q z = refl
+    same [] (y ∷ qs) n m p q z = absurd z
+    same (x ∷ rs) [] n m p q z = absurd z
+    same (x ∷ rs) (y ∷ qs) n m p q z =
+        let rest = same rs qs (x .0) (y .0) (p .1) (q .1) (z .1) in
+        let number : x .0 ≡ y .0 = sym (plain-length rs (x .0) (p .1)) ∙ ap length rest ∙ plain-length qs (y .0) (q .1) in
+        ap₂ (λ (r : ℕ × Event) (l : List (ℕ × Event)). r ∷ l) (ap₂ (λ (i : ℕ) (d : Event). let w : ℕ × Event = (i, d) in w) number (z .0)) rest
 
 -- ---- local states
 -- where these reads lead a thread, if a read at l from e finds `val l e`

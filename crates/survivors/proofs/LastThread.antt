@@ -22,7 +22,7 @@ use Rattle.schedules.specs.Search.{low, past}
 use Rattle.schedules.specs.Found.{concatRange}
 use Rattle.schedules.proofs.Lists.{of-range, any-yes}
 use Rattle.schedules.proofs.Runs.{run-snoc, ended-of, not-ended}
-use Rattle.model.proofs.LateSet.{and-false}
+use Rattle.model.proofs.Back.{and-false}
 use Rattle.sc.specs.Local.{Local, pending, beginsWithAccess}
 use Rattle.sc.specs.State.{State, SC, threadOf, place, enabled, step, start}
 use Rattle.sc.specs.Graph.{endOf}
@@ -121,7 +121,7 @@ module _ (p : Program) (w : WellFormed p) (v : Schedule) (a : Allowed SC (start 
   -- behind its step none is late
   pub none-late : lateSet p (v ++ (t ∷ [])) ≡ 0
   unfolding lateBehind lateNow action
-  none-late = late-more p v t ∙ set-none (lateNow (step σ t) (lateSet p v) (action σ t)) 6 (λ u h. at u (ℕ-discrete u t))
+  none-late = late-more p v t (one .live) ∙ set-none (lateNow (step σ t) (lateSet p v) (action σ t)) 6 (λ u h. at u (ℕ-discrete u t))
     where
       at : (u : ℕ) → Dec (u ≡ t) → lateNow (step σ t) (lateSet p v) (action σ t) u ≡ false
       at u (yes q) = let e = eq-eqb t u (sym q) in rw e (and-false (enabled (step σ t) u))

@@ -11,8 +11,6 @@ pub mod Inversions
 pub mod Preferring
 -- THE RULES ARE EXACT
 pub mod Exact
--- so the search finds the same without its test at a full schedule
-pub mod Untested
 -- what is in a set
 pub mod Sets
 -- the late set has exactly the late
@@ -25,6 +23,8 @@ pub mod Sleepers
 pub mod Search
 -- and goes on with the last running thread without branching
 pub mod LastThread
+-- digits tell what they are of
+pub mod ThreadWords
 -- reads as digits
 pub mod Digits
 -- what words and stamps are along a run

@@ -7,7 +7,6 @@ use mathlib.Core.Bool.{Bool, true, false}
 use mathlib.Core.List.{List, [], _∷_, List·Memᴰ, List·Memᴰ·head, List·Memᴰ·cases-cons, List·Memᴰ·not-nil}
 use native.Mathlib.Omega.{arith}
 use native.Mathlib.Decide.{ℕ-discrete, decLt}
-use native.Mathlib.Nat.{pow-le-pow-right}
 use lib.Dec.{ltb}
 use lib.ListN.{length, length-set, getD, set}
 use lib.Seq.{getD-set-same, getD-set-other}
@@ -26,10 +25,13 @@ use Rattle.sc.proofs.Regular.{Regular, Written, place-in, changes, regular-step
 use Rattle.sc.proofs.Histories.{upcoming, Done, upcoming-undone, done-cases}
 use Rattle.sc.proofs.Swap.{still-cells}
 use Rattle.sc.proofs.Trails.{writes-own, still-takes}
-use Rattle.survivors.specs.ReadWords.{Words, lone, wordBehind, stampsBehind, wordsBehind, wordsAfter, noWords}
+use Rattle.survivors.specs.ThreadWords as ThreadWords
+use Rattle.survivors.specs.ThreadWords.{lone}
+use Rattle.survivors.specs.ReadWords.{Words, wordBehind, stampsBehind, wordsBehind, wordsAfter, noWords}
 use Rattle.survivors.proofs.Counting.{latest-front}
 use Rattle.survivors.proofs.GoesFirst.{Quiet}
-use Rattle.survivors.proofs.Digits.{numbered, numbered-at, numbered-else, digits, Plain, Sources, digits-same, digits-below, led, led-same}
+use Rattle.survivors.proofs.Digits.{numbered, numbered-at, numbered-else, digits, Plain, plain-length, Sources, digits-same, led, led-same}
+use Rattle.survivors.proofs.ThreadWords.{digits-fit}
 
 -- since ρ the thread only read; its word has its sources, and they led it where it stands
 pub record Reads (ρ σ : State) (code : Event → ℕ) (val : ℕ → Event → ℕ) (word t : ℕ) : Type 0 where
@@ -216,23 +218,21 @@ module _ (ρ σ : State) (n : ℕ) (m : Words) (C : Held ρ σ n m) (g : Regular
   full-word : (word : ℕ) → Reads ρ σ (C .code) (C .val) word t → 2 ^ 55 ≤ word → 12 ≤ threadOf σ t .history .done
   full-word word k b = go (decLt (threadOf σ t .history .done) 12)
     where
-      below : digits (C .code) (threadOf σ t .history .reads) < 32 ^ threadOf σ t .history .done
-      below = digits-below (C .code) (threadOf σ t .history .reads) (threadOf σ t .history .done) (k .plain) (λ r i. code-below ρ σ n m C (omega (arith, h)) (r .1) (sources-known σ g t r i))
-
       go : Dec (threadOf σ t .history .done < 12) → 12 ≤ threadOf σ t .history .done
       go (no q) = omega arith
       go (yes q) =
-          let p : 32 ^ threadOf σ t .history .done ≤ 32 ^ 11 = pow-le-pow-right {n = 32} (omega arith) {i = threadOf σ t .history .done} {j = 11} (omega arith) in
+          let below = digits-fit 32 (omega arith) (λ (r : ℕ × Event). C .code (r .1) + 1) (threadOf σ t .history .reads) 11 (omega (arith, plain-length (threadOf σ t .history .reads) (threadOf σ t .history .done) (k .plain)))
+          (λ r i. let l = code-below ρ σ n m C (omega (arith, h)) (r .1) (sources-known σ g t r i) in omega arith) in
           let c : 32 ^ 11 ≡ 2 ^ 55 = refl in
-          absurd (omega (arith, p, c, below, b, k .is))
+          absurd (omega (arith, c, below, b, k .is))
 
   steps : (word : ℕ) (b : Bool) → writes σ t ≡ b → Reads ρ σ (C .code) (C .val) word t ⊎ Lone σ word t → Reads ρ τ code' val' (wordBehind t word stamp b) t ⊎ Lone τ (wordBehind t word stamp b) t
-  unfolding wordBehind lone cellOf digits
+  unfolding ThreadWords.wordBehind lone cellOf ThreadWords.digits
   steps word true e k = inr (record { is = refl; why = inl (λ q. q (place σ t) (threadOf σ t .history .done) (subst (List·Memᴰ (upcoming σ t)) (sym (writes-own σ g t (place σ t) refl e)) (List·Memᴰ·head refl))) })
   steps word false e k = go k (ltb word (2 ^ 55)) refl
     where
       lones : ltb word (2 ^ 55) ≡ false → ((Quiet τ t → ⊥) ⊎ (12 < threadOf τ t .history .done)) → Reads ρ τ code' val' (wordBehind t word stamp false) t ⊎ Lone τ (wordBehind t word stamp false) t
-      lones q y = inr (record { is = rw (q, wordBehind) refl; why = y })
+      lones q y = inr (record { is = rw q; why = y })
 
       go : Reads ρ σ (C .code) (C .val) word t ⊎ Lone σ word t → (b : Bool) → ltb word (2 ^ 55) ≡ b → Reads ρ τ code' val' (wordBehind t word stamp false) t ⊎ Lone τ (wordBehind t word stamp false) t
       go (inl r) false q = lones q (inr (omega (arith, full-word word r (ltb-false word (2 ^ 55) q), done-own σ t in-range)))
@@ -243,7 +243,7 @@ module _ (ρ σ : State) (n : ℕ) (m : Words) (C : Held ρ σ n m) (g : Regular
           let place8 : place σ t < 8 = omega (arith, place-in σ g t, g .eight) in
           let from : stamp ≡ code' source = C .stamped (place σ t) place8 ∙ sym (old-code source (latest-known σ g (place σ t) (cellOf σ (place σ t) .writes) refl)) in
           let below : stamp < 31 = omega (arith, C .stamped (place σ t) place8, code-below ρ σ n m C (omega (arith, h)) source (latest-known σ g (place σ t) (cellOf σ (place σ t) .writes) refl)) in
-          let w : wordBehind t word stamp false ≡ word * 32 + (stamp + 1) = rw (q, wordBehind) refl in
+          let w : wordBehind t word stamp false ≡ word * 32 + (stamp + 1) = rw q in
           inl (record {
             quiet = λ l j x. r .quiet l j (subst (λ (cs : List Cell). List·Memᴰ (t, j) (getD cs l (freshCell 0) .writes)) (still-cells σ t e) x);
             plain = subst (λ (x : History). Plain (x .reads) (x .done)) (sym hist) (refl, r .plain);
@@ -293,7 +293,7 @@ zeros (suc (suc (suc (suc (suc (suc (suc zero))))))) = (refl, refl)
 zeros (suc (suc (suc (suc (suc (suc (suc (suc l)))))))) = (refl, refl)
 
 pub held-start : (p : Program) → WellFormed p → Held (start p) (start p) 0 noWords
-unfolding noWords latest digits led
+unfolding noWords latest ThreadWords.digits led
 held-start p w = record {
   code = λ e. 0;
   code-initial = refl;

@@ -32,10 +32,11 @@ use Rattle.model.specs.Exchange.{together, Together}
 use Rattle.model.proofs.Permitted.{together-true}
 use Rattle.list.proofs.Twins.{members}
 use Rattle.list.specs.Rules.{sameLocal, sameHistory, silent, twin}
-use Rattle.survivors.specs.ReadWords.{Words, lone, wordsBehind, wordsAfter, noWords, wordsOf, twinByWord}
+use Rattle.survivors.specs.ThreadWords.{lone, twinByWord}
+use Rattle.survivors.specs.ReadWords.{Words, wordsBehind, wordsAfter, noWords, wordsOf}
 use Rattle.survivors.proofs.GoesFirst.{Quiet}
 use Rattle.survivors.proofs.Preferring.{silent-quiet, twin-of}
-use Rattle.survivors.proofs.Digits.{digits, Plain, plain-once, digits-once, led}
+use Rattle.survivors.proofs.Digits.{digits, Plain, plain-length, digits-once, led}
 use Rattle.survivors.proofs.ReadWords.{Reads, Lone, Held, latest-known, sources-known, code-below, code-apart, held-run, held-start}
 
 -- two threads have done together no more accesses than there were steps
@@ -100,7 +101,7 @@ module _ (p : Program) (w : WellFormed p) (v : Schedule) (a : Allowed SC (start 
           let reads = digits-once (C .code) (threadOf σ u .history .reads) (threadOf σ t .history .reads) (threadOf σ u .history .done) (threadOf σ t .history .done) (x .plain) (y .plain)
           (λ r i. code-below (start p) σ (length v) (wordsOf p v) C (short p w v a) (r .1) (sources-known σ g u r i)) (λ r i. code-below (start p) σ (length v) (wordsOf p v) C (short p w v a) (r .1) (sources-known σ g t r i))
           (λ r s i j q. code-apart (start p) σ (length v) (wordsOf p v) C (r .1) (s .1) (sources-known σ g u r i) (sources-known σ g t s j) q) (sym (x .is) ∙ e ∙ y .is) in
-          let done = plain-once (threadOf σ t .history .reads) (threadOf σ u .history .done) (threadOf σ t .history .done) (subst (λ (rs : List (ℕ × Event)). Plain rs (threadOf σ u .history .done)) reads (x .plain)) (y .plain) in
+          let done = sym (plain-length (threadOf σ u .history .reads) (threadOf σ u .history .done) (x .plain)) ∙ ap length reads ∙ plain-length (threadOf σ t .history .reads) (threadOf σ t .history .done) (y .plain) in
           let local = x .local ∙ ap₂ (λ (h : Thread) (rs : List (ℕ × Event)). led (C .val) (h .local) rs) began reads ∙ sym (y .local) in (
             ap₂ (λ (h : Local) (k : History). let z : Thread = record { local = h; history = k } in z) local (ap₂ (λ (i : ℕ) (rs : List (ℕ × Event)). let z : History = record { done = i; reads = rs } in z) done reads),
             x .quiet,
@@ -124,18 +125,18 @@ module _ (p : Program) (w : WellFormed p) (v : Schedule) (a : Allowed SC (start 
       go (inl x) (inl y) = x .is ∙ ap (digits (C .code)) e ∙ sym (y .is)
 
   -- R2 BY WORDS IS R2
-  pub twin-by-word : twinByWord p (wordsOf p v) t u ≡ twin p (endOf p v) t u
-  unfolding twinByWord twin sameHistory
+  pub twin-by-word : twinByWord p (wordsOf p v .words) t u ≡ twin p (endOf p v) t u
+  unfolding twin sameHistory
   twin-by-word = equal-tests _ _ there back
     where
-      there : twinByWord p (wordsOf p v) t u ≡ true → twin p σ t u ≡ true
+      there : twinByWord p (wordsOf p v .words) t u ≡ true → twin p σ t u ≡ true
       there e =
           let x = both (together (p .groups) u t) _ e in
           let line = together-true p u t (x .0) in
           let r = same-word line (eqb-true _ _ (x .1)) in
           twin-of p σ u t line (r .0) (r .1) (r .2)
 
-      back : twin p σ t u ≡ true → twinByWord p (wordsOf p v) t u ≡ true
+      back : twin p σ t u ≡ true → twinByWord p (wordsOf p v .words) t u ≡ true
       back e =
           let x = both (together (p .groups) u t) _ e in
           let y = both (sameLocal (threadOf σ u .local) (threadOf σ t .local)) _ (x .1) in
@@ -144,39 +145,28 @@ module _ (p : Program) (w : WellFormed p) (v : Schedule) (a : Allowed SC (start 
           let q = both (silent σ u) (silent σ t) (z .1) in
           both-and (x .0) (eq-eqb _ _ (word-same (eqb-true _ _ (h .0)) (same-list-is sameRead same-read-is _ _ (h .1)) (silent-quiet σ u (q .0)) (silent-quiet σ t (q .1))))
 
+-- tests that agree on these
+pub any-same : (f g : ℕ → Bool) (l : List ℕ) → ((x : ℕ) → List·Memᴰ x l → f x ≡ g x) → any f l ≡ any g l
+any-same f g l e = equal-tests (any f l) (any g l)
+    (λ q. let r = any-yes f l q in any-of g l (r .0) (r .1) (sym (e (r .0) (r .1)) ∙ r .2))
+    (λ q. let r = any-yes g l q in any-of f l (r .0) (r .1) (e (r .0) (r .1) ∙ r .2))
+
 -- so none below t is its twin by one test where none is by the other
 pub twins-by-word : (p : Program) → WellFormed p → (v : Schedule) → Allowed SC (start p) v → (t : ℕ) → t < 6 →
-    any (twinByWord p (wordsOf p v) t) (range 0 t) ≡ any (twin p (endOf p v) t) (range 0 t)
-twins-by-word p w v a t h = any-same (twinByWord p (wordsOf p v) t) (twin p (endOf p v) t) (range 0 t)
+    any (twinByWord p (wordsOf p v .words) t) (range 0 t) ≡ any (twin p (endOf p v) t) (range 0 t)
+twins-by-word p w v a t h = any-same (twinByWord p (wordsOf p v .words) t) (twin p (endOf p v) t) (range 0 t)
     (λ u m. let i = of-range 0 t u m .1 in twin-by-word p w v a u t (λ q. omega arith) (omega arith) h)
-  where
-    any-same : (f g : ℕ → Bool) (l : List ℕ) → ((x : ℕ) → List·Memᴰ x l → f x ≡ g x) → any f l ≡ any g l
-    any-same f g l e = equal-tests (any f l) (any g l)
-        (λ q. let r = any-yes f l q in any-of g l (r .0) (r .1) (sym (e (r .0) (r .1)) ∙ r .2))
-        (λ q. let r = any-yes g l q in any-of f l (r .0) (r .1) (e (r .0) (r .1) ∙ r .2))
 
--- ---- as code carries them: zeros at the start, then step by step; a word fits 64 bits, a stamp a byte
+-- ---- as code carries them: zeros at the start, then step by step
 pub words-start : (p : Program) → wordsOf p [] ≡ noWords
 unfolding wordsOf wordsAfter
 words-start p = refl
 
-late-after-more : (v : Schedule) (σ : State) (n : ℕ) (m : Words) (t : ℕ) → wordsAfter σ n m (v ++ (t ∷ [])) ≡ wordsBehind (run SC σ v) (n + length v + 1) (wordsAfter σ n m v) t
+words-after-more : (v : Schedule) (σ : State) (n : ℕ) (m : Words) (t : ℕ) → wordsAfter σ n m (v ++ (t ∷ [])) ≡ wordsBehind (run SC σ v) (n + length v + 1) (wordsAfter σ n m v) t
 unfolding wordsAfter run
-late-after-more [] σ n m t = ap (λ (k : ℕ). wordsBehind σ (k + 1) m t) (omega arith)
-late-after-more (b ∷ v) σ n m t = late-after-more v (step σ b) (n + 1) (wordsBehind σ (n + 1) m b) t ∙ ap (λ (k : ℕ). wordsBehind (run SC (step σ b) v) (k + 1) (wordsAfter (step σ b) (n + 1) (wordsBehind σ (n + 1) m b) v) t) (omega arith)
+words-after-more [] σ n m t = ap (λ (k : ℕ). wordsBehind σ (k + 1) m t) (omega arith)
+words-after-more (b ∷ v) σ n m t = words-after-more v (step σ b) (n + 1) (wordsBehind σ (n + 1) m b) t ∙ ap (λ (k : ℕ). wordsBehind (run SC (step σ b) v) (k + 1) (wordsAfter (step σ b) (n + 1) (wordsBehind σ (n + 1) m b) v) t) (omega arith)
 
 pub words-more : (p : Program) (v : Schedule) (t : ℕ) → wordsOf p (v ++ (t ∷ [])) ≡ wordsBehind (endOf p v) (length v + 1) (wordsOf p v) t
 unfolding wordsOf
-words-more p v t = late-after-more v (start p) 0 noWords t ∙ ap (λ (k : ℕ). wordsBehind (endOf p v) (k + 1) (wordsAfter (start p) 0 noWords v) t) (omega arith)
-
-module _ (p : Program) (w : WellFormed p) (v : Schedule) (a : Allowed SC (start p) v) where
-  pub words-below : (t : ℕ) → t < 6 → getD (wordsOf p v .words) t 0 < 2 ^ 61
-  unfolding lone
-  words-below t h = ⊎-elim (λ (r : Reads (start p) (endOf p v) (held p w v a .code) (held p w v a .val) (getD (wordsOf p v .words) t 0) t). omega (arith, r .small))
-      (λ (r : Lone (endOf p v) (getD (wordsOf p v .words) t 0) t). omega (arith, r .is, h)) (held p w v a .worded t h)
-
-  pub stamps-below : (l : ℕ) → l < 8 → getD (wordsOf p v .stamps) l 0 < 32
-  stamps-below l h =
-      let g = regular-run v (start p) (regular-start p w) a in
-      let k = code-below (start p) (endOf p v) (length v) (wordsOf p v) (held p w v a) (short p w v a) (latest (cellOf (endOf p v) l .writes)) (latest-known (endOf p v) g l (cellOf (endOf p v) l .writes) refl) in
-      omega (arith, held p w v a .stamped l h, k)
+words-more p v t = words-after-more v (start p) 0 noWords t ∙ ap (λ (k : ℕ). wordsBehind (endOf p v) (k + 1) (wordsAfter (start p) 0 noWords v) t) (omega arith)

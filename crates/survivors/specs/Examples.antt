@@ -14,18 +14,23 @@ use Rattle.schedules.specs.System.{run, none-enabled, ended}
 use Rattle.schedules.specs.Search.{low, past}
 use Rattle.schedules.specs.Found.{concatRange, foundAt, foundBy, foundFrom}
 use Rattle.schedules.specs.Orders.{trace}
-use Rattle.sc.specs.Local.{eval, accessPlace, accessTakes, accessPuts, accessSets, settle, beginsWithAccess, firstPlace, firstTakes, firstPuts, firstNext, pending, placeOf, takes, puts, next, begin}
-use Rattle.sc.specs.State.{initialWrite, noThread, freshCell, threadOf, cellOf, place, latest, noted, advanced, written, met, step, enabled, opened, start}
+use Rattle.model.specs.Back.{back}
+use Rattle.model.specs.LateSet.{backAt}
+use Rattle.model.specs.Search.{lookedFor}
+use Rattle.sc.specs.Local.{eval, accessPlace, accessTakes, accessPuts, accessSets, settle, beginsWithAccess, firstPlace, firstTakes}
+use Rattle.sc.specs.Local.{firstPuts, firstNext, pending, placeOf, takes, puts, next, begin}
+use Rattle.sc.specs.State.{initialWrite, noThread, freshCell, threadOf, cellOf, place, latest, noted, advanced, written, met, step}
+use Rattle.sc.specs.State.{enabled, opened, start}
 use Rattle.sc.specs.Graph.{endOf}
-use Rattle.sc.specs.Actions.{given, writes, action, conflict}
+use Rattle.sc.specs.Actions.{given, writes, action, who, conflict}
 use Rattle.sc.specs.Ahead.{accessMayWrite, firstMayWrite, mayWrite}
 use Rattle.consistent.specs.Same.{sameEvent, sameRead, sameList}
 use Rattle.model.specs.Exchange.{together}
 use Rattle.list.specs.Rules.{sameFlag, sameLocal, sameHistory, silent, twin}
 use Rattle.survivors.specs.Sets.{has, addend, setOf, joined}
-use Rattle.survivors.specs.LateSet.{lateNow, lateBehind, lateAfter, lateSet}
+use Rattle.survivors.specs.LateSet.{lateSet}
 use Rattle.survivors.specs.Sleepers.{readsLeft, writesLeft, meets, wakes, sleepsIn, unwoken, settled, sleepers}
-use Rattle.survivors.specs.Search.{givenUp, lookedFor, found}
+use Rattle.survivors.specs.Search.{givenUp, found}
 
 -- the late set behind a prefix, and what of it is asleep for good
 pub record Seen : Type 0 where
@@ -33,12 +38,12 @@ pub record Seen : Type 0 where
   pub asleep : ℕ
 
 unfoldable pub seen : Program → Schedule → Seen
-unfolding range any all run trace eval accessPlace accessTakes accessPuts accessSets settle beginsWithAccess firstPlace firstTakes firstPuts firstNext pending placeOf takes puts next begin initialWrite noThread freshCell threadOf cellOf place latest noted advanced written met step enabled opened start initial given writes action conflict accessMayWrite firstMayWrite mayWrite has addend setOf joined lateNow lateBehind lateAfter lateSet readsLeft writesLeft meets wakes sleepsIn unwoken settled sleepers
+unfolding range any all run trace eval accessPlace accessTakes accessPuts accessSets settle beginsWithAccess firstPlace firstTakes firstPuts firstNext pending placeOf takes puts next begin initialWrite noThread freshCell threadOf cellOf place latest noted advanced written met step enabled opened start initial given writes action conflict accessMayWrite firstMayWrite mayWrite has addend setOf joined back backAt who lateSet readsLeft writesLeft meets wakes sleepsIn unwoken settled sleepers
 seen p v = record { late = lateSet p v; asleep = sleepers (endOf p v) (lateSet p v) }
 
 -- what the search finds, and those that fail
 unfoldable pub finds : Program → List Schedule
-unfolding range any all run trace none-enabled ended low past concatRange foundAt foundBy foundFrom eval accessPlace accessTakes accessPuts accessSets settle beginsWithAccess firstPlace firstTakes firstPuts firstNext pending placeOf takes puts next begin initialWrite noThread freshCell threadOf cellOf place latest noted advanced written met step enabled opened start initial given writes action conflict accessMayWrite firstMayWrite mayWrite sameEvent sameRead sameList together sameFlag sameLocal sameHistory silent twin has addend setOf joined lateNow lateBehind lateAfter lateSet readsLeft writesLeft meets wakes sleepsIn unwoken settled sleepers givenUp lookedFor found
+unfolding range any all run trace none-enabled ended low past concatRange foundAt foundBy foundFrom eval accessPlace accessTakes accessPuts accessSets settle beginsWithAccess firstPlace firstTakes firstPuts firstNext pending placeOf takes puts next begin initialWrite noThread freshCell threadOf cellOf place latest noted advanced written met step enabled opened start initial given writes action conflict accessMayWrite firstMayWrite mayWrite sameEvent sameRead sameList together sameFlag sameLocal sameHistory silent twin has addend setOf joined back backAt who lateSet readsLeft writesLeft meets wakes sleepsIn unwoken settled sleepers givenUp lookedFor found
 finds p = found false p none
 
 -- two stores at one location beside one elsewhere: behind thread 2's step the other two are late, and only each other's store could wake

@@ -11,7 +11,9 @@ pub mod Sleepers
 pub mod Alone
 -- THE SEARCH, with no test at a full schedule
 pub mod Search
--- R2 by a word for each thread's reads
+-- R2 by a word for each thread
+pub mod ThreadWords
+-- whose digits are the stamps of its reads
 pub mod ReadWords
 -- the definitions computed
 pub mod Examples

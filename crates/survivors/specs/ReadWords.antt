@@ -1,30 +1,23 @@
--- R2 by words: each thread carries one word of 64 bits for its reads, and two threads of one `02` line are twins exactly when their words
--- are equal. A read adds five bits, the number of the step that wrote what it reads; so each location carries the number of the step that
--- wrote it last. A thread that wrote, or whose reads no longer fit, can have no twin: its word is one that no other thread has.
-use Prim.Native.Nat.{ℕ, _+_, _*_, _^_}
-use mathlib.Core.Bool.{Bool, true, false, _&&_}
+-- The word of a thread's reads. A read adds five bits, the number of the step that wrote what it reads; so each location carries the number
+-- of the step that wrote it last.
+use Prim.Native.Nat.{ℕ, _+_, _^_}
+use mathlib.Core.Bool.{Bool, true, false}
 use mathlib.Core.List.{List, [], _∷_}
-use lib.Dec.{eqb, ltb}
 use lib.ListN.{getD, set}
 use Rattle.program.specs.Program.{Program}
 use Rattle.schedules.specs.Order.{Schedule}
 use Rattle.sc.specs.State.{State, place, step, start}
 use Rattle.sc.specs.Actions.{writes}
-use Rattle.model.specs.Exchange.{together}
+use Rattle.survivors.specs.ThreadWords as ThreadWords
 
 -- for each of the eight locations the number of the step that wrote it last, from 1, or 0; for each of the six threads its word
 pub record Words : Type 0 where
   pub stamps : List ℕ
   pub words : List ℕ
 
--- the word of thread t when it can have no twin any more
-unfoldable pub lone : ℕ → ℕ
-lone t = 2 ^ 60 + t
-
 -- thread t's word behind an access that found this stamp, and wrote or not; twelve reads fit
-unfoldable pub wordBehind : ℕ → ℕ → ℕ → Bool → ℕ
-wordBehind t word stamp true = lone t
-wordBehind t word stamp false = elim (ltb word (2 ^ 55)) [ true ↦ word * 32 + (stamp + 1) | false ↦ lone t ]
+abbrev pub wordBehind : ℕ → ℕ → ℕ → Bool → ℕ
+wordBehind t word stamp wrote = ThreadWords.wordBehind 32 (2 ^ 55) t word (stamp + 1) wrote
 
 -- the stamps behind step number n at l
 unfoldable pub stampsBehind : List ℕ → ℕ → ℕ → Bool → List ℕ
@@ -52,7 +45,3 @@ noWords = record { stamps = 0 ∷ 0 ∷ 0 ∷ 0 ∷ 0 ∷ 0 ∷ 0 ∷ 0 ∷ []; 
 -- both behind a program's prefix
 unfoldable pub wordsOf : Program → Schedule → Words
 wordsOf p v = wordsAfter (start p) 0 noWords v
-
--- R2, u is t's twin: of t's `02` line, with the same word
-unfoldable pub twinByWord : Program → Words → ℕ → ℕ → Bool
-twinByWord p m t u = together (p .groups) u t && eqb (getD (m .words) u 0) (getD (m .words) t 0)

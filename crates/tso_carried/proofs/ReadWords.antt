@@ -6,14 +6,14 @@ use mathlib.Core.Bool.{Bool, true, false, cond, not, _&&_, true≢false, false�
 use mathlib.Core.Option.{Option, none, some}
 use mathlib.Core.List.{List, [], _∷_, List·Memᴰ, List·Memᴰ·head, List·Memᴰ·tail}
 use native.Mathlib.Omega.{arith}
-use native.Mathlib.Nat.{pow-le-pow-right, pow-succ'}
 use native.Mathlib.Decide.{ℕ-discrete, decLt}
 use lib.Dec.{eqb, ltb}
 use lib.ListN.{length}
 use borrow.Author.Tests.{eqb-true, eqb-false, eq-eqb, ne-eqb, ltb-true, ltb-false, lt-ltb, le-ltb}
 use Rattle.sc.specs.State.{Event, History, Cell, noted}
 use Rattle.sc.specs.Standing.{silent}
-use Rattle.tso_carried.specs.ReadWords.{sourcesOf, sourceDigit, digit, digits, lone, wordOf, wordBehind}
+use Rattle.survivors.proofs.ThreadWords.{digits-fit, digits-above}
+use Rattle.tso_carried.specs.ReadWords.{sourcesOf, sourceDigit, digit, digits}
 
 -- ---- sources
 -- reads of some of the first n accesses, latest first
@@ -74,41 +74,19 @@ digit-positive t (some e) = go (eqb (e .0) t) (ltb (e .0) 6)
     go false true = omega arith
     go false false = omega arith
 
-pub digits-below : (t : ℕ) (os : List (Option Event)) → Small t os → digits t os < 128 ^ length os
-unfolding digits
-digits-below t [] s = omega arith
-digits-below t (o ∷ os) s =
-    let a = digits-below t os (λ x m. s x (List·Memᴰ·tail m)) in
-    let b = s o (List·Memᴰ·head refl) in
-    let c : 128 ^ suc (length os) ≡ 128 * 128 ^ length os = pow-succ' 128 (length os) in
-    omega (arith, a, b, c)
-
-pub digits-above : (t : ℕ) (o : Option Event) (os : List (Option Event)) → 128 ^ length os ≤ digits t (o ∷ os)
-unfolding digits
-digits-above t o [] = omega (arith, digit-positive t o)
-digits-above t o (x ∷ os) =
-    let a = digits-above t x os in
-    let c : 128 ^ suc (length os) ≡ 128 * 128 ^ length os = pow-succ' 128 (length os) in
-    omega (arith, a, c)
-
 -- eight digits do not fit with one more, fewer do
 pub word-room : (t n : ℕ) (os : List (Option Event)) → length os ≡ n → Small t os → ltb n 9 ≡ true → ltb (digits t os) (2 ^ 49) ≡ ltb (suc n) 9
 word-room t n os e s h = go (decLt n 8)
   where
-    nine : n < 9
-    nine = ltb-true n 9 h
-
     top : 128 ^ 7 ≡ 2 ^ 49
     top = refl
 
     go : Dec (n < 8) → ltb (digits t os) (2 ^ 49) ≡ ltb (suc n) 9
-    go (yes i) =
-        let p : 128 ^ length os ≤ 128 ^ 7 = pow-le-pow-right {n = 128} (omega arith) {i = length os} {j = 7} (omega arith) in
-        lt-ltb (digits t os) (2 ^ 49) (omega (arith, p, top, digits-below t os s)) ∙ sym (lt-ltb (suc n) 9 (omega arith))
+    go (yes i) = lt-ltb (digits t os) (2 ^ 49) (omega (arith, top, digits-fit 128 (omega arith) (digit t) os 7 (omega arith) s)) ∙ sym (lt-ltb (suc n) 9 (omega arith))
     go (no i) = le-ltb (digits t os) (2 ^ 49) (full os e) ∙ sym (le-ltb (suc n) 9 (omega arith))
       where
         full : (xs : List (Option Event)) → length xs ≡ n → 2 ^ 49 ≤ digits t xs
         full [] q = absurd (omega (arith, q, i))
         full (x ∷ xs) q =
-            let k : length xs ≡ 7 = omega (arith, q, i, nine) in
-            omega (arith, digits-above t x xs, ap (λ (j : ℕ). 128 ^ j) k, top)
+            let k : length xs ≡ 7 = omega (arith, q, i, ltb-true n 9 h) in
+            omega (arith, digits-above 128 (omega arith) (digit t) x xs (digit-positive t), ap (λ (j : ℕ). 128 ^ j) k, top)

@@ -7,7 +7,6 @@ use mathlib.Core.Bool.{Bool, true, false, cond, _&&_, true≢false, false≢true
 use mathlib.Core.Option.{Option, none, some}
 use mathlib.Core.List.{List, [], _∷_, List·Memᴰ, List·Memᴰ·head, List·Memᴰ·tail}
 use native.Mathlib.Omega.{arith}
-use native.Mathlib.Nat.{pow-le-pow-right}
 use native.Mathlib.Decide.{ℕ-discrete, decLt}
 use lib.Dec.{eqb, ltb}
 use lib.ListN.{length, getD}
@@ -35,8 +34,10 @@ use Rattle.tso.proofs.Seen.{drained-thread}
 use Rattle.tso.proofs.Sourced.{From, sourced}
 use Rattle.tso.proofs.Values.{Values, Old}
 use Rattle.tso_list.specs.Rules.{renamed, sameSource, sameEntry, standsAs, twin}
-use Rattle.tso_carried.specs.ReadWords.{sourcesOf, sourceDigit, digit, digits, lone, wordOf}
-use Rattle.tso_carried.proofs.ReadWords.{Numbered, sources-length, Small, digit-positive, digits-below}
+use Rattle.survivors.specs.ThreadWords.{lone}
+use Rattle.survivors.proofs.ThreadWords.{Paired, digits-fit, digits-paired, paired-digits}
+use Rattle.tso_carried.specs.ReadWords.{sourcesOf, sourceDigit, digit, digits, wordOf}
+use Rattle.tso_carried.proofs.ReadWords.{Numbered, sources-length, Small, digit-positive}
 use Rattle.tso_carried.proofs.Kept.{kept}
 use Rattle.tso_carried.proofs.Small.{done-16, done-both, done-six, small, sources-from}
 use Rattle.tso_carried.proofs.Words.{Quiet, silent-quiet, quiet-silent}
@@ -50,10 +51,7 @@ Matches u t (some e) none = ⊥
 Matches u t (some e) (some f) = ((e .0 ≡ u) × (f .0 ≡ t) × (e .1 ≡ f .1)) ⊎ ((e ≡ f) × (e .0 ≢ u) × (f .0 ≢ t))
 
 abbrev Matched : ℕ → ℕ → List (Option Event) → List (Option Event) → Type 0
-Matched u t [] [] = Unit {0}
-Matched u t [] (o ∷ os) = ⊥
-Matched u t (o ∷ os) [] = ⊥
-Matched u t (o ∷ os) (x ∷ xs) = Matches u t o x × Matched u t os xs
+Matched u t = Paired (Matches u t)
 
 -- an event that digits tell apart
 abbrev Codable : Event → Type 0
@@ -177,23 +175,11 @@ module _ (u t : ℕ) (hu : u < 6) (ht : t < 6) where
 
   -- the same digits
   digits-matched : (os xs : List (Option Event)) → AllCodable os → AllCodable xs → Small u os → Small t xs → digits u os ≡ digits t xs → Matched u t os xs
-  unfolding digits
-  digits-matched [] [] a b s r q = tt
-  digits-matched [] (x ∷ xs) a b s r q = absurd (omega (arith, q, digit-positive t x))
-  digits-matched (o ∷ os) [] a b s r q = absurd (omega (arith, q, digit-positive u o))
-  digits-matched (o ∷ os) (x ∷ xs) a b s r q =
-      let i = s o (List·Memᴰ·head refl) in
-      let j = r x (List·Memᴰ·head refl) in (
-        digit-matches o x (λ e z. a e (List·Memᴰ·head (sym z))) (λ e z. b e (List·Memᴰ·head (sym z))) (omega (arith, i, j, q)),
-        digits-matched os xs (λ e m. a e (List·Memᴰ·tail m)) (λ e m. b e (List·Memᴰ·tail m)) (λ y m. s y (List·Memᴰ·tail m)) (λ y m. r y (List·Memᴰ·tail m)) (omega (arith, i, j, q)),
-      )
+  digits-matched os xs a b s r = digits-paired 128 (omega arith) (digit u) (digit t) (Matches u t) os xs (λ o m. (digit-positive u o, s o m)) (λ x m. (digit-positive t x, r x m))
+      (λ o x m k. digit-matches o x (λ e z. a e (subst (λ (y : Option Event). List·Memᴰ y os) z m)) (λ e z. b e (subst (λ (y : Option Event). List·Memᴰ y xs) z k)))
 
   matched-digits : (os xs : List (Option Event)) → Matched u t os xs → digits u os ≡ digits t xs
-  unfolding digits
-  matched-digits [] [] m = refl
-  matched-digits [] (x ∷ xs) m = absurd m
-  matched-digits (o ∷ os) [] m = absurd m
-  matched-digits (o ∷ os) (x ∷ xs) m = ap₂ (λ (a b : ℕ). a * 128 + b) (matched-digits os xs (m .1)) (matches-digit o x (m .0))
+  matched-digits os xs = paired-digits 128 (omega arith) (digit u) (digit t) (Matches u t) os xs matches-digit
 
   matched-length : (os xs : List (Option Event)) → Matched u t os xs → length os ≡ length xs
   matched-length [] [] m = refl
@@ -333,9 +319,8 @@ module _ (p : Program) (w : WellFormed p) (few : allAccesses (p .threads) ≤ 16
   digits-few x h q =
       let l = sources-length (hist x .done) (hist x .reads) in
       let k = ltb-true (hist x .done) 9 q in
-      let e : 128 ^ length (sources x) ≤ 128 ^ 8 = pow-le-pow-right {n = 128} (omega arith) {i = length (sources x)} {j = 8} (omega arith) in
       let c : 128 ^ 8 ≡ 2 ^ 56 = refl in
-      omega (arith, e, c, digits-below x (sources x) (small p w few v a x h))
+      omega (arith, c, digits-fit 128 (omega arith) (digit x) (sources x) 8 (omega arith) (small p w few v a x h))
 
   -- what a word says
   data Word (x : ℕ) : Type 0 where

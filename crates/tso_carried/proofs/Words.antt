@@ -33,7 +33,9 @@ use Rattle.tso.proofs.Steps.{enabled-able, enabled-small, able-range, able-mova
 use Rattle.tso.proofs.Seen.{seen-cell}
 use Rattle.tso.proofs.Change.{Change, write-cases, writes-stay, wrote-own}
 use Rattle.tso.proofs.Regular.{Regular, place-in, changes, regular-start, regular-run}
-use Rattle.tso_carried.specs.ReadWords.{sourcesOf, sourceDigit, digit, digits, lone, wordOf, wordBehind}
+use Rattle.survivors.specs.ThreadWords as ThreadWords
+use Rattle.survivors.specs.ThreadWords.{lone}
+use Rattle.tso_carried.specs.ReadWords.{sourcesOf, sourceDigit, digit, digits, wordOf, wordBehind}
 use Rattle.tso_carried.proofs.ReadWords.{Numbered, sourceOr, sources-noted, sources-length, Small, word-room}
 use Rattle.tso_carried.proofs.Kept.{kept}
 use Rattle.tso_carried.proofs.Small.{small}
@@ -89,11 +91,11 @@ unfolding wordOf worded
 word-is σ t s h es eh = ap₂ (λ (x : Bool) (y : History). worded x t y) es eh
 
 lone-stays : (t d : ℕ) → wordBehind t (lone t) d false ≡ lone t
-unfolding wordBehind lone
+unfolding ThreadWords.wordBehind lone
 lone-stays t d = let q = le-ltb (2 ^ 60 + t) (2 ^ 49) (omega arith) in rw q
 
 behind-put : (t word d : ℕ) (b : Bool) → b ≡ true → wordBehind t word d b ≡ lone t
-unfolding wordBehind
+unfolding ThreadWords.wordBehind
 behind-put t word d b e = rw e
 
 read-digit : (t : ℕ) (e : Event) → digit t (sourceOr true e) ≡ sourceDigit t e
@@ -120,7 +122,7 @@ oldest-there (x ∷ q) n m e = let z : _≡_ {A = ℕ} 0 1 = cc in omega arith
 -- one access more, which puts nothing
 word-noted : (s : Bool) (t : ℕ) (b : Bool) (e : Event) (h : History) → Numbered (h .done) (h .reads) → Small t (sourcesOf (h .done) (h .reads)) →
     worded s t (noted b e h) ≡ wordBehind t (worded s t h) (digit t (sourceOr b e)) false
-unfolding worded wordBehind digits
+unfolding worded ThreadWords.wordBehind ThreadWords.digits
 word-noted false t b e h x y = sym (lone-stays t (digit t (sourceOr b e)))
 word-noted true t b e h x y = go (ltb (h .done) 9) refl (sources-noted b e h x)
   where

@@ -4,5 +4,3 @@ pub mod Examples
 pub mod Twins
 -- R3 is sound
 pub mod Asleep
--- the rules together, and what the search finds
-pub mod Search

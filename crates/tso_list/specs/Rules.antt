@@ -3,7 +3,7 @@
 use Prim.Native.Nat.{ℕ}
 use mathlib.Core.Bool.{Bool, true, false, not, _&&_, _||_}
 use mathlib.Core.Option.{Option, none, some}
-use mathlib.Core.List.{List, [], _∷_, _++_}
+use mathlib.Core.List.{List}
 use lib.Dec.{eqb}
 use Rattle.program.specs.Program.{Program}
 use Rattle.schedules.specs.Lists.{range, any, all}
@@ -17,7 +17,7 @@ use Rattle.sc.specs.Ahead.{couldMeet}
 use Rattle.sc.specs.Same.{sameList}
 use Rattle.sc.specs.Standing.{sameLocal, silent}
 use Rattle.tso.specs.Queue.{Entry}
-use Rattle.tso.specs.State.{Thread, State, Kind, access, move, withoutQueues, threadOf, locked, place, kindOf, owner, step, enabled, TSO}
+use Rattle.tso.specs.State.{Thread, State, Kind, access, move, withoutQueues, threadOf, locked, place, kindOf, owner, enabled}
 use Rattle.tso.specs.Actions.{Action, action, who, dependent}
 use Rattle.tso_model.specs.TotalStoreOrder.{tso}
 
@@ -72,9 +72,3 @@ unwoken σ c =
 -- R3, the byte c is asleep for good: it may step, its step is late, and nothing left to the others could make it wait
 unfoldable pub asleep : Program → Schedule → State → ℕ → Bool
 asleep p v σ c = enabled σ c && (late (taken p v) (action σ c) && unwoken σ c)
-
--- a step of b behind v is given up: it is late, or its thread has a smaller twin, or it leaves some byte asleep for good
-unfoldable pub givenUp : Program → Schedule → State → ℕ → Bool
-givenUp p v σ b =
-    late (taken p v) (action σ b)
-    || (any (twin p σ (owner b)) (range 0 (owner b)) || any (asleep p (v ++ (b ∷ [])) (step σ b)) (TSO .names))

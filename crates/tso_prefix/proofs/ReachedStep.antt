@@ -12,15 +12,15 @@ use lib.Dec.{eqb, ltb, leb}
 use lib.ListN.{length, getD, set, take, length-append}
 use lib.Seq.{take-suc-set, getD-set-same, getD-set-other}
 use borrow.Author.Tests.{lt-ltb, lt-leb, le-leb}
-use Rattle.program.proofs.Tests.{equal-tests}
 use Rattle.program.specs.Program.{Program}
 use Rattle.program.specs.WellFormed.{WellFormed, allAccesses}
 use Rattle.schedules.specs.Lists.{range, any}
 use Rattle.schedules.specs.Order.{Schedule}
 use Rattle.schedules.specs.System.{run, Allowed}
-use Rattle.schedules.proofs.Lists.{of-range, any-yes, any-of}
+use Rattle.schedules.proofs.Lists.{of-range}
 use Rattle.schedules.proofs.Runs.{run-nil, run-snoc, allowed-join, allowed-length}
 use Rattle.model.specs.Exchange.{together}
+use Rattle.model.specs.LateSet.{goesOn}
 use Rattle.sc.specs.State as SC
 use Rattle.sc.specs.State.{Event}
 use Rattle.sc.specs.Local.{placeOf, takes}
@@ -31,7 +31,10 @@ use Rattle.machine.specs.Held as Core
 use Rattle.machine.specs.Held.{eventOf, threadAt, Loaded}
 use Rattle.prefix.specs.ClassGroups.{Lined}
 use Rattle.survivors.specs.Sets.{has, setOf}
+use Rattle.survivors.specs.ThreadWords as ThreadWords
+use Rattle.survivors.specs.ThreadWords.{twinByWord}
 use Rattle.survivors.proofs.Sets.{set-none, set-same, set-has}
+use Rattle.survivors.proofs.TwinWords.{any-same}
 use Rattle.tso.specs.Queue.{Entry, newest, isEmpty, movable}
 use Rattle.tso.specs.State.{Thread, State, Kind, access, move, idle, withoutQueues, threadOf, cellOf, finds, place, able, kindOf, owner, byteFor, step, enabled, start, TSO}
 use Rattle.tso.specs.Graph.{endOf}
@@ -52,8 +55,8 @@ use Rattle.tso_machine.specs.declared.state.QueuedMachine.{QueuedMachine}
 use Rattle.tso_machine.specs.declared.stepping.Change.{Change}
 use Rattle.tso_machine.specs.declared.stepping.Stepped.{Stepped}
 use Rattle.tso_carried.specs.Deeds.{isNone, looking, deedOf, deed, waits}
-use Rattle.tso_carried.specs.LateBytes.{bytesOf, lateAt, farAt, goesOn, lateNow, farNow}
-use Rattle.tso_carried.specs.ReadWords.{sourceDigit, digits, sourcesOf, wordOf, wordBehind, twinByWord}
+use Rattle.tso_carried.specs.LateBytes.{bytesOf, lateAt, farAt}
+use Rattle.tso_carried.specs.ReadWords.{sourceDigit, digits, sourcesOf, wordOf, wordBehind}
 use Rattle.tso_carried.specs.declared.deed.Deed.{Deed}
 use Rattle.tso_carried.proofs.Kept.{start-done}
 use Rattle.tso_carried.proofs.LateBytes.{late-more, far-more, late-start, far-start}
@@ -77,10 +80,6 @@ move-byte u = refl
 none-of : (f : ℕ → Bool) (k : Kind) → ((u : ℕ) → u < 6 → f (byteFor k u) ≡ false) → bytesOf f k ≡ 0
 unfolding bytesOf
 none-of f k e = set-none (λ t. f (byteFor k t)) 6 e
-
-any-same : (f g : ℕ → Bool) (l : List ℕ) → ((u : ℕ) → List·Memᴰ u l → f u ≡ g u) → any f l ≡ any g l
-any-same f g l e = equal-tests (any f l) (any g l)
-    (λ q. let r = any-yes f l q in any-of g l (r .0) (r .1) (sym (e (r .0) (r .1)) ∙ r .2)) (λ q. let r = any-yes g l q in any-of f l (r .0) (r .1) (e (r .0) (r .1) ∙ r .2))
 
 start-empty : (p : Program) (l : ℕ) → cellOf (start p) l .writes ≡ []
 unfolding start
@@ -122,7 +121,7 @@ unfolding start able movable idle
 no-move p t h = enabled-for (start p) move t h ∙ ap (λ (k : Thread). able move k (length (start p .cells))) (drained-thread (SC.start p) t)
 
 word-start : (p : Program) (t : ℕ) → wordOf (start p) t ≡ 0
-unfolding wordOf sourcesOf digits
+unfolding wordOf sourcesOf ThreadWords.digits
 word-start p t =
     let s : silent (withoutQueues (start p)) t ≡ true = quiet-silent (start p) t (λ l e m. absurd (List·Memᴰ·not-nil (subst (List·Memᴰ e) (start-empty p l) m))) in
     let d = start-done p t in
@@ -211,13 +210,13 @@ module _ (code lengths class : List ℕ) (threads groups : ℕ) (x : Place) (p :
 
   late-behind : (k : Kind) (s r : ℕ) → s ≡ setOf (λ u. enabled (step (endOf p v) b) (byteFor k u) && (not (eqb b (byteFor k u)) && (ltb (byteFor k u) b || lateAt p v (byteFor k u)))) 6 →
       r ≡ setOf (λ u. has s u && not (waits (deed (endOf p v) b) (deed (step (endOf p v) b) (byteFor k u)))) 6 → r ≡ bytesOf (lateAt p (v ++ (b ∷ []))) k
-  unfolding lateNow goesOn bytesOf
+  unfolding bytesOf
   late-behind k s r es er = er ∙ chosen-free k (enabled τ) (eqb b) (λ c. ltb c b || lateAt p v c) (λ c. waits (deed σ b) (deed τ c)) s es
-      ∙ sym (set-same (λ u. lateAt p (v ++ (b ∷ [])) (byteFor k u)) (λ u. lateNow τ b (deed σ b) (lateAt p v) (byteFor k u)) 6 (λ u h. late-more p w v (at .allowed) b ok (byteFor k u)))
+      ∙ sym (set-same (λ u. lateAt p (v ++ (b ∷ [])) (byteFor k u)) (λ u. goesOn (enabled τ) b (λ c. ltb c b || lateAt p v c) (λ c. waits (deed σ b) (deed τ c)) (byteFor k u)) 6 (λ u h. late-more p w v (at .allowed) b ok (byteFor k u)))
 
   -- and far
   twins-word : (t : ℕ) → t < 6 → any (λ u. twinByWord p (x .words) t u && ltb (u + 16) b) (range 0 t) ≡ starts p (endOf p v, b) (byteFor move t)
-  unfolding starts startsBy twinMoves twinByWord
+  unfolding starts startsBy twinMoves
   twins-word t h =
       any-same (λ u. twinByWord p (x .words) t u && ltb (u + 16) b) (λ u. twin p σ t u && ltb (u + 16) b) (range 0 t) (λ u m.
       let i = of-range 0 t u m .1 in
@@ -235,9 +234,9 @@ module _ (code lengths class : List ℕ) (threads groups : ℕ) (x : Place) (p :
 
   far-behind : (s r : ℕ) → s ≡ setOf (λ u. enabled (step (endOf p v) b) (byteFor move u) && (not (eqb b (byteFor move u)) && (starts p (endOf p v, b) (byteFor move u) || farAt p v (byteFor move u)))) 6 →
       r ≡ setOf (λ u. has s u && not (waits (deed (endOf p v) b) (deed (step (endOf p v) b) (byteFor move u)))) 6 → r ≡ bytesOf (farAt p (v ++ (b ∷ []))) move
-  unfolding farNow goesOn bytesOf
+  unfolding bytesOf
   far-behind s r es er = er ∙ chosen-free move (enabled τ) (eqb b) (λ c. starts p (σ, b) c || farAt p v c) (λ c. waits (deed σ b) (deed τ c)) s es
-      ∙ sym (set-same (λ u. farAt p (v ++ (b ∷ [])) (byteFor move u)) (λ u. farNow p σ τ b (deed σ b) (farAt p v) (byteFor move u)) 6 (λ u h. far-more p w v (at .allowed) b ok (byteFor move u)))
+      ∙ sym (set-same (λ u. farAt p (v ++ (b ∷ [])) (byteFor move u)) (λ u. goesOn (enabled τ) b (λ c. starts p (σ, b) c || farAt p v c) (λ c. waits (deed σ b) (deed τ c)) (byteFor move u)) 6 (λ u h. far-more p w v (at .allowed) b ok (byteFor move u)))
 
   -- ---- behind the step, which gave back a
   module _ (a : Stepped) (H : HoldsStep code lengths (endOf p v) b a) where

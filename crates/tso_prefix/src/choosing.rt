@@ -13,7 +13,7 @@ ghost use Rattle.program.specs.Program.{Program};
 ghost use Rattle.schedules.specs.Lists.{range, any};
 ghost use Rattle.survivors.specs.Sets.{has, setOf};
 ghost use Rattle.prefix.specs.ClassGroups.{Lined};
-ghost use Rattle.tso_carried.specs.ReadWords.{twinByWord};
+ghost use Rattle.survivors.specs.ThreadWords.{twinByWord};
 
 // Whether thread u, whose byte is c, may step, not by b, and c is smaller than b or it was in the set.
 fn is_smaller(may: u8, before: u8, b: u8, u: u8, c: u8) -> bool

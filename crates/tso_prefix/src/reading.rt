@@ -4,7 +4,8 @@ ghost use mathlib.Core.Path.{_≡_};
 ghost use mathlib.Core.Bool.{cond};
 ghost use Prim.Native.Nat.{_≤_};
 ghost use Rattle.machine.specs.Held.{eventOf};
-ghost use Rattle.tso_carried.specs.ReadWords.{lone, sourceDigit, wordBehind};
+ghost use Rattle.survivors.specs.ThreadWords.{lone};
+ghost use Rattle.tso_carried.specs.ReadWords.{sourceDigit, wordBehind};
 
 // The word of thread t when it can have no twin any more.
 fn lone(t: u8) -> u64

@@ -46,6 +46,7 @@ use Rattle.tso_machine.specs.Slots.{noStore, entryAt, queueAt}
 use Rattle.tso_machine.specs.Held.{coreOf, headAt, tailAt, Holds}
 use Rattle.tso_machine.specs.declared.state.Pending.{Pending}
 use Rattle.tso_machine.specs.declared.state.QueuedMachine.{QueuedMachine}
+use Rattle.model.specs.LateSet.{backAt}
 use Rattle.tso_carried.specs.LateBytes.{bytesOf, lateAt}
 use Rattle.tso_waits.specs.Freed.{storesTo}
 use Rattle.tso_prefix.specs.Reached.{Reached}
@@ -216,7 +217,7 @@ and-regrouped false b c = refl
 -- R3: some access, or else some move
 pub asleep-some : (p : Program) (v : Schedule) (lt ov : ℕ) → lt ≡ bytesOf (lateAt p v) access → ov ≡ bytesOf (lateAt p v) move →
     (any (λ t. has lt t && unwoken (endOf p v) (byteFor access t)) (range 0 6) || any (λ t. has ov t && unwoken (endOf p v) (byteFor move t)) (range 0 6)) ≡ any (asleep p v (endOf p v)) (TSO .names)
-unfolding asleep lateAt byteFor
+unfolding asleep backAt byteFor
 asleep-some p v lt ov el eo =
     ap₂ (λ (x y : Bool). x || y)
     (any-six (λ t. has lt t && unwoken (endOf p v) (byteFor access t)) (asleep p v (endOf p v)) (λ t h. ap (λ (b : Bool). b && unwoken (endOf p v) (byteFor access t)) (ap (λ (s : ℕ). has s t) el ∙ bytes-has (lateAt p v) access t h)
@@ -227,7 +228,7 @@ asleep-some p v lt ov el eo =
 
 -- a late byte may step
 pub late-may : (p : Program) (v : Schedule) (k : Kind) (s : ℕ) → s ≡ bytesOf (lateAt p v) k → (t : ℕ) → t < 6 → has s t ≡ true → enabled (endOf p v) (byteFor k t) ≡ true
-unfolding lateAt
+unfolding backAt
 late-may p v k s e t h i = first (enabled (endOf p v) (byteFor k t)) _ (sym (ap (λ (j : ℕ). has j t) e ∙ bytes-has (lateAt p v) k t h) ∙ i)
   where
     first : (a b : Bool) → (a && b) ≡ true → a ≡ true

@@ -1,26 +1,50 @@
--- R2 far computed on small programs, and what the search finds without a test at a full schedule.
+-- R2 far computed on small programs, and what the search finds: the same as the list.
 use Prim.Native.Nat.{ℕ}
 use mathlib.Core.Path.{_≡_, refl}
-use mathlib.Core.Bool.{true, false}
+use mathlib.Core.Bool.{true, false, _||_}
 use mathlib.Core.Option.{none}
-use mathlib.Core.List.{List, [], _∷_}
+use mathlib.Core.List.{List, [], _∷_, _++_}
 use Rattle.program.specs.Program.{Program, zeros}
 use Rattle.program.specs.declared.instruction.Operand.the-variants.{Constant}
 use Rattle.program.specs.declared.instruction.Access.the-variants.{Store, Load}
 use Rattle.program.specs.declared.instruction.Instruction.the-variants.{Memory}
+use Rattle.schedules.specs.Lists.{range, any}
 use Rattle.schedules.specs.Order.{Schedule}
-use Rattle.model.specs.LateSet as LateSet
+use Rattle.model.specs.Search.{lookedFor}
 use Rattle.tso.specs.Graph.{endOf}
-use Rattle.tso_list.specs.Rules as Rules
-use Rattle.tso_list.proofs.Examples as Tested
-use Rattle.tso_survivors.specs.Back.{back, byteAt, dependentAt}
-use Rattle.tso_survivors.specs.Far.{twinMoves, startsBy, starts, far, farBehind, farAfter, farSet}
-use Rattle.tso_survivors.specs.Search.{lookedFor, found, givenUp}
+use Rattle.tso.specs.State.{TSO, step}
+use Rattle.tso.specs.Actions.{action}
+use Rattle.tso_list.specs.Rules.{late, taken, twin, asleep}
+use Rattle.tso_list.proofs.Examples.{sleeps, pair, own}
+use Rattle.tso_survivors.specs.Far.{twinMoves, startsBy, starts, far}
+use Rattle.tso_survivors.specs.Search.{found, givenUp}
 
 -- what a proof names on its `unfolding` line to compute with every definition of the search
 unfoldable finds : Program → List Schedule
-unfolding Tested.finds LateSet.bit LateSet.word back byteAt dependentAt twinMoves startsBy starts far farBehind farAfter farSet lookedFor found givenUp
+unfolding sleeps twinMoves startsBy starts far lookedFor found givenUp
 finds p = found givenUp false p none
+
+-- a store and a load in each of two threads: the search finds the four that are listed
+pair-found : finds pair ≡
+    (0 ∷ 0 ∷ 1 ∷ 1 ∷ 16 ∷ 17 ∷ []) ∷
+    (0 ∷ 0 ∷ 1 ∷ 16 ∷ 1 ∷ 17 ∷ []) ∷
+    (0 ∷ 1 ∷ 1 ∷ 16 ∷ 17 ∷ 0 ∷ []) ∷
+    (0 ∷ 1 ∷ 16 ∷ 1 ∷ 17 ∷ 0 ∷ []) ∷ []
+unfolding finds pair
+pair-found = refl
+
+-- two threads declared alike that have both read their own pending store: 11 need not go before 10
+given-up-17 : givenUp own (0 ∷ 0 ∷ 1 ∷ 1 ∷ []) (endOf own (0 ∷ 0 ∷ 1 ∷ 1 ∷ [])) 17 ≡ true
+unfolding finds own
+given-up-17 = refl
+
+kept-16 : givenUp own (0 ∷ 0 ∷ 1 ∷ 1 ∷ []) (endOf own (0 ∷ 0 ∷ 1 ∷ 1 ∷ [])) 16 ≡ false
+unfolding finds own
+kept-16 = refl
+
+own-found : finds own ≡ (0 ∷ 0 ∷ 1 ∷ 1 ∷ 16 ∷ 17 ∷ []) ∷ (0 ∷ 0 ∷ 1 ∷ 17 ∷ 16 ∷ 1 ∷ []) ∷ []
+unfolding finds own
+own-found = refl
 
 -- threads 0 and 2 alike, each a store of location 0 and a load of location 1; thread 1 stores location 1 twice
 between : Program
@@ -37,7 +61,8 @@ between = record {
 late-twin : Schedule
 late-twin = 0 ∷ 1 ∷ 1 ∷ 2 ∷ 17 ∷ 0 ∷ 17 ∷ 2 ∷ []
 
-kept-without : Rules.givenUp between late-twin (endOf between late-twin) 18 ≡ false
+kept-without : (late (taken between late-twin) (action (endOf between late-twin) 18) || (any (twin between (endOf between late-twin) 2) (range 0 2)
+    || any (asleep between (late-twin ++ (18 ∷ [])) (step (endOf between late-twin) 18)) (TSO .names))) ≡ false
 unfolding finds between late-twin
 kept-without = refl
 
@@ -45,10 +70,6 @@ kept-without = refl
 far-18 : far between late-twin (endOf between late-twin) 18 ≡ true
 unfolding finds between late-twin
 far-18 = refl
-
-far-set-18 : farSet between late-twin ≡ 4
-unfolding finds between late-twin
-far-set-18 = refl
 
 -- what the search finds there is what is listed
 between-found : finds between ≡

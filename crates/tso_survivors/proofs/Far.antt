@@ -3,7 +3,7 @@
 use Prim.Native.Nat.{ℕ, _+_, _<_}
 use mathlib.Core.Path.{_≡_, refl, sym, ap, ap₂, subst, _∙_}
 use mathlib.Core.Logic.{_≢_}
-use mathlib.Core.Bool.{true, _&&_, false≢true}
+use mathlib.Core.Bool.{true, false, _&&_, false≢true}
 use mathlib.Core.List.{List, [], _∷_, _++_, append-assoc}
 use native.Mathlib.Omega.{arith}
 use lib.Dec.{ltb}
@@ -26,6 +26,7 @@ use Rattle.model.proofs.Exchanges.{members}
 use Rattle.model.proofs.Permitted.{together-true}
 use Rattle.model.proofs.Swapped.{swapped, swapped-high, swapped-exchange}
 use Rattle.model.proofs.Passing.{Passed, passed-next, passed-clear}
+use Rattle.model.proofs.Back.{Reaches, back-reaches, back-never}
 use Rattle.model.proofs.Traces.{Stands, stands, trace-append, trace-cons}
 use Rattle.model.proofs.Alike.{alike-trans, alike-end}
 use Rattle.model.proofs.Twins.{fixed-alike}
@@ -37,9 +38,7 @@ use Rattle.tso.proofs.Orders.{action-who, pulled}
 use Rattle.tso_model.specs.TotalStoreOrder.{tso}
 use Rattle.tso_model.proofs.Laws.{tso-laws}
 use Rattle.tso_list.specs.Rules.{twin}
-use Rattle.tso_survivors.specs.Back.{Place, placed, byteAt, dependentAt}
-use Rattle.tso_survivors.specs.Far.{twinMoves, startsBy, starts, far}
-use Rattle.tso_survivors.proofs.Back.{Reaches, back-reaches}
+use Rattle.tso_survivors.specs.Far.{Place, placed, byteAt, dependentAt, takenAt, twinMoves, startsBy, starts, far}
 use Rattle.tso_survivors.proofs.TwinTest.{test-tw, tw-fixed}
 
 -- a byte's exchanged move
@@ -48,10 +47,15 @@ unfolding movedByte byteFor
 move-high u t b ne k o = ap₂ byteFor k (ap (swapped u t) o ∙ swapped-high u t ne)
 
 -- passing places is passing their steps
-pub passed-actions : (s : Schedule) (ρ σ : State) (b : ℕ) → Passed (byteAt tso) (dependentAt tso) (trace TSO (placed tso) ρ s) (σ, b) → Passed who dependent (actions ρ s) (action σ b)
-unfolding trace byteAt dependentAt
+pub passed-actions : (s : Schedule) (ρ σ : State) (b : ℕ) → Passed byteAt dependentAt (trace TSO placed ρ s) (σ, b) → Passed who dependent (actions ρ s) (action σ b)
+unfolding trace
 passed-actions [] ρ σ b k = tt
 passed-actions (x ∷ s) ρ σ b k = ((λ e. k .0 (sym (action-who ρ x) ∙ e ∙ action-who σ b)), k .1, passed-actions s (step ρ x) σ b (k .2))
+
+-- an access is never far
+pub far-access : (p : Program) (v : Schedule) (b : ℕ) → kindOf b ≡ access → far p v (endOf p v) b ≡ false
+unfolding far starts startsBy
+far-access p v b k = back-never byteAt dependentAt (starts p) (takenAt p v) (endOf p v, b) (λ q. ap (λ (j : Kind). startsBy p q j (owner b)) k)
 
 module _ (p : Program) (a : Admitted tso p) where
   -- t's move taken at the place, with the end of the whole; u is t's smaller twin there, and its move smaller than the byte taken there
@@ -130,13 +134,13 @@ module _ (p : Program) (a : Admitted tso p) where
 
   -- R2 FAR IS SOUND
   pub far-smaller : Sound tso p (far p)
-  unfolding far starts byteAt
+  unfolding far starts
   far-smaller v b z e f =
-      let r = back-reaches (byteAt tso) (dependentAt tso) (starts p) (trace TSO (placed tso) (start p) v) (endOf p v, b) e in
-      go r (stands TSO (placed tso) v (start p) (r .front) (r .there) (r .rest) (r .split))
+      let r = back-reaches byteAt dependentAt (starts p) (trace TSO placed (start p) v) (endOf p v, b) e in
+      go r (stands TSO placed v (start p) (r .front) (r .there) (r .rest) (r .split))
     where
-      go : (r : Reaches (byteAt tso) (dependentAt tso) (starts p) (trace TSO (placed tso) (start p) v) (endOf p v, b)) → Stands TSO (placed tso) (start p) v (r .front) (r .there) (r .rest) → Smaller tso p (v ++ (b ∷ z))
+      go : (r : Reaches byteAt dependentAt (starts p) (trace TSO placed (start p) v) (endOf p v, b)) → Stands TSO placed (start p) v (r .front) (r .there) (r .rest) → Smaller tso p (v ++ (b ∷ z))
       go r s = by-kind v b z f (s .before) (s .byte) (s .after) (s .split)
           (passed-actions (s .byte ∷ s .after) (endOf p (s .before)) (endOf p v) b
-          (subst (λ (l : List (Place tso)). Passed (byteAt tso) (dependentAt tso) l (endOf p v, b)) (sym (s .rests)) (r .passed)))
-          (kindOf b) refl (subst (λ (q : Place tso). starts p q b ≡ true) (s .does) (r .begins))
+          (subst (λ (l : List Place). Passed byteAt dependentAt l (endOf p v, b)) (sym (s .rests)) (r .passed)))
+          (kindOf b) refl (subst (λ (q : Place). starts p q b ≡ true) (s .does) (r .begins))

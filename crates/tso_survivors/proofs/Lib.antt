@@ -1,8 +1,6 @@
 -- The laws, in reading order.
 -- the definitions computed
 pub mod Examples
--- the set that is carried is the walk back
-pub mod Back
 -- phases: accesses before the first move
 pub mod Phases
 -- twinned threads: they stand alike, and nothing of them is in memory
@@ -11,8 +9,6 @@ pub mod Twinned
 pub mod TwinTest
 -- R2 far is sound
 pub mod Far
--- the far set is R2 far
-pub mod FarSet
 -- the next accesses of twinned threads
 pub mod NextAccess
 -- so they are twinned behind the accesses of a phase
@@ -29,7 +25,5 @@ pub mod ListedSide
 pub mod Tied
 -- THE RULES ARE EXACT
 pub mod Exact
--- so the search finds the same without its test at a full schedule
-pub mod Untested
 -- THE SEARCH FINDS THE LIST
 pub mod Search

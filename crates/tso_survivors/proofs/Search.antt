@@ -1,56 +1,77 @@
--- THE SEARCH FINDS THE LIST, with no test at a full schedule: by every fair rule, and R1, R2, R3 and R2 far together are one.
+-- THE SEARCH FINDS THE LIST, with no test at a full schedule: R1, R2, R3 and R2 far are sound, and what they leave is listed.
 use Prim.Native.Nat.{ℕ}
-use mathlib.Core.Path.{_≡_}
-use mathlib.Core.Bool.{Bool, false}
+use mathlib.Core.Path.{_≡_, sym, subst}
+use mathlib.Core.Bool.{Bool, true, false, _||_}
 use mathlib.Core.Option.{Option}
-use mathlib.Core.List.{[]}
+use mathlib.Core.List.{[], _∷_, _++_, append-assoc}
+use native.Mathlib.Omega.{arith}
 use Rattle.program.specs.Program.{Program}
 use Rattle.program.proofs.Tests.{neither}
 use Rattle.schedules.specs.Lists.{range, any}
 use Rattle.schedules.specs.Order.{Schedule}
-use Rattle.schedules.specs.System.{run}
+use Rattle.schedules.specs.Search.{Uncut}
 use Rattle.schedules.specs.Found.{after}
+use Rattle.schedules.proofs.Lists.{of-range, any-yes}
+use Rattle.schedules.proofs.Runs.{run-snoc}
 use Rattle.model.specs.Laws.{Admitted}
-use Rattle.model.specs.Search.{sought}
+use Rattle.model.specs.Alike.{Smaller}
+use Rattle.model.specs.Search.{Rule, Sound, sought}
+use Rattle.model.proofs.Late.{late-smaller}
+use Rattle.model.proofs.Search as Model
 use Rattle.model.proofs.Search.{either-sound}
-use Rattle.tso.specs.State.{owner}
-use Rattle.tso.specs.Graph.{endOf}
+use Rattle.tso.specs.State.{State, owner, step, start, TSO}
+use Rattle.tso.specs.Graph.{endOf, Full}
 use Rattle.tso.specs.Actions.{action}
 use Rattle.tso_model.specs.TotalStoreOrder.{tso}
-use Rattle.tso_list.specs.Rules as Rules
-use Rattle.tso_list.specs.Rules.{late, taken, twin}
-use Rattle.tso_list.proofs.Search.{given-up-smaller}
+use Rattle.tso_model.proofs.Laws.{tso-laws}
+use Rattle.tso_list.specs.Rules.{late, taken, twin, asleep}
+use Rattle.tso_list.proofs.Twins.{twin-smaller}
+use Rattle.tso_list.proofs.Asleep.{asleep-smaller}
 use Rattle.tso_survivors.specs.Far.{far}
-use Rattle.tso_survivors.specs.Search.{Rule, Fair, found, givenUp}
+use Rattle.tso_survivors.specs.Survivor.{Survives}
+use Rattle.tso_survivors.specs.Search.{found, givenUp}
 use Rattle.tso_survivors.proofs.Far.{far-smaller}
-use Rattle.tso_survivors.proofs.Untested.{untested-is}
-
-module _ (rule : Program → Rule) (p : Program) (a : Admitted tso p) (fair : Fair p (rule p)) where
-  -- WHAT THE SEARCH FINDS, by any fair rule
-  pub found-fair : (failures : Bool) (bound : Option Schedule) → found rule failures p bound ≡ after bound (sought tso failures p)
-  unfolding found run
-  found-fair failures bound = untested-is p a (rule p) fair failures bound
+use Rattle.tso_survivors.proofs.Exact.{survivor-listed}
 
 module _ (p : Program) (a : Admitted tso p) where
-  -- what is not given up by the rules together is given up by none
-  kept : (v : Schedule) (b : ℕ) → givenUp p v (endOf p v) b ≡ false →
-      (late (taken p v) (action (endOf p v) b) ≡ false) × (any (twin p (endOf p v) (owner b)) (range 0 (owner b)) ≡ false) × (far p v (endOf p v) b ≡ false)
-  unfolding givenUp Rules.givenUp
-  kept v b e =
-      let x = neither (Rules.givenUp p v (endOf p v) b) (far p v (endOf p v) b) e in
-      let y = neither (late (taken p v) (action (endOf p v) b)) _ (x .0) in
-      let z = neither (any (twin p (endOf p v) (owner b)) (range 0 (owner b))) _ (y .1) in
-      (y .0, z .0, x .1)
+  -- THE RULES ARE SOUND: R1, R2, R3, R2 far
+  abbrev comes-late : Rule tso
+  comes-late v σ b = late (taken p v) (action σ b)
 
-  -- R1, R2, R3 and R2 far together are fair
-  pub given-up-fair : Fair p (givenUp p)
+  abbrev has-twin : Rule tso
+  has-twin v σ b = any (twin p σ (owner b)) (range 0 (owner b))
+
+  abbrev leaves-asleep : Rule tso
+  leaves-asleep v σ b = any (asleep p (v ++ (b ∷ [])) (step σ b)) (TSO .names)
+
+  twins-sound : Sound tso p has-twin
+  twins-sound v b z q f =
+      let r = any-yes (twin p (endOf p v) (owner b)) (range 0 (owner b)) q in
+      let h = of-range 0 (owner b) (r .0) (r .1) .1 in
+      twin-smaller p a v (r .0) b z (omega (arith, h)) (r .2) f
+
+  asleep-sound : Sound tso p leaves-asleep
+  asleep-sound v b z q f =
+      let r = any-yes (asleep p (v ++ (b ∷ [])) (step (endOf p v) b)) (TSO .names) q in
+      let here : step (endOf p v) b ≡ endOf p (v ++ (b ∷ [])) = sym (run-snoc TSO (start p) v b) in
+      let whole = append-assoc v (b ∷ []) z in
+      subst (Smaller tso p) whole (asleep-smaller p a (v ++ (b ∷ [])) z (r .0) (subst (λ (τ : State). asleep p (v ++ (b ∷ [])) τ (r .0) ≡ true) here (r .2)) (subst (Full p) (sym whole) f))
+
+  pub given-up-smaller : Sound tso p (givenUp p)
   unfolding givenUp
-  given-up-fair = record {
-    on-time = λ v b r m e. kept v b e .0;
-    no-twin = λ v b r m e. kept v b e .1;
-    not-far = λ v b r m e. kept v b e .2;
-    smaller = either-sound tso p (Rules.givenUp p) (far p) (given-up-smaller p a) (far-smaller p a);
-  }
+  given-up-smaller =
+      either-sound tso p comes-late (λ v σ b. has-twin v σ b || (leaves-asleep v σ b || far p v σ b)) (late-smaller tso tso-laws p a)
+      (either-sound tso p has-twin (λ v σ b. leaves-asleep v σ b || far p v σ b) twins-sound (either-sound tso p leaves-asleep (far p) asleep-sound (far-smaller p a)))
 
+  -- what they leave survives, so is listed
+  left-survives : (s : Schedule) → Uncut TSO (start p) (givenUp p) s → Survives p s
+  unfolding givenUp
+  left-survives s u v b z e =
+      let x = neither (comes-late v (endOf p v) b) _ (u v b z e) in
+      let y = neither (has-twin v (endOf p v) b) _ (x .1) in
+      (x .0, y .0, neither (leaves-asleep v (endOf p v) b) _ (y .1) .1)
+
+  -- THE SEARCH FINDS what the list has above the bound, in order, or those of it that fail
   pub found-exactly : (failures : Bool) (bound : Option Schedule) → found givenUp failures p bound ≡ after bound (sought tso failures p)
-  found-exactly = found-fair givenUp p a given-up-fair
+  unfolding found
+  found-exactly = Model.found-exactly tso tso-laws p a givenUp given-up-smaller (λ s f u. survivor-listed p a s f (left-survives s u) .1)

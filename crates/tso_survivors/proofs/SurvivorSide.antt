@@ -23,7 +23,9 @@ use Rattle.model.specs.Laws.{Admitted}
 use Rattle.model.specs.Late.{Timely}
 use Rattle.model.proofs.Exchanges.{members}
 use Rattle.model.proofs.OnTime.{on-time-least}
+use Rattle.model.specs.Back.{back}
 use Rattle.model.proofs.Passing.{Passed}
+use Rattle.model.proofs.Back.{reaches-there}
 use Rattle.model.proofs.Traces.{stands, trace-append}
 use Rattle.sc.proofs.Same.{both-and}
 use Rattle.tso.specs.State.{State, TSO, owner, step, start}
@@ -34,10 +36,8 @@ use Rattle.tso.proofs.Regular.{regular-start, regular-run}
 use Rattle.tso_model.specs.TotalStoreOrder.{tso}
 use Rattle.tso_model.proofs.Laws.{tso-laws}
 use Rattle.tso_list.specs.Rules.{late, twin}
-use Rattle.tso_survivors.specs.Back.{back, Place, placed, byteAt, dependentAt}
-use Rattle.tso_survivors.specs.Far.{twinMoves, startsBy, starts, far}
+use Rattle.tso_survivors.specs.Far.{Place, placed, byteAt, dependentAt, twinMoves, startsBy, starts, far}
 use Rattle.tso_survivors.specs.Survivor.{Survives}
-use Rattle.tso_survivors.proofs.Back.{reaches-there}
 use Rattle.tso_survivors.proofs.Phases.{Over, Pulled, pull}
 use Rattle.tso_survivors.proofs.Twinned.{Tw, kind-16, owner-16}
 use Rattle.tso_survivors.proofs.TwinTest.{tw-test}
@@ -53,8 +53,8 @@ pub survivor-least : (p : Program) → Admitted tso p → (w : Schedule) → Ful
 survivor-least p a w f s = on-time-least tso tso-laws p a w f .0 (survivor-timely p w s)
 
 -- what can be taken over steps passes their places
-over-passed : (d : Action) (t : ℕ) (ω : State) → action ω t ≡ d → (f : Schedule) (σ : State) → Over d σ f t → (List·Memᴰ t f → ⊥) → Passed (byteAt tso) (dependentAt tso) (trace TSO (placed tso) σ f) (ω, t)
-unfolding trace byteAt dependentAt
+over-passed : (d : Action) (t : ℕ) (ω : State) → action ω t ≡ d → (f : Schedule) (σ : State) → Over d σ f t → (List·Memᴰ t f → ⊥) → Passed byteAt dependentAt (trace TSO placed σ f) (ω, t)
+unfolding trace
 over-passed d t ω e [] σ o n = tt
 over-passed d t ω e (x ∷ f) σ o n = ((λ q. n (List·Memᴰ·head (sym q))), ap (dependent (action σ x)) e ∙ o .3, over-passed d t ω e f (step σ x) (o .6) (λ m. n (List·Memᴰ·tail m)))
 
@@ -85,7 +85,7 @@ module _ (p : Program) (a : Admitted tso p) (w : Schedule) (fw : Full p w) (s : 
     -- where t's move could be taken, it goes back to here
     gone-far : (f r : Schedule) → z ≡ f ++ ((t + 16) ∷ r) → Over (action (endOf p v) (t + 16)) (endOf p v) (b ∷ f) (t + 16) → (List·Memᴰ (t + 16) (b ∷ f) → ⊥) →
         action (run TSO (endOf p v) (b ∷ f)) (t + 16) ≡ action (endOf p v) (t + 16) → u + 16 < b → ⊥
-    unfolding far byteAt trace
+    unfolding far trace
     gone-far f r q o n d l = true≢false (sym reached ∙ s (v ++ (b ∷ f)) (t + 16) r whole .2)
       where
         whole : w ≡ (v ++ (b ∷ f)) ++ ((t + 16) ∷ r)
@@ -94,16 +94,16 @@ module _ (p : Program) (a : Admitted tso p) (w : Schedule) (fw : Full p w) (s : 
         there : action (endOf p (v ++ (b ∷ f))) (t + 16) ≡ action (endOf p v) (t + 16)
         there = ap (λ (τ : State). action τ (t + 16)) (run-append TSO (start p) v (b ∷ f)) ∙ d
 
-        pass : Passed (byteAt tso) (dependentAt tso) (trace TSO (placed tso) (endOf p v) (b ∷ f)) (endOf p (v ++ (b ∷ f)), t + 16)
+        pass : Passed byteAt dependentAt (trace TSO placed (endOf p v) (b ∷ f)) (endOf p (v ++ (b ∷ f)), t + 16)
         pass = over-passed (action (endOf p v) (t + 16)) (t + 16) (endOf p (v ++ (b ∷ f))) there (b ∷ f) (endOf p v) o n
 
-        places : trace TSO (placed tso) (start p) (v ++ (b ∷ f)) ≡ trace TSO (placed tso) (start p) v ++ ((endOf p v, b) ∷ trace TSO (placed tso) (step (endOf p v) b) f)
-        places = trace-append TSO (placed tso) v (b ∷ f) (start p)
+        places : trace TSO placed (start p) (v ++ (b ∷ f)) ≡ trace TSO placed (start p) v ++ ((endOf p v, b) ∷ trace TSO placed (step (endOf p v) b) f)
+        places = trace-append TSO placed v (b ∷ f) (start p)
 
         reached : far p (v ++ (b ∷ f)) (endOf p (v ++ (b ∷ f))) (t + 16) ≡ true
         reached =
-            ap (λ (l : List (Place tso)). back (byteAt tso) (dependentAt tso) (starts p) (reverse l) (endOf p (v ++ (b ∷ f)), t + 16)) places
-            ∙ reaches-there (byteAt tso) (dependentAt tso) (starts p) (trace TSO (placed tso) (start p) v) (endOf p v, b) (trace TSO (placed tso) (step (endOf p v) b) f) (endOf p (v ++ (b ∷ f)), t + 16)
+            ap (λ (l : List Place). back byteAt dependentAt (starts p) (reverse l) (endOf p (v ++ (b ∷ f)), t + 16)) places
+            ∙ reaches-there byteAt dependentAt (starts p) (trace TSO placed (start p) v) (endOf p v, b) (trace TSO placed (step (endOf p v) b) f) (endOf p (v ++ (b ∷ f)), t + 16)
             (starts-here l) pass
 
     -- R2 FAR, of twinned threads

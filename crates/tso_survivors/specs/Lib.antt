@@ -1,7 +1,5 @@
 -- What a reader of this crate must believe: nothing that is promised rests on it, only how the search finds it.
--- walking back over the steps taken, and as a set
-pub mod Back
--- R2 far, and the far set
+-- R2 far
 pub mod Far
 -- the schedules that neither R1 nor R2 nor R2 far gives up
 pub mod Survivor

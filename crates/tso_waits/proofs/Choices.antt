@@ -44,10 +44,6 @@ none-farther f may before b e l = set-none (λ t. has may t && (not (eqb b (t + 
     nobody t = equal-tests (any (λ u. f t u && ltb (u + 16) b) (range 0 t)) false
         (λ q. let r = any-yes (λ u. f t u && ltb (u + 16) b) (range 0 t) q in sym (le-ltb (r .0 + 16) b (omega (arith, l))) ∙ both (f t (r .0)) (ltb (r .0 + 16) b) (r .2) .1) (λ q. absurd (false≢true q))
 
-pub or-last : (a b : Bool) → b ≡ true → (a || b) ≡ true
-or-last true b e = refl
-or-last false b e = e
-
 pub or-not : (a b : Bool) → b ≡ false → (a || b) ≡ a
 or-not true b e = refl
 or-not false b e = e

@@ -1,6 +1,4 @@
 -- The laws, in the order in which they rest on each other.
--- the search behind a prefix, with one next byte and at a full schedule
-pub mod Searching
 -- with which next bytes something is found
 pub mod TriedBytes
 -- how many steps a prefix has, and whether it has ended

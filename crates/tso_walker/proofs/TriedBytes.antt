@@ -11,15 +11,15 @@ use Rattle.schedules.specs.Lists.{range, any}
 use Rattle.schedules.specs.Order.{Schedule}
 use Rattle.schedules.proofs.Runs.{run-snoc}
 use Rattle.model.proofs.Permitted.{or-left, or-right}
+use Rattle.model.proofs.Searching.{with-ended, with-given-up}
 use Rattle.tso.specs.State.{State, TSO, owner, step, enabled, start}
 use Rattle.tso.specs.Graph.{endOf}
 use Rattle.tso.specs.Actions.{action}
-use Rattle.tso_list.specs.Rules as Rules
+use Rattle.tso_model.specs.TotalStoreOrder.{tso}
 use Rattle.tso_list.specs.Rules.{late, taken, twin, asleep}
 use Rattle.tso_survivors.specs.Far.{far}
 use Rattle.tso_survivors.specs.Search.{givenUp, foundWith}
 use Rattle.tso_rules.specs.Tried.{tried}
-use Rattle.tso_walker.proofs.Searching.{with-ended, with-given-up}
 
 module _ (p : Program) (v : Schedule) (b : ℕ) where
   abbrev σ : State
@@ -38,25 +38,21 @@ module _ (p : Program) (v : Schedule) (b : ℕ) where
   there = ap (λ (τ : State). any (asleep p (v ++ (b ∷ [])) τ) (TSO .names)) (sym (run-snoc TSO (start p) v b))
 
   -- ---- what a rule gives up
-  up-rule : Rules.givenUp p v (endOf p v) b ≡ true → givenUp p v (endOf p v) b ≡ true
-  unfolding givenUp
-  up-rule e = or-left (Rules.givenUp p v σ b) (far p v σ b) e
-
   up-late : late (taken p v) (action (endOf p v) b) ≡ true → givenUp p v (endOf p v) b ≡ true
-  unfolding Rules.givenUp
-  up-late e = up-rule (or-left comes-late _ e)
+  unfolding givenUp
+  up-late e = or-left comes-late _ e
 
   up-twin : any (twin p (endOf p v) (owner b)) (range 0 (owner b)) ≡ true → givenUp p v (endOf p v) b ≡ true
-  unfolding Rules.givenUp
-  up-twin e = up-rule (or-right comes-late _ (or-left has-twin _ e))
+  unfolding givenUp
+  up-twin e = or-right comes-late _ (or-left has-twin _ e)
 
   pub up-asleep : any (asleep p (v ++ (b ∷ [])) (endOf p (v ++ (b ∷ [])))) (TSO .names) ≡ true → givenUp p v (endOf p v) b ≡ true
-  unfolding Rules.givenUp
-  up-asleep e = up-rule (or-right comes-late _ (or-right has-twin _ (there ∙ e)))
+  unfolding givenUp
+  up-asleep e = or-right comes-late _ (or-right has-twin _ (or-left (any (asleep p (v ++ (b ∷ [])) (step σ b)) (TSO .names)) _ (there ∙ e)))
 
   up-far : far p v (endOf p v) b ≡ true → givenUp p v (endOf p v) b ≡ true
   unfolding givenUp
-  up-far e = or-right (Rules.givenUp p v σ b) (far p v σ b) e
+  up-far e = or-right comes-late _ (or-right has-twin _ (or-right (any (asleep p (v ++ (b ∷ [])) (step σ b)) (TSO .names)) _ e))
 
   -- ---- what a byte that is tried is not
   parts : tried p v b ≡ true → (enabled (endOf p v) b ≡ true) × (comes-late ≡ false) × (has-twin ≡ false) × (far p v (endOf p v) b ≡ false)
@@ -71,7 +67,7 @@ module _ (p : Program) (v : Schedule) (b : ℕ) where
   tried-enabled e = parts e .0
 
   pub up-not : tried p v b ≡ true → any (asleep p (v ++ (b ∷ [])) (endOf p (v ++ (b ∷ [])))) (TSO .names) ≡ false → givenUp p v (endOf p v) b ≡ false
-  unfolding givenUp Rules.givenUp
+  unfolding givenUp
   up-not e s =
       let q = parts e in
       let z = there ∙ s in
@@ -87,8 +83,8 @@ module _ (p : Program) (v : Schedule) (b : ℕ) where
     where
       go : (m : Bool) → enabled (endOf p v) b ≡ m → (l : Bool) → comes-late ≡ l → (t : Bool) → has-twin ≡ t → (f : Bool) → far p v (endOf p v) b ≡ f
           → foundWith givenUp failures p steps o v b ≡ []
-      go false em l el t et f ef = with-ended failures p steps o v b em
-      go true em true el t et f ef = with-given-up failures p steps o v b em (up-late el)
-      go true em false el true et f ef = with-given-up failures p steps o v b em (up-twin et)
-      go true em false el false et true ef = with-given-up failures p steps o v b em (up-far ef)
+      go false em l el t et f ef = with-ended tso givenUp failures p steps o v b em
+      go true em true el t et f ef = with-given-up tso givenUp failures p steps o v b em (up-late el)
+      go true em false el true et f ef = with-given-up tso givenUp failures p steps o v b em (up-twin et)
+      go true em false el false et true ef = with-given-up tso givenUp failures p steps o v b em (up-far ef)
       go true em false el false et false ef = absurd (true≢false (sym (all-pass em el et ef) ∙ e))

@@ -24,7 +24,7 @@ use Rattle.tso_prefix.specs.Reached.{Reached}
 use Rattle.tso_prefix.specs.declared.place.Place.{Place}
 use Rattle.tso_rules.specs.Tried.{tried}
 use Rattle.tso_walker.specs.Rows.{Adds}
-use Rattle.tso_walker.proofs.Searching.{with-given-up, with-live, behind-bound, behind-branches}
+use Rattle.model.proofs.Searching.{with-given-up, with-live, behind-bound, behind-branches}
 use Rattle.tso_walker.proofs.TriedBytes.{up-asleep, up-not, tried-enabled, untried-none}
 
 -- ---- with one next byte
@@ -32,7 +32,7 @@ module _ (code lengths class : List ℕ) (threads groups : ℕ) (x : Place) (p :
     (failures : Bool) (o : Option Schedule) (b : ℕ) (is : tried p v b ≡ true) where
   -- it leaves some asleep
   pub visit-asleep : any (asleep p (v ++ (b ∷ [])) (endOf p (v ++ (b ∷ [])))) (TSO .names) ≡ true → foundWith givenUp failures p (x .steps) o v b ≡ []
-  visit-asleep e = with-given-up failures p (x .steps) o v b (tried-enabled p v b is) (up-asleep p v b e)
+  visit-asleep e = with-given-up tso givenUp failures p (x .steps) o v b (tried-enabled p v b is) (up-asleep p v b e)
 
   -- behind the step, at the place y
   module _ (y : Place) (next : Reached code lengths class threads groups y p (v ++ (b ∷ []))) where
@@ -48,7 +48,7 @@ module _ (code lengths class : List ℕ) (threads groups : ℕ) (x : Place) (p :
         → (still : Bool) (bound : List ℕ) → boundAt still bound (x .steps + 1) ≡ past o b
         → foundWith givenUp failures p (x .steps) o v b ≡ foundBehind givenUp failures p (y .steps) (boundAt still bound (y .steps)) (v ++ (b ∷ []))
     visit-on c still bound e =
-        with-live failures p (x .steps) o v b (tried-enabled p v b is) (up-not p v b is c)
+        with-live tso givenUp failures p (x .steps) o v b (tried-enabled p v b is) (up-not p v b is c)
         ∙ ap (λ (q : Option Schedule). foundBehind givenUp failures p (x .steps + 1) q (v ++ (b ∷ []))) (sym e)
         ∙ ap (λ (k : ℕ). foundBehind givenUp failures p k (boundAt still bound k) (v ++ (b ∷ []))) (sym next-steps)
 
@@ -57,7 +57,7 @@ module _ (code lengths class : List ℕ) (threads groups : ℕ) (x : Place) (p :
 pub bound-met : (failures : Bool) (p : Program) (steps : ℕ) (v : Schedule) (b : List ℕ) → ended TSO (endOf p v) ≡ true
     → foundBehind givenUp failures p steps (boundAt true b steps) v ≡ []
 unfolding boundAt
-bound-met failures p steps v b e = behind-bound failures p steps v (drop steps b) e
+bound-met failures p steps v b e = behind-bound tso givenUp failures p steps v (drop steps b) e
 
 -- apart from it
 pub bound-apart : (failures : Bool) (p : Program) (steps : ℕ) (v : Schedule) (b : List ℕ)
@@ -89,7 +89,7 @@ module _ (code lengths class : List ℕ) (failures : Bool) (x : Place) (o : Opti
       → x .steps < 32 → t ≡ low o → Still out₀ rows t
   rest-start t e h q =
       Loop.rest-start 48 (Cases code lengths class x) (λ k. failing tso (k .2)) 22 room each whole out₀ rows t
-      (λ k. behind-branches failures (k .2) (x .steps) (k .3) o (e (k .0) (k .1) (k .2) (k .3) (k .4)) h ∙ ap (λ (d : ℕ). concatRange (each k) (22 - d) d) (sym q))
+      (λ k. behind-branches tso givenUp failures (k .2) (x .steps) (k .3) o (e (k .0) (k .1) (k .2) (k .3) (k .4)) h ∙ ap (λ (d : ℕ). concatRange (each k) (22 - d) d) (sym q))
 
   pub iteration-tried : (out out' behind : List ℕ) (n n' k t : ℕ) → t < 22 → length out ≡ length out₀ → Still out n t
       → n' ≤ room → length out' ≡ length out

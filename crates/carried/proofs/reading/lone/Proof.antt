@@ -1,6 +1,6 @@
 -- `lone` is its definition.
 use borrow.Author.Needs.{needs}
-use Rattle.survivors.specs.ReadWords.{lone}
+use Rattle.survivors.specs.ThreadWords.{lone}
 use Rattle.carried.proofs.reading.lone.Statement.{statement}
 use Rattle.carried.proofs.reading.lone.Tie as tie
 

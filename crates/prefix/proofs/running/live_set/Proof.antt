@@ -12,8 +12,7 @@ use Rattle.machine.specs.Held.{idle, Holds}
 use Rattle.machine.specs.declared.state.Machine.{Machine}
 use Rattle.machine.proofs.HeldAsking.{enabled-held}
 use Rattle.survivors.specs.Sets.{setOf}
-use Rattle.survivors.proofs.Sets.{set-none}
-use Rattle.prefix.proofs.LiveSet.{set-grown, bound-grown}
+use Rattle.survivors.proofs.Sets.{set-none, set-grown, bound-grown}
 use Rattle.prefix.proofs.running.live_set.Statement.{statement}
 use Rattle.prefix.proofs.running.live_set.Tie as tie
 

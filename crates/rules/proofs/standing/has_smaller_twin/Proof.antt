@@ -4,7 +4,8 @@ use Prim.Native.Nat.{ℕ}
 use mathlib.Core.Path.{_≡_, sym, ap, _∙_}
 use mathlib.Core.List.{List}
 use Rattle.schedules.specs.Lists.{range, any}
-use Rattle.rules.proofs.HeldTwins.{sharing, twins-held}
+use Rattle.survivors.specs.ThreadWords.{twinByWord}
+use Rattle.rules.proofs.HeldTwins.{twins-held}
 use Rattle.rules.proofs.standing.has_smaller_twin.Statement.{statement}
 use Rattle.rules.proofs.standing.has_smaller_twin.Tie as tie
 
@@ -12,7 +13,7 @@ returns : tie.Need-returns
 returns c =
     let a = c .before .args in
     λ code lengths threads groups x p v r ew.
-    c .has-same-word .ensures groups p (r .lines) ∙ ap (λ (ws : List ℕ). any (sharing p ws (a .t)) (range 0 (a .t))) (sym ew)
+    c .has-same-word .ensures groups p (r .lines) ∙ ap (λ (ws : List ℕ). any (twinByWord p ws (a .t)) (range 0 (a .t))) (sym ew)
     ∙ twins-held code lengths (a .class .now) threads groups x p v r (a .t) (c .before .pre)
 
 pub has-smaller-twin-spec : {M : Type 1} → statement M

@@ -6,7 +6,7 @@ use mathlib.Core.Bool.{Bool, cond, not, true, false, _&&_, _||_}
 use lib.Dec.{eqb, ltb}
 use Rattle.survivors.specs.Sets.{has, setOf}
 use Rattle.schedules.specs.Lists.{range, any}
-use Rattle.tso_carried.specs.ReadWords.{twinByWord}
+use Rattle.survivors.specs.ThreadWords.{twinByWord}
 use Rattle.tso_waits.proofs.Choices.{none-farther}
 use Rattle.tso_prefix.proofs.choosing.farther.Statement.{statement}
 use Rattle.tso_prefix.proofs.choosing.farther.Tie as tie

@@ -8,8 +8,9 @@ use native.Mathlib.Omega.{arith}
 use lib.Dec.{eqb, ltb}
 use Rattle.survivors.specs.Sets.{has, setOf}
 use Rattle.schedules.specs.Lists.{range, any}
-use Rattle.tso_carried.specs.ReadWords.{twinByWord}
-use Rattle.tso_waits.proofs.Choices.{or-last, or-not, any-cut}
+use Rattle.survivors.specs.ThreadWords.{twinByWord}
+use Rattle.model.proofs.Permitted.{or-right}
+use Rattle.tso_waits.proofs.Choices.{or-not, any-cut}
 use Rattle.tso_prefix.proofs.choosing.is_farther.Statement.{statement}
 use Rattle.tso_prefix.proofs.choosing.is_farther.Tie as tie
 
@@ -23,13 +24,12 @@ returns-3 : tie.Need-returns-3
 returns-3 c =
     let a = (c .before .before .before .before .before .args) in
     let q = sym ((c .before .before .before .before .is-in) .ensures) ∙ not-false _ ((c .before .before .before .if1) .left) in
-    λ groups p lines. rw (q, ne-eqb _ _ ((c .before .before .if2) .left)) (sym (or-last (any (λ u. twinByWord p (a .words .now) (a .t) u && ltb (u + 16) (a .b)) (range 0 (a .t))) (has (a .before) (a .t)) (sym ((c .before .is-in2) .ensures) ∙ (c .if3) .taken)))
+    λ groups p lines. rw (q, ne-eqb _ _ ((c .before .before .if2) .left)) (sym (or-right (any (λ u. twinByWord p (a .words .now) (a .t) u && ltb (u + 16) (a .b)) (range 0 (a .t))) (has (a .before) (a .t)) (sym ((c .before .is-in2) .ensures) ∙ (c .if3) .taken)))
 
 has-same-word-requires : tie.Need-has-same-word-requires
 has-same-word-requires c κs = ((c .before .before .before .before .before .before .pre), (c .moves-below) .ensures .0)
 
 returns-4 : tie.Need-returns-4
-unfolding twinByWord
 returns-4 c =
     let a = (c .before .before .before .before .before .before .before .args) in
     let q = sym ((c .before .before .before .before .before .before .is-in) .ensures) ∙ not-false _ ((c .before .before .before .before .before .if1) .left) in

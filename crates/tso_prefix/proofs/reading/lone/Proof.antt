@@ -1,6 +1,6 @@
 -- `lone` is its definition.
 use borrow.Author.Needs.{needs}
-use Rattle.tso_carried.specs.ReadWords.{lone}
+use Rattle.survivors.specs.ThreadWords.{lone}
 use Rattle.tso_prefix.proofs.reading.lone.Statement.{statement}
 use Rattle.tso_prefix.proofs.reading.lone.Tie as tie
 

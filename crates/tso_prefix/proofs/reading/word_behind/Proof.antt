@@ -2,7 +2,7 @@
 use borrow.Author.Needs.{needs}
 use borrow.Author.Tests.{eq-eqb, ne-eqb, lt-ltb, le-ltb, not-true, not-false}
 use mathlib.Core.Path.{_≡_, refl, sym, ap, _∙_}
-use Rattle.tso_carried.specs.ReadWords.{wordBehind}
+use Rattle.survivors.specs.ThreadWords.{wordBehind}
 use Rattle.tso_prefix.proofs.reading.word_behind.Statement.{statement}
 use Rattle.tso_prefix.proofs.reading.word_behind.Tie as tie
 

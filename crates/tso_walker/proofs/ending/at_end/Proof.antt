@@ -11,7 +11,8 @@ use Rattle.tso.specs.State.{fails}
 use Rattle.tso_model.specs.TotalStoreOrder.{tso}
 use Rattle.pages.specs.Rows.{rowOf}
 use Rattle.pages.proofs.AddedRows.{adds-none, adds-full, adds-one}
-use Rattle.tso_walker.proofs.Searching.{behind-end, behind-passed}
+use Rattle.model.proofs.Searching.{behind-end, behind-passed}
+use Rattle.tso_survivors.specs.Search.{givenUp}
 use Rattle.tso_walker.proofs.ending.at_end.Statement.{statement}
 use Rattle.tso_walker.proofs.ending.at_end.Tie as tie
 
@@ -30,7 +31,7 @@ returns-2 c =
       λ code lengths class threads groups p v at e.
           let f : failing tso p v ≡ c .before .before .fails .result = sym (c .before .before .fails .ensures ∙ fails-by (at .holds .core)) in
           adds-none 48 (failing tso p) (a .a .room) _ (a .out .now) (a .a .rows)
-          (behind-passed (a .a .failures) p (a .x .steps) v (c .before .before .fails .result) e f (sym (c .before .is-meant .ensures) ∙ not-true _ (c .if2 .taken))),
+          (behind-passed tso givenUp (a .a .failures) p (a .x .steps) v (c .before .before .fails .result) e f (sym (c .before .is-meant .ensures) ∙ not-true _ (c .if2 .taken))),
     )
 
 array-share-prefix-schedule : tie.Need-array-share-prefix-schedule
@@ -59,7 +60,7 @@ returns-3 c = (
       let f : failing tso p v ≡ failed .result = sym (failed .ensures ∙ fails-by (at .holds .core)) in
       let w = at .schedule in
       adds-one 48 (failing tso p) (a .a .room) _ v (a .out .now) (c .before .before .put-row .last .0) (a .a .rows)
-      (behind-end (a .a .failures) p (a .x .steps) v (failed .result) e f (sym (c .before .before .before .before .before .before .before .is-meant .ensures) ∙ not-false _ (c .before .before .before .before .before .before .if2 .left)))
+      (behind-end tso givenUp (a .a .failures) p (a .x .steps) v (failed .result) e f (sym (c .before .before .before .before .before .before .before .is-meant .ensures) ∙ not-false _ (c .before .before .before .before .before .before .if2 .left)))
       (c .before .before .before .before .before .before .before .before .before .before .before .before .if1 .left) (c .before .before .put-row .ensures ∙ rw (w, f)),
 )
 

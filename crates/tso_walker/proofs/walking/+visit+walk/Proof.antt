@@ -13,7 +13,8 @@ use Rattle.model.specs.Model.{failing}
 use Rattle.tso_model.specs.TotalStoreOrder.{tso}
 use Rattle.pages.specs.Bounds.{boundAt}
 use Rattle.pages.proofs.AddedRows.{adds-none, adds-same}
-use Rattle.tso_walker.proofs.Searching.{behind-stuck}
+use Rattle.model.proofs.Searching.{behind-stuck}
+use Rattle.tso_survivors.specs.Search.{givenUp}
 use Rattle.tso_walker.proofs.TriedBytes.{tried-enabled}
 use Rattle.tso_walker.proofs.ReachedEnd.{reached-most}
 use Rattle.tso_walker.proofs.WalkLoop.{visit-asleep, visit-less, visit-on, bound-met, bound-apart, Rest, rest-start, iteration-tried, iteration-skipped, rest-over, rest-full}
@@ -156,7 +157,7 @@ walk-returns-3 t c =
     let a = c .before .before .before .before .before .before .args in (
       pre .1 .2,
       λ threads groups p v at. adds-none 48 (failing tso p) (a .a .room) _ (a .out .now) (a .a .rows)
-          (behind-stuck (a .a .failures) p (a .t5 .steps) v (boundAt (a .a .tight) (a .bound .now) (a .t5 .steps))
+          (behind-stuck tso givenUp (a .a .failures) p (a .t5 .steps) v (boundAt (a .a .tight) (a .bound .now) (a .t5 .steps))
           (sym (c .before .before .is-over .ensures (a .code .now) (a .lengths .now) (a .class .now) threads groups (a .t5) p v at refl) ∙ c .before .if1 .left) (c .if3 .taken)),
     )
 
