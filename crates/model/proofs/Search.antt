@@ -95,8 +95,3 @@ pub sought-ascends : (M : Model) (L : Laws M) (failures : Bool) (p : Program) �
 unfolding sought
 sought-ascends M L false p = list-ascends M L p
 sought-ascends M L true p = ascends-filter less (failing M p) (listOf M p) (list-ascends M L p)
-
--- behind a member of what is above a bound stands the rest
-pub sought-on : (M : Model) (L : Laws M) (p : Program) (failures : Bool) (o : Option Schedule) (xs : List Schedule) (s : Schedule) (ys : List Schedule) →
-    after o (sought M failures p) ≡ xs ++ (s ∷ ys) → after (some s) (sought M failures p) ≡ ys
-sought-on M L p failures o xs s ys e = after-on o (sought M failures p) xs s ys (sought-ascends M L failures p) e

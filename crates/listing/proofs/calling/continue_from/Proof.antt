@@ -14,7 +14,7 @@ use Rattle.listing.proofs.calling.continue_from.Statement.{statement}
 use Rattle.listing.proofs.calling.continue_from.Tie as tie
 
 continued-requires : tie.Need-continued-requires
-continued-requires c κs = answer-listed (c .before .before .before .before .admitted .result) (c .before .before .before .before .before .before .before .before .args .file .now) (c .before .before .before .before .admitted .ensures) (c .before .before .enum-told .given .1)
+continued-requires c κs = answer-listed (modelOf (c .before .before .before .before .before .before .before .before .args .model)) (model-laws (c .before .before .before .before .before .before .before .before .args .model)) (c .before .before .before .before .admitted .result) (c .before .before .before .before .before .before .before .before .args .file .now) (c .before .before .before .before .admitted .ensures) (c .before .before .enum-told .given .1)
 
 returns : tie.Need-returns
 unfolding listAnswerOf
