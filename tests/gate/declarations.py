@@ -1,9 +1,9 @@
 """What the crates declare, and the statement of each declaration, for the gate's checks.
 
 Of a file of specs or proofs: definitions (marked `unfoldable` or `abbrev`), laws (not marked), records with their fields, data with
-their constructors. Of a file of code: functions, each with its contract, and declared types. The statement of a law is its type; of
-a definition its type and its clauses; of a record or data all of it; of a function its contract; of a declared type its text. A
-`module` block's parameters belong to the statement of whatever stands in it. A line `unfolding ..` belongs to no statement.
+their constructors. Of a file of code: functions, each with its contract, calls for C, declared types, constants. A declaration is kept in
+the parts that are read apart: its type, its clauses, and the parameters of the `module` blocks around it. A line `unfolding ..` belongs
+to none of them.
 """
 import re
 from dataclasses import dataclass, field
@@ -145,8 +145,6 @@ def read_antt(crate, path, text):
             blocks.append((indent_of(plain[number]), header, name))
         else:
             item.type, *item.clauses = divided(plain, number, end, name)
-        if kind == 'law':
-            item.last = min(end, number + item.type.rstrip().count('\n'))
         declared.append(item)
     return declared
 
@@ -180,18 +178,21 @@ def brought_types(text):
     return found
 
 
-def files(root, antt='antt', code='rt'):
-    """Every file of the crates: (crate, 'specs.File'), (crate, 'proofs.File') or (crate, 'src.file')."""
+def read(texts):
+    """The files of the crates by their texts, each as (crate, 'specs.File'), (crate, 'proofs.File') or (crate, 'src.file')."""
     found = {}
-    for ending in (antt, code):
-        for file in sorted(root.glob(f'crates/*/*/**/*.{ending}')):
-            crate, *parts = file.relative_to(root / 'crates').with_suffix('').parts
-            path, text = '.'.join(parts), file.read_text(encoding='utf-8')
-            place = str(file.relative_to(root))
-            if ending == antt:
-                found[crate, path] = File(place, text.split('\n'), laws_only.Module(text), read_antt(crate, path, text), {})
-            else:
-                ghosts = GHOST_USE.sub(r'\1', RUST_USE.sub('', REMARK.sub('', text)))
-                found[crate, path] = File(place, text.split('\n'), laws_only.Module(ghosts), read_code(crate, path, text),
-                                          brought_types(text))
+    for place, text in texts.items():
+        _, crate, *parts = place.rpartition('.')[0].split('/')
+        path = '.'.join(parts)
+        if place.endswith('.antt'):
+            found[crate, path] = File(place, text.split('\n'), laws_only.Module(text), read_antt(crate, path, text), {})
+        else:
+            ghosts = GHOST_USE.sub(r'\1', RUST_USE.sub('', REMARK.sub('', text)))
+            found[crate, path] = File(place, text.split('\n'), laws_only.Module(ghosts), read_code(crate, path, text), brought_types(text))
     return found
+
+
+def files(root):
+    """Every file of the repository's crates."""
+    paths = [path for ending in ('antt', 'rt') for path in sorted(root.glob(f'crates/*/*/**/*.{ending}'))]
+    return read({path.relative_to(root).as_posix(): path.read_text(encoding='utf-8') for path in paths})

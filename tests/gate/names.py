@@ -1,9 +1,10 @@
 """Which declarations a statement names, and all that follow from them.
 
-A name is bound where a binder `(x : T)`, a `λ`, a `let` or a clause's pattern brings it, as far as the bracket around it; a bound name
-names nothing. So do a projection ` .field` and the label of a record's literal or of an implicit argument, `{field = ..}`. Every other
+A name is bound where a binder `(x : T)`, a `λ`, a `let`, a clause's pattern or that of an arm `[ pattern ↦ .. | .. ]` brings it, as far
+as the bracket around it; a bound name names nothing. So do a projection ` .field` and the label of a record's literal or of an implicit argument, `{field = ..}`. Every other
 name is read as the prover reads it: declared in its file, else brought by a `use` line and through the `pub use` lines on the way.
-A constructor stands for its data, a field for its record, a variant for its declared type.
+A constructor stands for its data, a field for its record, a variant for its declared type. A law is named by no statement: where a
+definition cites one it does so as a proof.
 """
 import re
 
@@ -14,14 +15,16 @@ NAME = declarations.NAME
 TOKEN = re.compile(rf'\.{NAME}|{NAME}(?:\.{NAME})*|[(){{}};,.]')
 SIGNS = {'=', ':', '→', '×', '⊎', 'in', 'record', 'where', 'Type', 'let', 'λ'}
 OWNED = {'field', 'constructor'}
+FACTS = {'≡', '≢', '↔', '≤', '<', '⊥'}
 
 
 class Scope:
     """The names bound so far, a set for each open bracket; what `(x : T)` binds holds in the bracket around it."""
 
-    def __init__(self, bound=()):
+    def __init__(self, bound=(), is_constructor=lambda name: False):
         self.frames = [set(bound)]
         self.binders = []
+        self.is_constructor = is_constructor
 
     def binds(self, name):
         return any(name in frame for frame in self.frames)
@@ -37,6 +40,12 @@ class Scope:
         if self.binders:
             self.frames.pop()
             self.bind(self.binders.pop())
+
+    def match(self, pattern):
+        """The constructors of a pattern; its other names are bound."""
+        names = [token for token in pattern if token not in SIGNS and token[0] not in '(){};,.']
+        self.bind(name for name in names if not self.is_constructor(name))
+        return [name for name in names if self.is_constructor(name)]
 
     def next_part(self):
         """Behind a comma or a semicolon inside brackets what was bound since the bracket opened no longer is."""
@@ -79,6 +88,12 @@ def free(tokens, scope):
             scope.leave()
         elif token in (';', ','):
             scope.next_part()
+        elif token == '[' or (token == '|' and scope.binders):
+            scope.enter([]) if token == '[' else scope.next_part()
+            pattern, at = up_to(tokens, at, '↦')
+            yield from scope.match(pattern)
+        elif token == ']':
+            scope.leave()
         elif token == 'λ' and behind != '(':
             names, at = up_to(tokens, at, '.')
             scope.bind(names)
@@ -100,6 +115,12 @@ def left_and_right(tokens):
         if token == '=' and depth == 0:
             return tokens[1:at], tokens[at + 1:]
     return tokens[1:], []
+
+
+def is_definition(item):
+    """Whether a declaration that a statement names has to be read, with its clauses: what is not marked is a law where its type says a
+    fact, and a law is proved."""
+    return item.kind != 'law' or not FACTS & set(tokens_of(item.type))
 
 
 class Names:
@@ -153,64 +174,66 @@ class Names:
         """The declaration that has to be read for this one: a field's record, a constructor's data."""
         return self.files[item.place[:2]].named(item.owner) if item.kind in OWNED and item.owner else item
 
-    def patterns(self, key, tokens, scope):
-        """What a clause's patterns name: constructors; all else is bound."""
-        for token in tokens:
-            if token in '(){};,.' or token in SIGNS or token[0] == '.':
-                continue
-            item = self.lead(key, token)
-            if item is not None and item.kind in ('constructor', 'type'):
-                yield token
-            else:
-                scope.bind([token])
+    def is_constructor(self, key):
+        """Whether a name of a file is a constructor: a pattern's other names are its variables."""
+        def of(name):
+            item = self.lead(key, name)
+            return item is not None and item.kind in ('constructor', 'type')
+        return of
 
-    def words(self, item):
+    def contract(self, item):
+        """The words of a function's contract: the types of its parameters and answer, and its clauses, in which its parameters are bound."""
+        signature, *clauses = re.split(r'(?=\b(?:requires|ensures)\b)', item.type)
+        yield from re.findall(r'\b[A-Z]\w*', signature)
+        bound = re.findall(r'(\w+)\s*:(?!:)', signature)
+        for clause in clauses:
+            yield from free(tokens_of(clause.partition('{')[2]), Scope(bound, self.is_constructor(item.place[:2])))
+
+    def children(self, item):
+        """The fields of a record, the constructors of data."""
+        return [child for child in self.files[item.place[:2]].declared
+                if child.owner == item.place[2] and item.first < child.first <= item.last]
+
+    def words(self, item, with_clauses):
         """The words of a declaration's statement that are not bound in it."""
-        key, scope = item.place[:2], Scope()
-        yield from free(tokens_of(item.around), scope)
-        outer = set().union(*scope.frames)
         if item.kind in ('function', 'call'):
-            signature, *clauses = re.split(r'(?=\b(?:requires|ensures)\b)', item.type)
-            yield from re.findall(r'\b[A-Z]\w*', signature)
-            bound = re.findall(r'(\w+)\s*:(?!:)', signature)
-            for clause in clauses:
-                yield from free(tokens_of(clause.partition('{')[2]), Scope(bound))
+            yield from self.contract(item)
             return
-        if item.kind == 'type':
+        if item.kind in ('type', 'constant'):
             yield from re.findall(r'\b[A-Z]\w*', item.type)
             return
+        is_constructor = self.is_constructor(item.place[:2])
+        scope = Scope((), is_constructor)
+        yield from free(tokens_of(item.around), scope)
+        outer = set(scope.frames[0])
         yield from free(tokens_of(item.type), scope)
-        for clause in item.clauses if item.kind == 'definition' else ():
+        for clause in item.clauses if with_clauses else ():
             left, right = left_and_right(tokens_of(clause))
-            inner = Scope(outer)
-            yield from self.patterns(key, left, inner)
+            inner = Scope(outer, is_constructor)
+            yield from inner.match(left)
             yield from free(right, inner)
-        if item.kind in ('record', 'data'):
-            bound = set().union(*scope.frames)
-            for child in self.files[key].declared:
-                if child.owner == item.place[2] and item.first < child.first <= item.last:
-                    yield from free(tokens_of(child.type), Scope(bound))
-                    if child.kind == 'field':
-                        bound.add(child.place[2])
+        bound = set(scope.frames[0])
+        for child in self.children(item) if item.kind in ('record', 'data') else ():
+            yield from free(tokens_of(child.type), Scope(bound, is_constructor))
+            if child.kind == 'field':
+                bound.add(child.place[2])
 
-    def of(self, item):
-        """The places of what a declaration's statement names."""
-        if item.place not in self.named:
-            found = {}
-            for word in set(self.words(item)):
-                other = self.lead(item.place[:2], word)
-                other = self.whole(other) if other else None
-                if other is not None and other.place != item.place:
-                    found[other.place] = other
-            self.named[item.place] = found
-        return self.named[item.place]
+    def of(self, item, with_clauses):
+        """What a declaration's statement names, by place; laws are left out."""
+        key = (item.place, item.first, with_clauses)
+        if key not in self.named:
+            led = [self.lead(item.place[:2], word) for word in set(self.words(item, with_clauses))]
+            led = [self.whole(other) for other in led if other is not None]
+            self.named[key] = {other.place: other for other in led if is_definition(other)}
+        return self.named[key]
 
     def reached(self, items):
-        """All definitions, records, data, laws and declared types that these statements lead to, by place; these themselves are not in it."""
-        todo, seen = [other for item in items for other in self.of(item).values()], {}
+        """All that these statements lead to, by place. Of a law that is asked for its type counts, of all else the clauses too."""
+        todo = [other for item in items for other in self.of(item, item.kind != 'law').values()]
+        seen = {}
         while todo:
             item = todo.pop()
             if item.place not in seen:
                 seen[item.place] = item
-                todo += self.of(item).values()
+                todo += self.of(item, True).values()
         return seen
