@@ -2,8 +2,8 @@
 """The gate: every check of the repository, one after the other. A failed check does not stop the later ones.
 
 The very last line is `N passed, M failed`; the exit status is 0 exactly when M is 0. N counts what rt proves and refuses,
-the must-fail edits that were refused for the right reason, that the crates of laws_only.txt cite only laws of others, and the
-Rust tests. pins.txt says how many tests and edits there must be at least, and on which axioms the proofs may rest.
+the must-fail edits that were refused for the right reason, the checks of texts (what crates open of each other, claims, what has
+to be believed, crates.txt, its drawing, long lines), and the Rust tests. pins.txt says how many tests and edits there must be at least, and on which axioms the proofs may rest.
 """
 import os
 import re
@@ -13,8 +13,13 @@ import sys
 from pathlib import Path
 
 sys.dont_write_bytecode = True
+import belief  # noqa: E402
 import claims  # noqa: E402
+import crates  # noqa: E402
+import declarations  # noqa: E402
+import drawing  # noqa: E402
 import laws_only  # noqa: E402
+import lines as long_lines  # noqa: E402
 import must_fail  # noqa: E402
 import printed  # noqa: E402
 
@@ -93,22 +98,37 @@ def every_crate_is_listed(tally):
             tally.fail(f'crates.txt lists {name}, and there is no crates/{name}')
 
 
+def counted(tally, wrong, passed_over=()):
+    """One check more that passed, or all that is wrong; what was passed over is told."""
+    for why in wrong:
+        tally.fail(why)
+    for what in passed_over:
+        tally.note(what)
+    if not wrong:
+        tally.add(1, 0)
+
+
 def only_laws(tally):
     """The crates of laws_only.txt open no definition of another crate."""
-    wrong = laws_only.said(ROOT)
-    for why in wrong:
-        tally.fail(why)
-    if not wrong:
-        tally.add(1, 0)
+    counted(tally, laws_only.said(ROOT))
 
 
-def claimed(tally):
-    """Each name that CLAIMS claims stands in the file beside it."""
-    wrong = claims.said(ROOT)
-    for why in wrong:
-        tally.fail(why)
-    if not wrong:
-        tally.add(1, 0)
+def claimed_and_believed(tally):
+    """Each name that CLAIMS claims is declared in the file beside it; what promises lead to stands where it may, and is counted in CLAIMS."""
+    files = declarations.files(ROOT)
+    counted(tally, claims.said(ROOT, files))
+    counted(tally, *belief.said(ROOT, files))
+
+
+def arrows(tally):
+    """crates.txt has what the crates' files name, and the drawing is its own."""
+    counted(tally, *crates.said(ROOT))
+    counted(tally, drawing.said(ROOT))
+
+
+def short_lines(tally):
+    """No document has more long lines than lines.txt lets it have."""
+    counted(tally, long_lines.said(ROOT))
 
 
 def formatting(tally):
@@ -238,7 +258,7 @@ def browser(tally):
 
 
 # what takes no time: `gate.py quick` runs only these, and counts for nothing
-QUICK = (samples, every_crate_is_listed, only_laws, claimed, edits)
+QUICK = (samples, every_crate_is_listed, only_laws, claimed_and_believed, arrows, short_lines, edits)
 CHECKS = (*QUICK, formatting, rust_formatting, proofs, reasons, rust_tests, rust_lints, browser)
 
 def main(quick):
