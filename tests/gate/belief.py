@@ -1,13 +1,14 @@
 #!/usr/bin/env python3
 """belief.py check | write: what a reader of the promises has to believe.
 
-A promise is the contract of a call for C, exported by a crate that the Makefile's EXPORTED names, or a row of the first part of
-docs/CLAIMS.md. Reached is what its statement names, what the statements of these name, and so on (`names.py`): of a promised law its
-type, of a definition type and clauses, of a record all fields, of data all constructors, of a declared type its text. No proof is read.
+A promise is the contract of a call for C, exported by a crate that the Makefile's EXPORTED names, or a row of the first part
+of docs/CLAIMS.md. Reached is what its statement names, what the statements of these name, and so on (`names.py`): of a promised
+law its type, of a definition type and clauses, of a record all fields, of data all constructors, of a declared type its text.
+No proof is read.
 
-`check`: each definition reached stands in a crate whose name begins with `spec_`, in a file of belief.txt, or is a declared type; each
-definition in the specs of a `spec_` crate is reached; such a crate has no function; and the table in docs/CLAIMS.md, between its two
-marks, is that of today. While no crate begins with `spec_` only the table is compared. `write` writes the table.
+`check`: each definition reached stands in a crate whose name begins with `spec_`, in a file of belief.txt, or is a declared type;
+each definition in the specs of a `spec_` crate is reached; such a crate has no function; and the table in docs/CLAIMS.md, between
+its two marks, is that of today. While no crate begins with `spec_` only the table is compared. `write` writes the table.
 """
 import re
 import sys
@@ -108,7 +109,8 @@ class Belief:
                 folder, _, file = path.partition('.')
                 beside = folder == 'specs' and file.split('.')[0] in stated.get(crate, ())
                 if item.kind != 'type' and not crate.startswith(PREFIX) and not beside:
-                    yield place, f'{self.files[place[:2]].path}:{item.first + 1}: {promise} leads to {name}, which stands in no {PREFIX} crate'
+                    where = f'{self.files[place[:2]].path}:{item.first + 1}'
+                    yield place, f'{where}: {promise} leads to {name}, which stands in no {PREFIX} crate'
 
     def unreached(self):
         """The definitions of `spec_` crates that no promise leads to."""

@@ -1,10 +1,10 @@
 """Whether what docs/CLAIMS.md cites is there.
 
-A row of three cells has a statement and its files: each name of the statement is declared in one of them (a law, a definition, a record
-or its field, data or a constructor, a function, a declared type), not only mentioned. A row of two cells has names of the whole
-repository: edits, functions as `crate::name` or by their own name, and all that files declare; with files in the row, declared in one
-of these, and an edit with a crate in brackets behind it is that crate's. What sentences around the tables call a law, a field or a
-record is declared somewhere. A cited file exists.
+A row of three cells has a statement and its files: each name of the statement is declared in one of them (a law, a definition, a
+record or its field, data or a constructor, a function, a declared type), not only mentioned. A row of two cells has names of the
+whole repository: edits, functions as `crate::name` or by their own name, and all that files declare; with files in the row,
+declared in one of these, and an edit with a crate in brackets behind it is that crate's. What sentences around the tables call a
+law, a field, a record or an edit is there. A cited file exists.
 """
 import re
 
@@ -17,8 +17,8 @@ WORD = re.compile(r'^[A-Za-z][\w\-]*$')
 FUNCTIONS = re.compile(r'^(\w+)::(?:(\w+)|\{([^}]*)\})$')
 # words of the contracts' language, of a file and of the shell that a cell may quote
 QUOTED = {'requires', 'ensures'}
-# what outside of rows can only be a law, a field or a record
-NAMED = re.compile(r'^(?:[a-z]\w*(?:-\w+)+|[A-Z]+[a-z]\w*)$')
+# what outside of rows can only be a law, a field, a record or an edit
+NAMED = re.compile(r'^(?:[a-z]\w*(?:-\w+)+|[A-Z]+[a-z]\w*|[a-z]\w*_\w+)$')
 
 
 def cells_of(line):
@@ -57,9 +57,11 @@ def rows(text):
 
 
 class Repository:
-    """What there is to cite: the names that each file declares, each crate's functions and edits, and which files there are."""
+    """What there is to cite: the names that each file declares, each crate's functions and edits, which files there are, and the edits
+    that are of no contract."""
 
-    def __init__(self, declared, edits, exists):
+    def __init__(self, declared, edits, exists, apart=()):
+        self.apart = apart
         self.declared = declared
         self.everywhere = set().union(*declared.values()) if declared else set()
         self.edits = edits
@@ -98,7 +100,8 @@ def of_contracts(number, cell, there):
             crate = crate or (crate_before if not name.startswith('tarczolin') else None)
             known = there.functions(crate) if crate else there.everywhere
             if name not in known:
-                yield f'docs/CLAIMS.md:{number} names the function {crate + "::" if crate else ""}{name}, which is not declared'
+                whole = f'{crate}::{name}' if crate else name
+                yield f'docs/CLAIMS.md:{number} names the function {whole}, which is not declared'
             before, crate_before = name, crate
 
 
@@ -107,10 +110,12 @@ def of_refusals(number, cell, there):
     paths = paths_in(cell)
     for match in re.finditer(r'`([^`]+)`(?: \((\w+)\))?', cell):
         name, crate = match[1], match[2] if match[2] and any(owner == match[2] for owner, _ in there.edits) else None
+        if name in there.apart:
+            yield f'docs/CLAIMS.md:{number} cites {name}, which is no edit of a contract (compiled-form in pins.txt)'
         if not WORD.match(name) or name in QUOTED or there.has_edit(name, crate):
             continue
-        where = set().union(*(there.declared.get(path, set()) for path in paths)) if paths else there.everywhere
-        if crate or name not in where:
+        known = set().union(*(there.declared.get(path, set()) for path in paths)) if paths else there.everywhere
+        if crate or name not in known:
             place = f'an edit of {crate}' if crate else f'declared in {", ".join(paths)}' if paths else 'declared, and no edit'
             yield f'docs/CLAIMS.md:{number} cites {name}, which is not {place}'
 
@@ -124,10 +129,10 @@ def of_two(text, there):
 
 
 def around_tables(text, there):
-    """The laws, fields and records that sentences outside of rows cite and that nothing declares."""
+    """The laws, fields, records and edits that sentences outside of rows cite and that are not there."""
     for number, line in enumerate(text.split('\n'), 1):
         for name in CODE.findall(line) if not cells_of(line) else ():
-            if NAMED.match(name) and name not in there.everywhere:
+            if NAMED.match(name) and name not in there.everywhere and not there.has_edit(name):
                 yield f'docs/CLAIMS.md:{number} cites {name}, which nothing declares'
 
 
@@ -153,36 +158,35 @@ SAMPLE = """| Sentence | Statement | File |
 | Contract | Edits |
 |---|---|
 | `b::f`, `g`; `b::{f, g}` | `edit_1`, `edit_2` (b) |
-| `b::h` | `edit_3` |
+| `b::h` | `edit_3`, `edit_5` |
 | a word of two, `02` | `edit_2` (a); field `field`; `law` and `f` (`crates/a/proofs/A.antt`, `B.antt`) |
 
-The fields of `Record`: `law`, `law-3`; `make test` runs it.
+The fields of `Record`: `law`, `law-3`; `make test` runs `edit_1` and `edit_4`.
 """
 SAMPLE_FILES = {'crates/a/proofs/A.antt': {'law', 'Record', 'field'}, 'crates/b/src/b.rt': {'f', 'g'}}
-SAMPLE_SAID = ['claims law-2', 'claims law of', 'function b::h', 'cites edit_3', 'cites edit_2', 'cites f,', 'cites law-3', 'c.rt', 'proofs/B.antt']
+SAMPLE_SAID = ['claims law-2', 'claims law of', 'function b::h', 'cites edit_3', 'cites edit_2', 'cites f,', 'cites law-3', 'edit_4', 'edit_5',
+               'c.rt', 'proofs/B.antt']
 
 
 def reads_sample_wrongly():
-    there = Repository(SAMPLE_FILES, [('a', 'edit_1'), ('b', 'edit_2')], SAMPLE_FILES.__contains__)
+    there = Repository(SAMPLE_FILES, [('a', 'edit_1'), ('b', 'edit_2'), ('b', 'edit_5')], SAMPLE_FILES.__contains__, {'edit_5'})
     found = missing(SAMPLE, there)
     return len(found) != len(SAMPLE_SAID) or any(not any(part in line for line in found) for part in SAMPLE_SAID)
 
 
-def repository(root, files):
-    declared = {}
-    for file in files.values():
-        declared[file.path] = {item.place[2] for item in file.declared}
+def repository(root, files, apart):
+    declared = {file.path: {item.place[2] for item in file.declared} for file in files.values()}
     edits = [(edit.parts[-3], edit.stem) for edit in root.glob('crates/*/must-fail/*.edit')]
 
     def exists(path):
         return any((root / path).is_file() for path in (path, f'docs/{path}')) or any(root.glob(f'crates/*/{path}'))
 
-    return Repository(declared, edits, exists)
+    return Repository(declared, edits, exists, {name.rpartition('/')[2] for name in apart})
 
 
-def said(root, files=None):
-    """What is wrong."""
+def said(root, files=None, apart=()):
+    """What is wrong. `apart`: edits that are of no contract, as CRATE/NAME."""
     if reads_sample_wrongly():
         return ['claims.py reads its own sample wrongly']
     text = (root / 'docs' / 'CLAIMS.md').read_text(encoding='utf-8')
-    return missing(text, repository(root, files or declarations.files(root)))
+    return missing(text, repository(root, files or declarations.files(root), apart))

@@ -1,9 +1,10 @@
 #!/usr/bin/env python3
 """crates.py check | write: crates.txt has for each crate exactly those that its files name.
 
-A crate is named by `Rattle.NAME` in specs, proofs and contracts, and by `NAME::` in code; in remarks it is not. What the crates below
-stand on is found by the prover itself. In crates.txt `## TITLE` begins a section and `# ..` right above a crate is its sentence; both,
-the order of the crates and all other remarks stay as they are. As soon as one crate has a sentence each must have one.
+A crate is named by `Rattle.NAME` in specs, proofs and contracts, and by `NAME::` in code; in remarks it is not. What the crates
+below stand on is found by the prover itself. In crates.txt `## TITLE` begins a section and `# ..` right above a crate is its
+sentence; both, the order of the crates and all other remarks stay as they are. As soon as one crate has a sentence each must have
+one.
 """
 import re
 import sys
@@ -17,6 +18,7 @@ LINE = re.compile(r'^(\w+):(.*)$')
 IN_SPECS = re.compile(r'Rattle·(\w+)')
 IN_CODE = re.compile(r'(?<![\w:])(\w+)::')
 KIT = {'libc', 'io', 'os', 'bytes', 'check'}
+NOT_AS_WRITTEN = 'crates.txt is not as written: python3 tests/gate/crates.py write'
 
 
 class Listed:
@@ -79,10 +81,11 @@ def wrong(text, files):
     listed, right = Listed(text), Listed(written(text, files))
     found = []
     for name, others in listed.stands_on.items():
-        for what, some in (('does not name', set(others) - set(right.stands_on[name])), ('also names', set(right.stands_on[name]) - set(others))):
-            found += [f'crates.txt: {name} {what} {other}' for other in sorted(some)]
+        needed = set(right.stands_on[name])
+        found += [f'crates.txt: {name} does not name {other}' for other in sorted(set(others) - needed)]
+        found += [f'crates.txt: {name} also names {other}' for other in sorted(needed - set(others))]
     if not found and written(text, files) != text:
-        found.append('crates.txt is not as written: python3 tests/gate/crates.py write')
+        found.append(NOT_AS_WRITTEN)
     if listed.sentences:
         found += [f'crates.txt: {name} has no sentence' for name in listed.stands_on if name not in listed.sentences]
     return found
@@ -107,7 +110,7 @@ def wrong_sample():
         'wrong': wrong(SAMPLE, SAMPLE_FILES) == [
             'crates.txt: c does not name d', 'crates.txt: d also names c',
             'crates.txt: a has no sentence', 'crates.txt: b has no sentence', 'crates.txt: d has no sentence'],
-        'order': wrong('a:\nb:  a\n', {'b': SAMPLE_FILES['b']}) == ['crates.txt is not as written: python3 tests/gate/crates.py write'],
+        'order': wrong('a:\nb:  a\n', {'b': SAMPLE_FILES['b']}) == [NOT_AS_WRITTEN],
     }
     return [f'crates.py reads its sample wrongly: {name}' for name, right in parts.items() if not right]
 
@@ -131,7 +134,8 @@ def said(root):
 
 if __name__ == '__main__':
     if sys.argv[1:] == ['write']:
-        (ROOT / 'crates.txt').write_text(written((ROOT / 'crates.txt').read_text(encoding='utf-8'), files_of(ROOT)), encoding='utf-8')
+        file = ROOT / 'crates.txt'
+        file.write_text(written(file.read_text(encoding='utf-8'), files_of(ROOT)), encoding='utf-8')
     elif sys.argv[1:] == ['check']:
         found, over = said(ROOT)
         print('\n'.join([*found, *over, f'{len(found)} wrong']))

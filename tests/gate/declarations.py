@@ -1,9 +1,9 @@
 """What the crates declare, and the statement of each declaration, for the gate's checks.
 
-Of a file of specs or proofs: definitions (marked `unfoldable` or `abbrev`), laws (not marked), records with their fields, data with
-their constructors. Of a file of code: functions, each with its contract, calls for C, declared types, constants. A declaration is kept in
-the parts that are read apart: its type, its clauses, and the parameters of the `module` blocks around it. A line `unfolding ..` belongs
-to none of them.
+Of a file of specs or proofs: definitions (marked `unfoldable` or `abbrev`), laws (not marked), records with their fields, data
+with their constructors. Of a file of code: functions, each with its contract, calls for C, declared types, constants. A declaration
+is kept in the parts that are read apart: its type, its clauses, and the parameters of the `module` blocks around it. A line
+`unfolding ..` belongs to none of them.
 """
 import re
 from dataclasses import dataclass, field
@@ -40,7 +40,7 @@ class Declaration:
 
 @dataclass
 class File:
-    """A file's lines, its `use` lines as laws_only reads them, what it declares, and the types that code brings from other crates."""
+    """A file's lines, its `use` lines as laws_only reads them, what it declares, and the types that its code brings."""
     path: str
     lines: list
     module: object
@@ -188,7 +188,8 @@ def read(texts):
             found[crate, path] = File(place, text.split('\n'), laws_only.Module(text), read_antt(crate, path, text), {})
         else:
             ghosts = GHOST_USE.sub(r'\1', RUST_USE.sub('', REMARK.sub('', text)))
-            found[crate, path] = File(place, text.split('\n'), laws_only.Module(ghosts), read_code(crate, path, text), brought_types(text))
+            found[crate, path] = File(place, text.split('\n'), laws_only.Module(ghosts), read_code(crate, path, text),
+                                      brought_types(text))
     return found
 
 
@@ -196,3 +197,57 @@ def files(root):
     """Every file of the repository's crates."""
     paths = [path for ending in ('antt', 'rt') for path in sorted(root.glob(f'crates/*/*/**/*.{ending}'))]
     return read({path.relative_to(root).as_posix(): path.read_text(encoding='utf-8') for path in paths})
+
+
+SAMPLE_ANTT = """-- only-mentioned : a remark is no declaration
+use Core.{used}
+pub record R (n : N) : Type 0 where
+  -- one
+  pub one : T
+  two :
+      (x
+       y : T) → U
+module _ (m : M) where
+  -- a law
+  pub law : A
+    → B
+  unfolding opened
+  law x = let inner : A = x in y
+pub data D : Type 0 where
+  made : D
+
+abbrev pub E : Type 0
+E = D
+"""
+SAMPLE_CODE = """use a::{B, C};
+// fn mentioned() {
+#[no_mangle]
+pub extern "C" fn call(x: &[u8; 8]) -> u64
+    ensures { λ w. T }
+{
+    let fn_like = 1;
+}
+pub(crate) struct S {
+    a: [u8; 8],
+}
+const K: u64 = 1;
+"""
+SAMPLE_FOUND = [
+    ('record', 'R', '', 2, 7), ('field', 'one', 'R', 4, 4), ('field', 'two', 'R', 5, 7), ('law', 'law', '', 10, 13),
+    ('data', 'D', '', 14, 15), ('constructor', 'made', 'D', 15, 15), ('definition', 'E', '', 17, 18),
+    ('call', 'call', '', 3, 4), ('type', 'S', '', 8, 10), ('constant', 'K', '', 11, 11),
+]
+
+
+def wrong_sample():
+    """Which part of the sample is read wrongly."""
+    files = read({'crates/c/specs/F.antt': SAMPLE_ANTT, 'crates/c/src/f.rt': SAMPLE_CODE})
+    items = [item for file in files.values() for item in file.declared]
+    found = [(item.kind, item.place[2], item.owner, item.first, item.last) for item in items]
+    law = next((item for item in items if item.place[2] == 'law'), None)
+    parts = {
+        'declarations': found == SAMPLE_FOUND,
+        'a law': law is not None and law.type.split() == ['A', '→', 'B'] and len(law.clauses) == 1 and law.around.split() == ['(m', ':', 'M)'],
+        'brought types': files['c', 'src.f'].types == {'B': ('a', 'B'), 'C': ('a', 'C')},
+    }
+    return [f'declarations.py reads its sample wrongly: {name}' for name, right in parts.items() if not right]

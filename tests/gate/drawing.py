@@ -1,9 +1,9 @@
 #!/usr/bin/env python3
 """drawing.py check | write: docs/architecture.svg, the crates of crates.txt as a drawing.
 
-A section of crates.txt is a band, the last one on top; a crate is a box in its section's band, above all crates of the band that it
-stands on. An arrow leads from a crate to one that it stands on; none is drawn where others lead there too. A crate's sentence is shown
-when a pointer rests on its box. The same crates.txt always gives the same drawing. `check` compares the committed file.
+A section of crates.txt is a band, the last one on top; a crate is a box in its section's band, above all crates of the band that
+it stands on. An arrow leads from a crate to one that it stands on; none is drawn where others lead there too. A crate's sentence
+is shown when a pointer rests on its box. The same crates.txt always gives the same drawing. `check` compares the committed file.
 """
 import sys
 from html import escape
@@ -51,7 +51,7 @@ def levels(names, arrows):
 
 
 class Layout:
-    """Rows from the bottom up. A node is a crate, or a bend: the pair of a crate and one below it, in a row that their arrow crosses."""
+    """Rows from the bottom up. A node is a crate, or a bend: a crate, one below it, and a row that their arrow crosses."""
 
     def __init__(self, sections, stands_on):
         self.arrows = reduced(stands_on)
@@ -117,7 +117,7 @@ class Layout:
         self.wide = round(widest)
 
     def settle(self, row, above, widest):
-        """Moves the nodes of a row to the middle of their neighbours, as far as the row's order and the drawing's width let them."""
+        """Moves the nodes of a row to the middle of their neighbours, as far as the row's order and the width let them."""
         wanted = {}
         for node in row:
             near = [self.x[other] for other in (*self.links.get(node, ()), *above.get(node, ()))]
@@ -136,7 +136,7 @@ class Layout:
 
 
 def blocks(row, wanted, width):
-    """The nodes of a row at their wanted places; where some would overlap they stand side by side around the middle of what they want."""
+    """The nodes of a row at their wanted places; where some would overlap they stand side by side around the middle of these."""
     found = []
     for node in row:
         found.append(([node], wanted[node]))
@@ -222,11 +222,13 @@ class Drawing:
             yield (f'<marker id="to{k}" viewBox="0 0 8 8" refX="4" refY="4" markerWidth="7" markerHeight="7" orient="auto">'
                    f'<path d="M0,1L8,4L0,7z" fill="{ink}"/></marker>')
         for k, (title, top, bottom) in enumerate(reversed(self.bands)):
-            yield f'<rect x="{MARGIN}" y="{top}" width="{wide - 2 * MARGIN}" height="{bottom - top}" rx="6" fill="{TINTS[k % len(TINTS)]}"/>'
+            yield (f'<rect x="{MARGIN}" y="{top}" width="{wide - 2 * MARGIN}" height="{bottom - top}" rx="6" '
+                   f'fill="{TINTS[k % len(TINTS)]}"/>')
         for name in sorted(self.layout.arrows):
             for other in self.layout.arrows[name]:
                 k = colour[name]
-                yield f'<path d="{self.way(name, other)}" fill="none" stroke="{INKS[k]}" stroke-opacity="0.65" marker-end="url(#to{k})"/>'
+                yield (f'<path d="{self.way(name, other)}" fill="none" stroke="{INKS[k]}" stroke-opacity="0.65" '
+                       f'marker-end="url(#to{k})"/>')
         for k, (title, top, _) in enumerate(reversed(self.bands)):
             yield (f'<text x="{MARGIN + 10}" y="{top + 18}" font-weight="bold" fill="{INKS[k % len(INKS)]}" paint-order="stroke" '
                    f'stroke="{TINTS[k % len(TINTS)]}" stroke-width="5">{escape(title)}</text>')
@@ -239,7 +241,8 @@ class Drawing:
         wide = self.layout.width(name)
         sentence = self.listed.sentences.get(name)
         yield f'<g><title>{escape(name)}: {escape(sentence)}</title>' if sentence else '<g>'
-        yield f'<rect x="{x - wide // 2}" y="{y}" width="{wide}" height="{HEIGHT}" rx="4" fill="white" stroke="{ink}" stroke-width="1.3"/>'
+        yield (f'<rect x="{x - wide // 2}" y="{y}" width="{wide}" height="{HEIGHT}" rx="4" fill="white" stroke="{ink}" '
+               'stroke-width="1.3"/>')
         yield f'<text x="{x}" y="{y + 17}" text-anchor="middle">{escape(name)}</text></g>'
 
 

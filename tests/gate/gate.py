@@ -21,6 +21,7 @@ import drawing  # noqa: E402
 import laws_only  # noqa: E402
 import lines as long_lines  # noqa: E402
 import must_fail  # noqa: E402
+import names as statements  # noqa: E402
 import printed  # noqa: E402
 
 ROOT = Path(__file__).resolve().parents[2]
@@ -83,7 +84,8 @@ def run(words):
 
 def samples(tally):
     """The gate reads its own samples rightly; the crates' laws have theirs with them."""
-    for why in printed.wrong_sample() + must_fail.wrong_samples(Path(__file__).with_name('logs')):
+    logs = Path(__file__).with_name('logs')
+    for why in printed.wrong_sample() + must_fail.wrong_samples(logs) + declarations.wrong_sample() + statements.wrong_sample():
         tally.fail(why)
 
 
@@ -114,9 +116,9 @@ def only_laws(tally):
 
 
 def claimed_and_believed(tally):
-    """Each name that CLAIMS claims is declared in the file beside it; what promises lead to stands where it may, and is counted in CLAIMS."""
+    """What CLAIMS cites is there; what its promises lead to stands where it may, and is counted there."""
     files = declarations.files(ROOT)
-    counted(tally, claims.said(ROOT, files))
+    counted(tally, claims.said(ROOT, files, tally.pins['compiled-form']))
     counted(tally, *belief.said(ROOT, files))
 
 
@@ -177,7 +179,11 @@ def all_edits():
 def edits(tally):
     """There are as many edits as pinned, and each can be made and says on which input it answers wrongly."""
     found = all_edits()
-    tally.at_least('edits', len(found))
+    there = [f'{edit.parts[-3]}/{edit.stem}' for edit in found]
+    for name in tally.pins['compiled-form']:
+        if name not in there:
+            tally.fail(f'pins.txt names the edit {name}, and no crate has it')
+    tally.at_least('edits', len(found) - len(tally.pins['compiled-form']))
     for edit in found:
         text = edit.read_text(encoding='utf-8')
         why = must_fail.without_input(text) or must_fail.misplaced(text, lambda file: read(edit.parents[1] / file))
@@ -190,16 +196,21 @@ def edits(tally):
 
 
 def reasons(tally):
-    """Each must-fail edit has a log, and was refused because a fact no longer holds."""
+    """Each must-fail edit has a log, and was refused because a fact no longer holds, but for those that pins.txt names."""
     for edit in all_edits():
         name, label = edit.parts[-3], edit.stem
         log = TARGET / 'must-fail' / name / label / '.log'
         if not log.is_file():
             tally.fail(f'must-fail {name}/{label}: it left no log')
             continue
-        why = must_fail.wrong_reason(log.read_text(encoding='utf-8', errors='replace'))
+        text = log.read_text(encoding='utf-8', errors='replace')
+        why, kind = must_fail.wrong_reason(text), must_fail.reason(text)
         if why:
             tally.fail(f'must-fail {name}/{label}: refused for the wrong reason: {why}')
+        elif (kind == 'form') != (f'{name}/{label}' in tally.pins['compiled-form']):
+            tally.fail(f'must-fail {name}/{label}: refused by a {kind}, and compiled-form in pins.txt says otherwise')
+        elif kind == 'form':
+            tally.note(f'must-fail {name}/{label}: refused since the compiled form is another; no edit of a contract')
         else:
             tally.add(1, 0)
 

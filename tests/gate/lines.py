@@ -1,9 +1,9 @@
 #!/usr/bin/env python3
 """lines.py check | write: lines of at most 110 characters in all documents, tables and code blocks too.
 
-lines.txt has the files that still have longer lines, each with their number, which may only fall: a file with more has failed, and so
-has one with fewer until `write` has taken the smaller number down. A file that is not named there has none. `write` never takes a
-larger number down.
+lines.txt has the files that still have longer lines, each with their number, which may only fall: a file with more has failed, and
+so has one with fewer until `write` has taken the smaller number down. A file that is not named there has none. `write` never takes
+a larger number down.
 """
 import sys
 from pathlib import Path
@@ -11,7 +11,7 @@ from pathlib import Path
 ROOT = Path(__file__).resolve().parents[2]
 LIST = Path(__file__).with_suffix('.txt')
 MOST = 110
-HEADER = '# FILE: how many of its lines are longer than 110 characters; python3 tests/gate/lines.py write takes smaller numbers down\n'
+HEADER = '# FILE: how many of its lines have more than 110 characters; python3 tests/gate/lines.py write lowers these\n'
 DOCUMENTS = ('README.md', 'CHANGELOG.md', 'CONTRIBUTING.md', 'docs/**/*.md')
 
 
@@ -33,7 +33,7 @@ def wrong(found, listed):
         if now > before:
             said.append(f'{file} has {now} lines of more than {MOST} characters, and lines.txt lets it have {before}')
         elif now < before:
-            said.append(f'{file} has {now} lines of more than {MOST} characters, and lines.txt still has {before}: python3 tests/gate/lines.py write')
+            said.append(f'{file} has {now} lines of more than {MOST} characters, and lines.txt {before}: lines.py write')
     return said
 
 

@@ -1,6 +1,8 @@
 """Why a must-fail edit was refused, read from the log that rt leaves in target/must-fail/NAME/LABEL/.log.
 
-Right: some fact no longer holds (`search`: no proof of ..; the two types differ ..; it is not proved that ..).
+Right, `fact`: some fact no longer holds (`search`: no proof of ..; the two types differ ..; it is not proved that ..).
+Right, `form`: all that is wrong is that a function's compiled form is another than the one that its proof walks through. Other
+code that meets the contract would be refused so too: such an edit is no edit of a contract, and pins.txt names it.
 Wrong: the edited text is no text of its language, a definition is ill-formed by itself, or a proof file no longer fits
 the code (it names a need, a field or a function that is gone). Such an edit shows nothing about the statements.
 """
@@ -26,13 +28,16 @@ MISFITS = [
     (re.compile(r'^(`[^`]+`: )?record `[^`]+` has no field'), 'a field that is not there'),
 ]
 # The prover breaks a long sentence over several lines. With these words a line begins a sentence of its own.
-BEGINS = re.compile(r'computed as far as they go|what the two types compute to|expected type `|here `|the `[^`]*` at \d|That is|`\w+` has no last')
+BEGINS = re.compile(r'computed as far as they go|compared part by part|what the two types compute to|expected type `|here `'
+                    r'|the `[^`]*` at \d|That is|`\w+` has no last')
+# the two types differ in a piece of the compiled form
+FORM = re.compile(r'differ (?:only )?where one has `mir\.Syntax\.[^`]*` \(expected\).* and the other has `mir\.Syntax\.[^`]*` \(found\)')
 # what an error in specs/ must speak of to be about a fact and not about an ill-typed definition
 FACT = re.compile(r'≡|\bPath\b|≤|<|`(search|omega|simp|cc|rw)`')
 
 
 def errors(log):
-    """The errors of a log, each as file, code and its sentences, each joined over its lines; without those that only follow from others."""
+    """The errors of a log, each as file, code and its sentences, joined over their lines; without those that follow from others."""
     found, inside = [], False
     for line in log.splitlines():
         match = ERROR.match(line)
@@ -76,6 +81,13 @@ def wrong_reason(log):
     if not found and not any(NOT_PROVED.match(line) for line in log.splitlines()):
         return 'the log tells of no fact that does not hold'
     return None
+
+
+def reason(log):
+    """Of a log without a wrong reason: `form` where each error is about the compiled form, else `fact`."""
+    found = errors(log)
+    forms = [error for error in found if any(FORM.search(sentence) for sentence in error[2])]
+    return 'form' if found and len(forms) == len(found) else 'fact'
 
 
 def without_input(edit):
@@ -122,15 +134,17 @@ EDITS = {
 
 
 def wrong_samples(folder):
-    """Logs of both kinds are kept beside this file: says which of them is read wrongly."""
+    """Logs of each kind are kept beside this file, in a folder for each: says which of them is read wrongly."""
     said = []
     samples = sorted(folder.glob('*/*.log'))
     for sample in samples:
-        why = wrong_reason(sample.read_text(encoding='utf-8'))
-        if (why is None) != (sample.parent.name == 'right'):
-            said.append(f'{sample.parent.name}/{sample.name} is read wrongly: {why}')
-    if not samples:
-        said.append('there are no sample logs')
-    said += [f'an edit is placed wrongly: {edit!r}' for edit, why in PLACED.items() if misplaced(edit, {'a': 'x = 1; y y'}.get) != why]
+        log = sample.read_text(encoding='utf-8')
+        why = wrong_reason(log)
+        if sample.parent.name != ('wrong' if why else reason(log)):
+            said.append(f'{sample.parent.name}/{sample.name} is read wrongly: {why or reason(log)}')
+    if {sample.parent.name for sample in samples} != {'fact', 'form', 'wrong'}:
+        said.append('there are no sample logs of some kind')
+    said += [f'an edit is placed wrongly: {edit!r}' for edit, why in PLACED.items()
+             if misplaced(edit, {'a': 'x = 1; y y'}.get) != why]
     said += [f'an edit is read wrongly: {edit!r}' for edit, why in EDITS.items() if without_input(edit) != why]
     return said

@@ -1,10 +1,10 @@
 """Which declarations a statement names, and all that follow from them.
 
-A name is bound where a binder `(x : T)`, a `λ`, a `let`, a clause's pattern or that of an arm `[ pattern ↦ .. | .. ]` brings it, as far
-as the bracket around it; a bound name names nothing. So do a projection ` .field` and the label of a record's literal or of an implicit argument, `{field = ..}`. Every other
-name is read as the prover reads it: declared in its file, else brought by a `use` line and through the `pub use` lines on the way.
-A constructor stands for its data, a field for its record, a variant for its declared type. A law is named by no statement: where a
-definition cites one it does so as a proof.
+A name is bound where a binder `(x : T)`, a `λ`, a `let`, a clause's pattern or that of an arm `[ pattern ↦ .. | .. ]` brings it,
+as far as the bracket around it reaches; a bound name names nothing. Nor does a projection ` .field` or the label of a record's
+literal or of an implicit argument, `{field = ..}`. Every other name is read as the prover reads it: declared in its file, else
+brought by a `use` line and through the `pub use` lines on the way. A constructor stands for its data, a field for its record, a
+variant for its declared type. A law is named by no statement: where a definition cites one it does so as a proof.
 """
 import re
 
@@ -118,8 +118,8 @@ def left_and_right(tokens):
 
 
 def is_definition(item):
-    """Whether a declaration that a statement names has to be read, with its clauses: what is not marked is a law where its type says a
-    fact, and a law is proved."""
+    """Whether a declaration that a statement names has to be read, with its clauses: what is not marked is a law where its type
+    says a fact, and a law is proved."""
     return item.kind != 'law' or not FACTS & set(tokens_of(item.type))
 
 
@@ -182,7 +182,7 @@ class Names:
         return of
 
     def contract(self, item):
-        """The words of a function's contract: the types of its parameters and answer, and its clauses, in which its parameters are bound."""
+        """The words of a function's contract: the types in its signature, and its clauses, in which its parameters are bound."""
         signature, *clauses = re.split(r'(?=\b(?:requires|ensures)\b)', item.type)
         yield from re.findall(r'\b[A-Z]\w*', signature)
         bound = re.findall(r'(\w+)\s*:(?!:)', signature)
@@ -237,3 +237,22 @@ class Names:
                 seen[item.place] = item
                 todo += self.of(item, True).values()
         return seen
+
+
+SAMPLE = {
+    '(x : A) → B x → (x ≡ y)': 'A B y ≡',
+    'λ x y. f x (λ z. z y) z': 'f z',
+    'let a = b in f a': 'b f',
+    'f (λ x. x) x': 'f x',
+    '((s : A) × B s) → C s': 'A B C s',
+    'record { left = λ l. l; right = l } .left': 'l',
+    'g {a = h} (p .field) M.k': 'g h p M.k',
+    'elim t [ Some v ↦ v w | None ↦ v ]': 'elim t Some w None v',
+}
+
+
+def wrong_sample():
+    """Which text of the sample is read wrongly: its names that are not bound, in order."""
+    found = {text: ' '.join(free(tokens_of(text), Scope((), {'Some', 'None'}.__contains__))) for text in SAMPLE}
+    return [f'names.py reads its sample wrongly: {text}: {found[text]}' for text, names in SAMPLE.items()
+            if sorted(found[text].split()) != sorted(names.split())]
