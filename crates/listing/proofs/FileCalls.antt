@@ -25,7 +25,8 @@ use Rattle.model.specs.Search.{sought}
 use Rattle.pages.proofs.Answered.{unchanged}
 use Rattle.replay.specs.declared.replaying.Verdict.{Verdict}
 use Rattle.replay.specs.declared.replaying.Verdict.the-variants.{Whole, Refused}
-use Rattle.tso_replay.specs.Carried.{refusalOf}
+use Rattle.replay.specs.Carried.{refusalOf}
+use Rattle.replay.proofs.Verdicts.{refusal-whole, refusal-refused}
 use Rattle.listing.specs.AnswerOf.{listAnswerOf, violationAnswerOf}
 
 -- ---- start, on a file
@@ -54,19 +55,19 @@ module _ (M : Model) (p : Program) (s : Schedule) (out : List ℕ) where
   continue-short h = rw (lt-ltb (length out) (M .need) h) (unchanged 22 0 out)
 
   module _ (wide : M .need ≤ length out) (v : Verdict) (said : refusalOf v ≡ refusesFrom (M .system) 0 (M .start p) s) where
-    refuses : (u : Verdict) → v ≡ u → refusesFrom (M .system) 0 (M .start p) s ≡ refusalOf u
-    refuses u e = sym said ∙ ap refusalOf e
+    refuses : (u : Verdict) (o : Option (ℕ × ℕ)) → v ≡ u → refusalOf u ≡ o → refusesFrom (M .system) 0 (M .start p) s ≡ o
+    refuses u o e q = sym said ∙ ap refusalOf e ∙ q
 
     -- refused by 20 or 21
     pub continue-refused : (n k : ℕ) → v ≡ Refused n k → continueOf M p s out ≡ (refused n k, out)
-    unfolding continueOf continued refusalOf
-    continue-refused n k e = rw (le-ltb (length out) (M .need) wide, refuses (Refused n k) e) (unchanged n k out)
+    unfolding continueOf continued
+    continue-refused n k e = rw (le-ltb (length out) (M .need) wide, refuses (Refused n k) (some (n, k)) e (refusal-refused n k)) (unchanged n k out)
 
     module _ (l : List Schedule) (is : l ≡ after (some s) (sought M false p)) where
       pub continue-whole : v ≡ Whole → answerTo (short (M .need) out) (headOf l) ≡ continueOf M p s out .0
-      unfolding continueOf continued sought refusalOf
+      unfolding continueOf continued sought
       continue-whole e =
-          rw (le-ltb (length out) (M .need) wide, refuses Whole e) (ap (answerTo false) (ap headOf is ∙ offer-after (some s) (listOf M p)))
+          rw (le-ltb (length out) (M .need) wide, refuses Whole none e refusal-whole) (ap (answerTo false) (ap headOf is ∙ offer-after (some s) (listOf M p)))
 
       pub continue-output : v ≡ Whole → content (answerTo (short (M .need) out) (headOf l)) out ≡ continueOf M p s out .1
       unfolding continueOf

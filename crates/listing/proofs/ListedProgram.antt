@@ -6,23 +6,13 @@ use mathlib.Core.Option.{Option, none, some}
 use mathlib.Core.List.{List}
 use Rattle.program.specs.Decode.{Decoded, accepted, refused, decode}
 use Rattle.decoder.specs.declared.file.Answer.{Answer}
-use Rattle.decoder.specs.declared.file.Verdict.{Verdict}
 use Rattle.decoder.specs.declared.file.Verdict.the-variants.{Accepted, Refused}
-use Rattle.decoder.specs.Compiled.{programOf, answerOf, verdictOf}
+use Rattle.decoder.specs.Compiled.{programOf, answerOf}
+use Rattle.decoder.proofs.Said.{says-refused, answer-refused, answer-accepted}
 use Rattle.model.specs.Model.{Model}
 use Rattle.model.specs.Laws.{Laws, Admitted}
 use Rattle.model.specs.OnFile.{unless, admit}
 use Rattle.model.proofs.Admitted.{listed-program}
-
--- what the answer says, by its verdict
-module _ (a : Answer) (d : Decoded) (e : answerOf a ≡ d) where
-  pub answer-refused : (n k : ℕ) → a .verdict ≡ Refused n k → d ≡ refused n k
-  unfolding answerOf verdictOf
-  answer-refused n k v = sym e ∙ ap (λ (x : Verdict). verdictOf x (programOf (a .program))) v
-
-  pub answer-accepted : a .verdict ≡ Accepted → d ≡ accepted (programOf (a .program))
-  unfolding answerOf verdictOf
-  answer-accepted v = sym e ∙ ap (λ (x : Verdict). verdictOf x (programOf (a .program))) v
 
 module _ (M : Model) where
   -- a program that is accepted then is listed
@@ -45,8 +35,8 @@ module _ (M : Model) where
 
     -- or it is
     pub turned-away : a .verdict ≡ Accepted → (n k : ℕ) → M .away (programOf (a .program)) ≡ some (n, k) → (b : Answer) → b .verdict ≡ Refused n k → answerOf b ≡ admit M d
-    unfolding answerOf verdictOf admit unless
+    unfolding admit unless
     turned-away v n k h b w =
         let q = answer-accepted a d e v in
-        ap (λ (x : Verdict). verdictOf x (programOf (b .program))) w
+        says-refused b n k w
         ∙ sym (ap (admit M) q ∙ ap (unless (programOf (a .program))) h)

@@ -22,7 +22,7 @@ ghost use Rattle.model.specs.Answers.{refusesFrom, continueOf};
 ghost use Rattle.model.specs.OnFile.{startFile, continueFile, violationFile};
 ghost use Rattle.pages.specs.Rows.{rowSize};
 ghost use Rattle.pages.specs.ListRows.{remaining};
-ghost use Rattle.tso_replay.specs.Carried.{refusalOf};
+ghost use Rattle.replay.specs.Carried.{refusalOf};
 ghost use Rattle.listing_model.specs.ModelOf.{modelOf};
 ghost use Rattle.listing.specs.AnswerOf.{listAnswerOf, violationAnswerOf};
 

@@ -1,6 +1,7 @@
 -- What carrying out a schedule leaves.
 use Prim.Native.Nat.{ℕ, _≤_}
 use mathlib.Core.Path.{_≡_}
+use mathlib.Core.Option.{Option, none, some}
 use mathlib.Core.List.{List}
 use lib.ListN.{length, take}
 use Rattle.program.specs.Program.{Program}
@@ -18,6 +19,11 @@ use Rattle.replay.specs.declared.replaying.Run.{Run}
 unfoldable pub verdictOf : Verdict → State → Replayed
 verdictOf Whole σ = whole σ
 verdictOf (Refused n k) σ = refused n k
+
+-- what refuses the schedule, by the verdict
+unfoldable pub refusalOf : Verdict → Option (ℕ × ℕ)
+refusalOf Whole = none
+refusalOf (Refused n k) = some (n, k)
 
 -- what carrying out a schedule leaves: the steps that were made, each of which might be and stands in the run's own schedule, the state
 -- behind them, their notes, and the answer

@@ -37,7 +37,8 @@ use Rattle.tso_model.proofs.Laws.{tso-laws}
 use Rattle.tso_model.proofs.Admits.{few-none, refused-41, admitted-16, refused-first}
 use Rattle.tso_replay.specs.declared.replaying.Run.{Run}
 use Rattle.tso_replay.specs.Noted.{notes}
-use Rattle.tso_replay.specs.Carried.{refusalOf, HoldsRun}
+use Rattle.replay.specs.Carried.{refusalOf}
+use Rattle.tso_replay.specs.Carried.{HoldsRun}
 use Rattle.tso_replay.proofs.NotesHere.{seen-reads, seen-orders}
 use Rattle.tso_replay.proofs.FewNotes.{notes-16}
 

@@ -34,7 +34,8 @@ use Rattle.tso_model.specs.GraphCall.{textUnless, graphAnswer, graphOn, graphFi
 use Rattle.tso_model.proofs.Admits.{refused-41, admitted-16, refused-first}
 use Rattle.tso_replay.specs.declared.replaying.Run.{Run}
 use Rattle.tso_replay.specs.Noted.{notes}
-use Rattle.tso_replay.specs.Carried.{refusalOf, HoldsRun}
+use Rattle.replay.specs.Carried.{refusalOf}
+use Rattle.tso_replay.specs.Carried.{HoldsRun}
 use Rattle.tso_replay.proofs.NotesHere.{graph-text-notes}
 use Rattle.tso_replay.proofs.FewNotes.{notes-16}
 

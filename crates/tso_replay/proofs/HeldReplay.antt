@@ -27,7 +27,8 @@ use Rattle.tso_machine.specs.declared.stepping.Stepped.{Stepped}
 use Rattle.tso_machine.specs.Held.{Holds, MayStep}
 use Rattle.tso_machine.specs.Steps.{HoldsStep}
 use Rattle.tso_replay.specs.Noted.{noteOf, noted, notes, bytesOf}
-use Rattle.tso_replay.specs.Carried.{refusalOf, HoldsRun}
+use Rattle.replay.specs.Carried.{refusalOf}
+use Rattle.tso_replay.specs.Carried.{HoldsRun}
 use Rattle.tso_replay.proofs.NotesHere.{notes-snoc}
 use Rattle.tso_replay.proofs.FewNotes.{notes-16}
 

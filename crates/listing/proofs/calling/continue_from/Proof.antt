@@ -8,7 +8,8 @@ use Rattle.schedules.specs.Calls.{Result}
 use Rattle.listing.specs.AnswerOf.{listAnswerOf}
 use Rattle.program.specs.Decode.{decode}
 use Rattle.model.specs.OnFile.{admit}
-use Rattle.listing.proofs.ListedProgram.{answer-refused, answer-accepted, answer-listed}
+use Rattle.decoder.proofs.Said.{answer-refused, answer-accepted}
+use Rattle.listing.proofs.ListedProgram.{answer-listed}
 use Rattle.listing.proofs.FileCalls.{continue-file, continue-file-refused}
 use Rattle.listing.proofs.calling.continue_from.Statement.{statement}
 use Rattle.listing.proofs.calling.continue_from.Tie as tie

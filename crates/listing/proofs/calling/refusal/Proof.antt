@@ -12,29 +12,18 @@ use Rattle.sc.specs.State.{State, SC, start}
 use Rattle.sc.specs.Replay.{Replayed, replay}
 use Rattle.model.specs.Laws.{Admitted}
 use Rattle.model.specs.Answers.{refusesFrom}
-use Rattle.sc_model.proofs.Refused.{refuses-replayed}
-use Rattle.sc_model.proofs.Refused as Replays
+use Rattle.replay.proofs.Verdicts.{verdict-refuses}
 use Rattle.machine.proofs.HeldStart.{loaded-compiled, starting-compiled}
 use Rattle.replay.specs.declared.replaying.Verdict.{Verdict}
 use Rattle.replay.specs.declared.replaying.Verdict.the-variants.{Whole, Refused}
 use Rattle.replay.specs.declared.replaying.Run.{Run}
 use Rattle.replay.specs.Carried.{verdictOf, HoldsRun}
-use Rattle.tso_replay.specs.Carried.{refusalOf}
+use Rattle.replay.specs.Carried.{refusalOf}
 use Rattle.tso_model.proofs.Laws.{at-most-16}
 use Rattle.listing_model.specs.declared.memory.Model.{Model}
 use Rattle.listing_model.specs.ModelOf.{modelOf}
 use Rattle.listing.proofs.calling.refusal.Statement.{statement}
 use Rattle.listing.proofs.calling.refusal.Tie as tie
-
--- a verdict tells what the replay says
-by-verdict : (v : Verdict) (σ : State) → refusalOf v ≡ Replays.refusalOf (verdictOf v σ)
-unfolding refusalOf Replays.refusalOf verdictOf
-by-verdict Whole σ = refl
-by-verdict (Refused n k) σ = refl
-
-held-refuses : (code lengths : List ℕ) (p : Program) (s : Schedule) (r : Run) → HoldsRun code lengths p s r → refusalOf (r .verdict) ≡ refusesFrom SC 0 (start p) s
-held-refuses code lengths p s r h =
-    by-verdict (r .verdict) (run SC (start p) (take (r .steps) s)) ∙ ap Replays.refusalOf (h .answer) ∙ sym (refuses-replayed p s)
 
 replayed-requires : tie.Need-replayed-requires
 replayed-requires c κs =
@@ -56,7 +45,7 @@ returns c =
     let s = entry .args .schedule .now in
     let h = c .replayed .ensures (programOf p) (loaded-compiled p (entry .pre .0)) (starting-compiled p) in
     subst (λ (m : Model). refusalOf (c .replayed .result .verdict) ≡ refusesFrom (modelOf m .system) 0 (modelOf m .start (programOf p)) s) (sym (c .before .before .before .enum-told .given .1))
-    (held-refuses (p .code) (p .lengths) (programOf p) s (c .replayed .result) h)
+    (verdict-refuses (p .code) (p .lengths) (programOf p) s (c .replayed .result) h)
 
 returns-2 : tie.Need-returns-2
 returns-2 c =

@@ -10,7 +10,8 @@ use Rattle.listing_model.proofs.ModelLaws.{model-laws}
 use Rattle.listing.specs.AnswerOf.{listAnswerOf}
 use Rattle.program.specs.Decode.{decode}
 use Rattle.model.specs.OnFile.{admit}
-use Rattle.listing.proofs.ListedProgram.{answer-refused, answer-accepted, answer-listed}
+use Rattle.decoder.proofs.Said.{answer-refused, answer-accepted}
+use Rattle.listing.proofs.ListedProgram.{answer-listed}
 use Rattle.listing.proofs.FileCalls.{start-refused, start-answered, start-output}
 use Rattle.listing.proofs.calling.start.Statement.{statement}
 use Rattle.listing.proofs.calling.start.Tie as tie

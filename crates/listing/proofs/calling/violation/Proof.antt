@@ -12,7 +12,8 @@ use Rattle.model.specs.Answers.{Violation}
 use Rattle.listing.specs.AnswerOf.{violationAnswerOf}
 use Rattle.program.specs.Decode.{decode}
 use Rattle.model.specs.OnFile.{admit}
-use Rattle.listing.proofs.ListedProgram.{answer-refused, answer-accepted, answer-listed}
+use Rattle.decoder.proofs.Said.{answer-refused, answer-accepted}
+use Rattle.listing.proofs.ListedProgram.{answer-listed}
 use Rattle.listing.proofs.FileCalls.{violation-refused, violation-answer, violation-output}
 use Rattle.listing.proofs.calling.violation.Statement.{statement}
 use Rattle.listing.proofs.calling.violation.Tie as tie

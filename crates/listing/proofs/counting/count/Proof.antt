@@ -4,7 +4,8 @@ use Rattle.program.specs.Decode.{decode}
 use Rattle.model.specs.OnFile.{admit}
 use Rattle.listing_model.specs.ModelOf.{modelOf}
 use Rattle.listing_model.proofs.ModelLaws.{model-laws}
-use Rattle.listing.proofs.ListedProgram.{answer-refused, answer-accepted, answer-listed}
+use Rattle.decoder.proofs.Said.{answer-refused, answer-accepted}
+use Rattle.listing.proofs.ListedProgram.{answer-listed}
 use Rattle.listing.proofs.CountCalled.{count-refused, count-answered}
 use Rattle.listing.proofs.counting.count.Statement.{statement}
 use Rattle.listing.proofs.counting.count.Tie as tie

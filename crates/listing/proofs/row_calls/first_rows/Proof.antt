@@ -10,7 +10,8 @@ use Rattle.listing_model.specs.ModelOf.{modelOf}
 use Rattle.listing_model.proofs.ModelLaws.{model-laws}
 use Rattle.program.specs.Decode.{decode}
 use Rattle.model.specs.OnFile.{admit}
-use Rattle.listing.proofs.ListedProgram.{answer-refused, answer-accepted, answer-listed}
+use Rattle.decoder.proofs.Said.{answer-refused, answer-accepted}
+use Rattle.listing.proofs.ListedProgram.{answer-listed}
 use Rattle.listing.proofs.RowsAnswered.{rows-refused, rows-paged}
 use Rattle.listing.proofs.row_calls.first_rows.Statement.{statement}
 use Rattle.listing.proofs.row_calls.first_rows.Tie as tie

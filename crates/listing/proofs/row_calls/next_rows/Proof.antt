@@ -9,7 +9,8 @@ use Rattle.pages.proofs.ListPages.{sought-48}
 use mathlib.Core.Bool.{false}
 use Rattle.program.specs.Decode.{decode}
 use Rattle.model.specs.OnFile.{admit}
-use Rattle.listing.proofs.ListedProgram.{answer-refused, answer-accepted, answer-listed}
+use Rattle.decoder.proofs.Said.{answer-refused, answer-accepted}
+use Rattle.listing.proofs.ListedProgram.{answer-listed}
 use Rattle.listing.proofs.RowsAnswered.{rows-refused, rows-paged}
 use Rattle.listing.proofs.row_calls.next_rows.Statement.{statement}
 use Rattle.listing.proofs.row_calls.next_rows.Tie as tie
