@@ -107,16 +107,20 @@ class Belief:
             for place, item in items.items():
                 crate, path, name = place
                 folder, _, file = path.partition('.')
-                beside = folder == 'specs' and file.split('.')[0] in stated.get(crate, ())
+                named = file.split('.')[0] if folder == 'specs' else path
+                beside = named in stated.get(crate, ())
+                if not promise.startswith('tarczolin_'):
+                    beside = beside or named in stated.get(f'rows {crate}', ())
                 if item.kind != 'type' and not crate.startswith(PREFIX) and not beside:
                     where = f'{self.files[place[:2]].path}:{item.first + 1}'
                     yield place, f'{where}: {promise} leads to {name}, which stands in no {PREFIX} crate'
 
-    def unreached(self):
+    def unreached(self, stated):
         """The definitions of `spec_` crates that no promise leads to."""
         reached = self.all()
         for (crate, path), file in self.files.items():
-            for item in file.declared if crate.startswith(PREFIX) else ():
+            opens = path.partition('.')[2] in stated.get(f'opens {crate}', ())
+            for item in file.declared if crate.startswith(PREFIX) and not opens else ():
                 defines = item.kind in DEFINITIONS or (item.kind == 'law' and names.is_definition(item))
                 if path.startswith('specs') and defines and item.place not in reached:
                     yield f'{file.path}:{item.first + 1}: no promise leads to {item.place[2]}'
@@ -145,7 +149,7 @@ def wrong(belief, text, beside):
     said += sorted(belief.names.lost)
     if not any(crate.startswith(PREFIX) for crate, _ in belief.files):
         return said, [f'no crate begins with {PREFIX}: where definitions stand that have to be believed was not looked at']
-    return said + list(dict(belief.misplaced(beside)).values()) + list(belief.unreached()), []
+    return said + list(dict(belief.misplaced(beside)).values()) + list(belief.unreached(beside)), []
 
 
 SAMPLE = {

@@ -1,8 +1,9 @@
 #!/usr/bin/env python3
-"""crates.py check | write: crates.txt has for each crate exactly those that its files name.
+"""crates.py check | write: crates.txt has for each crate exactly those that its files name, and those whose types it reaches.
 
 A crate is named by `Rattle.NAME` in specs, proofs and contracts, and by `NAME::` in code; in remarks it is not. What the crates
-below stand on is found by the prover itself. In crates.txt `## TITLE` begins a section and `# ..` right above a crate is its
+below stand on is found by the prover itself, but for types: a value that a function is handed may be of a type that a crate
+further below declares, and the prover wants that crate named. So a crate of types below may stand in a line. In crates.txt `## TITLE` begins a section and `# ..` right above a crate is its
 sentence; both, the order of the crates and all other remarks stay as they are. As soon as one crate has a sentence each must have
 one.
 """
@@ -62,16 +63,34 @@ def own_modules(texts):
     return {name for text in texts.values() for name in re.findall(r'^\s*(?:pub(?:\([^)]*\))? )?mod (\w+);', text, re.M)}
 
 
+def has_types(texts):
+    """Whether a crate's code declares types."""
+    return any(path.endswith('.rt') and re.search(r'^pub (?:struct|enum|type) ', text, re.M) for path, text in texts.items())
+
+
+def below(needed, stands_on):
+    """All that these crates stand on, however far below."""
+    found, ahead = set(), list(needed)
+    while ahead:
+        for other in stands_on.get(ahead.pop(), ()):
+            if other not in found:
+                found.add(other)
+                ahead.append(other)
+    return found
+
+
 def written(text, files):
     """crates.txt as it should be; `files` has each crate's texts by their paths."""
-    names = set(Listed(text).stands_on)
+    stands_on = Listed(text).stands_on
+    names = set(stands_on)
     lines = []
     for line in text.splitlines():
         match = LINE.match(line)
         if match:
             texts = files.get(match[1], {})
             needed = (named(texts) & (names | KIT)) - own_modules(texts) - {match[1]}
-            line = ' '.join([f'{match[1]}:', *sorted(needed)])
+            typed = {other for other in match[2].split() if has_types(files.get(other, {}))} & below(needed, stands_on)
+            line = ' '.join([f'{match[1]}:', *sorted(needed | typed)])
         lines.append(line)
     return '\n'.join(lines) + '\n'
 
@@ -91,12 +110,15 @@ def wrong(text, files):
     return found
 
 
-SAMPLE = '# NAME: what it stands on\n\n## below\na:\n## above\nb: a\n# c is code\nc: a b d\nd: io\n'
+SAMPLE = '# NAME: what it stands on\n\n## below\na:\n## above\nb: a\n# c is code\nc: a b d\nd: io\ne: b\nf: b d e\ng: a e f\n'
 SAMPLE_FILES = {
     'a': {'specs/A.antt': 'use Rattle.a.specs.B.{x}\n-- Rattle.b\n'},
     'b': {'specs/B.antt': '{- Rattle.c -} use Rattle.a.specs.A as A\n'},
     'c': {'src/lib.rt': 'mod check;\nuse b::f;\nghost use Rattle.a.specs.A.{x};\n// d::g\nfn g() { check::h(); crate::b::k() }\n'},
     'd': {'src/main.rt': 'use io::print;\nfn main() { c::g() }\n'},
+    'e': {'src/lib.rt': 'use b::f;\npub struct E {\n}\n'},
+    'f': {'src/lib.rt': 'use e::f;\n'},
+    'g': {'src/lib.rt': 'use f::f;\n'},
 }
 
 
@@ -104,12 +126,14 @@ def wrong_sample():
     """Which part of the sample is read wrongly."""
     listed = Listed(SAMPLE)
     parts = {
-        'sections': listed.sections == [('below', ['a']), ('above', ['b', 'c', 'd'])],
+        'sections': listed.sections == [('below', ['a']), ('above', ['b', 'c', 'd', 'e', 'f', 'g'])],
         'sentences': listed.sentences == {'c': 'c is code'},
-        'named': written(SAMPLE, SAMPLE_FILES) == SAMPLE.replace('c: a b d', 'c: a b').replace('d: io', 'd: c io'),
+        'named': written(SAMPLE, SAMPLE_FILES)
+        == SAMPLE.replace('c: a b d', 'c: a b').replace('d: io', 'd: c io').replace('f: b d e', 'f: e').replace('g: a e', 'g: e'),
         'wrong': wrong(SAMPLE, SAMPLE_FILES) == [
-            'crates.txt: c does not name d', 'crates.txt: d also names c',
-            'crates.txt: a has no sentence', 'crates.txt: b has no sentence', 'crates.txt: d has no sentence'],
+            'crates.txt: c does not name d', 'crates.txt: d also names c', 'crates.txt: f does not name b',
+            'crates.txt: f does not name d', 'crates.txt: g does not name a',
+            *[f'crates.txt: {name} has no sentence' for name in 'abdefg']],
         'order': wrong('a:\nb:  a\n', {'b': SAMPLE_FILES['b']}) == [NOT_AS_WRITTEN],
     }
     return [f'crates.py reads its sample wrongly: {name}' for name, right in parts.items() if not right]

@@ -8,29 +8,30 @@ use mathlib.Core.List.{List, []}
 use lib.Dec.{ltb}
 use lib.ListN.{length}
 use borrow.Author.Tests.{le-ltb}
-use Rattle.lines.specs.Over.{over}
-use Rattle.program.specs.Program.{Program}
-use Rattle.program.specs.Decode.{Decoded, accepted, decode}
-use Rattle.schedules.specs.Lists.{find}
-use Rattle.schedules.specs.Order.{Schedule}
-use Rattle.schedules.specs.System.{run}
-use Rattle.schedules.proofs.Runs.{full-allowed}
-use Rattle.sc.specs.State.{SC, start, fails}
-use Rattle.sc.specs.Graph.{Full, endOf}
-use Rattle.model.specs.Alike.{listOf}
-use Rattle.model.specs.Model.{failing}
-use Rattle.model.specs.Answers.{Violation, fails-first, none-fails, refused-by, violationBy, violationContent, violationOf}
-use Rattle.model.specs.OnFile.{violationOn, violationFile}
-use Rattle.sc_model.specs.Sequential.{sc}
+use Rattle.spec_file.specs.Over.{over}
+use Rattle.spec_file.specs.Program.{Program}
+use Rattle.spec_file.specs.Decode.{Decoded, accepted, decode}
+use Rattle.spec_schedules.specs.Lists.{find}
+use Rattle.spec_schedules.specs.Order.{Schedule}
+use Rattle.spec_schedules.specs.System.{run}
+use Rattle.spec_schedules.proofs.Runs.{full-allowed}
+use Rattle.spec_sc.specs.State.{SC, start, fails}
+use Rattle.spec_sc.specs.Graph.{Full, endOf}
+use Rattle.spec_model.specs.Alike.{listOf}
+use Rattle.spec_model.specs.Model.{failing}
+use Rattle.spec_model.specs.Answers.{Violation, fails-first, none-fails, refused-by, violationBy, violationContent, violationOf}
+use Rattle.spec_model.specs.OnFile.{violationOn, violationFile}
+use Rattle.spec_sc.specs.Sequential.{sc}
+use Rattle.spec_sc.proofs.Admits.{sc-admits}
 use Rattle.listing.specs.AnswerOf.{violationAnswerOf}
 use Rattle.listing.specs.declared.calling.ListAnswer.{ListAnswer}
 use Rattle.listing.specs.declared.calling.ListAnswer.the-variants.{Found, NoMore, Refused}
 use Rattle.listing.proofs.Demand3.{sc-demand-3}
-use Rattle.game.specs.Game.{hostile, friendly, other, same}
-use Rattle.game.proofs.Value.{value}
-use Rattle.game.specs.Forced.{gameOf, CanForce}
-use Rattle.game.proofs.Sides.{same-is, same-not}
-use Rattle.game.proofs.Answers.{one-can-force, hostile-play, none-fails-friendly, forced-unique}
+use Rattle.spec_force.specs.Game.{hostile, friendly, other, same}
+use Rattle.spec_force.proofs.Value.{value}
+use Rattle.spec_force.specs.Forced.{gameOf, CanForce}
+use Rattle.spec_force.proofs.Sides.{same-is, same-not}
+use Rattle.spec_force.proofs.Answers.{one-can-force, hostile-play, none-fails-friendly, forced-unique}
 use Rattle.force.specs.Forcing.{Forcing}
 
 -- ---- what the violation call says
@@ -48,7 +49,7 @@ says-none (refused-by n k) e = absurd (false≢true (ap isNone e))
 module _ (file : List ℕ) (p : Program) (e : decode file ≡ accepted p) where
   call : (out : List ℕ) → violationFile sc file out ≡ violationOf sc p out
   unfolding violationOn
-  call out = ap (λ (d : Decoded). violationOn sc d out) e
+  call out = ap (λ (d : Decoded). violationOn sc d out) (sc-admits (decode file) ∙ e)
 
   whole : (out : List ℕ) → violationFile sc file out ≡ (violationFile sc file out .0, violationContent (violationFile sc file out .0) out)
   unfolding violationOf

@@ -6,19 +6,20 @@ use mathlib.Core.List.{List}
 use native.Mathlib.Nat.{mod-add-mod}
 use native.Mathlib.Omega.{arith}
 use lib.ListN.{length}
-use Rattle.program.specs.Program.{Program}
-use Rattle.program.specs.Decode.{Decoded, accepted, refused, decode}
-use Rattle.schedules.specs.Lists.{filter}
-use Rattle.schedules.specs.Order.{Schedule}
-use Rattle.model.specs.Model.{Model, failing}
-use Rattle.model.specs.Answers.{countOf}
-use Rattle.model.specs.OnFile.{admit, countOn, countFile}
-use Rattle.model.specs.Search.{sought}
-use Rattle.pages.specs.declared.cursor.Cursor.{Cursor}
-use Rattle.pages.specs.declared.cursor.Page.{Page}
-use Rattle.pages.specs.Rows.{rowSize, Shown}
-use Rattle.pages.specs.Cursor.{from, isEnd, Paged}
-use Rattle.pages.proofs.CountedRows.{Counting, counting-start, counting-over, counting-next}
+use Rattle.spec_file.specs.Program.{Program}
+use Rattle.spec_file.specs.Decode.{Decoded, accepted, refused, decode}
+use Rattle.spec_schedules.specs.Lists.{filter}
+use Rattle.spec_schedules.specs.Order.{Schedule}
+use Rattle.spec_model.specs.Model.{Model, failing}
+use Rattle.spec_model.specs.Answers.{countOf}
+use Rattle.spec_model.specs.OnFile.{admit, countOn, countFile}
+use Rattle.spec_model.specs.Search.{sought}
+use Rattle.listing_cursor.specs.declared.cursor.Cursor.{Cursor}
+use Rattle.listing_cursor.specs.declared.cursor.Page.{Page}
+use Rattle.spec_calls.specs.Rows.{rowSize}
+use Rattle.listing_cursor.specs.Rows.{Shown}
+use Rattle.listing_cursor.specs.Cursor.{from, isEnd, Paged}
+use Rattle.listing_cursor.proofs.CountedRows.{Counting, counting-start, counting-over, counting-next}
 use Rattle.listing.specs.declared.counting.CountAnswer.the-variants.{Counted, Refused}
 use Rattle.listing.specs.CountWord.{countAnswerOf}
 

@@ -3,25 +3,25 @@
 use Prim.Native.Nat.{ℕ, _≤_}
 use mathlib.Core.Path.{_≡_, ap, _∙_}
 use mathlib.Core.List.{List, _∷_, _++_}
-use Rattle.program.specs.Program.{Program}
-use Rattle.program.specs.WellFormed.{allAccesses}
-use Rattle.program.specs.Decode.{accepted, decode}
-use Rattle.schedules.proofs.Calls.{due-at}
-use Rattle.model.specs.Model.{Model}
-use Rattle.model.specs.Laws.{Admitted, Laws}
-use Rattle.model.specs.Alike.{listOf}
-use Rattle.model.specs.OnFile.{admit}
-use Rattle.model.proofs.TheList.{list-exact, list-ascends, list-length, list-room, one-each, some-member}
-use Rattle.model.proofs.Outcome.{same-outcome, none-fails-at-all}
-use Rattle.model.proofs.Admitted.{listed-program, same-answer, same-count, same-violation}
-use Rattle.model.proofs.Calls.{continue-file, continue-least, continue-none}
-use Rattle.model.proofs.Violations as Violations
-use Rattle.sc_model.specs.Sequential.{sc}
-use Rattle.sc_model.proofs.Laws.{sc-laws}
-use Rattle.sc_model.proofs.Admits.{sc-admits}
-use Rattle.tso_model.specs.TotalStoreOrder.{tso}
-use Rattle.tso_model.proofs.Laws.{tso-laws}
-use Rattle.tso_model.proofs.Admits.{admitted-16}
+use Rattle.spec_file.specs.Program.{Program}
+use Rattle.spec_file.specs.WellFormed.{allAccesses}
+use Rattle.spec_file.specs.Decode.{accepted, decode}
+use Rattle.spec_schedules.proofs.Calls.{due-at}
+use Rattle.spec_model.specs.Model.{Model}
+use Rattle.spec_model.specs.Laws.{Admitted, Laws}
+use Rattle.spec_model.specs.Alike.{listOf}
+use Rattle.spec_model.specs.OnFile.{admit}
+use Rattle.spec_model.proofs.TheList.{list-exact, list-ascends, list-length, list-room, one-each, some-member}
+use Rattle.spec_model.proofs.Outcome.{same-outcome, none-fails-at-all}
+use Rattle.spec_model.proofs.Admitted.{listed-program, same-answer, same-count, same-violation}
+use Rattle.spec_model.proofs.Calls.{continue-file, continue-least, continue-none}
+use Rattle.spec_model.proofs.Violations as Violations
+use Rattle.spec_sc.specs.Sequential.{sc}
+use Rattle.spec_sc.proofs.Laws.{sc-laws}
+use Rattle.spec_sc.proofs.Admits.{sc-admits}
+use Rattle.spec_tso.specs.TotalStoreOrder.{tso}
+use Rattle.spec_tso.proofs.Laws.{tso-laws}
+use Rattle.spec_tso.proofs.Admits.{admitted-16}
 use Rattle.listing.specs.Demand3.{Demand3}
 use Rattle.listing.proofs.Dialogue.{calls-due}
 use Rattle.listing.proofs.Standing.{start-stands, continue-stands, violation-stands}

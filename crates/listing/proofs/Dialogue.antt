@@ -4,18 +4,19 @@ use Prim.Native.Nat.{ℕ}
 use mathlib.Core.Path.{_≡_, sym, subst, _∙_}
 use mathlib.Core.Option.{Option, none, some}
 use mathlib.Core.List.{List, [], _∷_}
-use Rattle.program.specs.Program.{Program}
-use Rattle.program.specs.Decode.{accepted, decode}
-use Rattle.schedules.specs.Order.{Schedule}
-use Rattle.schedules.specs.Calls.{offer, short, Result, called, last, Dialogue, due}
-use Rattle.schedules.proofs.Calls.{dialogue-answers}
-use Rattle.schedules.proofs.Offered.{offer-in, last-answer}
-use Rattle.model.specs.Model.{Model, Full}
-use Rattle.model.specs.Laws.{Laws}
-use Rattle.model.specs.Alike.{listOf}
-use Rattle.model.specs.OnFile.{admit}
-use Rattle.model.proofs.TheList.{list-ascends, list-exact}
-use Rattle.model.proofs.Calls.{continue-file, start-file}
+use Rattle.spec_file.specs.Program.{Program}
+use Rattle.spec_file.specs.Decode.{accepted, decode}
+use Rattle.spec_schedules.specs.Order.{Schedule}
+use Rattle.spec_schedules.specs.Calls.{offer, short, Result, called, last, due}
+use Rattle.spec_schedules.proofs.CallTerms.{Dialogue}
+use Rattle.spec_schedules.proofs.Calls.{dialogue-answers}
+use Rattle.spec_schedules.proofs.Offered.{offer-in, last-answer}
+use Rattle.spec_model.specs.Model.{Model, Full}
+use Rattle.spec_model.specs.Laws.{Laws}
+use Rattle.spec_model.specs.Alike.{listOf}
+use Rattle.spec_model.specs.OnFile.{admit}
+use Rattle.spec_model.proofs.TheList.{list-ascends, list-exact}
+use Rattle.spec_model.proofs.Calls.{continue-file, start-file}
 use Rattle.listing.specs.Demand3.{call, Called}
 
 module _ (M : Model) (p : Program) where

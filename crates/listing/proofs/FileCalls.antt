@@ -6,27 +6,27 @@ use mathlib.Core.List.{List}
 use mathlib.Core.Option.{Option, none, some}
 use lib.ListN.{length}
 use borrow.Author.Tests.{lt-ltb, le-ltb}
-use Rattle.program.specs.Program.{Program}
-use Rattle.program.specs.Decode.{Decoded, accepted, decode}
-use Rattle.program.specs.Decode as File
-use Rattle.schedules.specs.Lists.{find, headOf}
-use Rattle.schedules.specs.Order.{Schedule}
-use Rattle.schedules.specs.Calls.{Answer, refused, answerTo, short, content}
-use Rattle.schedules.specs.Found.{after}
-use Rattle.schedules.proofs.First.{head-filter}
-use Rattle.schedules.proofs.After.{after-none, offer-after}
-use Rattle.schedules.proofs.Offered as Offered
-use Rattle.schedules.proofs.Offered.{content-found, content-nomore, content-refused}
-use Rattle.model.specs.Model.{Model, failing}
-use Rattle.model.specs.Alike.{listOf}
-use Rattle.model.specs.Answers.{startOf, refusesFrom, continued, continueOf, Violation, refused-by, violationBy, violationContent, violationOf}
-use Rattle.model.specs.OnFile.{admit, startOn, startFile, continueOn, continueFile, violationOn, violationFile}
-use Rattle.model.specs.Search.{sought}
-use Rattle.pages.proofs.Answered.{unchanged}
-use Rattle.replay.specs.declared.replaying.Verdict.{Verdict}
-use Rattle.replay.specs.declared.replaying.Verdict.the-variants.{Whole, Refused}
-use Rattle.replay.specs.Carried.{refusalOf}
-use Rattle.replay.proofs.Verdicts.{refusal-whole, refusal-refused}
+use Rattle.spec_file.specs.Program.{Program}
+use Rattle.spec_file.specs.Decode.{Decoded, accepted, decode}
+use Rattle.spec_file.specs.Decode as File
+use Rattle.spec_schedules.specs.Lists.{find, headOf}
+use Rattle.spec_schedules.specs.Order.{Schedule}
+use Rattle.spec_schedules.specs.Calls.{Answer, refused, answerTo, short, content}
+use Rattle.spec_schedules.specs.Found.{after}
+use Rattle.spec_schedules.proofs.First.{head-filter}
+use Rattle.spec_schedules.proofs.After.{after-none, offer-after}
+use Rattle.spec_schedules.proofs.Offered as Offered
+use Rattle.spec_schedules.proofs.Offered.{content-found, content-nomore, content-refused}
+use Rattle.spec_model.specs.Model.{Model, failing}
+use Rattle.spec_model.specs.Alike.{listOf}
+use Rattle.spec_model.specs.Answers.{startOf, refusesFrom, continued, continueOf, Violation, refused-by, violationBy, violationContent, violationOf}
+use Rattle.spec_model.specs.OnFile.{admit, startOn, startFile, continueOn, continueFile, violationOn, violationFile}
+use Rattle.spec_model.specs.Search.{sought}
+use Rattle.spec_calls.proofs.Answered.{unchanged}
+use Rattle.machine_replay.specs.declared.replaying.Verdict.{Verdict}
+use Rattle.machine_replay.specs.declared.replaying.Verdict.the-variants.{Whole, Refused}
+use Rattle.machine_replay.specs.Carried.{refusalOf}
+use Rattle.machine_replay.proofs.Verdicts.{refusal-whole, refusal-refused}
 use Rattle.listing.specs.AnswerOf.{listAnswerOf, violationAnswerOf}
 
 -- ---- start, on a file

@@ -4,15 +4,15 @@ use mathlib.Core.Path.{_≡_, refl, sym, ap, _∙_}
 use mathlib.Core.Bool.{Bool, cond, true, false}
 use mathlib.Core.Option.{Option, none, some}
 use mathlib.Core.List.{List}
-use Rattle.program.specs.Decode.{Decoded, accepted, refused, decode}
-use Rattle.decoder.specs.declared.file.Answer.{Answer}
-use Rattle.decoder.specs.declared.file.Verdict.the-variants.{Accepted, Refused}
-use Rattle.decoder.specs.Compiled.{programOf, answerOf}
-use Rattle.decoder.proofs.Said.{says-refused, answer-refused, answer-accepted}
-use Rattle.model.specs.Model.{Model}
-use Rattle.model.specs.Laws.{Laws, Admitted}
-use Rattle.model.specs.OnFile.{unless, admit}
-use Rattle.model.proofs.Admitted.{listed-program}
+use Rattle.spec_file.specs.Decode.{Decoded, accepted, refused, decode}
+use Rattle.file_decoder.specs.declared.file.Answer.{Answer}
+use Rattle.file_decoder.specs.declared.file.Verdict.the-variants.{Accepted, Refused}
+use Rattle.file_decoder.specs.Compiled.{programOf, answerOf}
+use Rattle.file_decoder.proofs.Said.{says-refused, answer-refused, answer-accepted}
+use Rattle.spec_model.specs.Model.{Model}
+use Rattle.spec_model.specs.Laws.{Laws, Admitted}
+use Rattle.spec_model.specs.OnFile.{unless, admit}
+use Rattle.spec_model.proofs.Admitted.{listed-program}
 
 module _ (M : Model) where
   -- a program that is accepted then is listed

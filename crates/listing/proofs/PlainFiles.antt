@@ -3,14 +3,14 @@
 use Prim.Native.Nat.{ℕ}
 use mathlib.Core.Path.{_≡_, ap}
 use mathlib.Core.List.{List}
-use Rattle.lines.specs.Plain.{plain}
-use Rattle.program.specs.Program.{Program}
-use Rattle.program.specs.Decode.{Decoded, accepted, decode}
-use Rattle.program.proofs.PlainFiles.{same-program, same-decoded}
-use Rattle.model.specs.Model.{Model}
-use Rattle.model.specs.Alike.{listOf}
-use Rattle.model.specs.OnFile.{admit, startOn, continueOn, countOn, violationOn}
-use Rattle.listing.specs.RowsCall.{rowsOn, leftOn}
+use Rattle.spec_file.specs.Plain.{plain}
+use Rattle.spec_file.specs.Program.{Program}
+use Rattle.spec_file.specs.Decode.{Decoded, accepted, decode}
+use Rattle.spec_file.proofs.PlainFiles.{same-program, same-decoded}
+use Rattle.spec_model.specs.Model.{Model}
+use Rattle.spec_model.specs.Alike.{listOf}
+use Rattle.spec_model.specs.OnFile.{admit, startOn, continueOn, countOn, violationOn}
+use Rattle.spec_calls.specs.RowsCall.{rowsOn, leftOn}
 use Rattle.listing.specs.SameCalls.{SameCalls}
 
 module _ (M : Model) (f g : List ℕ) (p q : Program) (e : plain f ≡ plain g) (a : decode f ≡ accepted p) (b : decode g ≡ accepted q) where

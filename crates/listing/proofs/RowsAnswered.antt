@@ -5,20 +5,20 @@ use mathlib.Core.Bool.{false}
 use mathlib.Core.List.{List}
 use mathlib.Core.Option.{Option}
 use lib.ListN.{length, take}
-use Rattle.program.specs.Program.{Program}
-use Rattle.program.specs.Decode.{Decoded, accepted, refused, decode}
-use Rattle.schedules.specs.Order.{Schedule}
-use Rattle.schedules.specs.Found.{after}
-use Rattle.model.specs.Model.{Model}
-use Rattle.model.specs.OnFile.{admit}
-use Rattle.model.specs.Search.{sought}
-use Rattle.listing.specs.declared.row_calls.RowsAnswer.{RowsAnswer}
-use Rattle.listing.specs.declared.row_calls.RowsAnswer.the-variants.{Written, Refused}
-use Rattle.pages.specs.declared.cursor.Cursor.{Cursor}
-use Rattle.pages.specs.declared.cursor.Page.{Page}
-use Rattle.pages.specs.Rows.{rowSize}
-use Rattle.pages.specs.ListRows.{Shown, remaining, Paged}
-use Rattle.listing.specs.RowsCall.{fitting, rowsOn, leftOn, rowsFile, rowsOutput}
+use Rattle.spec_file.specs.Program.{Program}
+use Rattle.spec_file.specs.Decode.{Decoded, accepted, refused, decode}
+use Rattle.spec_schedules.specs.Order.{Schedule}
+use Rattle.spec_schedules.specs.Found.{after}
+use Rattle.spec_model.specs.Model.{Model}
+use Rattle.spec_model.specs.OnFile.{admit}
+use Rattle.spec_model.specs.Search.{sought}
+use Rattle.spec_calls.specs.declared.rows_answer.RowsAnswer.{RowsAnswer}
+use Rattle.spec_calls.specs.declared.rows_answer.RowsAnswer.the-variants.{Written, Refused}
+use Rattle.listing_cursor.specs.declared.cursor.Cursor.{Cursor}
+use Rattle.listing_cursor.specs.declared.cursor.Page.{Page}
+use Rattle.spec_calls.specs.Rows.{rowSize}
+use Rattle.listing_cursor.specs.ListRows.{Shown, remaining, Paged}
+use Rattle.spec_calls.specs.RowsCall.{fitting, rowsOn, leftOn, rowsFile, rowsOutput}
 
 module _ (M : Model) (file out : List ℕ) (o : Option Schedule) where
   pub rows-refused : (n k : ℕ) → admit M (decode file) ≡ refused n k

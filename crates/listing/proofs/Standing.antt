@@ -3,20 +3,20 @@ use Prim.Native.Nat.{ℕ}
 use mathlib.Core.Path.{_≡_, refl, sym, subst}
 use mathlib.Core.List.{List}
 use native.Mathlib.Omega.{arith}
-use Rattle.lines.proofs.Over.{take-over, drop-over, length-over}
-use Rattle.program.specs.Program.{Program}
-use Rattle.program.specs.Decode.{Decoded, accepted, decode}
-use Rattle.program.specs.Decode as File
-use Rattle.schedules.specs.Order.{Schedule}
-use Rattle.schedules.specs.Calls.{found}
-use Rattle.model.specs.Model.{Model}
-use Rattle.model.specs.Laws.{Laws, Admitted}
-use Rattle.model.specs.Answers.{fails-first}
-use Rattle.model.specs.OnFile.{admit, startOn, continueOn, violationOn, startFile, continueFile, violationFile}
-use Rattle.model.proofs.TheList.{list-room}
-use Rattle.model.proofs.Admitted.{listed-program}
-use Rattle.model.proofs.Answered.{Stands}
-use Rattle.model.proofs.Answered as Called
+use Rattle.spec_file.proofs.Over.{take-over, drop-over, length-over}
+use Rattle.spec_file.specs.Program.{Program}
+use Rattle.spec_file.specs.Decode.{Decoded, accepted, decode}
+use Rattle.spec_file.specs.Decode as File
+use Rattle.spec_schedules.specs.Order.{Schedule}
+use Rattle.spec_schedules.specs.Calls.{found}
+use Rattle.spec_model.specs.Model.{Model}
+use Rattle.spec_model.specs.Laws.{Laws, Admitted}
+use Rattle.spec_model.specs.Answers.{fails-first}
+use Rattle.spec_model.specs.OnFile.{admit, startOn, continueOn, violationOn, startFile, continueFile, violationFile}
+use Rattle.spec_model.proofs.TheList.{list-room}
+use Rattle.spec_model.proofs.Admitted.{listed-program}
+use Rattle.spec_model.proofs.Answered.{Stands}
+use Rattle.spec_model.proofs.Answered as Called
 use Rattle.listing.specs.Demand3.{InFront}
 
 module _ (M : Model) (L : Laws M) where

@@ -8,15 +8,16 @@ use mathlib.Core.Bool.{true, false}
 use mathlib.Core.Option.{Option, none, some}
 use mathlib.Core.List.{List, [], _∷_, _++_, List·Memᴰ}
 use lib.ListN.{length, take, drop}
-use Rattle.lines.specs.Over.{over}
-use Rattle.program.specs.Program.{Program}
-use Rattle.schedules.specs.Lists.{filter, Ascends}
-use Rattle.schedules.specs.Order.{Schedule, less}
-use Rattle.schedules.specs.Calls.{found, nomore, answerTo, short, Result, result, called, last, due, served, member}
-use Rattle.model.specs.Model.{Model, endOf, Runs, Full, failing}
-use Rattle.model.specs.Alike.{Alike, Listed, listOf}
-use Rattle.model.specs.Answers.{fails-first, none-fails, refused-by}
-use Rattle.model.specs.OnFile.{startFile, continueFile, counted, countFile, violationFile}
+use Rattle.spec_file.specs.Over.{over}
+use Rattle.spec_file.specs.Program.{Program}
+use Rattle.spec_schedules.specs.Lists.{filter}
+use Rattle.spec_file.specs.Lists.{Ascends}
+use Rattle.spec_schedules.specs.Order.{Schedule, less}
+use Rattle.spec_schedules.specs.Calls.{found, nomore, answerTo, short, Result, result, called, last, due, served, member}
+use Rattle.spec_model.specs.Model.{Model, endOf, Runs, Full, failing}
+use Rattle.spec_model.specs.Alike.{Alike, Listed, listOf}
+use Rattle.spec_model.specs.Answers.{fails-first, none-fails, refused-by}
+use Rattle.spec_model.specs.OnFile.{startFile, continueFile, counted, countFile, violationFile}
 
 -- s is in the list of p
 abbrev pub InList : (M : Model) → Program → Schedule → Type 0

@@ -3,13 +3,9 @@
 pub mod Demand3
 -- and what is promised of sequential consistency beside it
 pub mod Sequential
--- what the listing program prints
-pub mod Printed
 -- the answers as the code gives them
 pub mod AnswerOf
 -- count's answer as the code gives it
 pub mod CountWord
--- listed schedules by rows, on a program file
-pub mod RowsCall
 -- two files on which every call answers the same
 pub mod SameCalls

@@ -3,10 +3,10 @@ use Prim.Native.Nat.{ℕ}
 use mathlib.Core.Path.{_≡_}
 use mathlib.Core.List.{List}
 use mathlib.Core.Option.{Option}
-use Rattle.schedules.specs.Order.{Schedule}
-use Rattle.model.specs.Model.{Model}
-use Rattle.model.specs.OnFile.{startFile, continueFile, countFile, violationFile}
-use Rattle.listing.specs.RowsCall.{rowsFile, rowsOutput}
+use Rattle.spec_schedules.specs.Order.{Schedule}
+use Rattle.spec_model.specs.Model.{Model}
+use Rattle.spec_model.specs.OnFile.{startFile, continueFile, countFile, violationFile}
+use Rattle.spec_calls.specs.RowsCall.{rowsFile, rowsOutput}
 
 pub record SameCalls (M : Model) (f g : List ℕ) : Type 0 where
   pub starts : (out : List ℕ) → startFile M f out ≡ startFile M g out

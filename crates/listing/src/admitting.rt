@@ -1,16 +1,16 @@
 // The program that the memory model lists, or what refuses the file: the program's own refusals, then 41 under total store order.
-use decoder::Answer;
-use decoder::Compiled;
-use decoder::Verdict;
+use file_decoder::Answer;
+use file_decoder::Compiled;
+use file_decoder::Verdict;
 use listing_model::Model;
 use tso_replay::too_many;
 ghost use mathlib.Core.Path.{_≡_};
 ghost use mathlib.Core.Bool.{cond};
 ghost use mathlib.Core.Option.{none, some};
-ghost use Rattle.program.specs.WellFormed.{WellFormed};
-ghost use Rattle.program.specs.Decode.{decode};
-ghost use Rattle.decoder.specs.Compiled.{programOf, answerOf};
-ghost use Rattle.model.specs.OnFile.{admit};
+ghost use Rattle.spec_file.specs.WellFormed.{WellFormed};
+ghost use Rattle.spec_file.specs.Decode.{decode};
+ghost use Rattle.file_decoder.specs.Compiled.{programOf, answerOf};
+ghost use Rattle.spec_model.specs.OnFile.{admit};
 ghost use Rattle.listing_model.specs.ModelOf.{modelOf};
 
 // Whether the model turns an accepted program away.
@@ -32,7 +32,7 @@ fn turns_away(model: Model, program: Compiled) -> bool
 pub(crate) fn admitted(model: Model, file: &[u8]) -> Answer
     ensures { λ r. ⌜ answerOf r ≡ admit (modelOf model) (decode (now (file .entry))) ⌝ }
 {
-    let a = decoder::decode(file);
+    let a = file_decoder::decode(file);
     let v = a.verdict;
     match v {
         Verdict::Refused(n, k) => a,

@@ -1,28 +1,28 @@
 // The calls that give a schedule: start, continue, violation.
 use crate::admitting::admitted;
-use decoder::Compiled;
-use lines::wide;
+use file_decoder::Compiled;
+use file_lines::wide;
+use listing_cursor::Cursor;
+use listing_cursor::beginning;
+use listing_cursor::behind;
+use listing_cursor::put_schedule;
 use listing_model::Model;
 use listing_model::width;
 use listing_pages::next_page;
-use pages::Cursor;
-use pages::beginning;
-use pages::behind;
-use pages::put_schedule;
-use replay::Verdict;
+use machine_replay::Verdict;
 ghost use Prim.Native.Nat.{_≤_};
 ghost use mathlib.Core.Path.{_≡_};
 ghost use mathlib.Core.Bool.{false};
 ghost use lib.ListN.{length};
-ghost use Rattle.decoder.specs.Compiled.{programOf};
-ghost use Rattle.schedules.specs.Lists.{headOf};
-ghost use Rattle.schedules.specs.Calls.{answerTo, short, content};
-ghost use Rattle.model.specs.Laws.{Admitted};
-ghost use Rattle.model.specs.Answers.{refusesFrom, continueOf};
-ghost use Rattle.model.specs.OnFile.{startFile, continueFile, violationFile};
-ghost use Rattle.pages.specs.Rows.{rowSize};
-ghost use Rattle.pages.specs.ListRows.{remaining};
-ghost use Rattle.replay.specs.Carried.{refusalOf};
+ghost use Rattle.file_decoder.specs.Compiled.{programOf};
+ghost use Rattle.spec_schedules.specs.Lists.{headOf};
+ghost use Rattle.spec_schedules.specs.Calls.{answerTo, short, content};
+ghost use Rattle.spec_model.specs.Laws.{Admitted};
+ghost use Rattle.spec_model.specs.Answers.{refusesFrom, continueOf};
+ghost use Rattle.spec_model.specs.OnFile.{startFile, continueFile, violationFile};
+ghost use Rattle.spec_calls.specs.Rows.{rowSize};
+ghost use Rattle.listing_cursor.specs.ListRows.{remaining};
+ghost use Rattle.machine_replay.specs.Carried.{refusalOf};
 ghost use Rattle.listing_model.specs.ModelOf.{modelOf};
 ghost use Rattle.listing.specs.AnswerOf.{listAnswerOf, violationAnswerOf};
 
@@ -92,7 +92,7 @@ fn refusal(model: Model, program: Compiled, schedule: &[u8]) -> Verdict
     let starting = program.starting;
     match model {
         Model::Sequential => {
-            let r = replay::replayed(&code, &lengths, program.threads, starting, schedule);
+            let r = machine_replay::replayed(&code, &lengths, program.threads, starting, schedule);
             r.verdict
         }
         Model::TotalStoreOrder => {
@@ -126,8 +126,8 @@ pub fn start(model: Model, file: &[u8], out: &mut [u8]) -> ListAnswer
     let a = admitted(model, file);
     let v = a.verdict;
     match v {
-        decoder::Verdict::Refused(n, k) => ListAnswer::Refused(n, k),
-        decoder::Verdict::Accepted => {
+        file_decoder::Verdict::Refused(n, k) => ListAnswer::Refused(n, k),
+        file_decoder::Verdict::Accepted => {
             let p = a.program;
             next_listed(model, p, beginning(), false, out)
         }
@@ -144,8 +144,8 @@ pub fn continue_from(model: Model, file: &[u8], schedule: &[u8], out: &mut [u8])
     let a = admitted(model, file);
     let v = a.verdict;
     match v {
-        decoder::Verdict::Refused(n, k) => ListAnswer::Refused(n, k),
-        decoder::Verdict::Accepted => {
+        file_decoder::Verdict::Refused(n, k) => ListAnswer::Refused(n, k),
+        file_decoder::Verdict::Accepted => {
             let p = a.program;
             continued(model, p, schedule, out)
         }
@@ -160,8 +160,8 @@ pub fn violation(model: Model, file: &[u8], out: &mut [u8]) -> ListAnswer
     let a = admitted(model, file);
     let v = a.verdict;
     match v {
-        decoder::Verdict::Refused(n, k) => ListAnswer::Refused(n, k),
-        decoder::Verdict::Accepted => {
+        file_decoder::Verdict::Refused(n, k) => ListAnswer::Refused(n, k),
+        file_decoder::Verdict::Accepted => {
             let p = a.program;
             next_listed(model, p, beginning(), true, out)
         }

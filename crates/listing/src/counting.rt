@@ -1,21 +1,21 @@
 // How many schedules are listed, and how many of these fail, modulo 2^64.
 use crate::admitting::admitted;
-use decoder::Compiled;
+use file_decoder::Compiled;
+use listing_cursor::beginning;
+use listing_cursor::failing_in;
+use listing_cursor::is_end;
 use listing_model::Model;
 use listing_model::width;
 use listing_pages::next_page;
-use pages::beginning;
-use pages::failing_in;
-use pages::is_end;
 use std::num::wrapping_add_usize;
 ghost use Prim.Native.Nat.{_*_};
 ghost use mathlib.Core.Path.{_≡_};
 ghost use lib.ListN.{length};
-ghost use Rattle.decoder.specs.Compiled.{programOf};
-ghost use Rattle.model.specs.Laws.{Admitted};
-ghost use Rattle.model.specs.Answers.{countOf};
-ghost use Rattle.model.specs.OnFile.{countFile};
-ghost use Rattle.pages.specs.Rows.{rowSize};
+ghost use Rattle.file_decoder.specs.Compiled.{programOf};
+ghost use Rattle.spec_model.specs.Laws.{Admitted};
+ghost use Rattle.spec_model.specs.Answers.{countOf};
+ghost use Rattle.spec_model.specs.OnFile.{countFile};
+ghost use Rattle.spec_calls.specs.Rows.{rowSize};
 ghost use Rattle.listing_model.specs.ModelOf.{modelOf};
 ghost use Rattle.listing.specs.CountWord.{countAnswerOf};
 
@@ -72,8 +72,8 @@ pub fn count(model: Model, file: &[u8]) -> CountAnswer
     let a = admitted(model, file);
     let v = a.verdict;
     match v {
-        decoder::Verdict::Refused(n, k) => CountAnswer::Refused(n, k),
-        decoder::Verdict::Accepted => {
+        file_decoder::Verdict::Refused(n, k) => CountAnswer::Refused(n, k),
+        file_decoder::Verdict::Accepted => {
             let p = a.program;
             let c = counts(model, p);
             CountAnswer::Counted(c.listed, c.failing)

@@ -15,6 +15,5 @@ pub use calling::start;
 pub use calling::violation;
 pub use counting::CountAnswer;
 pub use counting::count;
-pub use row_calls::RowsAnswer;
 pub use row_calls::first_rows;
 pub use row_calls::next_rows;

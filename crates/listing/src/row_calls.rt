@@ -1,20 +1,14 @@
 // Listed schedules of a program file by rows: from the first one on, or behind a schedule.
 use crate::admitting::admitted;
+use listing_cursor::beginning;
+use listing_cursor::behind;
 use listing_model::Model;
 use listing_pages::next_page;
-use pages::beginning;
-use pages::behind;
+use spec_calls::RowsAnswer;
 ghost use mathlib.Core.Path.{_≡_};
 ghost use mathlib.Core.Option.{none, some};
 ghost use Rattle.listing_model.specs.ModelOf.{modelOf};
-ghost use Rattle.listing.specs.RowsCall.{rowsFile, rowsOutput};
-
-pub enum RowsAnswer {
-    // So many rows stand in front of the output.
-    Written(usize),
-    // The refusal's number and place.
-    Refused(u8, usize),
-}
+ghost use Rattle.spec_calls.specs.RowsCall.{rowsFile, rowsOutput};
 
 // The first ones.
 pub fn first_rows(model: Model, file: &[u8], out: &mut [u8]) -> RowsAnswer
@@ -24,8 +18,8 @@ pub fn first_rows(model: Model, file: &[u8], out: &mut [u8]) -> RowsAnswer
     let a = admitted(model, file);
     let v = a.verdict;
     match v {
-        decoder::Verdict::Refused(n, k) => RowsAnswer::Refused(n, k),
-        decoder::Verdict::Accepted => {
+        file_decoder::Verdict::Refused(n, k) => RowsAnswer::Refused(n, k),
+        file_decoder::Verdict::Accepted => {
             let p = a.program;
             let page = next_page(model, p, beginning(), false, out);
             RowsAnswer::Written(page.rows)
@@ -42,8 +36,8 @@ pub fn next_rows(model: Model, file: &[u8], schedule: &[u8], out: &mut [u8]) -> 
     let a = admitted(model, file);
     let v = a.verdict;
     match v {
-        decoder::Verdict::Refused(n, k) => RowsAnswer::Refused(n, k),
-        decoder::Verdict::Accepted => {
+        file_decoder::Verdict::Refused(n, k) => RowsAnswer::Refused(n, k),
+        file_decoder::Verdict::Accepted => {
             let p = a.program;
             let page = next_page(model, p, behind(schedule), false, out);
             RowsAnswer::Written(page.rows)

@@ -2,9 +2,9 @@
 use Prim.Native.Nat.{ℕ, _≤_}
 use mathlib.Core.Path.{_≡_, refl}
 use native.Mathlib.Omega.{arith}
-use Rattle.model.specs.Laws.{Laws}
-use Rattle.sc_model.proofs.Laws.{sc-laws}
-use Rattle.tso_model.proofs.Laws.{tso-laws}
+use Rattle.spec_model.specs.Laws.{Laws}
+use Rattle.spec_sc.proofs.Laws.{sc-laws}
+use Rattle.spec_tso.proofs.Laws.{tso-laws}
 use Rattle.listing_model.specs.declared.memory.Model.{Model}
 use Rattle.listing_model.specs.declared.memory.Model.the-variants.{Sequential, TotalStoreOrder}
 use Rattle.listing_model.specs.ModelOf.{modelOf}

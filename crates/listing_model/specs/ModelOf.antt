@@ -1,7 +1,7 @@
 -- The memory model that the code's number for it stands for.
-use Rattle.model.specs.Model as Memory
-use Rattle.sc_model.specs.Sequential.{sc}
-use Rattle.tso_model.specs.TotalStoreOrder.{tso}
+use Rattle.spec_model.specs.Model as Memory
+use Rattle.spec_sc.specs.Sequential.{sc}
+use Rattle.spec_tso.specs.TotalStoreOrder.{tso}
 use Rattle.listing_model.specs.declared.memory.Model.{Model}
 use Rattle.listing_model.specs.declared.memory.Model.the-variants.{Sequential, TotalStoreOrder}
 

@@ -1,20 +1,20 @@
 // The list by pages: rows of what a cursor has yet to come, and the cursor behind them. All that walks the list goes on by `next_page`.
 use crate::searching::listed_rows;
-use decoder::Compiled;
-use lines::wide;
+use file_decoder::Compiled;
+use file_lines::wide;
+use listing_cursor::Cursor;
+use listing_cursor::Page;
+use listing_cursor::Position;
+use listing_cursor::behind;
+use listing_cursor::bytes_kept;
+use listing_cursor::end;
 use listing_model::Model;
 use listing_model::width;
-use pages::Cursor;
-use pages::Page;
-use pages::Position;
-use pages::behind;
-use pages::bytes_kept;
-use pages::end;
 ghost use mathlib.Core.Path.{_≡_};
-ghost use Rattle.decoder.specs.Compiled.{programOf};
-ghost use Rattle.model.specs.Laws.{Admitted};
-ghost use Rattle.pages.specs.Cursor.{positionAt};
-ghost use Rattle.pages.specs.ListRows.{Paged};
+ghost use Rattle.file_decoder.specs.Compiled.{programOf};
+ghost use Rattle.spec_model.specs.Laws.{Admitted};
+ghost use Rattle.listing_cursor.specs.Cursor.{positionAt};
+ghost use Rattle.listing_cursor.specs.ListRows.{Paged};
 ghost use Rattle.listing_model.specs.ModelOf.{modelOf};
 
 // From the first one on, or behind the cursor's schedule.

@@ -1,15 +1,15 @@
 // The listed schedules of a decoded program behind a bound, as rows in a lent buffer, by the search of the memory model.
-use decoder::Compiled;
+use file_decoder::Compiled;
 use listing_model::Model;
 ghost use Prim.Native.Nat.{_/_};
 ghost use lib.ListN.{length, take};
-ghost use Rattle.decoder.specs.Compiled.{programOf};
-ghost use Rattle.schedules.specs.Found.{after};
-ghost use Rattle.model.specs.Laws.{Admitted};
-ghost use Rattle.model.specs.Search.{sought};
-ghost use Rattle.pages.specs.Bounds.{boundAt};
-ghost use Rattle.pages.specs.Rows.{rowSize};
-ghost use Rattle.pages.specs.ListRows.{Shown};
+ghost use Rattle.file_decoder.specs.Compiled.{programOf};
+ghost use Rattle.spec_schedules.specs.Found.{after};
+ghost use Rattle.spec_model.specs.Laws.{Admitted};
+ghost use Rattle.spec_model.specs.Search.{sought};
+ghost use Rattle.listing_cursor.specs.Bounds.{boundAt};
+ghost use Rattle.spec_calls.specs.Rows.{rowSize};
+ghost use Rattle.listing_cursor.specs.ListRows.{Shown};
 ghost use Rattle.listing_model.specs.ModelOf.{modelOf};
 
 // The model is told apart once a page.
@@ -28,7 +28,7 @@ pub(crate) fn listed_rows(
         (now (out .entry)) (now (out .exit)) r ⌝ }
 {
     match model {
-        Model::Sequential => search::listed_rows(program, failures, bound, tight, out),
-        Model::TotalStoreOrder => tso_walker::listed_rows(program, failures, bound, tight, out),
+        Model::Sequential => search_walk::listed_rows(program, failures, bound, tight, out),
+        Model::TotalStoreOrder => tso_walk::listed_rows(program, failures, bound, tight, out),
     }
 }

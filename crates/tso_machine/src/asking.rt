@@ -1,13 +1,13 @@
 // What may be asked of a machine: whether a byte may step, whether none may, whether something is pending, whether an assertion failed.
 use crate::rows_of::locks_at;
 use crate::state::QueuedMachine;
-use lines::wide;
-use rows::Code;
+use file_lines::wide;
+use file_rows::Code;
 ghost use mathlib.Core.Path.{_≡_};
 ghost use Prim.Native.Nat.{_<_, _≤_};
 ghost use lib.Dec.{ltb};
-ghost use Rattle.schedules.specs.System.{ended};
-ghost use Rattle.tso.specs.State.{State, TSO, able, access, threadOf, enabled};
+ghost use Rattle.spec_schedules.specs.System.{ended};
+ghost use Rattle.spec_tso.specs.State.{State, TSO, able, access, threadOf, enabled};
 ghost use lib.ListN.{length, getD};
 ghost use mathlib.Core.List.{List};
 ghost use Prim.Native.Nat.{ℕ};

@@ -3,14 +3,14 @@ use Prim.Native.Nat.{ℕ, _≤_}
 use mathlib.Core.Path.{_≡_}
 use mathlib.Core.List.{List}
 use lib.ListN.{length, take}
-use Rattle.program.specs.Program.{Program}
-use Rattle.schedules.specs.Order.{Schedule}
-use Rattle.schedules.specs.System.{run, Allowed}
-use Rattle.model.specs.Answers.{refusesFrom}
+use Rattle.spec_file.specs.Program.{Program}
+use Rattle.spec_schedules.specs.Order.{Schedule}
+use Rattle.spec_schedules.specs.System.{run, Allowed}
+use Rattle.spec_model.specs.Answers.{refusesFrom}
 use Rattle.graph_writer.specs.Notes.{Noted}
-use Rattle.replay.specs.declared.replaying.Verdict.the-variants.{Whole}
-use Rattle.replay.specs.Carried.{refusalOf}
-use Rattle.tso.specs.State.{TSO, start}
+use Rattle.machine_replay.specs.declared.replaying.Verdict.the-variants.{Whole}
+use Rattle.machine_replay.specs.Carried.{refusalOf}
+use Rattle.spec_tso.specs.State.{TSO, start}
 use Rattle.tso_machine.specs.Held.{Holds}
 use Rattle.tso_replay.specs.declared.replaying.Run.{Run}
 use Rattle.tso_replay.specs.Noted.{notes}

@@ -7,28 +7,29 @@ use native.Mathlib.Omega.{arith}
 use lib.Dec.{eqb, ltb}
 use lib.ListN.{getD}
 use borrow.Author.Tests.{le-ltb}
-use Rattle.program.specs.Program.{Program}
-use Rattle.program.proofs.Tests.{both, equal-tests}
-use Rattle.schedules.specs.Lists.{range, any}
-use Rattle.schedules.specs.Order.{Schedule}
-use Rattle.schedules.proofs.Lists.{of-range, any-yes, any-of}
-use Rattle.model.specs.Exchange.{together}
-use Rattle.survivors.specs.Sets.{has}
-use Rattle.tso.specs.State.{State, Kind, access, move, kindOf, owner, byteFor, enabled}
-use Rattle.tso.specs.Graph.{endOf}
-use Rattle.tso.specs.Actions.{action}
-use Rattle.tso.proofs.Bytes.{ByteCase, of-access, of-move, byte-case, kind-low, owner-for}
-use Rattle.tso.proofs.Steps.{enabled-small}
-use Rattle.tso_model.specs.TotalStoreOrder.{tso}
-use Rattle.tso_list.specs.Rules.{late, taken, twin}
-use Rattle.tso_survivors.specs.Far.{far}
-use Rattle.tso_survivors.proofs.Far.{far-access}
-use Rattle.model.specs.LateSet.{backAt}
-use Rattle.tso_carried.specs.LateBytes.{bytesOf, lateAt, farAt}
-use Rattle.tso_carried.proofs.Twins.{twin-by-word}
-use Rattle.tso_prefix.specs.Reached.{Reached}
-use Rattle.tso_prefix.specs.declared.place.Place as Held
-use Rattle.tso_waits.proofs.Choices.{bytes-has}
+use Rattle.spec_file.specs.Program.{Program}
+use Rattle.spec_file.proofs.DigitValues.{both}
+use Rattle.spec_file.proofs.Tests.{equal-tests}
+use Rattle.spec_schedules.specs.Lists.{range, any}
+use Rattle.spec_schedules.specs.Order.{Schedule}
+use Rattle.spec_schedules.proofs.Lists.{of-range, any-yes, any-of}
+use Rattle.spec_model.specs.Exchange.{together}
+use Rattle.spec_schedules.specs.Sets.{has}
+use Rattle.spec_tso.specs.State.{State, Kind, access, move, kindOf, owner, byteFor, enabled}
+use Rattle.spec_tso.specs.Graph.{endOf}
+use Rattle.spec_tso.specs.Actions.{action}
+use Rattle.spec_tso.proofs.Bytes.{ByteCase, of-access, of-move, byte-case, kind-low, owner-for}
+use Rattle.spec_tso.proofs.Steps.{enabled-small}
+use Rattle.spec_tso.specs.TotalStoreOrder.{tso}
+use Rattle.theory_tso.specs.Rules.{late, taken, twin}
+use Rattle.theory_tso.specs.Far.{far}
+use Rattle.theory_tso.proofs.Far.{far-access}
+use Rattle.theory_search.specs.LateSet.{backAt}
+use Rattle.theory_tso.specs.LateBytes.{bytesOf, lateAt, farAt}
+use Rattle.theory_tso.proofs.TwinWords.{twin-by-word}
+use Rattle.tso_place.specs.Reached.{Reached}
+use Rattle.tso_place.specs.declared.place.Place as Held
+use Rattle.tso_order.proofs.Choices.{bytes-has}
 use Rattle.tso_rules.specs.Tried.{tried}
 
 any-same : (f g : ℕ → Bool) (l : List ℕ) → ((u : ℕ) → List·Memᴰ u l → f u ≡ g u) → any f l ≡ any g l

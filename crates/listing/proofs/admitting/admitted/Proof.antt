@@ -3,8 +3,8 @@ use borrow.Author.Needs.{needs}
 use mathlib.Core.Path.{refl, ap, _∙_}
 use mathlib.Core.Bool.{Bool, cond}
 use mathlib.Core.Option.{none, some}
-use Rattle.program.specs.Decode.{decode}
-use Rattle.decoder.proofs.Decoded.{decoded-well-formed}
+use Rattle.spec_file.specs.Decode.{decode}
+use Rattle.file_decoder.proofs.Decoded.{decoded-well-formed}
 use Rattle.listing_model.specs.ModelOf.{modelOf}
 use Rattle.listing.proofs.ListedProgram.{admits-refused, admits-program, turned-away}
 use Rattle.listing.proofs.admitting.admitted.Statement.{statement}

@@ -5,12 +5,12 @@ use mathlib.Core.Bool.{Bool, cond, true, false}
 use mathlib.Core.Option.{none, some}
 use lib.Dec.{ltb}
 use borrow.Author.Tests.{ltb-true, ltb-false}
-use Rattle.program.specs.Program.{Program}
-use Rattle.program.specs.WellFormed.{allAccesses}
-use Rattle.decoder.specs.Compiled.{programOf}
+use Rattle.spec_file.specs.Program.{Program}
+use Rattle.spec_file.specs.WellFormed.{allAccesses}
+use Rattle.file_decoder.specs.Compiled.{programOf}
 use Rattle.machine.proofs.HeldStart.{loaded-compiled}
-use Rattle.tso_model.specs.TotalStoreOrder.{tso}
-use Rattle.tso_model.proofs.Admits.{few-none, many-41}
+use Rattle.spec_tso.specs.TotalStoreOrder.{tso}
+use Rattle.spec_tso.proofs.Admits.{few-none, many-41}
 use Rattle.listing_model.specs.declared.memory.Model.{Model}
 use Rattle.listing_model.specs.ModelOf.{modelOf}
 use Rattle.listing.proofs.admitting.turns_away.Statement.{statement}

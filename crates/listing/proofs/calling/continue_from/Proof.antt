@@ -1,14 +1,14 @@
 -- `continue_from` admits the file first.
 use borrow.Author.Needs.{needs}
 use mathlib.Core.Path.{sym, ap, _∙_}
-use Rattle.decoder.specs.Compiled.{programOf}
+use Rattle.file_decoder.specs.Compiled.{programOf}
 use Rattle.listing_model.specs.ModelOf.{modelOf}
 use Rattle.listing_model.proofs.ModelLaws.{model-laws}
-use Rattle.schedules.specs.Calls.{Result}
+use Rattle.spec_schedules.specs.Calls.{Result}
 use Rattle.listing.specs.AnswerOf.{listAnswerOf}
-use Rattle.program.specs.Decode.{decode}
-use Rattle.model.specs.OnFile.{admit}
-use Rattle.decoder.proofs.Said.{answer-refused, answer-accepted}
+use Rattle.spec_file.specs.Decode.{decode}
+use Rattle.spec_model.specs.OnFile.{admit}
+use Rattle.file_decoder.proofs.Said.{answer-refused, answer-accepted}
 use Rattle.listing.proofs.ListedProgram.{answer-listed}
 use Rattle.listing.proofs.FileCalls.{continue-file, continue-file-refused}
 use Rattle.listing.proofs.calling.continue_from.Statement.{statement}

@@ -4,10 +4,10 @@ use Prim.Native.Nat.{ℕ, _<_, _≤_}
 use mathlib.Core.Bool.{false}
 use mathlib.Core.Path.{sym, ap, subst, _∙_}
 use lib.ListN.{length}
-use Rattle.decoder.specs.Compiled.{programOf}
-use Rattle.model.specs.Search.{sought}
-use Rattle.pages.proofs.ListPages.{sought-48}
-use Rattle.schedules.specs.Calls.{Result}
+use Rattle.file_decoder.specs.Compiled.{programOf}
+use Rattle.spec_model.specs.Search.{sought}
+use Rattle.listing_cursor.proofs.ListPages.{sought-48}
+use Rattle.spec_schedules.specs.Calls.{Result}
 use Rattle.listing_model.specs.ModelOf.{modelOf}
 use Rattle.listing_model.proofs.ModelLaws.{model-laws, need-48}
 use Rattle.listing.specs.AnswerOf.{listAnswerOf}

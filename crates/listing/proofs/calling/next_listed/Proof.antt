@@ -7,12 +7,12 @@ use lib.ListN.{length, take}
 use lib.Seq.{length-take-le}
 use native.Mathlib.Omega.{arith}
 use borrow.Author.Tests.{le-ltb}
-use Rattle.decoder.specs.Compiled.{programOf}
-use Rattle.schedules.specs.Lists.{headOf}
-use Rattle.schedules.specs.Calls.{Answer, answerTo, short, content}
-use Rattle.schedules.proofs.Offered.{content-refused}
-use Rattle.pages.specs.ListRows.{remaining}
-use Rattle.pages.proofs.Answered.{answer-short}
+use Rattle.file_decoder.specs.Compiled.{programOf}
+use Rattle.spec_schedules.specs.Lists.{headOf}
+use Rattle.spec_schedules.specs.Calls.{Answer, answerTo, short, content}
+use Rattle.spec_schedules.proofs.Offered.{content-refused}
+use Rattle.listing_cursor.specs.ListRows.{remaining}
+use Rattle.spec_calls.proofs.Answered.{answer-short}
 use Rattle.listing_model.specs.ModelOf.{modelOf}
 use Rattle.listing_model.proofs.ModelLaws.{need-48}
 use Rattle.listing.specs.AnswerOf.{listAnswerOf}

@@ -4,16 +4,16 @@ use mathlib.Core.Path.{_≡_, refl, sym, ap, _∙_}
 use mathlib.Core.Bool.{false}
 use lib.ListN.{length}
 use native.Mathlib.Omega.{arith}
-use Rattle.lines.specs.Over.{over}
-use Rattle.decoder.specs.Compiled.{programOf}
-use Rattle.schedules.specs.Calls.{Answer, answerTo, content}
-use Rattle.schedules.proofs.Offered.{answer-none, answer-some, content-found, content-nomore}
-use Rattle.model.specs.Model.{failing}
-use Rattle.pages.specs.ListRows.{remaining}
-use Rattle.pages.proofs.FirstRow.{first-none, first-of, first-head, first-length, first-steps}
-use Rattle.pages.proofs.ListPages.{remaining-fits}
-use Rattle.pages.proofs.PageLaws.{page-size}
-use Rattle.model.specs.Search.{sought}
+use Rattle.spec_file.specs.Over.{over}
+use Rattle.file_decoder.specs.Compiled.{programOf}
+use Rattle.spec_schedules.specs.Calls.{Answer, answerTo, content}
+use Rattle.spec_schedules.proofs.Offered.{answer-none, answer-some, content-found, content-nomore}
+use Rattle.spec_model.specs.Model.{failing}
+use Rattle.listing_cursor.specs.ListRows.{remaining}
+use Rattle.listing_cursor.proofs.FirstRow.{first-none, first-of, first-head, first-length, first-steps}
+use Rattle.listing_cursor.proofs.ListPages.{remaining-fits}
+use Rattle.listing_cursor.proofs.PageLaws.{page-size}
+use Rattle.spec_model.specs.Search.{sought}
 use Rattle.listing_model.specs.ModelOf.{modelOf}
 use Rattle.listing_model.proofs.ModelLaws.{model-laws}
 use Rattle.listing.specs.AnswerOf.{listAnswerOf}

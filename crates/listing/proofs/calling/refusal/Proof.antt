@@ -4,22 +4,22 @@ use Prim.Native.Nat.{ℕ}
 use mathlib.Core.Path.{_≡_, refl, sym, ap, subst, _∙_}
 use mathlib.Core.List.{List}
 use lib.ListN.{take}
-use Rattle.program.specs.Program.{Program}
-use Rattle.decoder.specs.Compiled.{programOf}
-use Rattle.schedules.specs.Order.{Schedule}
-use Rattle.schedules.specs.System.{run}
-use Rattle.sc.specs.State.{State, SC, start}
-use Rattle.sc.specs.Replay.{Replayed, replay}
-use Rattle.model.specs.Laws.{Admitted}
-use Rattle.model.specs.Answers.{refusesFrom}
-use Rattle.replay.proofs.Verdicts.{verdict-refuses}
+use Rattle.spec_file.specs.Program.{Program}
+use Rattle.file_decoder.specs.Compiled.{programOf}
+use Rattle.spec_schedules.specs.Order.{Schedule}
+use Rattle.spec_schedules.specs.System.{run}
+use Rattle.spec_sc.specs.State.{State, SC, start}
+use Rattle.spec_sc.specs.Replay.{Replayed, replay}
+use Rattle.spec_model.specs.Laws.{Admitted}
+use Rattle.spec_model.specs.Answers.{refusesFrom}
+use Rattle.machine_replay.proofs.Verdicts.{verdict-refuses}
 use Rattle.machine.proofs.HeldStart.{loaded-compiled, starting-compiled}
-use Rattle.replay.specs.declared.replaying.Verdict.{Verdict}
-use Rattle.replay.specs.declared.replaying.Verdict.the-variants.{Whole, Refused}
-use Rattle.replay.specs.declared.replaying.Run.{Run}
-use Rattle.replay.specs.Carried.{verdictOf, HoldsRun}
-use Rattle.replay.specs.Carried.{refusalOf}
-use Rattle.tso_model.proofs.Laws.{at-most-16}
+use Rattle.machine_replay.specs.declared.replaying.Verdict.{Verdict}
+use Rattle.machine_replay.specs.declared.replaying.Verdict.the-variants.{Whole, Refused}
+use Rattle.machine_replay.specs.declared.replaying.Run.{Run}
+use Rattle.machine_replay.specs.Carried.{verdictOf, HoldsRun}
+use Rattle.machine_replay.specs.Carried.{refusalOf}
+use Rattle.spec_tso.proofs.Laws.{at-most-16}
 use Rattle.listing_model.specs.declared.memory.Model.{Model}
 use Rattle.listing_model.specs.ModelOf.{modelOf}
 use Rattle.listing.proofs.calling.refusal.Statement.{statement}

@@ -2,15 +2,15 @@
 use borrow.Author.Needs.{needs}
 use mathlib.Core.Bool.{false}
 use mathlib.Core.Path.{sym, ap, _∙_}
-use Rattle.schedules.specs.Calls.{Result}
-use Rattle.decoder.specs.Compiled.{programOf}
-use Rattle.model.specs.Search.{sought}
+use Rattle.spec_schedules.specs.Calls.{Result}
+use Rattle.file_decoder.specs.Compiled.{programOf}
+use Rattle.spec_model.specs.Search.{sought}
 use Rattle.listing_model.specs.ModelOf.{modelOf}
 use Rattle.listing_model.proofs.ModelLaws.{model-laws}
 use Rattle.listing.specs.AnswerOf.{listAnswerOf}
-use Rattle.program.specs.Decode.{decode}
-use Rattle.model.specs.OnFile.{admit}
-use Rattle.decoder.proofs.Said.{answer-refused, answer-accepted}
+use Rattle.spec_file.specs.Decode.{decode}
+use Rattle.spec_model.specs.OnFile.{admit}
+use Rattle.file_decoder.proofs.Said.{answer-refused, answer-accepted}
 use Rattle.listing.proofs.ListedProgram.{answer-listed}
 use Rattle.listing.proofs.FileCalls.{start-refused, start-answered, start-output}
 use Rattle.listing.proofs.calling.start.Statement.{statement}

@@ -4,15 +4,15 @@ use mathlib.Core.Bool.{true}
 use mathlib.Core.Path.{sym, ap, _∙_}
 use mathlib.Core.List.{List}
 use Prim.Native.Nat.{ℕ}
-use Rattle.decoder.specs.Compiled.{programOf}
-use Rattle.model.specs.Search.{sought}
+use Rattle.file_decoder.specs.Compiled.{programOf}
+use Rattle.spec_model.specs.Search.{sought}
 use Rattle.listing_model.specs.ModelOf.{modelOf}
 use Rattle.listing_model.proofs.ModelLaws.{model-laws}
-use Rattle.model.specs.Answers.{Violation}
+use Rattle.spec_model.specs.Answers.{Violation}
 use Rattle.listing.specs.AnswerOf.{violationAnswerOf}
-use Rattle.program.specs.Decode.{decode}
-use Rattle.model.specs.OnFile.{admit}
-use Rattle.decoder.proofs.Said.{answer-refused, answer-accepted}
+use Rattle.spec_file.specs.Decode.{decode}
+use Rattle.spec_model.specs.OnFile.{admit}
+use Rattle.file_decoder.proofs.Said.{answer-refused, answer-accepted}
 use Rattle.listing.proofs.ListedProgram.{answer-listed}
 use Rattle.listing.proofs.FileCalls.{violation-refused, violation-answer, violation-output}
 use Rattle.listing.proofs.calling.violation.Statement.{statement}

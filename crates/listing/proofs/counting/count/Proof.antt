@@ -1,10 +1,10 @@
 -- `count` admits the file first.
 use borrow.Author.Needs.{needs}
-use Rattle.program.specs.Decode.{decode}
-use Rattle.model.specs.OnFile.{admit}
+use Rattle.spec_file.specs.Decode.{decode}
+use Rattle.spec_model.specs.OnFile.{admit}
 use Rattle.listing_model.specs.ModelOf.{modelOf}
 use Rattle.listing_model.proofs.ModelLaws.{model-laws}
-use Rattle.decoder.proofs.Said.{answer-refused, answer-accepted}
+use Rattle.file_decoder.proofs.Said.{answer-refused, answer-accepted}
 use Rattle.listing.proofs.ListedProgram.{answer-listed}
 use Rattle.listing.proofs.CountCalled.{count-refused, count-answered}
 use Rattle.listing.proofs.counting.count.Statement.{statement}

@@ -7,14 +7,14 @@ use mathlib.Core.Bool.{Bool, false}
 use mathlib.Core.List.{List}
 use native.Mathlib.Omega.{arith}
 use lib.ListN.{length}
-use Rattle.decoder.specs.Compiled.{programOf}
-use Rattle.schedules.specs.Lists.{filter}
-use Rattle.schedules.specs.Order.{Schedule}
-use Rattle.model.specs.Model.{failing}
-use Rattle.model.specs.Search.{sought}
-use Rattle.pages.specs.Rows.{Shown}
-use Rattle.pages.specs.Cursor.{pages}
-use Rattle.pages.proofs.CountedRows.{counting-64, counting-rows, counting-less}
+use Rattle.file_decoder.specs.Compiled.{programOf}
+use Rattle.spec_schedules.specs.Lists.{filter}
+use Rattle.spec_schedules.specs.Order.{Schedule}
+use Rattle.spec_model.specs.Model.{failing}
+use Rattle.spec_model.specs.Search.{sought}
+use Rattle.listing_cursor.specs.Rows.{Shown}
+use Rattle.listing_cursor.specs.Cursor.{pages}
+use Rattle.listing_cursor.proofs.CountedRows.{counting-64, counting-rows, counting-less}
 use Rattle.listing_model.specs.ModelOf.{modelOf}
 use Rattle.listing_model.proofs.ModelLaws.{need-48}
 use Rattle.listing.proofs.CountCalled.{Wrapped, wrapped-start, wrapped-next, wrapped-over}

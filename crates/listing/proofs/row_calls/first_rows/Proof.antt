@@ -1,16 +1,16 @@
 -- `first_rows` admits the file first.
 use borrow.Author.Needs.{needs}
 use mathlib.Core.Option.{none}
-use Rattle.decoder.specs.Compiled.{programOf}
+use Rattle.file_decoder.specs.Compiled.{programOf}
 use mathlib.Core.Bool.{false}
 use mathlib.Core.Path.{sym, _∙_}
-use Rattle.schedules.proofs.After.{after-none}
-use Rattle.model.specs.Search.{sought}
+use Rattle.spec_schedules.proofs.After.{after-none}
+use Rattle.spec_model.specs.Search.{sought}
 use Rattle.listing_model.specs.ModelOf.{modelOf}
 use Rattle.listing_model.proofs.ModelLaws.{model-laws}
-use Rattle.program.specs.Decode.{decode}
-use Rattle.model.specs.OnFile.{admit}
-use Rattle.decoder.proofs.Said.{answer-refused, answer-accepted}
+use Rattle.spec_file.specs.Decode.{decode}
+use Rattle.spec_model.specs.OnFile.{admit}
+use Rattle.file_decoder.proofs.Said.{answer-refused, answer-accepted}
 use Rattle.listing.proofs.ListedProgram.{answer-listed}
 use Rattle.listing.proofs.RowsAnswered.{rows-refused, rows-paged}
 use Rattle.listing.proofs.row_calls.first_rows.Statement.{statement}

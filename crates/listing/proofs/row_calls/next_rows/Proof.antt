@@ -1,15 +1,15 @@
 -- `next_rows` admits the file first.
 use borrow.Author.Needs.{needs}
 use mathlib.Core.Option.{some}
-use Rattle.decoder.specs.Compiled.{programOf}
-use Rattle.model.specs.Search.{sought}
+use Rattle.file_decoder.specs.Compiled.{programOf}
+use Rattle.spec_model.specs.Search.{sought}
 use Rattle.listing_model.specs.ModelOf.{modelOf}
 use Rattle.listing_model.proofs.ModelLaws.{model-laws, need-48}
-use Rattle.pages.proofs.ListPages.{sought-48}
+use Rattle.listing_cursor.proofs.ListPages.{sought-48}
 use mathlib.Core.Bool.{false}
-use Rattle.program.specs.Decode.{decode}
-use Rattle.model.specs.OnFile.{admit}
-use Rattle.decoder.proofs.Said.{answer-refused, answer-accepted}
+use Rattle.spec_file.specs.Decode.{decode}
+use Rattle.spec_model.specs.OnFile.{admit}
+use Rattle.file_decoder.proofs.Said.{answer-refused, answer-accepted}
 use Rattle.listing.proofs.ListedProgram.{answer-listed}
 use Rattle.listing.proofs.RowsAnswered.{rows-refused, rows-paged}
 use Rattle.listing.proofs.row_calls.next_rows.Statement.{statement}

@@ -1,11 +1,11 @@
 -- `next_page` by the cursor's position; at the end there is nothing to search for.
 use borrow.Author.Needs.{needs}
 use mathlib.Core.Path.{ap}
-use Rattle.decoder.specs.Compiled.{programOf}
-use Rattle.model.specs.Model.{failing}
-use Rattle.model.specs.Search.{sought}
-use Rattle.pages.specs.Cursor.{isEnd}
-use Rattle.pages.proofs.PageLaws.{page-over}
+use Rattle.file_decoder.specs.Compiled.{programOf}
+use Rattle.spec_model.specs.Model.{failing}
+use Rattle.spec_model.specs.Search.{sought}
+use Rattle.listing_cursor.specs.Cursor.{isEnd}
+use Rattle.listing_cursor.proofs.PageLaws.{page-over}
 use Rattle.listing_model.specs.ModelOf.{modelOf}
 use Rattle.listing_pages.proofs.paging.next_page.Statement.{statement}
 use Rattle.listing_pages.proofs.paging.next_page.Tie as tie

@@ -6,17 +6,17 @@ use mathlib.Core.List.{List}
 use native.Mathlib.Omega.{arith}
 use lib.ListN.{length, getD, take, drop}
 use lib.Seq.{length-take-le}
-use Rattle.decoder.specs.Compiled.{programOf}
-use Rattle.model.specs.Model.{failing}
-use Rattle.model.specs.Search.{sought}
-use Rattle.model.proofs.Search.{sought-ascends}
-use Rattle.pages.specs.declared.cursor.Cursor.{Cursor}
-use Rattle.pages.specs.Cursor.{isEnd}
-use Rattle.pages.specs.Rows.{rowSize}
-use Rattle.pages.proofs.AddedRows.{row-within}
-use Rattle.pages.proofs.CursorLaws.{bytes-all}
-use Rattle.pages.proofs.ListPages.{sought-fits, sought-48}
-use Rattle.pages.proofs.PageLaws.{page-ended, page-none, last-few, last-within, page-full}
+use Rattle.file_decoder.specs.Compiled.{programOf}
+use Rattle.spec_model.specs.Model.{failing}
+use Rattle.spec_model.specs.Search.{sought}
+use Rattle.theory_search.proofs.ModelSearch.{sought-ascends}
+use Rattle.listing_cursor.specs.declared.cursor.Cursor.{Cursor}
+use Rattle.listing_cursor.specs.Cursor.{isEnd}
+use Rattle.spec_calls.specs.Rows.{rowSize}
+use Rattle.listing_cursor.proofs.AddedRows.{row-within}
+use Rattle.listing_cursor.proofs.CursorLaws.{bytes-all}
+use Rattle.listing_cursor.proofs.ListPages.{sought-fits, sought-48}
+use Rattle.listing_cursor.proofs.PageLaws.{page-ended, page-none, last-few, last-within, page-full}
 use Rattle.listing_model.specs.declared.memory.Model.{Model}
 use Rattle.listing_model.specs.ModelOf.{modelOf}
 use Rattle.listing_model.proofs.ModelLaws.{model-laws, need-48}

@@ -3,13 +3,13 @@ use borrow.Author.Needs.{needs}
 use Prim.Native.Nat.{ℕ, _/_}
 use mathlib.Core.Path.{sym, subst}
 use lib.ListN.{length, take}
-use Rattle.decoder.specs.Compiled.{programOf}
-use Rattle.schedules.specs.Found.{after}
-use Rattle.model.specs.Laws.{Admitted}
-use Rattle.model.specs.Search.{sought}
-use Rattle.pages.specs.Bounds.{boundAt}
-use Rattle.pages.specs.Rows.{rowSize}
-use Rattle.pages.specs.ListRows.{Shown}
+use Rattle.file_decoder.specs.Compiled.{programOf}
+use Rattle.spec_schedules.specs.Found.{after}
+use Rattle.spec_model.specs.Laws.{Admitted}
+use Rattle.spec_model.specs.Search.{sought}
+use Rattle.listing_cursor.specs.Bounds.{boundAt}
+use Rattle.spec_calls.specs.Rows.{rowSize}
+use Rattle.listing_cursor.specs.ListRows.{Shown}
 use Rattle.listing_model.specs.declared.memory.Model.{Model}
 use Rattle.listing_model.specs.ModelOf.{modelOf}
 use Rattle.listing_pages.proofs.searching.listed_rows.Statement.{statement}

@@ -1,1 +1,0 @@
--- The functions prove themselves from the laws of `pages`.

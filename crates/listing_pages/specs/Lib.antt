@@ -1,1 +1,0 @@
--- Pages of the list are defined in `pages` (`ListRows`), for any memory model.
