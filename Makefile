@@ -19,7 +19,7 @@ QUIET = --quiet --release --offline --locked
 LIBRARY = target/staticlib/libtarczolin.a
 SHARED = $(LIBRARY:.a=.so)
 # the crates whose functions C and Rust call: their archives become one
-EXPORTED = tarczolin tarczolin_list tarczolin_beside tarczolin_tso tarczolin_users
+EXPORTED = c_graph c_listing c_extra c_tso c_service
 EXPLORER = target/bin/explorer
 SOURCES = crates.txt $(shell find crates -name '*.rt' -o -name '*.antt')
 VALGRIND = valgrind --quiet --error-exitcode=9 --leak-check=full --show-leak-kinds=definite --errors-for-leak-kinds=definite \
@@ -75,7 +75,7 @@ $(LIBRARY): $(SOURCES)
 	@for crate in $(EXPORTED); do rt staticlib $$crate || exit 1; done
 	@rm -rf target/objects && mkdir target/objects
 	@cd target/objects && for crate in $(EXPORTED); do ar x ../staticlib/lib$$crate.a || exit 1; done
-	@rm $(LIBRARY) && ar rcs $(LIBRARY) target/objects/*.o
+	@rm -f $(LIBRARY) && ar rcs $(LIBRARY) target/objects/*.o
 endif
 
 # the same code for programs that load it, as Python does: only the calls that the header declares are seen from outside

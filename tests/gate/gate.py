@@ -2,9 +2,9 @@
 """The gate: every check of the repository, one after the other. A failed check does not stop the later ones.
 
 The very last line is `N passed, M failed`; the exit status is 0 exactly when M is 0. N counts what rt proves and refuses,
-the must-fail edits that were refused for the right reason, that the crates of laws_only.txt cite only laws of others, the
-Rust tests and the Python tests. pins.txt says how many tests and edits there must be at least, and on which axioms the proofs
-may rest.
+the must-fail edits that were refused for the right reason, the checks of texts (what crates open of each other, claims, what has
+to be believed, crates.txt, its drawing, long lines), the Rust tests and the Python tests. pins.txt says how many tests and edits
+there must be at least, and on which axioms the proofs may rest.
 """
 import os
 import re
@@ -14,9 +14,15 @@ import sys
 from pathlib import Path
 
 sys.dont_write_bytecode = True
+import belief  # noqa: E402
 import claims  # noqa: E402
+import crates  # noqa: E402
+import declarations  # noqa: E402
+import drawing  # noqa: E402
 import laws_only  # noqa: E402
+import lines as long_lines  # noqa: E402
 import must_fail  # noqa: E402
+import names as statements  # noqa: E402
 import printed  # noqa: E402
 
 ROOT = Path(__file__).resolve().parents[2]
@@ -79,7 +85,8 @@ def run(words):
 
 def samples(tally):
     """The gate reads its own samples rightly; the crates' laws have theirs with them."""
-    for why in printed.wrong_sample() + must_fail.wrong_samples(Path(__file__).with_name('logs')):
+    logs = Path(__file__).with_name('logs')
+    for why in printed.wrong_sample() + must_fail.wrong_samples(logs) + declarations.wrong_sample() + statements.wrong_sample():
         tally.fail(why)
 
 
@@ -94,22 +101,37 @@ def every_crate_is_listed(tally):
             tally.fail(f'crates.txt lists {name}, and there is no crates/{name}')
 
 
+def counted(tally, wrong, passed_over=()):
+    """One check more that passed, or all that is wrong; what was passed over is told."""
+    for why in wrong:
+        tally.fail(why)
+    for what in passed_over:
+        tally.note(what)
+    if not wrong:
+        tally.add(1, 0)
+
+
 def only_laws(tally):
     """The crates of laws_only.txt open no definition of another crate."""
-    wrong = laws_only.said(ROOT)
-    for why in wrong:
-        tally.fail(why)
-    if not wrong:
-        tally.add(1, 0)
+    counted(tally, laws_only.said(ROOT))
 
 
-def claimed(tally):
-    """Each name that CLAIMS claims stands in the file beside it."""
-    wrong = claims.said(ROOT)
-    for why in wrong:
-        tally.fail(why)
-    if not wrong:
-        tally.add(1, 0)
+def claimed_and_believed(tally):
+    """What CLAIMS cites is there; what its promises lead to stands where it may, and is counted there."""
+    files = declarations.files(ROOT)
+    counted(tally, claims.said(ROOT, files, tally.pins['compiled-form']))
+    counted(tally, *belief.said(ROOT, files))
+
+
+def arrows(tally):
+    """crates.txt has what the crates' files name, and the drawing is its own."""
+    counted(tally, *crates.said(ROOT))
+    counted(tally, drawing.said(ROOT))
+
+
+def short_lines(tally):
+    """No document has more long lines than lines.txt lets it have."""
+    counted(tally, long_lines.said(ROOT))
 
 
 def formatting(tally):
@@ -158,7 +180,11 @@ def all_edits():
 def edits(tally):
     """There are as many edits as pinned, and each can be made and says on which input it answers wrongly."""
     found = all_edits()
-    tally.at_least('edits', len(found))
+    there = [f'{edit.parts[-3]}/{edit.stem}' for edit in found]
+    for name in tally.pins['compiled-form']:
+        if name not in there:
+            tally.fail(f'pins.txt names the edit {name}, and no crate has it')
+    tally.at_least('edits', len(found) - len(tally.pins['compiled-form']))
     for edit in found:
         text = edit.read_text(encoding='utf-8')
         why = must_fail.without_input(text) or must_fail.misplaced(text, lambda file: read(edit.parents[1] / file))
@@ -171,16 +197,21 @@ def edits(tally):
 
 
 def reasons(tally):
-    """Each must-fail edit has a log, and was refused because a fact no longer holds."""
+    """Each must-fail edit has a log, and was refused because a fact no longer holds, but for those that pins.txt names."""
     for edit in all_edits():
         name, label = edit.parts[-3], edit.stem
         log = TARGET / 'must-fail' / name / label / '.log'
         if not log.is_file():
             tally.fail(f'must-fail {name}/{label}: it left no log')
             continue
-        why = must_fail.wrong_reason(log.read_text(encoding='utf-8', errors='replace'))
+        text = log.read_text(encoding='utf-8', errors='replace')
+        why, kind = must_fail.wrong_reason(text), must_fail.reason(text)
         if why:
             tally.fail(f'must-fail {name}/{label}: refused for the wrong reason: {why}')
+        elif (kind == 'form') != (f'{name}/{label}' in tally.pins['compiled-form']):
+            tally.fail(f'must-fail {name}/{label}: refused by a {kind}, and compiled-form in pins.txt says otherwise')
+        elif kind == 'form':
+            tally.note(f'must-fail {name}/{label}: refused since the compiled form is another; no edit of a contract')
         else:
             tally.add(1, 0)
 
@@ -275,7 +306,7 @@ def validator(tally):
 
 
 # what takes no time: `gate.py quick` runs only these, and counts for nothing
-QUICK = (samples, every_crate_is_listed, only_laws, claimed, edits)
+QUICK = (samples, every_crate_is_listed, only_laws, claimed_and_believed, arrows, short_lines, edits)
 CHECKS = (*QUICK, formatting, rust_formatting, proofs, reasons, rust_tests, python_tests, rust_lints, browser, slurm, validator)
 
 def main(quick):

@@ -1,15 +1,14 @@
 // The listing program: the list of the program file on standard input, printed on standard output.
 //
-// Proved (crate printing, specs/Pieces.antt): `begin` says what is to be printed, `printed file`, and each `next` hands over the bytes that
+// Proved (crate explorer_lines, specs/Pieces.antt): `begin` says what is to be printed, `printed file`, and each `next` hands over the bytes that
 // come next in it, none only behind the last. So the pieces one after the other are `printed file`, also where the file is longer than the
 // 4,097 bytes that are read of it (proofs/Handed.antt). No contract of the kit can say which bytes a call of the system reads or writes:
 // that `print` writes each piece once and in order, and that `main` hands it what was read, is to be seen in the lines below.
-
+use explorer_lines::begin;
+use explorer_lines::next;
 use libc::STDERR_FILENO;
 use libc::STDIN_FILENO;
 use libc::STDOUT_FILENO;
-use printing::begin;
-use printing::next;
 ghost use Rattle.explorer.specs.Reading.{Within};
 
 // What came of reading.

@@ -3,11 +3,11 @@ use Prim.Native.Nat.{ℕ, _<_, _≤_}
 use native.Mathlib.Omega.{arith}
 use mathlib.Core.Path.{_≡_, sym}
 use lib.ListN.{length}
-use Rattle.program.specs.WellFormed.{WellFormed}
-use Rattle.decoder.specs.Compiled.{programOf}
-use Rattle.decoder.specs.declared.file.Compiled.{Compiled}
+use Rattle.spec_file.specs.WellFormed.{WellFormed}
+use Rattle.file_decoder.specs.Compiled.{programOf}
+use Rattle.file_decoder.specs.declared.file.Compiled.{Compiled}
 use Rattle.machine.proofs.HeldStart.{loaded-compiled, threads-held}
-use Rattle.game.specs.Forced.{Names, LowestMissing}
+use Rattle.spec_force.specs.Forced.{Names, LowestMissing}
 use Rattle.force.specs.Answered.{FirstMissing}
 
 module _ (c : Compiled) (w : WellFormed (programOf c)) (set r : ℕ) (f : FirstMissing set (c .threads) r) where

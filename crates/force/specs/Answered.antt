@@ -4,8 +4,8 @@ use Prim.Native.Nat.{ℕ, _+_, _<_, _≤_}
 use mathlib.Core.Path.{_≡_}
 use mathlib.Core.Bool.{true}
 use mathlib.Core.Option.{none, some}
-use Rattle.survivors.specs.Sets.{has}
-use Rattle.game.specs.Forced.{Answer, hostile-can, friendly-can, refusing}
+use Rattle.spec_schedules.specs.Sets.{has}
+use Rattle.spec_force.specs.Forced.{Answer, hostile-can, friendly-can, refusing}
 use Rattle.force.specs.declared.answering.ForceAnswer.{ForceAnswer}
 use Rattle.force.specs.declared.answering.ForceAnswer.the-variants.{Hostile, Friendly, Refused}
 

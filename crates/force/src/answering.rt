@@ -1,19 +1,20 @@
 // Who can force the failure, asked of a program file and a set.
-use decoder::Compiled;
+use file_decoder::Compiled;
+use force_moves::friendly_move;
+use force_moves::has_step;
+use force_moves::is_silent;
+use force_moves::least_winning;
+use force_moves::tails_of;
 use listing::ListAnswer;
+use listing_model::Model;
 use machine::started;
-use moves::friendly_move;
-use moves::has_step;
-use moves::is_silent;
-use moves::least_winning;
-use moves::tails_of;
-use prefix::is_in;
-use program::STEPS;
+use search_place::is_in;
+use spec_file::STEPS;
 ghost use mathlib.Core.Path.{_≡_};
-ghost use Rattle.program.specs.WellFormed.{WellFormed};
-ghost use Rattle.program.specs.Decode.{accepted, decode};
-ghost use Rattle.decoder.specs.Compiled.{programOf};
-ghost use Rattle.game.specs.Forced.{Answer, ForcedIn, Forced};
+ghost use Rattle.spec_file.specs.WellFormed.{WellFormed};
+ghost use Rattle.spec_file.specs.Decode.{accepted, decode};
+ghost use Rattle.file_decoder.specs.Compiled.{programOf};
+ghost use Rattle.spec_force.specs.Forced.{Answer, ForcedIn, Forced};
 ghost use Rattle.force.specs.Answered.{answerOf, FirstMissing};
 
 pub enum ForceAnswer {
@@ -84,7 +85,7 @@ fn played(file: &[u8], program: Compiled, set: u8) -> ForceAnswer
         return decided(program, set);
     }
     let mut out = [0u8; STEPS];
-    let v = listing::violation(file, &mut out);
+    let v = listing::violation(Model::Sequential, file, &mut out);
     match v {
         ListAnswer::NoMore => ForceAnswer::Friendly,
         ListAnswer::Found(n) => decided(program, set),
@@ -96,11 +97,11 @@ fn played(file: &[u8], program: Compiled, set: u8) -> ForceAnswer
 pub fn force(file: &[u8], set: u8) -> ForceAnswer
     ensures { λ r. ⌜ ((a : Answer) × Forced (now (file .entry)) set a × (r ≡ answerOf a)) ⌝ }
 {
-    let d = decoder::decode(file);
+    let d = file_decoder::decode(file);
     let v = d.verdict;
     match v {
-        decoder::Verdict::Refused(n, k) => ForceAnswer::Refused(n, k),
-        decoder::Verdict::Accepted => {
+        file_decoder::Verdict::Refused(n, k) => ForceAnswer::Refused(n, k),
+        file_decoder::Verdict::Accepted => {
             let p = d.program;
             let k = missing(set, p.threads);
             if k < 8 {

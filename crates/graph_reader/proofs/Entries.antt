@@ -7,7 +7,7 @@ use native.Mathlib.Omega.{arith}
 use native.Mathlib.Decide.{ℕ-discrete}
 use lib.ListN.{length, getD, set, length-set, replicate, getD-replicate}
 use lib.Seq.{getD-set-same, getD-set-other}
-use Rattle.sc.specs.State.{Event}
+use Rattle.spec_sc.specs.State.{Event}
 use Rattle.graph_reader.specs.Held.{noLine, Entry, put, Ordered}
 
 module _ (table : List ℕ) (k a b : ℕ) where

@@ -10,18 +10,19 @@ use borrow.Author.Tests.{eq-eqb, ne-eqb, ltb-true, lt-ltb}
 use lib.Dec.{eqb, ltb}
 use lib.ListN.{length, getD, set, replicate, length-set, length-replicate, getD-replicate}
 use lib.Seq.{getD-set-same, getD-set-other}
-use Rattle.program.proofs.Tests.{both}
-use Rattle.schedules.specs.Lists.{any}
-use Rattle.schedules.specs.Order.{less}
-use Rattle.schedules.proofs.Order.{nil-less}
-use Rattle.sc.specs.State.{Event}
-use Rattle.sc.specs.Graph.{Graph}
+use Rattle.spec_file.proofs.DigitValues.{both}
+use Rattle.spec_schedules.specs.Lists.{any}
+use Rattle.spec_schedules.specs.Order.{less}
+use Rattle.spec_schedules.proofs.Order.{nil-less}
+use Rattle.spec_sc.specs.State.{Event}
+use Rattle.spec_sc.specs.Graph.{Graph}
 use Rattle.graph_reader.specs.declared.table.Table.{Table}
-use Rattle.consistent.specs.Consistent.{rowOf}
-use Rattle.consistent.specs.Reading.{Frame, byteAt, isRead, writesIn, known, inRange, key, Reading, written, allNew, inOrder, refusal, withLine, after, fresh}
+use Rattle.spec_judge.specs.Consistent.{rowOf}
+use Rattle.spec_judge.specs.Reading.{Frame, byteAt, isRead, writesIn, known, inRange, key, Reading, written, allNew, inOrder, refusal, withLine, after, fresh}
 use Rattle.graph_reader.specs.Held.{noLine, lineIn, Entry, put, rankOf, Holds, emptyTable, readTable}
-use Rattle.consistent.proofs.Parsed.{passed, empty-row}
-use Rattle.graph_reader.proofs.Ranks.{read-range, rank-less}
+use Rattle.spec_judge.proofs.Parsed.{passed, empty-row}
+use Rattle.spec_judge.proofs.LineRanges.{read-range}
+use Rattle.graph_reader.proofs.Ranks.{rank-less}
 use Rattle.graph_reader.proofs.Entries.{entry-put, entry-kept, unset}
 
 -- before the first line

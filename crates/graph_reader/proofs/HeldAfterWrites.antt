@@ -10,18 +10,19 @@ use borrow.Author.Tests.{ltb-true, ltb-false}
 use lib.Dec.{ltb}
 use lib.ListN.{length, getD, set, length-set, length-reverse}
 use lib.Seq.{getD-set-same, getD-set-other}
-use Rattle.schedules.specs.Lists.{all}
-use Rattle.schedules.proofs.Lists.{all-at}
-use Rattle.sc.specs.State.{Event}
-use Rattle.sc.specs.Graph.{Graph}
+use Rattle.spec_schedules.specs.Lists.{all}
+use Rattle.spec_schedules.proofs.Lists.{all-at}
+use Rattle.spec_sc.specs.State.{Event}
+use Rattle.spec_sc.specs.Graph.{Graph}
 use Rattle.graph_reader.specs.declared.table.Table.{Table}
-use Rattle.consistent.specs.Consistent.{orderOf}
-use Rattle.consistent.specs.Reading.{Frame, byteAt, isRead, writesIn, isEvent, Reading, refusal, withLine, after}
+use Rattle.spec_judge.specs.Consistent.{orderOf}
+use Rattle.spec_judge.specs.Reading.{Frame, byteAt, isRead, writesIn, isEvent, Reading, refusal, withLine, after}
 use Rattle.graph_reader.specs.Held.{noLine, Entry, rankOf, Holds, markedBy, Ordered}
-use Rattle.consistent.proofs.Readable.{event-is}
+use Rattle.spec_judge.proofs.Readable.{event-is}
 use Rattle.graph_reader.proofs.LineWrites.{writes-length}
 use Rattle.graph_reader.proofs.Marks.{seen-line}
-use Rattle.graph_reader.proofs.Ranks.{write-range, write-shape, events-six, rank-less}
+use Rattle.spec_judge.proofs.LineRanges.{write-range, write-shape}
+use Rattle.graph_reader.proofs.Ranks.{events-six, rank-less}
 use Rattle.graph_reader.proofs.HeldAfter.{line-known, line-range, in-time}
 
 module _ (n : ℕ) (few : n ≤ 6) (f : Frame) (s : Table) (r : Reading) (H : Holds n s r) (pass : refusal n r f ≡ 0) (q : isRead f ≡ false) where

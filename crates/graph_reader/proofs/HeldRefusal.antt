@@ -4,9 +4,9 @@ use mathlib.Core.Path.{_≡_, sym, ap, _∙_}
 use mathlib.Core.Bool.{Bool, true, false, cond, not}
 use borrow.Author.Tests.{lt-ltb, le-ltb}
 use lib.Dec.{ltb}
-use Rattle.schedules.specs.Order.{less}
+use Rattle.spec_schedules.specs.Order.{less}
 use Rattle.graph_reader.specs.declared.table.Table.{Table}
-use Rattle.consistent.specs.Reading.{Frame, isRead, writesIn, known, inRange, key, Reading, allNew, inOrder, refusal}
+use Rattle.spec_judge.specs.Reading.{Frame, isRead, writesIn, known, inRange, key, Reading, allNew, inOrder, refusal}
 use Rattle.graph_reader.specs.Held.{rankOf, Holds}
 
 module _ (n : ℕ) (f : Frame) (s : Table) (r : Reading) (H : Holds n s r) where

@@ -4,19 +4,20 @@ use mathlib.Core.Path.{_≡_, _∙_, sym, refl, subst}
 use mathlib.Core.List.{List}
 use native.Mathlib.Omega.{arith}
 use lib.ListN.{length, take, drop}
-use Rattle.lines.specs.Frame.{pairs}
-use Rattle.lines.specs.Split.{lineLength}
-use Rattle.lines.specs.TextLines.{split}
-use Rattle.lines.specs.Meaning.{framed, spelt, lineOf}
-use Rattle.lines.specs.declared.reader.Line.the-variants.{Frame, Remark, Broken}
-use Rattle.lines.proofs.Split.{before-end}
-use Rattle.lines.proofs.Meaning.{spelt-as-frame, spelt-as-remark, spelt-as-broken}
+use Rattle.spec_file.specs.Frame.{pairs}
+use Rattle.spec_file.specs.Split.{lineLength}
+use Rattle.spec_file.specs.TextLines.{split}
+use Rattle.spec_file.specs.Meaning.{framed, spelt}
+use Rattle.file_lines.specs.Meaning.{lineOf}
+use Rattle.file_lines.specs.declared.reader.Line.the-variants.{Frame, Remark, Broken}
+use Rattle.spec_file.proofs.Split.{before-end}
+use Rattle.file_lines.proofs.Meaning.{spelt-as-frame, spelt-as-remark, spelt-as-broken}
 use Rattle.graph_reader.specs.declared.table.Table.{Table}
 use Rattle.graph_reader.specs.declared.text.Verdict.the-variants.{Passed, Refused}
-use Rattle.consistent.specs.Reading.{Reading, refusal, after, fresh, readLines, readGraph}
+use Rattle.spec_judge.specs.Reading.{Reading, refusal, after, fresh, readLines, readGraph}
 use Rattle.graph_reader.specs.Held.{Holds, emptyTable, Passes, Taken, ReadAs}
-use Rattle.consistent.proofs.LineByLine.{text-over, line-unended, line-broken, line-remarked, line-refused, line-passes}
-use Rattle.consistent.proofs.Parsed.{passed}
+use Rattle.spec_judge.proofs.LineByLine.{text-over, line-unended, line-broken, line-remarked, line-refused, line-passes}
+use Rattle.spec_judge.proofs.Parsed.{passed}
 use Rattle.graph_reader.proofs.HeldAfter.{held-fresh}
 
 -- the lines before position `at` have been read, and none was refused

@@ -9,10 +9,10 @@ use borrow.Author.Tests.{ltb-true, ltb-false, lt-ltb, le-ltb}
 use lib.Dec.{ltb}
 use lib.ListN.{length, getD, drop, drop-of-length-le, length-drop, List·getD-eq-default}
 use lib.Seq.{drop-cons, getD-drop}
-use Rattle.schedules.specs.Lists.{any, all}
-use Rattle.sc.specs.State.{Event}
-use Rattle.sc.specs.Text.{eventsIn}
-use Rattle.consistent.specs.Reading.{Frame, byteAt, writesIn}
+use Rattle.spec_schedules.specs.Lists.{any, all}
+use Rattle.spec_sc.specs.State.{Event}
+use Rattle.spec_sc.specs.Text.{eventsIn}
+use Rattle.spec_judge.specs.Reading.{Frame, byteAt, writesIn}
 use Rattle.graph_reader.specs.Held.{noLine, byteOr}
 
 -- two comparisons of which each follows from the other

@@ -7,14 +7,14 @@ use native.Mathlib.Omega.{arith}
 use borrow.Author.Tests.{eq-eqb, ne-eqb}
 use lib.Dec.{eqb}
 use lib.ListN.{length, getD, set, drop}
-use Rattle.schedules.proofs.Lists.{all-cons}
-use Rattle.program.proofs.Tests.{both}
-use Rattle.schedules.specs.Lists.{all}
-use Rattle.sc.specs.State.{Event}
-use Rattle.sc.specs.Text.{eventsIn}
-use Rattle.consistent.specs.Reading.{Frame, byteAt, isEvent, allNew}
+use Rattle.spec_schedules.proofs.Lists.{all-cons}
+use Rattle.spec_file.proofs.DigitValues.{both}
+use Rattle.spec_schedules.specs.Lists.{all}
+use Rattle.spec_sc.specs.State.{Event}
+use Rattle.spec_sc.specs.Text.{eventsIn}
+use Rattle.spec_judge.specs.Reading.{Frame, byteAt, isEvent, allNew}
 use Rattle.graph_reader.specs.Held.{Seen, markedBy}
-use Rattle.consistent.proofs.Readable.{Named, event-is}
+use Rattle.spec_judge.proofs.Readable.{Named, event-is}
 use Rattle.graph_reader.proofs.LineWrites.{event-here}
 use Rattle.graph_reader.proofs.Marks.{new-first}
 

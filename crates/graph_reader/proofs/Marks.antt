@@ -10,13 +10,13 @@ use borrow.Author.Tests.{eq-eqb, ne-eqb}
 use lib.Dec.{eqb}
 use lib.ListN.{length, getD, set, length-set}
 use lib.Seq.{getD-set-same, getD-set-other}
-use Rattle.schedules.specs.Lists.{any}
-use Rattle.schedules.proofs.Lists.{any-yes, any-of, any-cons}
-use Rattle.sc.specs.State.{Event}
-use Rattle.consistent.specs.Same.{sameEvent}
-use Rattle.consistent.specs.Reading.{written, allNew}
+use Rattle.spec_schedules.specs.Lists.{any}
+use Rattle.spec_schedules.proofs.Lists.{any-yes, any-of, any-cons}
+use Rattle.spec_sc.specs.State.{Event}
+use Rattle.spec_sc.specs.Same.{sameEvent}
+use Rattle.spec_judge.specs.Reading.{written, allNew}
 use Rattle.graph_reader.specs.Held.{Seen, markedBy}
-use Rattle.consistent.proofs.Readable.{Named, reverse-in}
+use Rattle.spec_judge.proofs.Readable.{Named, reverse-in}
 
 written-cons : (e : Event) (ws : List Event) (rows : List (List Event)) → written e (ws ∷ rows) ≡ (any (sameEvent e) ws || written e rows)
 unfolding written

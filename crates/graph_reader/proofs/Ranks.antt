@@ -6,17 +6,17 @@ use mathlib.Core.List.{List, [], _∷_}
 use native.Mathlib.Omega.{arith}
 use borrow.Author.Tests.{lt-ltb, le-ltb, eqb-true, eqb-false, eq-eqb, ne-eqb}
 use lib.Dec.{eqb, ltb}
-use Rattle.schedules.specs.Lists.{all}
-use Rattle.schedules.specs.Order.{less}
-use Rattle.schedules.proofs.Order.{less-front, less-heads, more-heads}
-use Rattle.schedules.proofs.Lists.{all-at, all-of}
-use Rattle.sc.specs.State.{Event}
-use Rattle.consistent.specs.Reading.{Frame, byteAt, isRead, known, isEvent, inRange, key}
+use Rattle.spec_schedules.specs.Lists.{all}
+use Rattle.spec_schedules.specs.Order.{less}
+use Rattle.spec_schedules.proofs.Order.{less-front, less-heads, more-heads}
+use Rattle.spec_schedules.proofs.Lists.{all-at, all-of}
+use Rattle.spec_sc.specs.State.{Event}
+use Rattle.spec_judge.specs.Reading.{Frame, byteAt, isRead, known, isEvent, inRange, key}
 use Rattle.graph_reader.specs.Held.{rankOf}
-use Rattle.consistent.proofs.Readable.{event-is, is-event}
+use Rattle.spec_judge.proofs.Readable.{event-is, is-event}
 use Rattle.graph_reader.proofs.LineWrites.{same-order}
 -- what is known of a line in range
-pub use Rattle.consistent.proofs.LineRanges.{write-shape, read-range, write-range}
+use Rattle.spec_judge.proofs.LineRanges.{read-range, write-range}
 
 -- two lists of one number, or of two
 less-one : (i j : ℕ) → less (i ∷ []) (j ∷ []) ≡ ltb i j

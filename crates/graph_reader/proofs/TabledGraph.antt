@@ -9,15 +9,16 @@ use borrow.Author.Tests.{eq-eqb, ne-eqb, eqb-true, lt-ltb, le-ltb, ltb-true}
 use lib.Dec.{eqb, ltb}
 use lib.ListN.{getD, length-reverse}
 use lib.Seq.{ext-getD}
-use Rattle.schedules.specs.Lists.{any, Ascends}
-use Rattle.schedules.proofs.Lists.{any-yes, any-of, ascends-unique}
-use Rattle.sc.specs.State.{Event, initialWrite}
-use Rattle.sc.specs.Graph.{Graph}
-use Rattle.consistent.specs.Consistent.{rowOf, orderOf, Descends}
-use Rattle.consistent.specs.Same.{sameEvent, sameRead}
+use Rattle.spec_schedules.specs.Lists.{any}
+use Rattle.spec_file.specs.Lists.{Ascends}
+use Rattle.spec_schedules.proofs.Lists.{any-yes, any-of, ascends-unique}
+use Rattle.spec_sc.specs.State.{Event, initialWrite}
+use Rattle.spec_sc.specs.Graph.{Graph}
+use Rattle.spec_judge.specs.Consistent.{rowOf, orderOf, Descends}
+use Rattle.spec_sc.specs.Same.{sameEvent, sameRead}
 use Rattle.graph_reader.specs.Held.{noLine, lineIn, Tabled}
-use Rattle.consistent.proofs.Tests.{same-event-is, is-same-event, same-read-is, same-read}
-use Rattle.consistent.proofs.Readable.{Source, Readable}
+use Rattle.spec_sc.proofs.Same.{same-event-is, is-same-event, same-read-is, same-read}
+use Rattle.spec_judge.proofs.Readable.{Source, Readable}
 
 -- ---- a row and its lines
 -- a line of a row is what the row gives to its access

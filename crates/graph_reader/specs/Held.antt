@@ -7,16 +7,16 @@ use mathlib.Core.Bool.{true, cond, not}
 use mathlib.Core.List.{List, [], _∷_, reverse}
 use lib.Dec.{eqb, ltb}
 use lib.ListN.{length, getD, set, replicate}
-use Rattle.sc.specs.State.{Event}
-use Rattle.sc.specs.Graph.{Graph}
-use Rattle.lines.specs.Frame.{pairs}
-use Rattle.schedules.specs.Order.{less}
+use Rattle.spec_sc.specs.State.{Event}
+use Rattle.spec_sc.specs.Graph.{Graph}
+use Rattle.spec_file.specs.Frame.{pairs}
+use Rattle.spec_schedules.specs.Order.{less}
 use Rattle.graph_reader.specs.declared.table.Table.{Table}
 use Rattle.graph_reader.specs.declared.text.Verdict.{Verdict}
 use Rattle.graph_reader.specs.declared.text.Verdict.the-variants.{Passed, Refused}
-use Rattle.consistent.specs.Consistent.{rowOf, orderOf}
-use Rattle.consistent.specs.Reading.{Frame, byteAt, isRead, known, inRange, key, Reading, written, refusal, after, Parsed, parsed}
-use Rattle.consistent.specs.Reading.{refusedAt}
+use Rattle.spec_judge.specs.Consistent.{rowOf, orderOf}
+use Rattle.spec_judge.specs.Reading.{Frame, byteAt, isRead, known, inRange, key, Reading, written, refusal, after, Parsed, parsed}
+use Rattle.spec_judge.specs.Reading.{refusedAt}
 
 -- what stands where a graph has no line: no event and no source
 unfoldable pub noLine : Event

@@ -1,15 +1,15 @@
 // The number by which a line's frame is refused: 31, 32 or 33, and 0 where it passes.
 use crate::table::Table;
-use lines::field;
+use file_lines::field;
 ghost use mathlib.Core.Path.{_≡_};
 ghost use Prim.Native.Nat.{_%_, _<_, _≤_};
 ghost use mathlib.Core.Bool.{true};
 ghost use mathlib.Core.List.{List};
 ghost use lib.ListN.{length};
-ghost use Rattle.lines.specs.Frame.{pairs};
-ghost use Rattle.schedules.specs.Lists.{all};
-ghost use Rattle.sc.specs.State.{Event};
-ghost use Rattle.consistent.specs.Reading.{Reading, writesIn, known, isEvent, isSource, inRange, allNew, refusal};
+ghost use Rattle.spec_file.specs.Frame.{pairs};
+ghost use Rattle.spec_schedules.specs.Lists.{all};
+ghost use Rattle.spec_sc.specs.State.{Event};
+ghost use Rattle.spec_judge.specs.Reading.{Reading, writesIn, known, isEvent, isSource, inRange, allNew, refusal};
 ghost use Rattle.graph_reader.specs.Held.{Holds, Seen, rankOf};
 
 // Whether a text of n threads may name the event (t, i).

@@ -1,5 +1,7 @@
 // What has been read of a graph text so far. Every line that passes comes after the one before it, so that a text has few lines and each
 // has its place here.
+ghost use mathlib.Core.Path.{_≡_};
+ghost use Rattle.graph_reader.specs.Held.{emptyTable};
 
 pub struct Table {
     // Pairs of bytes. Pair 16 t + i is the source of access i of thread t, or fe fe where it has no line. Pair 96 + 24 l + k is write k of
@@ -12,9 +14,6 @@ pub struct Table {
     // The place of the last line in the order of all lines; 0 before the first.
     pub last: usize,
 }
-
-ghost use mathlib.Core.Path.{_≡_};
-ghost use Rattle.graph_reader.specs.Held.{emptyTable};
 
 // Before the first line.
 pub(crate) fn empty() -> Table

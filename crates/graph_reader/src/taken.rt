@@ -1,15 +1,15 @@
 // What has been read once a line has passed: a source more, or the writes of a location.
 use crate::refusal::rank;
 use crate::table::Table;
-use lines::field;
-use program::STEPS;
+use file_lines::field;
+use spec_file::STEPS;
 ghost use mathlib.Core.Path.{_≡_};
 ghost use Prim.Native.Nat.{_%_, _<_, _≤_};
 ghost use mathlib.Core.Bool.{true};
 ghost use lib.ListN.{length};
-ghost use Rattle.lines.specs.Frame.{pairs};
-ghost use Rattle.schedules.specs.Lists.{all};
-ghost use Rattle.consistent.specs.Reading.{byteAt, writesIn, isEvent};
+ghost use Rattle.spec_file.specs.Frame.{pairs};
+ghost use Rattle.spec_schedules.specs.Lists.{all};
+ghost use Rattle.spec_judge.specs.Reading.{byteAt, writesIn, isEvent};
 ghost use Rattle.graph_reader.specs.Held.{readTable, markedBy, byteOr, Ordered, Passes, Taken};
 
 // With the source that a `40` line gives.
@@ -23,8 +23,8 @@ fn with_read(line: &[u8], s: Table) -> Table
     let counts = s.counts;
     let seen = s.seen;
     let mut pairs = s.pairs;
-    pairs[at] = lines::byte_at(line, 3);
-    pairs[at + 1] = lines::byte_at(line, 4);
+    pairs[at] = file_lines::byte_at(line, 3);
+    pairs[at + 1] = file_lines::byte_at(line, 4);
     Table {
         pairs: pairs,
         counts: counts,
@@ -56,7 +56,7 @@ fn byte_or(line: &[u8], size: usize, k: usize) -> u8
     ensures { λ r. ⌜ r ≡ byteOr (pairs (now (line .entry))) k ⌝ }
 {
     if k < size {
-        return lines::byte_at(line, k);
+        return file_lines::byte_at(line, k);
     }
     254
 }

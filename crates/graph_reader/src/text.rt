@@ -3,9 +3,9 @@ use crate::refusal::refusal;
 use crate::table::Table;
 use crate::table::empty;
 use crate::taken::taken;
-use lines::Line;
+use file_lines::Line;
 ghost use Prim.Native.Nat.{_≤_};
-ghost use Rattle.consistent.specs.Reading.{readGraph};
+ghost use Rattle.spec_judge.specs.Reading.{readGraph};
 ghost use Rattle.graph_reader.specs.Held.{ReadAs};
 
 pub enum Verdict {
@@ -29,14 +29,14 @@ pub fn read_graph(text: &[u8], n: usize) -> Reply
     let mut at = 0;
     let mut number = 1;
     while at < text.len() {
-        let end = lines::line_end(text, at);
+        let end = file_lines::line_end(text, at);
         if end == text.len() {
             return Reply {
                 verdict: Verdict::Refused(30, number),
                 table: s,
             };
         }
-        let size = match lines::read(&text[at..end]) {
+        let size = match file_lines::read(&text[at..end]) {
             Line::Frame(n) => n,
             Line::Remark => {
                 at = end + 1;

@@ -6,14 +6,14 @@ use mathlib.Core.Path.{_≡_, sym, ap, _∙_}
 use mathlib.Core.List.{List, _++_}
 use lib.ListN.{length}
 use borrow.Rule.Slice.PartMut.{midOf, putMid}
-use Rattle.lines.specs.Over.{over}
-use Rattle.program.specs.Program.{Program}
-use Rattle.program.specs.WellFormed.{WellFormed}
-use Rattle.schedules.specs.Order.{Schedule}
-use Rattle.schedules.specs.System.{Allowed}
-use Rattle.sc.specs.State.{SC, start}
-use Rattle.sc.specs.Graph.{graph}
-use Rattle.sc.specs.Text.{textOf, graphText}
+use Rattle.spec_file.specs.Over.{over}
+use Rattle.spec_file.specs.Program.{Program}
+use Rattle.spec_file.specs.WellFormed.{WellFormed}
+use Rattle.spec_schedules.specs.Order.{Schedule}
+use Rattle.spec_schedules.specs.System.{Allowed}
+use Rattle.spec_sc.specs.State.{SC, start}
+use Rattle.spec_sc.specs.Graph.{graph}
+use Rattle.spec_sc.specs.Text.{textOf, graphText}
 use Rattle.graph_writer.specs.Notes.{Note, notes, Noted}
 use Rattle.graph_writer.specs.NoteText.{readFramesIn, orderFramesIn, noteFrames, notesAt, Wrote}
 use Rattle.graph_writer.proofs.NoteGraph.{notes-length, graph-text-notes}

@@ -9,7 +9,7 @@ use mathlib.Core.List.{List, [], _∷_, _++_}
 use lib.ListN.{length, getD, set, length-append, length-set, List·getD-append}
 use lib.Seq.{sets, length-sets, getD-set-same, getD-set-other}
 use borrow.Author.Tests.{lt-ltb, le-ltb}
-use Rattle.rows.specs.Bytes.{Written}
+use Rattle.file_rows.specs.Bytes.{Written}
 use Rattle.graph_writer.specs.Notes.{Note, noNote, noteBytes, Noted, putNote}
 
 getD-last : (ns : List Note) (n d : Note) → getD (ns ++ (n ∷ [])) (length ns) d ≡ n

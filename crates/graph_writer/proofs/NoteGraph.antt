@@ -10,24 +10,24 @@ use native.Mathlib.Decide.{ℕ-discrete}
 use borrow.Author.Tests.{eq-eqb, ne-eqb}
 use lib.Dec.{eqb}
 use lib.ListN.{length, getD, length-reverse}
-use Rattle.program.specs.Program.{Program}
-use Rattle.program.specs.WellFormed.{WellFormed}
-use Rattle.schedules.specs.Lists.{range}
-use Rattle.schedules.specs.Order.{Schedule}
-use Rattle.schedules.specs.System.{run, Allowed}
-use Rattle.sc.specs.Local.{takes, puts}
-use Rattle.sc.specs.State.{Event, Cell, State, threadOf, cellOf, place, latest, advanced, met, step, enabled, SC, start}
-use Rattle.sc.specs.Graph.{graphOf, graph, endOf}
-use Rattle.sc.specs.Text.{readFrame, readFrames, eventBytes, writeFrame, writeFrames, frames, textOf, graphText}
-use Rattle.sc.specs.Actions.{given, writes}
+use Rattle.spec_file.specs.Program.{Program}
+use Rattle.spec_file.specs.WellFormed.{WellFormed}
+use Rattle.spec_schedules.specs.Lists.{range}
+use Rattle.spec_schedules.specs.Order.{Schedule}
+use Rattle.spec_schedules.specs.System.{run, Allowed}
+use Rattle.spec_sc.specs.Local.{takes, puts}
+use Rattle.spec_sc.specs.State.{Event, Cell, State, threadOf, cellOf, place, latest, advanced, met, step, enabled, SC, start}
+use Rattle.spec_sc.specs.Graph.{graphOf, graph, endOf}
+use Rattle.spec_sc.specs.Text.{readFrame, readFrames, eventBytes, writeFrame, writeFrames, frames, textOf, graphText}
+use Rattle.spec_sc.specs.Actions.{given, writes}
 use Rattle.graph_writer.specs.Notes.{Note, note, notes}
 use Rattle.graph_writer.specs.NoteText.{readIn, writeIn, readsIn, writesIn, threadFrames, orderFrame, readFramesIn, orderFramesIn, noteFrames}
-use Rattle.sc.proofs.Steps.{enabled-range, cell-own, cell-other, run-threads, run-cells}
-use Rattle.sc.proofs.Change.{thread-cases, addedRead, noted-reads, written-none}
-use Rattle.sc.proofs.Start.{start-threads, start-cells, start-writes, start-history}
-use Rattle.sc.proofs.Regular.{Regular, place-in, regular-step, regular-start}
-use Rattle.sc.proofs.Trails.{writes-own}
-use Rattle.sc.proofs.Rows.{row-at, order-at, graph-sizes}
+use Rattle.spec_sc.proofs.Steps.{enabled-range, cell-own, cell-other, run-threads, run-cells}
+use Rattle.spec_sc.proofs.Change.{thread-cases, addedRead, noted-reads, written-none}
+use Rattle.spec_sc.proofs.Start.{start-threads, start-cells, start-writes, start-history}
+use Rattle.spec_sc.proofs.Regular.{Regular, place-in, regular-step, regular-start}
+use Rattle.spec_sc.proofs.Trails.{writes-own}
+use Rattle.spec_sc.proofs.Rows.{row-at, order-at, graph-sizes}
 
 -- a note for each step
 pub notes-length : (s : Schedule) (σ : State) → length (notes σ s) ≡ length s

@@ -9,12 +9,12 @@ use mathlib.Core.List.{List, [], _∷_, _++_, map, flatMap}
 use borrow.Author.Tests.{eq-eqb, ne-eqb}
 use lib.Dec.{eqb}
 use lib.ListN.{length, length-append}
-use Rattle.lines.specs.Text.{text}
-use Rattle.lines.proofs.Text.{length-text}
-use Rattle.schedules.specs.Lists.{range}
-use Rattle.sc.specs.State.{Event}
-use Rattle.sc.specs.Text.{readFrame, eventBytes, textOf}
-use Rattle.sc.proofs.Frames.{bytes-length}
+use Rattle.spec_file.specs.Text.{text}
+use Rattle.spec_file.proofs.Text.{length-text}
+use Rattle.spec_schedules.specs.Lists.{range}
+use Rattle.spec_sc.specs.State.{Event}
+use Rattle.spec_sc.specs.Text.{readFrame, eventBytes, textOf}
+use Rattle.spec_sc.proofs.Frames.{bytes-length}
 use Rattle.graph_writer.specs.Notes.{Note}
 use Rattle.graph_writer.specs.NoteText.{readIn, writeIn, readsIn, writesIn, threadFrames, orderFrame, readFramesIn, orderFramesIn, noteFrames}
 

@@ -8,15 +8,15 @@ use mathlib.Core.List.{List, [], _∷_, _++_, append-nil, append-assoc, flatMap}
 use borrow.Author.Tests.{eq-eqb, ne-eqb}
 use lib.Dec.{eqb}
 use lib.ListN.{length, getD, set, take, length-append, length-set}
-use Rattle.lines.specs.Text.{written}
-use Rattle.lines.specs.Over.{over}
-use Rattle.lines.proofs.Over.{over-snoc, length-over, take-over}
-use Rattle.schedules.specs.Lists.{range}
-use Rattle.sc.specs.State.{Event}
-use Rattle.sc.specs.Text.{readFrame, eventBytes}
+use Rattle.spec_file.specs.Text.{written}
+use Rattle.spec_file.specs.Over.{over}
+use Rattle.spec_file.proofs.Over.{over-snoc, length-over, take-over}
+use Rattle.spec_schedules.specs.Lists.{range}
+use Rattle.spec_sc.specs.State.{Event}
+use Rattle.spec_sc.specs.Text.{readFrame, eventBytes}
 use Rattle.graph_writer.specs.NoteText.{readIn, writeIn, writesIn, threadFrames, orderFrame, noteAt, notesAt, Wrote}
 use Rattle.graph_writer.proofs.NoteGraph.{order-some}
-use Rattle.sc.proofs.Frames.{bytes-length}
+use Rattle.spec_sc.proofs.Frames.{bytes-length}
 use Rattle.graph_writer.proofs.NotesHeld.{writes-next}
 use Rattle.graph_writer.proofs.WrittenLines.{wrote-none, wrote-one}
 

@@ -6,9 +6,9 @@ use mathlib.Core.Bool.{Bool, true, false, cond}
 use mathlib.Core.List.{List, [], _∷_, _++_, append-nil, map, map-append, flatMap}
 use lib.Dec.{eqb, lit<}
 use lib.ListN.{length, getD}
-use Rattle.schedules.specs.Lists.{range}
-use Rattle.sc.specs.State.{Event}
-use Rattle.sc.specs.Text.{readFrame}
+use Rattle.spec_schedules.specs.Lists.{range}
+use Rattle.spec_sc.specs.State.{Event}
+use Rattle.spec_sc.specs.Text.{readFrame}
 use Rattle.graph_writer.specs.Notes.{Note, noteBytes, noNote, Noted}
 use Rattle.graph_writer.specs.NoteText.{readIn, writeIn, readsIn, writesIn, threadFrames, orderFrame, readFramesIn, orderFramesIn, noteAt, notesAt}
 use Rattle.graph_writer.proofs.Collected.{collected-append, range-next, collected-next}

@@ -3,15 +3,15 @@ use Prim.Native.Nat.{_≤_}
 use mathlib.Core.Path.{ap}
 use native.Mathlib.Omega.{arith}
 use lib.ListN.{length}
-use Rattle.program.specs.Program.{Program}
-use Rattle.program.specs.WellFormed.{WellFormed}
-use Rattle.schedules.specs.Order.{Schedule}
-use Rattle.schedules.proofs.Runs.{full-allowed}
-use Rattle.sc.specs.State.{SC, start}
-use Rattle.sc.specs.Graph.{graph, Full}
-use Rattle.sc.specs.Text.{graphText}
+use Rattle.spec_file.specs.Program.{Program}
+use Rattle.spec_file.specs.WellFormed.{WellFormed}
+use Rattle.spec_schedules.specs.Order.{Schedule}
+use Rattle.spec_schedules.proofs.Runs.{full-allowed}
+use Rattle.spec_sc.specs.State.{SC, start}
+use Rattle.spec_sc.specs.Graph.{graph, Full}
+use Rattle.spec_sc.specs.Text.{graphText}
 use Rattle.graph_writer.specs.Notes.{notes}
-use Rattle.sc.proofs.Lawful.{at-most-24}
+use Rattle.spec_sc.proofs.Lawful.{at-most-24}
 use Rattle.graph_writer.proofs.NoteGraph.{notes-length, graph-text-notes}
 use Rattle.graph_writer.proofs.NoteLength.{notes-400}
 

@@ -5,11 +5,11 @@ use mathlib.Core.Path.{_≡_, refl, sym, ap, ap₂, _∙_}
 use mathlib.Core.List.{List, [], _∷_, _++_, append-nil, append-assoc}
 use lib.ListN.{length, length-append}
 use borrow.Rule.Slice.PartMut.{midOf, putMid, mid-len}
-use Rattle.lines.specs.Text.{text, written}
-use Rattle.lines.specs.Over.{over}
-use Rattle.lines.proofs.Text.{length-text, written-fits, length-written}
-use Rattle.lines.proofs.Over.{over-nil, length-over, over-part}
-use Rattle.sc.specs.Text.{textOf}
+use Rattle.spec_file.specs.Text.{text, written}
+use Rattle.spec_file.specs.Over.{over}
+use Rattle.spec_file.proofs.Text.{length-text, written-fits, length-written}
+use Rattle.spec_file.proofs.Over.{over-nil, length-over, over-part}
+use Rattle.spec_sc.specs.Text.{textOf}
 use Rattle.graph_writer.specs.NoteText.{writtenLines, Wrote}
 
 -- what is written fits

@@ -6,11 +6,11 @@ use mathlib.Core.Bool.{cond}
 use mathlib.Core.List.{List, [], _∷_, _++_, map, flatMap}
 use lib.Dec.{eqb}
 use lib.ListN.{length, getD}
-use Rattle.lines.specs.Text.{written}
-use Rattle.lines.specs.Over.{over}
-use Rattle.schedules.specs.Lists.{range}
-use Rattle.sc.specs.State.{Event}
-use Rattle.sc.specs.Text.{readFrame, eventBytes}
+use Rattle.spec_file.specs.Text.{written}
+use Rattle.spec_file.specs.Over.{over}
+use Rattle.spec_schedules.specs.Lists.{range}
+use Rattle.spec_sc.specs.State.{Event}
+use Rattle.spec_sc.specs.Text.{readFrame, eventBytes}
 use Rattle.graph_writer.specs.Notes.{Note}
 
 -- the read of thread t that a note states, if it states one

@@ -6,10 +6,10 @@ use mathlib.Core.List.{List, [], _∷_}
 use lib.Dec.{ltb}
 use lib.ListN.{length, getD}
 use lib.Seq.{sets}
-use Rattle.schedules.specs.Order.{Schedule}
-use Rattle.sc.specs.Local.{takes}
-use Rattle.sc.specs.State.{Event, State, threadOf, cellOf, place, latest, step}
-use Rattle.sc.specs.Actions.{writes}
+use Rattle.spec_schedules.specs.Order.{Schedule}
+use Rattle.spec_sc.specs.Local.{takes}
+use Rattle.spec_sc.specs.State.{Event, State, threadOf, cellOf, place, latest, step}
+use Rattle.spec_sc.specs.Actions.{writes}
 
 -- a step's thread and its access's number, its location, whether it reads and the last write of that location, and whether it writes
 pub record Note : Type 0 where

@@ -1,14 +1,14 @@
 // The text of a graph, written from the notes of a run: a line for each read, thread by thread, then a line for each location written.
-use lines::write;
+use file_lines::write;
 ghost use mathlib.Core.Path.{_≡_};
 ghost use mathlib.Core.Bool.{_&&_};
 ghost use mathlib.Core.List.{List, _∷_};
 ghost use Prim.Native.Nat.{_<_, _≤_};
 ghost use lib.Dec.{eqb};
 ghost use lib.ListN.{length};
-ghost use Rattle.lines.specs.Over.{over};
+ghost use Rattle.spec_file.specs.Over.{over};
 ghost use Rattle.graph_writer.specs.Notes.{Note, Noted};
-ghost use Rattle.sc.specs.Text.{eventBytes, textOf};
+ghost use Rattle.spec_sc.specs.Text.{eventBytes, textOf};
 ghost use Rattle.graph_writer.specs.NoteText.{readIn, readsIn, writesIn, threadFrames, orderFrame, readFramesIn, orderFramesIn};
 ghost use Rattle.graph_writer.specs.NoteText.{noteFrames, noteAt, notesAt, Wrote};
 

@@ -1,5 +1,5 @@
 // The notes of a run, eight bytes each, one after the other.
-use program::STEPS;
+use spec_file::STEPS;
 ghost use mathlib.Core.Path.{_≡_};
 ghost use Rattle.graph_writer.specs.Notes.{putNote};
 

@@ -7,16 +7,16 @@ use native.Mathlib.Omega.{arith}
 use native.Mathlib.Decide.{ℕ-discrete}
 use lib.ListN.{length, getD, set, take}
 use lib.Seq.{ext-getD, take-suc, length-take-le}
-use Rattle.lines.specs.Over.{over}
-use Rattle.lines.proofs.Over.{over-snoc}
-use Rattle.decoder.specs.declared.file.Answer as program-answer
-use Rattle.decoder.specs.declared.file.Verdict.the-variants as program-verdict
-use Rattle.program.specs.Program.{Program}
-use Rattle.program.specs.Decode.{accepted, refused, decode}
-use Rattle.decoder.specs.Compiled.{programOf, verdictOf, answerOf}
-use Rattle.program.specs.WellFormed.{WellFormed}
-use Rattle.program.proofs.AcceptedWellFormed.{accepted-well-formed}
-use Rattle.sc.specs.Graph.{Graph}
+use Rattle.spec_file.specs.Over.{over}
+use Rattle.spec_file.proofs.Over.{over-snoc}
+use Rattle.file_decoder.specs.declared.file.Answer as program-answer
+use Rattle.file_decoder.specs.declared.file.Verdict.the-variants as program-verdict
+use Rattle.spec_file.specs.Program.{Program}
+use Rattle.spec_file.specs.Decode.{accepted, refused, decode}
+use Rattle.file_decoder.specs.Compiled.{programOf, verdictOf, answerOf}
+use Rattle.spec_file.specs.WellFormed.{WellFormed}
+use Rattle.spec_file.proofs.AcceptedWellFormed.{accepted-well-formed}
+use Rattle.spec_sc.specs.Graph.{Graph}
 use Rattle.machine.specs.Held.{Loaded}
 use Rattle.machine.proofs.HeldStart.{threads-held}
 use Rattle.graph_reader.specs.declared.table.Table.{Table}
@@ -24,14 +24,14 @@ use Rattle.graph_reader.specs.declared.text.Verdict.{Verdict}
 use Rattle.graph_reader.specs.declared.text.Verdict.the-variants.{Passed, Refused}
 use Rattle.judge.specs.declared.answering.Outcome.{Outcome}
 use Rattle.judge.specs.declared.answering.Outcome.the-variants as outcome
-use Rattle.consistent.proofs.Walk.{judge}
-use Rattle.consistent.proofs.Judged.{judge-yes, judge-no}
-use Rattle.consistent.specs.Reading.{Parsed, parsed, refusedAt, readGraph}
-use Rattle.consistent.specs.Answer.{Answer, consistent, inconsistent, refusing, outputAfter, TextRead, Judgement, program-refused, output-refused, text-refused, judged-yes, judged-no}
+use Rattle.spec_judge.proofs.Walk.{judge}
+use Rattle.spec_judge.proofs.Judged.{judge-yes, judge-no}
+use Rattle.spec_judge.specs.Reading.{Parsed, parsed, refusedAt, readGraph}
+use Rattle.spec_judge.specs.Answer.{Answer, consistent, inconsistent, refusing, outputAfter, TextRead, Judgement, program-refused, output-refused, text-refused, judged-yes, judged-no}
 use Rattle.graph_reader.specs.Held.{Tabled, ReadAs}
 use Rattle.judge.specs.Call.{outcomeOf}
 use Rattle.judge.specs.HeldYes.{JudgedAs}
-use Rattle.rounds.proofs.HeldRoundLoop.{six-held}
+use Rattle.judge_values.proofs.HeldRoundLoop.{six-held}
 
 -- two arrays, compared number by number
 pub agree-more : (a b : List ℕ) (k : ℕ) → ((j : ℕ) → j < k → getD a j 0 ≡ getD b j 0) → getD a k 0 ≡ getD b k 0 → (j : ℕ) → j < k + 1 → getD a j 0 ≡ getD b j 0

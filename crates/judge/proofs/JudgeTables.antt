@@ -10,26 +10,26 @@ use borrow.Author.Tests.{ltb-true, ltb-false}
 use lib.Dec.{ltb}
 use lib.ListN.{length, getD, take}
 use lib.Seq.{ext-getD, length-take-le, getD-take}
-use Rattle.program.specs.Program.{Program}
-use Rattle.program.specs.WellFormed.{WellFormed}
-use Rattle.schedules.specs.Order.{Schedule}
-use Rattle.schedules.specs.System.{ended}
-use Rattle.schedules.proofs.Runs.{allowed-full}
-use Rattle.sc.specs.State.{Event, State, SC, start}
-use Rattle.sc.specs.Graph.{Graph, graphOf, graph, endOf, Full}
+use Rattle.spec_file.specs.Program.{Program}
+use Rattle.spec_file.specs.WellFormed.{WellFormed}
+use Rattle.spec_schedules.specs.Order.{Schedule}
+use Rattle.spec_schedules.specs.System.{ended}
+use Rattle.spec_schedules.proofs.Runs.{allowed-full}
+use Rattle.spec_sc.specs.State.{Event, State, SC, start}
+use Rattle.spec_sc.specs.Graph.{Graph, graphOf, graph, endOf, Full}
 use Rattle.machine.specs.Held.{Loaded}
 use Rattle.machine.proofs.HeldStart.{threads-held}
 use Rattle.judge.specs.declared.walking.Walk.{Walk}
-use Rattle.consistent.specs.Consistent.{rowOf, orderOf}
-use Rattle.consistent.proofs.Walk.{sameGraph, walk, judge}
-use Rattle.consistent.specs.Reading.{parsed, readGraph}
+use Rattle.spec_judge.specs.Consistent.{rowOf, orderOf}
+use Rattle.spec_judge.proofs.Walk.{sameGraph, walk, judge}
+use Rattle.spec_judge.specs.Reading.{parsed, readGraph}
 use Rattle.graph_reader.specs.Held.{noLine, lineIn, Entry, Tabled}
 use Rattle.judge.specs.HeldYes.{Walked, JudgedAs}
-use Rattle.consistent.proofs.Tests.{same-graph-is, is-same-graph}
-use Rattle.consistent.proofs.Readable.{Readable}
-use Rattle.consistent.proofs.Parsed.{read-readable}
-use Rattle.consistent.proofs.RunRead.{run-readable}
-use Rattle.rounds.proofs.HeldRoundLoop.{six-held}
+use Rattle.spec_judge.proofs.Tests.{same-graph-is, is-same-graph}
+use Rattle.spec_judge.proofs.Readable.{Readable}
+use Rattle.spec_judge.proofs.Parsed.{read-readable}
+use Rattle.spec_judge.proofs.RunRead.{run-readable}
+use Rattle.judge_values.proofs.HeldRoundLoop.{six-held}
 use Rattle.graph_reader.proofs.TabledGraph.{tabled-same}
 
 -- a graph has one table

@@ -11,17 +11,17 @@ use borrow.Author.Tests.{eq-eqb, ne-eqb}
 use lib.Dec.{eqb}
 use lib.ListN.{length, getD, set, length-reverse}
 use lib.Seq.{getD-set-same, getD-set-other}
-use Rattle.sc.specs.Local.{takes, puts}
-use Rattle.sc.specs.State.{Event, Thread, Cell, State, noted, advanced, threadOf, cellOf, latest, place, step}
-use Rattle.sc.specs.Graph.{graphOf}
-use Rattle.sc.specs.Actions.{given, writes}
+use Rattle.spec_sc.specs.Local.{takes, puts}
+use Rattle.spec_sc.specs.State.{Event, Thread, Cell, State, noted, advanced, threadOf, cellOf, latest, place, step}
+use Rattle.spec_sc.specs.Graph.{graphOf}
+use Rattle.spec_sc.specs.Actions.{given, writes}
 use Rattle.graph_writer.specs.Notes.{note, noteBytes}
-use Rattle.sc.proofs.Steps.{thread-own, thread-other, cell-other}
-use Rattle.sc.proofs.Change.{Change, kept, wrote, change, wrote-own}
-use Rattle.sc.proofs.Rows.{row-at, order-at}
-use Rattle.consistent.specs.Consistent.{rowOf}
+use Rattle.spec_sc.proofs.Steps.{thread-own, thread-other, cell-other}
+use Rattle.spec_sc.proofs.Change.{Change, kept, wrote, change, wrote-own}
+use Rattle.spec_sc.proofs.Rows.{row-at, order-at}
+use Rattle.spec_judge.specs.Consistent.{rowOf}
 use Rattle.graph_reader.specs.Held.{noLine, lineIn, Entry, put, Tabled}
-use Rattle.allowed.specs.HeldWalk.{NoteOf}
+use Rattle.judge_next.specs.HeldWalk.{NoteOf}
 use Rattle.judge.specs.MadeTable.{sourceAdded, eventAdded, countAdded}
 use Rattle.graph_reader.proofs.Entries.{length-put, entry-put, entry-kept}
 

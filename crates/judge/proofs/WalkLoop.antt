@@ -11,33 +11,33 @@ use borrow.Author.Tests.{lt-ltb, le-ltb}
 use lib.Dec.{eqb}
 use lib.ListN.{length, getD, set, replicate, getD-replicate, length-append}
 use lib.Seq.{getD-set-same, getD-set-other, getD-append-seam}
-use Rattle.program.specs.Program.{Program}
-use Rattle.schedules.specs.Lists.{find, range}
-use Rattle.schedules.specs.Order.{Schedule}
-use Rattle.schedules.specs.System.{run, Allowed}
-use Rattle.schedules.specs.Greedy.{greedy}
-use Rattle.schedules.proofs.Runs.{run-snoc, allowed-join}
-use Rattle.schedules.proofs.Lists.{range-ascends}
-use Rattle.schedules.proofs.Greedy.{FindIs, found-at, nowhere, find-is}
+use Rattle.spec_file.specs.Program.{Program}
+use Rattle.spec_schedules.specs.Lists.{find, range}
+use Rattle.spec_schedules.specs.Order.{Schedule}
+use Rattle.spec_schedules.specs.System.{run, Allowed}
+use Rattle.spec_schedules.specs.Greedy.{greedy}
+use Rattle.spec_schedules.proofs.Runs.{run-snoc, allowed-join}
+use Rattle.spec_schedules.proofs.Lists.{range-ascends}
+use Rattle.spec_schedules.proofs.Greedy.{FindIs, found-at, nowhere, find-is}
 use Rattle.machine.specs.declared.state.Machine.{Machine}
 use Rattle.machine.specs.declared.stepping.Stepped.{Stepped}
-use Rattle.sc.specs.State.{Event, State, step, enabled, SC, start}
-use Rattle.sc.specs.Graph.{Graph, graphOf}
+use Rattle.spec_sc.specs.State.{Event, State, step, enabled, SC, start}
+use Rattle.spec_sc.specs.Graph.{Graph, graphOf}
 use Rattle.machine.specs.Held.{Holds, HoldsStep}
-use Rattle.sc.proofs.Steps.{enabled-range, enabled-small}
-use Rattle.sc.proofs.Start.{start-writes, start-history}
-use Rattle.sc.proofs.Regular.{Regular}
-use Rattle.sc.proofs.Rows.{row-at, order-at}
-use Rattle.consistent.specs.Consistent.{locationOf}
-use Rattle.consistent.proofs.RoundValues.{finalValues}
-use Rattle.consistent.proofs.Walk.{fits, walk}
+use Rattle.spec_sc.proofs.Steps.{enabled-range, enabled-small}
+use Rattle.spec_sc.proofs.Start.{start-writes, start-history}
+use Rattle.spec_sc.proofs.Regular.{Regular}
+use Rattle.spec_sc.proofs.Rows.{row-at, order-at}
+use Rattle.spec_judge.specs.Consistent.{locationOf}
+use Rattle.spec_judge.proofs.RoundValues.{finalValues}
+use Rattle.spec_judge.proofs.Walk.{fits, walk}
 use Rattle.graph_reader.specs.Held.{noLine, lineIn, Entry, Tabled}
-use Rattle.allowed.specs.HeldWalk.{Ranged, Given, Walking, threadOr, nextOf}
+use Rattle.judge_next.specs.HeldWalk.{Ranged, Given, Walking, threadOr, nextOf}
 use Rattle.judge.specs.MadeTable.{sourceAdded, eventAdded, countAdded}
 use Rattle.judge.specs.HeldYes.{Walked}
 use Rattle.graph_reader.proofs.Entries.{unset}
 use Rattle.judge.proofs.MadeTables.{made-step}
-use Rattle.allowed.proofs.WalkChoice.{walk-regular, walk-near, walk-ranged, walk-ready}
+use Rattle.judge_next.proofs.WalkChoice.{walk-regular, walk-near, walk-ranged, walk-ready}
 
 -- a thread that fits may step
 fits-steps : (g : Graph) (pl : Event → ℕ) (σ : State) (t : ℕ) → fits g pl σ t ≡ true → enabled σ t ≡ true

@@ -2,7 +2,7 @@
 use lib.ListN.{length}
 use Rattle.judge.specs.declared.answering.Outcome.{Outcome}
 use Rattle.judge.specs.declared.answering.Outcome.the-variants.{Yes, No, Refused}
-use Rattle.consistent.specs.Answer.{Answer, consistent, inconsistent, refusing}
+use Rattle.spec_judge.specs.Answer.{Answer, consistent, inconsistent, refusing}
 
 unfoldable pub outcomeOf : Answer → Outcome
 outcomeOf (consistent s) = Yes (length s)

@@ -5,14 +5,14 @@ use mathlib.Core.Bool.{Bool, true, false}
 use mathlib.Core.Option.{Option, none, some}
 use mathlib.Core.List.{List}
 use lib.ListN.{length, getD, take}
-use Rattle.program.specs.Program.{Program}
-use Rattle.schedules.specs.Order.{Schedule}
-use Rattle.schedules.specs.System.{Allowed}
-use Rattle.sc.specs.State.{SC, start}
-use Rattle.sc.specs.Graph.{Graph, graphOf, endOf}
+use Rattle.spec_file.specs.Program.{Program}
+use Rattle.spec_schedules.specs.Order.{Schedule}
+use Rattle.spec_schedules.specs.System.{Allowed}
+use Rattle.spec_sc.specs.State.{SC, start}
+use Rattle.spec_sc.specs.Graph.{Graph, graphOf, endOf}
 use Rattle.machine.specs.Held.{Holds}
 use Rattle.judge.specs.declared.walking.Walk.{Walk}
-use Rattle.consistent.proofs.Walk.{walk}
+use Rattle.spec_judge.proofs.Walk.{walk}
 use Rattle.graph_reader.specs.Held.{Tabled}
 
 -- the walk, and the state and the graph behind it

@@ -2,12 +2,12 @@
 use crate::judging::judged;
 use graph_reader::Verdict;
 use graph_reader::read_graph;
-use program::STEPS;
+use spec_file::STEPS;
 ghost use mathlib.Core.Path.{_≡_};
 ghost use Prim.Native.Nat.{_≤_};
 ghost use lib.ListN.{length, take};
-ghost use Rattle.lines.specs.Over.{over};
-ghost use Rattle.consistent.specs.Answer.{Answer, Judgement, outputAfter};
+ghost use Rattle.spec_file.specs.Over.{over};
+ghost use Rattle.spec_judge.specs.Answer.{Answer, Judgement, outputAfter};
 ghost use Rattle.judge.specs.Call.{outcomeOf};
 
 pub enum Outcome {
@@ -35,11 +35,11 @@ pub fn judge(file: &[u8], text: &[u8], out: &mut [u8]) -> Outcome
     ensures { λ r. ⌜ ((a : Answer) × Judgement (now (file .entry)) (now (text .entry)) (length (now (out .entry))) a
         × (r ≡ outcomeOf a) × (now (out .exit) ≡ outputAfter a (now (out .entry)))) ⌝ }
 {
-    let a = decoder::decode(file);
+    let a = file_decoder::decode(file);
     let v = a.verdict;
     match v {
-        decoder::Verdict::Refused(number, place) => Outcome::Refused(number, place),
-        decoder::Verdict::Accepted => {
+        file_decoder::Verdict::Refused(number, place) => Outcome::Refused(number, place),
+        file_decoder::Verdict::Accepted => {
             if out.len() < STEPS {
                 return Outcome::Refused(22, 0);
             }

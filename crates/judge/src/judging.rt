@@ -2,19 +2,19 @@
 use crate::comparing::same_counts;
 use crate::comparing::same_pairs;
 use crate::walking::walked;
+use file_rows::Code;
+use judge_values::places;
 use machine::ended_all;
-use program::STEPS;
-use rounds::places;
-use rows::Code;
+use spec_file::STEPS;
 ghost use mathlib.Core.Path.{_≡_};
 ghost use mathlib.Core.Bool.{false};
 ghost use mathlib.Core.List.{List};
 ghost use Prim.Native.Nat.{ℕ};
-ghost use Rattle.program.specs.Program.{Program, initial};
-ghost use Rattle.sc.specs.Graph.{Graph};
+ghost use Rattle.spec_file.specs.Program.{Program, initial};
+ghost use Rattle.spec_sc.specs.Graph.{Graph};
 ghost use Rattle.machine.specs.Held.{Loaded};
-ghost use Rattle.consistent.proofs.Walk.{judge};
-ghost use Rattle.consistent.specs.Reading.{parsed, readGraph};
+ghost use Rattle.spec_judge.proofs.Walk.{judge};
+ghost use Rattle.spec_judge.specs.Reading.{parsed, readGraph};
 ghost use Rattle.graph_reader.specs.Held.{Tabled};
 ghost use Rattle.judge.specs.HeldYes.{JudgedAs};
 

@@ -1,10 +1,10 @@
 // The table of the graph that the walk has made so far.
-use lines::wide;
-use program::STEPS;
+use file_lines::wide;
+use spec_file::STEPS;
 ghost use mathlib.Core.Path.{_≡_};
 ghost use Prim.Native.Nat.{ℕ, _<_};
 ghost use lib.ListN.{getD};
-ghost use Rattle.allowed.specs.HeldWalk.{Ranged};
+ghost use Rattle.judge_next.specs.HeldWalk.{Ranged};
 ghost use Rattle.judge.specs.MadeTable.{sourceAdded, eventAdded, countAdded};
 
 // As in the table of a text: sources and writes, and how many writes each location has.

@@ -1,16 +1,16 @@
 // The walk: always the least thread whose next access the graph allows, at most 24 steps.
 use crate::making::with_event;
 use crate::making::with_source;
-use allowed::chosen;
+use file_rows::Code;
+use judge_next::chosen;
 use machine::Machine;
 use machine::started;
 use machine::step;
-use program::STEPS;
-use rows::Code;
+use spec_file::STEPS;
 ghost use mathlib.Core.Path.{_≡_};
-ghost use Rattle.program.specs.Program.{Program, initial};
-ghost use Rattle.sc.specs.Graph.{Graph};
-ghost use Rattle.allowed.specs.HeldWalk.{Given};
+ghost use Rattle.spec_file.specs.Program.{Program, initial};
+ghost use Rattle.spec_sc.specs.Graph.{Graph};
+ghost use Rattle.judge_next.specs.HeldWalk.{Given};
 ghost use Rattle.judge.specs.HeldYes.{Walked};
 
 // The steps, how many they are, the machine behind them, and the table of the graph that they made.

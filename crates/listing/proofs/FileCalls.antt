@@ -6,90 +6,82 @@ use mathlib.Core.List.{List}
 use mathlib.Core.Option.{Option, none, some}
 use lib.ListN.{length}
 use borrow.Author.Tests.{lt-ltb, le-ltb}
-use Rattle.program.specs.Program.{Program}
-use Rattle.program.specs.Decode.{Decoded, accepted, decode}
-use Rattle.program.specs.Decode as File
-use Rattle.schedules.specs.Lists.{filter, find, headOf}
-use Rattle.schedules.specs.Order.{Schedule}
-use Rattle.schedules.specs.Calls.{Answer, refused, answerTo, short, content}
-use Rattle.schedules.specs.Found.{after}
-use Rattle.schedules.proofs.First.{head-filter}
-use Rattle.schedules.proofs.After.{after-none, offer-after}
-use Rattle.schedules.proofs.Offered as Offered
-use Rattle.schedules.proofs.Offered.{content-found, content-nomore, content-refused}
-use Rattle.replay.specs.Carried.{HoldsRun}
-use Rattle.replay.proofs.Verdicts.{verdict-whole, verdict-refused}
-use Rattle.replay.specs.declared.replaying.Run.{Run}
-use Rattle.replay.specs.declared.replaying.Verdict.the-variants.{Whole, Refused}
-use Rattle.listing.specs.declared.calling.ListAnswer.{ListAnswer}
-use Rattle.list.specs.Answers.{startOf, continued, continueOf, failing, Violation, refused-by, violationBy, violationContent, violationOf}
-use Rattle.listing.specs.OnFile.{startOn, startFile, continueOn, continueFile, violationOn, violationFile}
+use Rattle.spec_file.specs.Program.{Program}
+use Rattle.spec_file.specs.Decode.{Decoded, accepted, decode}
+use Rattle.spec_file.specs.Decode as File
+use Rattle.spec_schedules.specs.Lists.{find, headOf}
+use Rattle.spec_schedules.specs.Order.{Schedule}
+use Rattle.spec_schedules.specs.Calls.{Answer, refused, answerTo, short, content}
+use Rattle.spec_schedules.specs.Found.{after}
+use Rattle.spec_schedules.proofs.First.{head-filter}
+use Rattle.spec_schedules.proofs.After.{after-none, offer-after}
+use Rattle.spec_schedules.proofs.Offered as Offered
+use Rattle.spec_schedules.proofs.Offered.{content-found, content-nomore, content-refused}
+use Rattle.spec_model.specs.Model.{Model, failing}
+use Rattle.spec_model.specs.Alike.{listOf}
+use Rattle.spec_model.specs.Answers.{startOf, refusesFrom, continued, continueOf, Violation, refused-by, violationBy, violationContent, violationOf}
+use Rattle.spec_model.specs.OnFile.{admit, startOn, startFile, continueOn, continueFile, violationOn, violationFile}
+use Rattle.spec_model.specs.Search.{sought}
+use Rattle.spec_calls.proofs.Answered.{unchanged}
+use Rattle.machine_replay.specs.declared.replaying.Verdict.{Verdict}
+use Rattle.machine_replay.specs.declared.replaying.Verdict.the-variants.{Whole, Refused}
+use Rattle.machine_replay.specs.Carried.{refusalOf}
+use Rattle.machine_replay.proofs.Verdicts.{refusal-whole, refusal-refused}
 use Rattle.listing.specs.AnswerOf.{listAnswerOf, violationAnswerOf}
-use Rattle.list.specs.ListOf.{listOf}
-use Rattle.list.specs.Search.{sought}
-use Rattle.pages.proofs.Answered.{unchanged}
-
--- an answer is said, and the output is what it leaves
-abbrev pub Says : ListAnswer → List ℕ → Answer → List ℕ → Type 0
-Says r out' a out = (r ≡ listAnswerOf a) × (out' ≡ content a out)
 
 -- ---- start, on a file
-module _ (file out : List ℕ) where
-  pub start-refused : (n k : ℕ) → decode file ≡ File.refused n k → startFile file out .0 ≡ refused n k
+module _ (M : Model) (file out : List ℕ) where
+  pub start-refused : (n k : ℕ) → admit M (decode file) ≡ File.refused n k → startFile M file out ≡ (refused n k, out)
   unfolding startOn
-  start-refused n k e = ap (λ (d : Decoded). startOn d out .0) e
+  start-refused n k e = ap (λ (d : Decoded). startOn M d out) e ∙ unchanged n k out
 
-  pub start-refused-out : (n k : ℕ) → decode file ≡ File.refused n k → startFile file out .1 ≡ out
-  unfolding startOn
-  start-refused-out n k e = ap (λ (d : Decoded). startOn d out .1) e ∙ content-refused n k out
-
-  module _ (p : Program) (l : List Schedule) (is : l ≡ sought false p) where
-    start-answer : answerTo (short 24 out) (headOf l) ≡ startOf p out .0
+  module _ (p : Program) (e : admit M (decode file) ≡ accepted p) (l : List Schedule) (is : l ≡ sought M false p) where
+    start-answer : answerTo (short (M .need) out) (headOf l) ≡ startOf M p out .0
     unfolding startOf sought
-    start-answer = ap (answerTo (short 24 out)) (ap headOf (is ∙ sym (after-none (listOf p))) ∙ offer-after none (listOf p))
+    start-answer = ap (answerTo (short (M .need) out)) (ap headOf (is ∙ sym (after-none (listOf M p))) ∙ offer-after none (listOf M p))
 
-    start-on : decode file ≡ accepted p → startOf p out .0 ≡ startFile file out .0
+    pub start-answered : answerTo (short (M .need) out) (headOf l) ≡ startFile M file out .0
     unfolding startOn
-    start-on e = ap (λ (d : Decoded). startOn d out .0) (sym e)
+    start-answered = start-answer ∙ ap (λ (d : Decoded). startOn M d out .0) (sym e)
 
-    pub start-answered : decode file ≡ accepted p → answerTo (short 24 out) (headOf l) ≡ startFile file out .0
-    start-answered e = start-answer ∙ start-on e
-
-    pub start-output : decode file ≡ accepted p → content (answerTo (short 24 out) (headOf l)) out ≡ startFile file out .1
+    pub start-output : content (answerTo (short (M .need) out) (headOf l)) out ≡ startFile M file out .1
     unfolding startOn startOf
-    start-output e = ap (λ (a : Answer). content a out) start-answer ∙ ap (λ (d : Decoded). startOn d out .1) (sym e)
+    start-output = ap (λ (a : Answer). content a out) start-answer ∙ ap (λ (d : Decoded). startOn M d out .1) (sym e)
 
 -- ---- continue, on a program
-module _ (p : Program) (s : Schedule) (out : List ℕ) where
-  pub continue-short : length out < 24 → continueOf p s out ≡ (refused 22 0, out)
+module _ (M : Model) (p : Program) (s : Schedule) (out : List ℕ) where
+  pub continue-short : length out < M .need → continueOf M p s out ≡ (refused 22 0, out)
   unfolding continueOf
-  continue-short h = rw (lt-ltb (length out) 24 h) (unchanged 22 0 out)
+  continue-short h = rw (lt-ltb (length out) (M .need) h) (unchanged 22 0 out)
 
-  module _ (code lengths : List ℕ) (r : Run) (held : HoldsRun code lengths p s r) (wide : 24 ≤ length out) where
+  module _ (wide : M .need ≤ length out) (v : Verdict) (said : refusalOf v ≡ refusesFrom (M .system) 0 (M .start p) s) where
+    refuses : (u : Verdict) (o : Option (ℕ × ℕ)) → v ≡ u → refusalOf u ≡ o → refusesFrom (M .system) 0 (M .start p) s ≡ o
+    refuses u o e q = sym said ∙ ap refusalOf e ∙ q
+
     -- refused by 20 or 21
-    pub continue-refused : (n k : ℕ) → r .verdict ≡ Refused n k → continueOf p s out ≡ (refused n k, out)
+    pub continue-refused : (n k : ℕ) → v ≡ Refused n k → continueOf M p s out ≡ (refused n k, out)
     unfolding continueOf continued
-    continue-refused n k e = rw (le-ltb (length out) 24 wide, verdict-refused code lengths p s r held n k e) (unchanged n k out)
+    continue-refused n k e = rw (le-ltb (length out) (M .need) wide, refuses (Refused n k) (some (n, k)) e (refusal-refused n k)) (unchanged n k out)
 
-    module _ (l : List Schedule) (is : l ≡ after (some s) (sought false p)) where
-      pub continue-whole : r .verdict ≡ Whole → answerTo (short 24 out) (headOf l) ≡ continueOf p s out .0
+    module _ (l : List Schedule) (is : l ≡ after (some s) (sought M false p)) where
+      pub continue-whole : v ≡ Whole → answerTo (short (M .need) out) (headOf l) ≡ continueOf M p s out .0
       unfolding continueOf continued sought
       continue-whole e =
-          rw (le-ltb (length out) 24 wide, verdict-whole code lengths p s r held e) (ap (answerTo false) (ap headOf is ∙ offer-after (some s) (listOf p)))
+          rw (le-ltb (length out) (M .need) wide, refuses Whole none e refusal-whole) (ap (answerTo false) (ap headOf is ∙ offer-after (some s) (listOf M p)))
 
-      pub continue-output : r .verdict ≡ Whole → content (answerTo (short 24 out) (headOf l)) out ≡ continueOf p s out .1
+      pub continue-output : v ≡ Whole → content (answerTo (short (M .need) out) (headOf l)) out ≡ continueOf M p s out .1
       unfolding continueOf
       continue-output e = ap (λ (a : Answer). content a out) (continue-whole e)
 
 -- on a file
-module _ (file s out : List ℕ) where
-  pub continue-file : (p : Program) → decode file ≡ accepted p → continueOf p s out ≡ continueFile file s out
+module _ (M : Model) (file s out : List ℕ) where
+  pub continue-file : (p : Program) → admit M (decode file) ≡ accepted p → continueOf M p s out ≡ continueFile M file s out
   unfolding continueOn
-  continue-file p e = ap (λ (d : Decoded). continueOn d s out) (sym e)
+  continue-file p e = ap (λ (d : Decoded). continueOn M d s out) (sym e)
 
-  pub continue-file-refused : (n k : ℕ) → decode file ≡ File.refused n k → continueFile file s out ≡ (refused n k, out)
+  pub continue-file-refused : (n k : ℕ) → admit M (decode file) ≡ File.refused n k → continueFile M file s out ≡ (refused n k, out)
   unfolding continueOn
-  continue-file-refused n k e = ap (λ (d : Decoded). continueOn d s out) e ∙ unchanged n k out
+  continue-file-refused n k e = ap (λ (d : Decoded). continueOn M d s out) e ∙ unchanged n k out
 
 -- ---- violation
 pub same-violation-answer : (b : Bool) (o : Option Schedule) → listAnswerOf (answerTo b o) ≡ violationAnswerOf (violationBy b o)
@@ -104,28 +96,28 @@ same-content true o out = ap (λ (a : Answer). content a out) (Offered.answer-sh
 same-content false none out = ap (λ (a : Answer). content a out) Offered.answer-none ∙ content-nomore out
 same-content false (some s) out = ap (λ (a : Answer). content a out) (Offered.answer-some s) ∙ content-found s out
 
-module _ (file out : List ℕ) where
-  pub violation-refused : (n k : ℕ) → decode file ≡ File.refused n k → violationFile file out ≡ (refused-by n k, out)
+module _ (M : Model) (file out : List ℕ) where
+  pub violation-refused : (n k : ℕ) → admit M (decode file) ≡ File.refused n k → violationFile M file out ≡ (refused-by n k, out)
   unfolding violationOn violationContent
-  violation-refused n k e = ap (λ (d : Decoded). violationOn d out) e
+  violation-refused n k e = ap (λ (d : Decoded). violationOn M d out) e
 
-  module _ (p : Program) (e : decode file ≡ accepted p) (l : List Schedule) (is : l ≡ sought true p) where
-    sought-first : headOf l ≡ find (failing p) (listOf p)
+  module _ (p : Program) (e : admit M (decode file) ≡ accepted p) (l : List Schedule) (is : l ≡ sought M true p) where
+    sought-first : headOf l ≡ find (failing M p) (listOf M p)
     unfolding sought
-    sought-first = ap headOf is ∙ head-filter (failing p) (listOf p)
+    sought-first = ap headOf is ∙ head-filter (failing M p) (listOf M p)
 
-    violation-on : violationOf p out ≡ violationFile file out
+    violation-on : violationOf M p out ≡ violationFile M file out
     unfolding violationOn
-    violation-on = ap (λ (d : Decoded). violationOn d out) (sym e)
+    violation-on = ap (λ (d : Decoded). violationOn M d out) (sym e)
 
-    pub violation-answer : listAnswerOf (answerTo (short 24 out) (headOf l)) ≡ violationAnswerOf (violationFile file out .0)
+    pub violation-answer : listAnswerOf (answerTo (short (M .need) out) (headOf l)) ≡ violationAnswerOf (violationFile M file out .0)
     unfolding violationOf
     violation-answer =
-        same-violation-answer (short 24 out) (headOf l)
-        ∙ ap (λ (o : Option Schedule). violationAnswerOf (violationBy (short 24 out) o)) sought-first ∙ ap (λ (r : Violation × List ℕ). violationAnswerOf (r .0)) violation-on
+        same-violation-answer (short (M .need) out) (headOf l)
+        ∙ ap (λ (o : Option Schedule). violationAnswerOf (violationBy (short (M .need) out) o)) sought-first ∙ ap (λ (r : Violation × List ℕ). violationAnswerOf (r .0)) violation-on
 
-    pub violation-output : content (answerTo (short 24 out) (headOf l)) out ≡ violationFile file out .1
+    pub violation-output : content (answerTo (short (M .need) out) (headOf l)) out ≡ violationFile M file out .1
     unfolding violationOf
     violation-output =
-        same-content (short 24 out) (headOf l) out
-        ∙ ap (λ (o : Option Schedule). violationContent (violationBy (short 24 out) o) out) sought-first ∙ ap (λ (r : Violation × List ℕ). r .1) violation-on
+        same-content (short (M .need) out) (headOf l) out
+        ∙ ap (λ (o : Option Schedule). violationContent (violationBy (short (M .need) out) o) out) sought-first ∙ ap (λ (r : Violation × List ℕ). r .1) violation-on

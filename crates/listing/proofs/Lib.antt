@@ -1,8 +1,14 @@
 -- The laws, in the order in which they rest on each other.
 -- a schedule that is answered stands in the output
 pub mod Standing
+-- a list of calls walks the list
+pub mod Dialogue
 -- demand 3 holds
 pub mod Demand3
+-- and what is promised of sequential consistency beside it
+pub mod Sequential
+-- the program that the model lists, or what refuses the file
+pub mod ListedProgram
 -- the calls that give a schedule, way by way
 pub mod FileCalls
 -- what count says of a program file

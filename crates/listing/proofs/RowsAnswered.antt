@@ -5,35 +5,39 @@ use mathlib.Core.Bool.{false}
 use mathlib.Core.List.{List}
 use mathlib.Core.Option.{Option}
 use lib.ListN.{length, take}
-use Rattle.program.specs.Program.{Program}
-use Rattle.program.specs.Decode.{Decoded, accepted, refused, decode}
-use Rattle.schedules.specs.Order.{Schedule}
-use Rattle.schedules.specs.Found.{after}
-use Rattle.list.specs.Search.{sought}
-use Rattle.listing.specs.declared.row_calls.RowsAnswer.{RowsAnswer}
-use Rattle.listing.specs.declared.row_calls.RowsAnswer.the-variants.{Written, Refused}
-use Rattle.pages.specs.declared.cursor.Cursor.{Cursor}
-use Rattle.pages.specs.declared.cursor.Page.{Page}
-use Rattle.walker.specs.Rows.{Shown}
-use Rattle.walker.specs.Cursor.{remaining, Paged}
-use Rattle.listing.specs.RowsCall.{fitting, rowsAnswerOf, rowsOutput}
+use Rattle.spec_file.specs.Program.{Program}
+use Rattle.spec_file.specs.Decode.{Decoded, accepted, refused, decode}
+use Rattle.spec_schedules.specs.Order.{Schedule}
+use Rattle.spec_schedules.specs.Found.{after}
+use Rattle.spec_model.specs.Model.{Model}
+use Rattle.spec_model.specs.OnFile.{admit}
+use Rattle.spec_model.specs.Search.{sought}
+use Rattle.spec_calls.specs.declared.rows_answer.RowsAnswer.{RowsAnswer}
+use Rattle.spec_calls.specs.declared.rows_answer.RowsAnswer.the-variants.{Written, Refused}
+use Rattle.listing_cursor.specs.declared.cursor.Cursor.{Cursor}
+use Rattle.listing_cursor.specs.declared.cursor.Page.{Page}
+use Rattle.spec_calls.specs.Rows.{rowSize}
+use Rattle.listing_cursor.specs.ListRows.{Shown, remaining, Paged}
+use Rattle.spec_calls.specs.RowsCall.{fitting, rowsOn, leftOn, rowsFile, rowsOutput}
 
-module _ (file out : List ℕ) (o : Option Schedule) where
-  pub rows-refused : (n k : ℕ) → decode file ≡ refused n k → (Refused n k ≡ rowsAnswerOf (decode file) o out) × (out ≡ rowsOutput (decode file) o out)
-  unfolding rowsAnswerOf rowsOutput
-  rows-refused n k e = (ap (λ (d : Decoded). rowsAnswerOf d o out) (sym e), ap (λ (d : Decoded). rowsOutput d o out) (sym e))
+module _ (M : Model) (file out : List ℕ) (o : Option Schedule) where
+  pub rows-refused : (n k : ℕ) → admit M (decode file) ≡ refused n k
+      → (Refused n k ≡ rowsFile M file o out) × (out ≡ rowsOutput M file o out)
+  unfolding rowsOn leftOn
+  rows-refused n k e = (ap (λ (d : Decoded). rowsOn M d o out) (sym e), ap (λ (d : Decoded). leftOn M d o out) (sym e))
 
-  rows-written : (p : Program) (later : List ℕ) (r : ℕ) → decode file ≡ accepted p → Shown p (fitting p o out) out later r
-      → (Written r ≡ rowsAnswerOf (decode file) o out) × (later ≡ rowsOutput (decode file) o out)
-  unfolding rowsAnswerOf rowsOutput
+  rows-written : (p : Program) (later : List ℕ) (r : ℕ) → admit M (decode file) ≡ accepted p → Shown M p (fitting M p o out) out later r
+      → (Written r ≡ rowsFile M file o out) × (later ≡ rowsOutput M file o out)
+  unfolding rowsOn leftOn
   rows-written p later r e s = (
-    ap {B = RowsAnswer} (λ n. Written n) (s .counted) ∙ ap (λ (d : Decoded). rowsAnswerOf d o out) (sym e),
-    s .text ∙ ap (λ (d : Decoded). rowsOutput d o out) (sym e),
+    ap {B = RowsAnswer} (λ n. Written n) (s .counted) ∙ ap (λ (d : Decoded). rowsOn M d o out) (sym e),
+    s .text ∙ ap (λ (d : Decoded). leftOn M d o out) (sym e),
   )
 
   -- a page of what a cursor behind the bound has yet to come
-  pub rows-paged : (p : Program) (c : Cursor) (later : List ℕ) (r : Page) → decode file ≡ accepted p → remaining p false c ≡ after o (sought false p)
-      → Paged p false c out later r → (Written (r .rows) ≡ rowsAnswerOf (decode file) o out) × (later ≡ rowsOutput (decode file) o out)
+  pub rows-paged : (p : Program) (c : Cursor) (later : List ℕ) (r : Page) → admit M (decode file) ≡ accepted p → remaining M p false c ≡ after o (sought M false p)
+      → Paged M p false c out later r
+      → (Written (r .rows) ≡ rowsFile M file o out) × (later ≡ rowsOutput M file o out)
   unfolding fitting sought
   rows-paged p c later r e is page =
-      rows-written p later (r .rows) e (subst (λ (l : List Schedule). Shown p (take (length out / 26) l) out later (r .rows)) is (page .shown))
+      rows-written p later (r .rows) e (subst (λ (l : List Schedule). Shown M p (take (length out / rowSize (M .need)) l) out later (r .rows)) is (page .shown))

@@ -1,92 +1,92 @@
--- DEMAND 3, the listing's promise about an accepted file, as one claim. p is the program that the file is read as, `listOf p` its list;
--- `startFile`, `continueFile`, `countFile` and `violationFile` are what the contracts of the four calls equate their answers and the later
--- contents of their outputs with.
-use Prim.Native.Nat.{ℕ, _^_, _<_, _≤_}
+-- DEMAND 3, the listing's promise about a file that a memory model lists, as one claim. p is the program that the file is read as, `listOf
+-- M p` its list; `startFile`, `continueFile`, `countFile` and `violationFile` are what the contracts of the four calls equate their answers
+-- and the later contents of their outputs with.
+use Prim.Native.Nat.{ℕ, _^_, _%_, _<_, _≤_}
 use mathlib.Core.Path.{_≡_}
 use mathlib.Core.Logic.{_↔_}
 use mathlib.Core.Bool.{true, false}
 use mathlib.Core.Option.{Option, none, some}
 use mathlib.Core.List.{List, [], _∷_, _++_, List·Memᴰ}
 use lib.ListN.{length, take, drop}
-use Rattle.lines.specs.Over.{over}
-use Rattle.program.specs.Program.{Program}
-use Rattle.schedules.specs.Lists.{filter, Ascends}
-use Rattle.schedules.specs.Order.{Schedule, less}
-use Rattle.schedules.specs.System.{Allowed}
-use Rattle.schedules.specs.Calls.{found, nomore, answerTo, short, Result, result, called, last, due, served, member}
-use Rattle.sc.specs.State.{SC, start, memoryOf}
-use Rattle.sc.specs.Graph.{endOf, Full}
-use Rattle.list.specs.Alike.{Alike, Listed}
-use Rattle.list.specs.ListOf.{listOf}
-use Rattle.list.specs.Answers.{failing, fails-first, none-fails, refused-by}
-use Rattle.listing.specs.OnFile.{startFile, continueFile, counted, countFile, violationFile}
+use Rattle.spec_file.specs.Over.{over}
+use Rattle.spec_file.specs.Program.{Program}
+use Rattle.spec_schedules.specs.Lists.{filter}
+use Rattle.spec_file.specs.Lists.{Ascends}
+use Rattle.spec_schedules.specs.Order.{Schedule, less}
+use Rattle.spec_schedules.specs.Calls.{found, nomore, answerTo, short, Result, result, called, last, due, served, member}
+use Rattle.spec_model.specs.Model.{Model, endOf, Runs, Full, failing}
+use Rattle.spec_model.specs.Alike.{Alike, Listed, listOf}
+use Rattle.spec_model.specs.Answers.{fails-first, none-fails, refused-by}
+use Rattle.spec_model.specs.OnFile.{startFile, continueFile, counted, countFile, violationFile}
 
 -- s is in the list of p
-abbrev pub InList : Program → Schedule → Type 0
-InList p s = List·Memᴰ s (listOf p)
+abbrev pub InList : (M : Model) → Program → Schedule → Type 0
+InList M p s = List·Memᴰ s (listOf M p)
 
 -- A list of calls on one file, each with an output of any length. Until a schedule has been answered each is a start; from then on each is
 -- a continue, handed a copy of the schedule answered last, also after a refusal or a no more.
-abbrev pub call : List ℕ → Option Schedule → List ℕ → Result
-call file none out = startFile file out
-call file (some s) out = continueFile file s out
+abbrev pub call : (M : Model) → List ℕ → Option Schedule → List ℕ → Result
+call M file none out = startFile M file out
+call M file (some s) out = continueFile M file s out
 
 -- these outputs got these results, where this schedule was answered last before them
-abbrev pub Called : List ℕ → Option Schedule → List (List ℕ) → List Result → Type 0
-Called file before [] [] = Unit {0}
-Called file before [] (r ∷ rs) = ⊥
-Called file before (out ∷ outs) [] = ⊥
-Called file before (out ∷ outs) (r ∷ rs) = (r ≡ call file before out) × Called file (last before (r .0)) outs rs
+abbrev pub Called : (M : Model) → List ℕ → Option Schedule → List (List ℕ) → List Result → Type 0
+Called M file before [] [] = Unit {0}
+Called M file before [] (r ∷ rs) = ⊥
+Called M file before (out ∷ outs) [] = ⊥
+Called M file before (out ∷ outs) (r ∷ rs) = (r ≡ call M file before out) × Called M file (last before (r .0)) outs rs
 
 -- the schedule is the first bytes of the output behind a call, as many as it has steps; the bytes behind it keep their value
 abbrev pub InFront : Schedule → List ℕ → List ℕ → Type 0
 InFront s before behind = (take (length s) behind ≡ s) × (drop (length s) behind ≡ drop (length s) before) × (length behind ≡ length before)
 
-pub record Demand3 (file : List ℕ) (p : Program) : Type 0 where
+pub record Demand3 (M : Model) (file : List ℕ) (p : Program) : Type 0 where
   -- THE LIST has exactly the full schedules that document 01 calls listed: no smaller full schedule is alike
-  pub exact : (s : Schedule) → InList p s ↔ Listed p s
+  pub exact : (s : Schedule) → InList M p s ↔ Listed M p s
   -- it ascends strictly
-  pub ascending : Ascends less (listOf p)
-  -- it is finite, its count fits 64 bits, and it is never empty
-  pub fits : length (listOf p) < 2 ^ 63
-  pub begins : (s : Schedule) × InList p s
-  -- each member has at most 24 steps, so that it fits an output that is not refused
-  pub within : (s : Schedule) → InList p s → length s ≤ 24
+  pub ascending : Ascends less (listOf M p)
+  -- it is finite and never empty
+  pub finite : length (listOf M p) ≤ length (M .system .names) ^ (M .steps)
+  pub begins : (s : Schedule) × InList M p s
+  -- each member fits an output that is not refused
+  pub within : (s : Schedule) → InList M p s → length s ≤ M .need
   -- EACH FULL SCHEDULE'S GRAPH equals that of exactly one listed one, up to exchanging threads declared alike
-  pub one-each : (s : Schedule) → Full p s → (r : Schedule) × InList p r × Alike p r s × ((q : Schedule) → InList p q → Alike p q s → q ≡ r)
+  pub one-each : (s : Schedule) → Full M p s →
+      (r : Schedule) × InList M p r × Alike M p r s × ((q : Schedule) → InList M p q → Alike M p q s → q ≡ r)
   -- where one of two alike schedules fails so does the other, and both leave the same memory
-  pub same-outcome : (r s : Schedule) → Full p r → Full p s → Alike p r s
-      → (failing p r ≡ failing p s) × (memoryOf (endOf p r) ≡ memoryOf (endOf p s))
+  pub same-outcome : (r s : Schedule) → Full M p r → Full M p s → Alike M p r s →
+      (failing M p r ≡ failing M p s) × (M .memoryOf (endOf M p r) ≡ M .memoryOf (endOf M p s))
   -- THE CALLS, whatever their number and outputs: what they answer, and the outputs behind them, is what is due
-  pub answers : (outs : List (List ℕ)) (rs : List Result) → Called file none outs rs → rs ≡ due 24 (listOf p) outs
-  -- call by call: 22 exactly where the output is shorter than 24; else the listed schedule whose number, from 0, is that of the calls
-  -- before that were not refused, or no more if there are not so many
-  pub answer-at : (before : List (List ℕ)) (out : List ℕ) (after : List (List ℕ)) (rs : List Result)
-      → Called file none (before ++ (out ∷ after)) rs →
-      (rest : List Result) × (rs ≡ due 24 (listOf p) before
-      ++ (result (answerTo (short 24 out) (member (listOf p) (served 24 before))) out ∷ rest))
+  pub answers : (outs : List (List ℕ)) (rs : List Result) → Called M file none outs rs → rs ≡ due (M .need) (listOf M p) outs
+  -- call by call: 22 exactly where the output is too short; else the listed schedule whose number, from 0, is that of the calls before that
+  -- were not refused, or no more if there are not so many
+  pub answer-at : (before : List (List ℕ)) (out : List ℕ) (after : List (List ℕ)) (rs : List Result) →
+      Called M file none (before ++ (out ∷ after)) rs →
+      (rest : List Result) × (rs ≡ due (M .need) (listOf M p) before
+      ++ (result (answerTo (short (M .need) out) (member (listOf M p) (served (M .need) before))) out ∷ rest))
   -- A CONTINUE from any full schedule, listed or not, answers as it would in such a list
-  pub continues : (s : Schedule) → Full p s → (out : List ℕ) → continueFile file s out ≡ called 24 (listOf p) (some s) out
+  pub continues : (s : Schedule) → Full M p s → (out : List ℕ) → continueFile M file s out ≡ called (M .need) (listOf M p) (some s) out
   -- with an output that is not too short: the least listed one after it, written in front of the output's old rest
-  pub continue-least : (s : Schedule) → Full p s → (out : List ℕ) → 24 ≤ length out → (r : Schedule)
-      → (continueFile file s out ≡ (found r, over r out)) ↔
-      (InList p r × (less s r ≡ true) × ((q : Schedule) → InList p q → less q r ≡ true → less s q ≡ false))
+  pub continue-least : (s : Schedule) → Full M p s → (out : List ℕ) → M .need ≤ length out → (r : Schedule) →
+      (continueFile M file s out ≡ (found r, over r out)) ↔
+      (InList M p r × (less s r ≡ true) × ((q : Schedule) → InList M p q → less q r ≡ true → less s q ≡ false))
   -- or no more, exactly when none is
-  pub continue-none : (s : Schedule) → Full p s → (out : List ℕ) → 24 ≤ length out
-      → (continueFile file s out ≡ (nomore, out)) ↔ ((r : Schedule) → InList p r → less s r ≡ false)
-  -- COUNT: the list's length, and the number of its members that fail
-  pub counts : countFile file ≡ counted (record { listed = length (listOf p); failed = length (filter (failing p) (listOf p)) })
+  pub continue-none : (s : Schedule) → Full M p s → (out : List ℕ) → M .need ≤ length out →
+      (continueFile M file s out ≡ (nomore, out)) ↔ ((r : Schedule) → InList M p r → less s r ≡ false)
+  -- COUNT: the list's length, and the number of its members that fail, modulo 2^64
+  pub counts : countFile M file ≡
+      counted (record { listed = length (listOf M p) % 2 ^ 64; failed = length (filter (failing M p) (listOf M p)) % 2 ^ 64 })
   -- VIOLATION, with an output that is not too short: the first member that fails, written in front of the output's old rest
-  pub violation-first : (out : List ℕ) → 24 ≤ length out → (s : Schedule) → (violationFile file out ≡ (fails-first s, over s out)) ↔
-      (InList p s × (failing p s ≡ true) × ((r : Schedule) → InList p r → less r s ≡ true → failing p r ≡ false))
-  -- and none exactly when no schedule at all fails an assertion, be it full or only begun: each of its bytes names a thread not yet ended
-  pub violation-none : (out : List ℕ) → 24 ≤ length out
-      → (violationFile file out ≡ (none-fails, out)) ↔ ((s : Schedule) → Allowed SC (start p) s → failing p s ≡ false)
+  pub violation-first : (out : List ℕ) → M .need ≤ length out → (s : Schedule) → (violationFile M file out ≡ (fails-first s, over s out)) ↔
+      (InList M p s × (failing M p s ≡ true) × ((r : Schedule) → InList M p r → less r s ≡ true → failing M p r ≡ false))
+  -- and none exactly when no run at all fails, however far it went
+  pub violation-none : (out : List ℕ) → M .need ≤ length out →
+      (violationFile M file out ≡ (none-fails, out)) ↔ ((s : Schedule) → Runs M p s → failing M p s ≡ false)
   -- 22 exactly when it is too short
-  pub violation-short : (out : List ℕ) → (violationFile file out ≡ (refused-by 22 0, out)) ↔ (length out < 24)
+  pub violation-short : (out : List ℕ) → (violationFile M file out ≡ (refused-by 22 0, out)) ↔ (length out < M .need)
   -- A SCHEDULE THAT IS ANSWERED stands in the output: by a start, by a continue from whatever schedule, and by violation
-  pub start-stands : (out : List ℕ) (s : Schedule) → startFile file out .0 ≡ found s → InFront s out (startFile file out .1)
-  pub continue-stands : (r : Schedule) (out : List ℕ) (s : Schedule) → continueFile file r out .0 ≡ found s
-      → InFront s out (continueFile file r out .1)
-  pub violation-stands : (out : List ℕ) (s : Schedule) → violationFile file out .0 ≡ fails-first s
-      → InFront s out (violationFile file out .1)
+  pub start-stands : (out : List ℕ) (s : Schedule) → startFile M file out .0 ≡ found s → InFront s out (startFile M file out .1)
+  pub continue-stands : (r : Schedule) (out : List ℕ) (s : Schedule) → continueFile M file r out .0 ≡ found s →
+      InFront s out (continueFile M file r out .1)
+  pub violation-stands : (out : List ℕ) (s : Schedule) → violationFile M file out .0 ≡ fails-first s →
+      InFront s out (violationFile M file out .1)

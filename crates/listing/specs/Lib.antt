@@ -1,15 +1,11 @@
--- What a reader of this crate must believe, in reading order.
--- the four calls on a program file
-pub mod OnFile
--- the promise as a whole
+-- What a reader of this crate must believe, in reading order. The four calls on a program file stand in `model` (`OnFile`).
+-- the promise as a whole, in any memory model
 pub mod Demand3
--- what the listing program prints
-pub mod Printed
+-- and what is promised of sequential consistency beside it
+pub mod Sequential
 -- the answers as the code gives them
 pub mod AnswerOf
 -- count's answer as the code gives it
 pub mod CountWord
--- listed schedules by rows, on a program file
-pub mod RowsCall
 -- two files on which every call answers the same
 pub mod SameCalls

@@ -3,15 +3,15 @@ use Prim.Native.Nat.{ℕ}
 use mathlib.Core.Path.{_≡_}
 use mathlib.Core.List.{List}
 use mathlib.Core.Option.{Option}
-use Rattle.program.specs.Decode.{decode}
-use Rattle.schedules.specs.Order.{Schedule}
-use Rattle.listing.specs.OnFile.{startFile, continueFile, countFile, violationFile}
-use Rattle.listing.specs.RowsCall.{rowsAnswerOf, rowsOutput}
+use Rattle.spec_schedules.specs.Order.{Schedule}
+use Rattle.spec_model.specs.Model.{Model}
+use Rattle.spec_model.specs.OnFile.{startFile, continueFile, countFile, violationFile}
+use Rattle.spec_calls.specs.RowsCall.{rowsFile, rowsOutput}
 
-pub record SameCalls (f g : List ℕ) : Type 0 where
-  pub starts : (out : List ℕ) → startFile f out ≡ startFile g out
-  pub continues : (s : Schedule) (out : List ℕ) → continueFile f s out ≡ continueFile g s out
-  pub counts : countFile f ≡ countFile g
-  pub violations : (out : List ℕ) → violationFile f out ≡ violationFile g out
-  pub rows : (o : Option Schedule) (out : List ℕ) → rowsAnswerOf (decode f) o out ≡ rowsAnswerOf (decode g) o out
-  pub rows-left : (o : Option Schedule) (out : List ℕ) → rowsOutput (decode f) o out ≡ rowsOutput (decode g) o out
+pub record SameCalls (M : Model) (f g : List ℕ) : Type 0 where
+  pub starts : (out : List ℕ) → startFile M f out ≡ startFile M g out
+  pub continues : (s : Schedule) (out : List ℕ) → continueFile M f s out ≡ continueFile M g s out
+  pub counts : countFile M f ≡ countFile M g
+  pub violations : (out : List ℕ) → violationFile M f out ≡ violationFile M g out
+  pub rows : (o : Option Schedule) (out : List ℕ) → rowsFile M f o out ≡ rowsFile M g o out
+  pub rows-left : (o : Option Schedule) (out : List ℕ) → rowsOutput M f o out ≡ rowsOutput M g o out

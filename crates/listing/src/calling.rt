@@ -1,23 +1,29 @@
 // The calls that give a schedule: start, continue, violation.
-use decoder::Compiled;
-use lines::wide;
-use pages::Cursor;
-use pages::beginning;
-use pages::behind;
-use pages::put_schedule;
-use program::STEPS;
-use replay::Verdict;
-use replay::replayed;
-use walker::ROW;
-use walker::next_page;
+use crate::admitting::admitted;
+use file_decoder::Compiled;
+use file_lines::wide;
+use listing_cursor::Cursor;
+use listing_cursor::beginning;
+use listing_cursor::behind;
+use listing_cursor::put_schedule;
+use listing_model::Model;
+use listing_model::width;
+use listing_pages::next_page;
+use machine_replay::Verdict;
+ghost use Prim.Native.Nat.{_≤_};
 ghost use mathlib.Core.Path.{_≡_};
-ghost use Rattle.program.specs.WellFormed.{WellFormed};
-ghost use Rattle.decoder.specs.Compiled.{programOf};
-ghost use Rattle.schedules.specs.Lists.{headOf};
-ghost use Rattle.schedules.specs.Calls.{answerTo, short, content};
-ghost use Rattle.walker.specs.Cursor.{remaining};
-ghost use Rattle.list.specs.Answers.{continueOf};
-ghost use Rattle.listing.specs.OnFile.{startFile, continueFile, violationFile};
+ghost use mathlib.Core.Bool.{false};
+ghost use lib.ListN.{length};
+ghost use Rattle.file_decoder.specs.Compiled.{programOf};
+ghost use Rattle.spec_schedules.specs.Lists.{headOf};
+ghost use Rattle.spec_schedules.specs.Calls.{answerTo, short, content};
+ghost use Rattle.spec_model.specs.Laws.{Admitted};
+ghost use Rattle.spec_model.specs.Answers.{refusesFrom, continueOf};
+ghost use Rattle.spec_model.specs.OnFile.{startFile, continueFile, violationFile};
+ghost use Rattle.spec_calls.specs.Rows.{rowSize};
+ghost use Rattle.listing_cursor.specs.ListRows.{remaining};
+ghost use Rattle.machine_replay.specs.Carried.{refusalOf};
+ghost use Rattle.listing_model.specs.ModelOf.{modelOf};
 ghost use Rattle.listing.specs.AnswerOf.{listAnswerOf, violationAnswerOf};
 
 pub enum ListAnswer {
@@ -29,91 +35,135 @@ pub enum ListAnswer {
     Refused(u8, usize),
 }
 
-// The first one that is yet to come, of all that are listed or of those that fail.
-fn next_listed(program: Compiled, cursor: Cursor, failures: bool, out: &mut [u8]) -> ListAnswer
-    requires { ⌜ WellFormed (programOf program) ⌝ }
-    ensures answer { λ r. ⌜ r ≡ listAnswerOf (answerTo (short 24 (now (out .entry)))
-        (headOf (remaining (programOf program) failures cursor))) ⌝ }
-    ensures output { λ r. ⌜ now (out .exit) ≡ content (answerTo (short 24 (now (out .entry)))
-        (headOf (remaining (programOf program) failures cursor))) (now (out .entry)) ⌝ }
+// The first one that is yet to come, by a row of the model's width; the output has room for it.
+fn next_of(
+    model: Model,
+    program: Compiled,
+    cursor: Cursor,
+    failures: bool,
+    row: &mut [u8],
+    out: &mut [u8],
+) -> ListAnswer
+    requires { ⌜ Admitted (modelOf model) (programOf program) × (length (now row) ≡ rowSize (modelOf model .need))
+        × (modelOf model .need ≤ length (now out)) ⌝ }
+    ensures answer { λ r. ⌜ r ≡ listAnswerOf (answerTo false (headOf (remaining (modelOf model) (programOf program) failures cursor))) ⌝ }
+    ensures output { λ r. ⌜ now (out .exit)
+        ≡ content (answerTo false (headOf (remaining (modelOf model) (programOf program) failures cursor))) (now (out .entry)) ⌝ }
 {
-    if out.len() < STEPS {
-        return ListAnswer::Refused(22, 0);
-    }
-    let mut row = [0u8; ROW];
-    let page = next_page(program, cursor, failures, &mut row);
+    let page = next_page(model, program, cursor, failures, row);
     if page.rows == 0 {
         return ListAnswer::NoMore;
     }
     let n = wide(row[0]);
-    put_schedule(out, &row, n);
+    put_schedule(out, row, n);
     ListAnswer::Found(n)
 }
 
-// The least listed schedule of an accepted program after a given one.
-fn continued(program: Compiled, schedule: &[u8], out: &mut [u8]) -> ListAnswer
-    requires { ⌜ WellFormed (programOf program) ⌝ }
-    ensures answer { λ r. ⌜ r ≡ listAnswerOf (continueOf (programOf program) (now (schedule .entry)) (now (out .entry)) .0) ⌝ }
-    ensures output { λ r. ⌜ now (out .exit) ≡ continueOf (programOf program) (now (schedule .entry)) (now (out .entry)) .1 ⌝ }
+// The first one that is yet to come, of all that are listed or of those that fail.
+fn next_listed(
+    model: Model,
+    program: Compiled,
+    cursor: Cursor,
+    failures: bool,
+    out: &mut [u8],
+) -> ListAnswer
+    requires { ⌜ Admitted (modelOf model) (programOf program) ⌝ }
+    ensures answer { λ r. ⌜ r ≡ listAnswerOf (answerTo (short (modelOf model .need) (now (out .entry)))
+        (headOf (remaining (modelOf model) (programOf program) failures cursor))) ⌝ }
+    ensures output { λ r. ⌜ now (out .exit) ≡ content (answerTo (short (modelOf model .need) (now (out .entry)))
+        (headOf (remaining (modelOf model) (programOf program) failures cursor))) (now (out .entry)) ⌝ }
 {
-    if out.len() < STEPS {
+    let need = width(model);
+    if out.len() < need {
         return ListAnswer::Refused(22, 0);
     }
+    let mut row = [0u8; 50];
+    next_of(model, program, cursor, failures, &mut row[..need + 2], out)
+}
+
+// What refuses a schedule: 20 or 21, or nothing if it is full.
+fn refusal(model: Model, program: Compiled, schedule: &[u8]) -> Verdict
+    requires { ⌜ Admitted (modelOf model) (programOf program) ⌝ }
+    ensures { λ r. ⌜ refusalOf r
+        ≡ refusesFrom (modelOf model .system) 0 (modelOf model .start (programOf program)) (now (schedule .entry)) ⌝ }
+{
     let code = program.code;
     let lengths = program.lengths;
     let starting = program.starting;
-    let r = replayed(&code, &lengths, program.threads, starting, schedule);
-    let v = r.verdict;
+    match model {
+        Model::Sequential => {
+            let r = machine_replay::replayed(&code, &lengths, program.threads, starting, schedule);
+            r.verdict
+        }
+        Model::TotalStoreOrder => {
+            let r = tso_replay::replayed(&code, &lengths, program.threads, starting, schedule);
+            r.verdict
+        }
+    }
+}
+
+// The least listed schedule of a listed program after a given one.
+fn continued(model: Model, program: Compiled, schedule: &[u8], out: &mut [u8]) -> ListAnswer
+    requires { ⌜ Admitted (modelOf model) (programOf program) ⌝ }
+    ensures answer { λ r. ⌜ r ≡ listAnswerOf (continueOf (modelOf model) (programOf program) (now (schedule .entry)) (now (out .entry)) .0) ⌝ }
+    ensures output { λ r. ⌜ now (out .exit) ≡ continueOf (modelOf model) (programOf program) (now (schedule .entry)) (now (out .entry)) .1 ⌝ }
+{
+    if out.len() < width(model) {
+        return ListAnswer::Refused(22, 0);
+    }
+    let v = refusal(model, program, schedule);
     match v {
         Verdict::Refused(n, k) => ListAnswer::Refused(n, k),
-        Verdict::Whole => next_listed(program, behind(schedule), false, out),
+        Verdict::Whole => next_listed(model, program, behind(schedule), false, out),
     }
 }
 
 // The least listed schedule of a program file.
-pub fn start(file: &[u8], out: &mut [u8]) -> ListAnswer
-    ensures answer { λ r. ⌜ r ≡ listAnswerOf (startFile (now (file .entry)) (now (out .entry)) .0) ⌝ }
-    ensures output { λ r. ⌜ now (out .exit) ≡ startFile (now (file .entry)) (now (out .entry)) .1 ⌝ }
+pub fn start(model: Model, file: &[u8], out: &mut [u8]) -> ListAnswer
+    ensures answer { λ r. ⌜ r ≡ listAnswerOf (startFile (modelOf model) (now (file .entry)) (now (out .entry)) .0) ⌝ }
+    ensures output { λ r. ⌜ now (out .exit) ≡ startFile (modelOf model) (now (file .entry)) (now (out .entry)) .1 ⌝ }
 {
-    let a = decoder::decode(file);
+    let a = admitted(model, file);
     let v = a.verdict;
     match v {
-        decoder::Verdict::Refused(n, k) => ListAnswer::Refused(n, k),
-        decoder::Verdict::Accepted => {
+        file_decoder::Verdict::Refused(n, k) => ListAnswer::Refused(n, k),
+        file_decoder::Verdict::Accepted => {
             let p = a.program;
-            next_listed(p, beginning(), false, out)
+            next_listed(model, p, beginning(), false, out)
         }
     }
 }
 
 // The least listed schedule after a full one, listed or not.
-pub fn continue_from(file: &[u8], schedule: &[u8], out: &mut [u8]) -> ListAnswer
-    ensures answer { λ r. ⌜ r ≡ listAnswerOf (continueFile (now (file .entry)) (now (schedule .entry)) (now (out .entry)) .0) ⌝ }
-    ensures output { λ r. ⌜ now (out .exit) ≡ continueFile (now (file .entry)) (now (schedule .entry)) (now (out .entry)) .1 ⌝ }
+pub fn continue_from(model: Model, file: &[u8], schedule: &[u8], out: &mut [u8]) -> ListAnswer
+    ensures answer { λ r. ⌜ r
+        ≡ listAnswerOf (continueFile (modelOf model) (now (file .entry)) (now (schedule .entry)) (now (out .entry)) .0) ⌝ }
+    ensures output { λ r. ⌜ now (out .exit)
+        ≡ continueFile (modelOf model) (now (file .entry)) (now (schedule .entry)) (now (out .entry)) .1 ⌝ }
 {
-    let a = decoder::decode(file);
+    let a = admitted(model, file);
     let v = a.verdict;
     match v {
-        decoder::Verdict::Refused(n, k) => ListAnswer::Refused(n, k),
-        decoder::Verdict::Accepted => {
+        file_decoder::Verdict::Refused(n, k) => ListAnswer::Refused(n, k),
+        file_decoder::Verdict::Accepted => {
             let p = a.program;
-            continued(p, schedule, out)
+            continued(model, p, schedule, out)
         }
     }
 }
 
 // The first listed schedule that fails.
-pub fn violation(file: &[u8], out: &mut [u8]) -> ListAnswer
-    ensures answer { λ r. ⌜ r ≡ violationAnswerOf (violationFile (now (file .entry)) (now (out .entry)) .0) ⌝ }
-    ensures output { λ r. ⌜ now (out .exit) ≡ violationFile (now (file .entry)) (now (out .entry)) .1 ⌝ }
+pub fn violation(model: Model, file: &[u8], out: &mut [u8]) -> ListAnswer
+    ensures answer { λ r. ⌜ r ≡ violationAnswerOf (violationFile (modelOf model) (now (file .entry)) (now (out .entry)) .0) ⌝ }
+    ensures output { λ r. ⌜ now (out .exit) ≡ violationFile (modelOf model) (now (file .entry)) (now (out .entry)) .1 ⌝ }
 {
-    let a = decoder::decode(file);
+    let a = admitted(model, file);
     let v = a.verdict;
     match v {
-        decoder::Verdict::Refused(n, k) => ListAnswer::Refused(n, k),
-        decoder::Verdict::Accepted => {
+        file_decoder::Verdict::Refused(n, k) => ListAnswer::Refused(n, k),
+        file_decoder::Verdict::Accepted => {
             let p = a.program;
-            next_listed(p, beginning(), true, out)
+            next_listed(model, p, beginning(), true, out)
         }
     }
 }

@@ -1,15 +1,22 @@
-// How many schedules are listed, and how many of these fail.
-use decoder::Compiled;
-use pages::beginning;
-use pages::failing_in;
-use pages::is_end;
-use program::STEPS;
-use walker::next_page;
+// How many schedules are listed, and how many of these fail, modulo 2^64.
+use crate::admitting::admitted;
+use file_decoder::Compiled;
+use listing_cursor::beginning;
+use listing_cursor::failing_in;
+use listing_cursor::is_end;
+use listing_model::Model;
+use listing_model::width;
+use listing_pages::next_page;
+use std::num::wrapping_add_usize;
+ghost use Prim.Native.Nat.{_*_};
 ghost use mathlib.Core.Path.{_≡_};
-ghost use Rattle.program.specs.WellFormed.{WellFormed};
-ghost use Rattle.decoder.specs.Compiled.{programOf};
-ghost use Rattle.list.specs.Answers.{countOf};
-ghost use Rattle.listing.specs.OnFile.{countFile};
+ghost use lib.ListN.{length};
+ghost use Rattle.file_decoder.specs.Compiled.{programOf};
+ghost use Rattle.spec_model.specs.Laws.{Admitted};
+ghost use Rattle.spec_model.specs.Answers.{countOf};
+ghost use Rattle.spec_model.specs.OnFile.{countFile};
+ghost use Rattle.spec_calls.specs.Rows.{rowSize};
+ghost use Rattle.listing_model.specs.ModelOf.{modelOf};
 ghost use Rattle.listing.specs.CountWord.{countAnswerOf};
 
 pub struct Tally {
@@ -24,20 +31,21 @@ pub enum CountAnswer {
     Refused(u8, usize),
 }
 
-// Of an accepted program: 64 rows at a time.
-fn counts(program: Compiled) -> Tally
-    requires { ⌜ WellFormed (programOf program) ⌝ }
-    ensures { λ r. ⌜ (r .listed ≡ countOf (programOf program) .listed) × (r .failing ≡ countOf (programOf program) .failed) ⌝ }
+// Of a listed program: 64 rows at a time, in a lent buffer of so many.
+fn counted(model: Model, program: Compiled, rows: &mut [u8]) -> Tally
+    requires { ⌜ Admitted (modelOf model) (programOf program) × (length (now rows) ≡ 64 * rowSize (modelOf model .need)) ⌝ }
+    ensures { λ r. ⌜ (r .listed ≡ countOf (modelOf model) (programOf program) .listed)
+        × (r .failing ≡ countOf (modelOf model) (programOf program) .failed) ⌝ }
 {
-    let mut rows = [0u8; 1664];
+    let need = width(model);
     let mut cursor = beginning();
     let mut listed = 0;
     let mut failing = 0;
     while !is_end(cursor) {
-        let page = next_page(program, cursor, false, &mut rows);
+        let page = next_page(model, program, cursor, false, rows);
         let n = page.rows;
-        listed += n;
-        failing += failing_in(&rows, STEPS, n);
+        listed = wrapping_add_usize(listed, n);
+        failing = wrapping_add_usize(failing, failing_in(rows, need, n));
         cursor = page.cursor;
     }
     Tally {
@@ -46,17 +54,28 @@ fn counts(program: Compiled) -> Tally
     }
 }
 
-// Of a program file, which may be refused.
-pub fn count(file: &[u8]) -> CountAnswer
-    ensures { λ r. ⌜ r ≡ countAnswerOf (countFile (now (file .entry))) ⌝ }
+// Of a listed program.
+fn counts(model: Model, program: Compiled) -> Tally
+    requires { ⌜ Admitted (modelOf model) (programOf program) ⌝ }
+    ensures { λ r. ⌜ (r .listed ≡ countOf (modelOf model) (programOf program) .listed)
+        × (r .failing ≡ countOf (modelOf model) (programOf program) .failed) ⌝ }
 {
-    let a = decoder::decode(file);
+    let mut rows = [0u8; 3200];
+    let n = 64 * (width(model) + 2);
+    counted(model, program, &mut rows[..n])
+}
+
+// Of a program file, which may be refused.
+pub fn count(model: Model, file: &[u8]) -> CountAnswer
+    ensures { λ r. ⌜ r ≡ countAnswerOf (countFile (modelOf model) (now (file .entry))) ⌝ }
+{
+    let a = admitted(model, file);
     let v = a.verdict;
     match v {
-        decoder::Verdict::Refused(n, k) => CountAnswer::Refused(n, k),
-        decoder::Verdict::Accepted => {
+        file_decoder::Verdict::Refused(n, k) => CountAnswer::Refused(n, k),
+        file_decoder::Verdict::Accepted => {
             let p = a.program;
-            let c = counts(p);
+            let c = counts(model, p);
             CountAnswer::Counted(c.listed, c.failing)
         }
     }

@@ -1,5 +1,7 @@
-// The calls that walk the list: start, continue, count, violation, rows; and demand 3.
+// The calls that walk the list, in both memory models: start, continue, count, violation, rows; and demand 3.
 
+// The program that the model lists, or what refuses the file.
+mod admitting;
 // The calls that give a schedule.
 mod calling;
 // How many are listed, and how many of these fail.
@@ -13,6 +15,5 @@ pub use calling::start;
 pub use calling::violation;
 pub use counting::CountAnswer;
 pub use counting::count;
-pub use row_calls::RowsAnswer;
 pub use row_calls::first_rows;
 pub use row_calls::next_rows;

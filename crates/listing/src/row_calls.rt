@@ -1,48 +1,45 @@
 // Listed schedules of a program file by rows: from the first one on, or behind a schedule.
-use pages::beginning;
-use pages::behind;
-use walker::next_page;
+use crate::admitting::admitted;
+use listing_cursor::beginning;
+use listing_cursor::behind;
+use listing_model::Model;
+use listing_pages::next_page;
+use spec_calls::RowsAnswer;
 ghost use mathlib.Core.Path.{_≡_};
 ghost use mathlib.Core.Option.{none, some};
-ghost use Rattle.program.specs.Decode.{decode};
-ghost use Rattle.listing.specs.RowsCall.{rowsAnswerOf, rowsOutput};
-
-pub enum RowsAnswer {
-    // So many rows stand in front of the output.
-    Written(usize),
-    // The refusal's number and place.
-    Refused(u8, usize),
-}
+ghost use Rattle.listing_model.specs.ModelOf.{modelOf};
+ghost use Rattle.spec_calls.specs.RowsCall.{rowsFile, rowsOutput};
 
 // The first ones.
-pub fn first_rows(file: &[u8], out: &mut [u8]) -> RowsAnswer
-    ensures answer { λ r. ⌜ r ≡ rowsAnswerOf (decode (now (file .entry))) none (now (out .entry)) ⌝ }
-    ensures output { λ r. ⌜ now (out .exit) ≡ rowsOutput (decode (now (file .entry))) none (now (out .entry)) ⌝ }
+pub fn first_rows(model: Model, file: &[u8], out: &mut [u8]) -> RowsAnswer
+    ensures answer { λ r. ⌜ r ≡ rowsFile (modelOf model) (now (file .entry)) none (now (out .entry)) ⌝ }
+    ensures output { λ r. ⌜ now (out .exit) ≡ rowsOutput (modelOf model) (now (file .entry)) none (now (out .entry)) ⌝ }
 {
-    let a = decoder::decode(file);
+    let a = admitted(model, file);
     let v = a.verdict;
     match v {
-        decoder::Verdict::Refused(n, k) => RowsAnswer::Refused(n, k),
-        decoder::Verdict::Accepted => {
+        file_decoder::Verdict::Refused(n, k) => RowsAnswer::Refused(n, k),
+        file_decoder::Verdict::Accepted => {
             let p = a.program;
-            let page = next_page(p, beginning(), false, out);
+            let page = next_page(model, p, beginning(), false, out);
             RowsAnswer::Written(page.rows)
         }
     }
 }
 
 // Those after a schedule, which need not be listed nor full.
-pub fn next_rows(file: &[u8], schedule: &[u8], out: &mut [u8]) -> RowsAnswer
-    ensures answer { λ r. ⌜ r ≡ rowsAnswerOf (decode (now (file .entry))) (some (now (schedule .entry))) (now (out .entry)) ⌝ }
-    ensures output { λ r. ⌜ now (out .exit) ≡ rowsOutput (decode (now (file .entry))) (some (now (schedule .entry))) (now (out .entry)) ⌝ }
+pub fn next_rows(model: Model, file: &[u8], schedule: &[u8], out: &mut [u8]) -> RowsAnswer
+    ensures answer { λ r. ⌜ r ≡ rowsFile (modelOf model) (now (file .entry)) (some (now (schedule .entry))) (now (out .entry)) ⌝ }
+    ensures output { λ r. ⌜ now (out .exit)
+        ≡ rowsOutput (modelOf model) (now (file .entry)) (some (now (schedule .entry))) (now (out .entry)) ⌝ }
 {
-    let a = decoder::decode(file);
+    let a = admitted(model, file);
     let v = a.verdict;
     match v {
-        decoder::Verdict::Refused(n, k) => RowsAnswer::Refused(n, k),
-        decoder::Verdict::Accepted => {
+        file_decoder::Verdict::Refused(n, k) => RowsAnswer::Refused(n, k),
+        file_decoder::Verdict::Accepted => {
             let p = a.program;
-            let page = next_page(p, behind(schedule), false, out);
+            let page = next_page(model, p, behind(schedule), false, out);
             RowsAnswer::Written(page.rows)
         }
     }

@@ -8,19 +8,19 @@ use mathlib.Core.List.{List}
 use lib.Dec.{ltb}
 use lib.ListN.{getD}
 use borrow.Author.Tests.{lt-ltb, le-ltb, not-true}
-use Rattle.schedules.specs.Lists.{range}
-use Rattle.schedules.specs.System.{ended}
-use Rattle.schedules.proofs.Lists.{any-of, any-yes, all-of, all-at, in-range, of-range}
-use Rattle.schedules.proofs.Runs.{ended-of, ended-none}
+use Rattle.spec_schedules.specs.Lists.{range}
+use Rattle.spec_schedules.specs.System.{ended}
+use Rattle.spec_schedules.proofs.Lists.{any-of, any-yes, all-of, all-at, in-range, of-range}
+use Rattle.spec_schedules.proofs.Runs.{ended-of, ended-none}
 use Rattle.machine.specs.declared.state.Machine.{Machine}
-use Rattle.sc.specs.State.{State, noThread, threadOf, enabled, SC, failedOf, fails}
+use Rattle.spec_sc.specs.State.{State, noThread, threadOf, enabled, SC, failedOf, fails}
 use Rattle.machine.specs.Held.{threadAt, Holds, Ready}
 use Rattle.machine.specs.Asked.{enabledBy, endedBy, failsBy}
-use Rattle.sc.proofs.Access.{nothing-pending}
-use Rattle.sc.proofs.Steps.{enabled-of, enabled-small, enabled-pending, missing}
-use Rattle.sc.proofs.Lawful.{lawful}
-use Rattle.sc.proofs.Failing.{fails-at, fails-of}
-use Rattle.accesses.proofs.HeldSettling.{length-code, code-end}
+use Rattle.spec_sc.proofs.Access.{nothing-pending}
+use Rattle.spec_sc.proofs.Steps.{enabled-of, enabled-small, enabled-pending, missing}
+use Rattle.spec_sc.proofs.Lawful.{lawful}
+use Rattle.spec_sc.proofs.Failing.{fails-at, fails-of}
+use Rattle.machine_access.proofs.HeldSettling.{length-code, code-end}
 
 -- what holds below t and at t holds below t + 1
 pub one-more : (P : ℕ → Type 0) (t : ℕ) → ((u : ℕ) → u < t → P u) → P t → (u : ℕ) → u < t + 1 → P u

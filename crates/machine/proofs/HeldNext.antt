@@ -7,18 +7,18 @@ use mathlib.Core.Bool.{true, cond}
 use mathlib.Core.List.{List, _∷_}
 use lib.ListN.{getD, drop, List·getD-eq-default}
 use borrow.Author.Tests.{ltb-true}
-use Rattle.program.specs.declared.instruction.Instruction.{Instruction}
-use Rattle.rows.specs.Rows.{instructionAt, threadCode}
-use Rattle.accesses.specs.declared.accessing.Access.{Access}
+use Rattle.spec_file.specs.declared.instruction.Instruction.{Instruction}
+use Rattle.file_rows.specs.Rows.{instructionAt, threadCode}
+use Rattle.machine_access.specs.declared.accessing.Access.{Access}
 use Rattle.machine.specs.declared.state.Machine.{Machine}
-use Rattle.sc.specs.Local.{Local, beginsWithAccess, firstPlace, firstPuts, pending, placeOf, puts}
-use Rattle.sc.specs.State.{Cell, State, freshCell, threadOf, cellOf, place, enabled}
-use Rattle.sc.specs.Actions.{given, writes}
-use Rattle.accesses.specs.CarriedOut.{accessOf}
+use Rattle.spec_sc.specs.Local.{Local, beginsWithAccess, firstPlace, firstPuts, pending, placeOf, puts}
+use Rattle.spec_sc.specs.State.{Cell, State, freshCell, threadOf, cellOf, place, enabled}
+use Rattle.spec_sc.specs.Actions.{given, writes}
+use Rattle.machine_access.specs.CarriedOut.{accessOf}
 use Rattle.machine.specs.Held.{threadAt, Holds}
-use Rattle.sc.proofs.Steps.{enabled-small, enabled-pending, enabled-range}
-use Rattle.accesses.proofs.HeldSettling.{code-at}
-use Rattle.accesses.proofs.HeldAccess.{Meets, access-meets}
+use Rattle.spec_sc.proofs.Steps.{enabled-small, enabled-pending, enabled-range}
+use Rattle.machine_access.proofs.HeldSettling.{code-at}
+use Rattle.machine_access.proofs.HeldAccess.{Meets, access-meets}
 use Rattle.machine.proofs.HeldAsking.{enabled-held}
 
 -- ---- thread t of the machine m, at its next access: x the instruction, a what it does

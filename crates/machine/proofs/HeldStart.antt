@@ -7,25 +7,25 @@ use mathlib.Core.Bool.{false}
 use mathlib.Core.List.{List, []}
 use lib.ListN.{length, getD, set, drop, replicate, length-replicate, getD-replicate}
 use lib.Seq.{getD-set-same, getD-set-other}
-use Rattle.program.specs.declared.instruction.Instruction.{Instruction}
-use Rattle.program.specs.Program.{Program, codeOf, initial}
-use Rattle.program.specs.WellFormed.{WellFormed, allAccesses}
-use Rattle.decoder.specs.declared.file.Compiled.{Compiled}
-use Rattle.decoder.specs.Compiled.{programOf}
-use Rattle.rows.specs.Rows.{threadCode}
-use Rattle.rows.proofs.Tabulate.{length-tabulate, getD-tabulate}
-use Rattle.program.proofs.Everywhere.{everywhere-getD}
-use Rattle.accesses.specs.declared.thread.ThreadState.{ThreadState}
+use Rattle.spec_file.specs.declared.instruction.Instruction.{Instruction}
+use Rattle.spec_file.specs.Program.{Program, codeOf, initial}
+use Rattle.spec_file.specs.WellFormed.{WellFormed, allAccesses}
+use Rattle.file_decoder.specs.declared.file.Compiled.{Compiled}
+use Rattle.file_decoder.specs.Compiled.{programOf}
+use Rattle.file_rows.specs.Rows.{threadCode}
+use Rattle.file_rows.proofs.Tabulate.{length-tabulate, getD-tabulate}
+use Rattle.spec_file.proofs.Everywhere.{everywhere-getD}
+use Rattle.machine_access.specs.declared.thread.ThreadState.{ThreadState}
 use Rattle.machine.specs.declared.state.LastWrite.{LastWrite}
-use Rattle.sc.specs.Local.{Local, settle, begin}
-use Rattle.sc.specs.State.{Thread, noThread, threadOf, latest, initialWrite, opened, start}
-use Rattle.accesses.specs.CarriedOut.{localOf}
-use Rattle.accesses.specs.Counted.{accessesBelow}
+use Rattle.spec_sc.specs.Local.{Local, settle, begin}
+use Rattle.spec_sc.specs.State.{Thread, noThread, threadOf, latest, initialWrite, opened, start}
+use Rattle.machine_access.specs.CarriedOut.{localOf}
+use Rattle.machine_access.specs.Counted.{accessesBelow}
 use Rattle.machine.specs.Held.{idle, unwritten, eventOf, HoldsAt, Holds, Loaded}
-use Rattle.sc.proofs.Access.{begin-law}
-use Rattle.sc.proofs.Steps.{missing}
-use Rattle.sc.proofs.Start.{start-threads, start-cells, start-thread, start-value, start-writes}
-use Rattle.accesses.proofs.HeldSettling.{length-code, code-end}
+use Rattle.spec_sc.proofs.Access.{begin-law}
+use Rattle.spec_sc.proofs.Steps.{missing}
+use Rattle.spec_sc.proofs.Start.{start-threads, start-cells, start-thread, start-value, start-writes}
+use Rattle.machine_access.proofs.HeldSettling.{length-code, code-end}
 use Rattle.machine.proofs.HeldStep.{settled-pending}
 
 -- the rows and the starting values of an accepted program

@@ -12,26 +12,26 @@ use lib.Dec.{eqb}
 use lib.ListN.{length, getD, set, drop, length-drop, length-set}
 use lib.Seq.{getD-set-other, getD-set-same, set-getD}
 use borrow.Author.Tests.{eq-eqb, ne-eqb, eqb-true}
-use Rattle.program.specs.declared.instruction.Instruction.{Instruction}
-use Rattle.rows.specs.Rows.{instructionAt, threadCode}
-use Rattle.accesses.specs.declared.accessing.Access.{Access}
-use Rattle.accesses.specs.declared.thread.ThreadState.{ThreadState}
+use Rattle.spec_file.specs.declared.instruction.Instruction.{Instruction}
+use Rattle.file_rows.specs.Rows.{instructionAt, threadCode}
+use Rattle.machine_access.specs.declared.accessing.Access.{Access}
+use Rattle.machine_access.specs.declared.thread.ThreadState.{ThreadState}
 use Rattle.machine.specs.declared.state.LastWrite.{LastWrite}
 use Rattle.machine.specs.declared.state.Machine.{Machine}
 use Rattle.machine.specs.declared.stepping.After.{After}
 use Rattle.machine.specs.declared.stepping.Moved.{Moved}
-use Rattle.sc.specs.Local.{Local, settle, firstTakes, firstPuts, firstNext, pending, takes, puts, next}
-use Rattle.sc.specs.State.{Thread, Cell, State, threadOf, cellOf, place, latest, advanced, step, enabled}
-use Rattle.sc.specs.Actions.{writes}
+use Rattle.spec_sc.specs.Local.{Local, settle, firstTakes, firstPuts, firstNext, pending, takes, puts, next}
+use Rattle.spec_sc.specs.State.{Thread, Cell, State, threadOf, cellOf, place, latest, advanced, step, enabled}
+use Rattle.spec_sc.specs.Actions.{writes}
 use Rattle.graph_writer.specs.Notes.{note, noteBytes}
 use Rattle.graph_writer.proofs.NoteGraph.{noted-location, noted-wrote}
 use Rattle.graph_writer.proofs.NotesHeld.{byte-location, byte-wrote}
-use Rattle.accesses.specs.CarriedOut.{accessOf, localOf}
+use Rattle.machine_access.specs.CarriedOut.{accessOf, localOf}
 use Rattle.machine.specs.Held.{idle, unwritten, threadAt, lastAt, eventOf, HoldsThread, Holds, HoldsStep, HoldsMoved, threadAfter, whole}
-use Rattle.sc.proofs.Access.{Settled, settle-law}
-use Rattle.sc.proofs.Steps.{enabled-small, enabled-range, cell-other, step-threads, step-cells}
-use Rattle.sc.proofs.Change.{thread-cases, noted-done, wrote-own, Change, kept, wrote, change}
-use Rattle.accesses.proofs.HeldAccess.{Meets}
+use Rattle.spec_sc.proofs.Access.{Settled, settle-law}
+use Rattle.spec_sc.proofs.Steps.{enabled-small, enabled-range, cell-other, step-threads, step-cells}
+use Rattle.spec_sc.proofs.Change.{thread-cases, noted-done, wrote-own, Change, kept, wrote, change}
+use Rattle.machine_access.proofs.HeldAccess.{Meets}
 use Rattle.machine.proofs.HeldNext.{next-rest, next-meets, next-place, next-value, next-wrote}
 
 -- settled code of which something is left begins with an access

@@ -4,7 +4,7 @@ use mathlib.Core.Bool.{Bool, not, _&&_}
 use mathlib.Core.List.{List}
 use lib.Dec.{ltb}
 use lib.ListN.{getD}
-use Rattle.schedules.specs.Lists.{any, all, range}
+use Rattle.spec_schedules.specs.Lists.{any, all, range}
 use Rattle.machine.specs.declared.state.Machine.{Machine}
 use Rattle.machine.specs.Held.{threadAt}
 

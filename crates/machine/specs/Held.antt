@@ -5,19 +5,20 @@ use mathlib.Core.Bool.{true, false, cond}
 use mathlib.Core.List.{List, [], _∷_}
 use lib.Dec.{eqb}
 use lib.ListN.{length, getD, set, drop}
-use Rattle.program.specs.declared.instruction.Instruction.{Instruction}
-use Rattle.program.specs.Program.{Program}
-use Rattle.program.specs.WellFormed.{WellFormed}
-use Rattle.rows.specs.Rows.{tabulate, threadCode}
-use Rattle.accesses.specs.declared.thread.ThreadState.{ThreadState}
+use Rattle.spec_file.specs.declared.instruction.Instruction.{Instruction}
+use Rattle.spec_file.specs.Program.{Program}
+use Rattle.spec_file.specs.WellFormed.{WellFormed}
+use Rattle.spec_file.specs.Tabulate.{tabulate}
+use Rattle.file_rows.specs.Rows.{threadCode}
+use Rattle.machine_access.specs.declared.thread.ThreadState.{ThreadState}
 use Rattle.machine.specs.declared.state.LastWrite.{LastWrite}
 use Rattle.machine.specs.declared.state.Machine.{Machine}
 use Rattle.machine.specs.declared.stepping.After.{After}
 use Rattle.machine.specs.declared.stepping.Moved.{Moved}
 use Rattle.machine.specs.declared.stepping.Stepped.{Stepped}
-use Rattle.sc.specs.Local.{pending}
-use Rattle.sc.specs.State.{Event, Thread, State, threadOf, cellOf, latest, place, step}
-use Rattle.sc.specs.Actions.{writes}
+use Rattle.spec_sc.specs.Local.{pending}
+use Rattle.spec_sc.specs.State.{Event, Thread, State, threadOf, cellOf, latest, place, step}
+use Rattle.spec_sc.specs.Actions.{writes}
 use Rattle.graph_writer.specs.Notes.{note, noteBytes}
 
 -- what an array of threads, and one of last writes, reads as behind its end

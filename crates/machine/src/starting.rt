@@ -1,14 +1,14 @@
 // The state before the first step: each thread carried to its first access, memory at its starting values.
 use crate::state::LastWrite;
 use crate::state::Machine;
-use accesses::ThreadState;
-use accesses::settle;
-use rows::Code;
+use file_rows::Code;
+use machine_access::ThreadState;
+use machine_access::settle;
 ghost use mathlib.Core.Path.{_≡_};
 ghost use Prim.Native.Nat.{_<_, _≤_};
 ghost use lib.ListN.{getD};
-ghost use Rattle.program.specs.Program.{Program, initial};
-ghost use Rattle.sc.specs.State.{start};
+ghost use Rattle.spec_file.specs.Program.{Program, initial};
+ghost use Rattle.spec_sc.specs.State.{start};
 ghost use Rattle.machine.specs.Held.{Loaded, HoldsAt, Holds};
 
 // Thread t before its first step; one that does not exist stands at its end.

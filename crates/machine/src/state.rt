@@ -1,5 +1,5 @@
 // The machine's state: where each thread stands, memory, and the last write of each location.
-use accesses::ThreadState;
+use machine_access::ThreadState;
 
 // A location's last write: its thread and its access's number; 255 and 255 for the initial one.
 pub struct LastWrite {

@@ -1,17 +1,17 @@
 // A step: a thread's next access, then its instructions up to the next one.
 use crate::state::LastWrite;
 use crate::state::Machine;
-use accesses::ThreadState;
-use accesses::accessed_at;
-use accesses::settled;
-use lines::wide;
-use rows::Code;
+use file_lines::wide;
+use file_rows::Code;
+use machine_access::ThreadState;
+use machine_access::accessed_at;
+use machine_access::settled;
 ghost use mathlib.Core.Path.{_≡_};
 ghost use mathlib.Core.Bool.{true, cond};
 ghost use Prim.Native.Nat.{_<_};
 ghost use lib.Dec.{eqb};
 ghost use lib.ListN.{set};
-ghost use Rattle.sc.specs.State.{State, place, enabled};
+ghost use Rattle.spec_sc.specs.State.{State, place, enabled};
 ghost use Rattle.machine.specs.Held.{threadAt, Holds, ReadyThread, Ready, HoldsStep, HoldsMoved, whole};
 
 // What a step gives back: its thread's registers and memory whole, and the rest of its thread; its place, and whether it reads and writes

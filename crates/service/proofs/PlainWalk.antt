@@ -39,26 +39,26 @@ use denote.Triple.Call.{calls-at}
 use denote.Triple.Clauses.{Clauses, ensured, closing, lasts}
 use denote.Triple.Walked.{says, Stays, gave-slice, gave-ref, stay-none, walkOf, AllGo, goes-gave-slice, goes-gave-ref, goes-none, Walks, ends-at, walked, walk-meets}
 use denote.Exit.{yes}
-use Rattle.sharing.specs.declared.caller.Caller.{Caller}
-use Rattle.sharing.specs.Record.{fresh}
-use Rattle.handling.specs.declared.answer.Kept.{Kept}
-use Rattle.handling.specs.declared.answer.Reply.{Reply}
-use Rattle.handling.specs.Reply.{shared, Does}
-use Rattle.sharing.proofs.caller.Caller as T
-use Rattle.sharing.proofs.caller.Caller.Laws as T′
-use Rattle.handling.proofs.answer.Kept as K′
-use Rattle.handling.proofs.answer.Kept.Laws as K′′
-use Rattle.handling.proofs.answer.Reply as Y
-use Rattle.handling.proofs.answer.Reply.Laws as Y′
-use Rattle.handling.proofs.Looking.{RecordAt, looks-at}
-use Rattle.handling.proofs.Putting.{PutRecord, puts-at}
-use Rattle.handling.proofs.Parts.{RecordOf, ReplyOf, takes-record, takes-reply}
-use Rattle.handling.proofs.record_at.Symbol.{name as #handling·record-at}
-use Rattle.handling.proofs.put_record.Symbol.{name as #handling·put-record}
-use Rattle.handling.proofs.record_of.Symbol.{name as #handling·record-of}
-use Rattle.handling.proofs.reply_of.Symbol.{name as #handling·reply-of}
-use Rattle.sharing.specs.Call.{Call}
-use Rattle.handling.proofs.ask_one as one
+use Rattle.spec_service.specs.declared.caller.Caller.{Caller}
+use Rattle.spec_service.specs.Record.{fresh}
+use Rattle.service_one.specs.declared.answer.Kept.{Kept}
+use Rattle.spec_service.specs.declared.reply.Reply.{Reply}
+use Rattle.spec_service.specs.Reply.{shared, Does}
+use Rattle.spec_service.proofs.caller.Caller as T
+use Rattle.spec_service.proofs.caller.Caller.Laws as T′
+use Rattle.service_one.proofs.answer.Kept as K′
+use Rattle.service_one.proofs.answer.Kept.Laws as K′′
+use Rattle.spec_service.proofs.reply.Reply as Y
+use Rattle.spec_service.proofs.reply.Reply.Laws as Y′
+use Rattle.service_one.proofs.Looking.{RecordAt, looks-at}
+use Rattle.service_one.proofs.Putting.{PutRecord, puts-at}
+use Rattle.service_one.proofs.Parts.{RecordOf, ReplyOf, takes-record, takes-reply}
+use Rattle.service_one.proofs.record_at.Symbol.{name as #service-one·record-at}
+use Rattle.service_one.proofs.put_record.Symbol.{name as #service-one·put-record}
+use Rattle.service_one.proofs.record_of.Symbol.{name as #service-one·record-of}
+use Rattle.service_one.proofs.reply_of.Symbol.{name as #service-one·reply-of}
+use Rattle.spec_service.specs.Call.{Call}
+use Rattle.service_one.proofs.ask_one as one
 use Rattle.service.proofs.calls.ask as whole-call
 
 abbrev R : RattleType
@@ -85,14 +85,14 @@ asking s = record {
       seq (assign (place 4 []) (rvOpd (copy (place 1 (field 1 ∷ []))))) (
       seq (assign (place 8 []) (addrOf (place 1 (field 0 ∷ deref (lone (R .mir)) ∷ [])))) (
       seq (assign (place 9 []) (aggregate (copy (place 8 []) ∷ copy (place 1 (field 1 ∷ [])) ∷ []))) (
-      seq (calls #handling·record-at (copy (place 9 []) ∷ copy (place 3 []) ∷ []) (place 5 [])) (
+      seq (calls #service-one·record-at (copy (place 9 []) ∷ copy (place 3 []) ∷ []) (place 5 [])) (
       seq (assign (place 10 []) (addrOf (place 2 (deref (tyInt w64) ∷ [])))) (
       seq (calls s (copy (place 4 []) ∷ copy (place 5 []) ∷ copy (place 10 []) ∷ copy (place 3 []) ∷ []) (place 6 [])) (
-      seq (calls #handling·record-of (copy (place 6 []) ∷ []) (place 7 [])) (
+      seq (calls #service-one·record-of (copy (place 6 []) ∷ []) (place 7 [])) (
       seq (assign (place 12 []) (addrOf (place 1 (field 0 ∷ deref (lone (R .mir)) ∷ [])))) (
       seq (assign (place 13 []) (aggregate (copy (place 12 []) ∷ copy (place 1 (field 1 ∷ [])) ∷ []))) (
-      seq (calls #handling·put-record (copy (place 13 []) ∷ copy (place 3 []) ∷ copy (place 7 []) ∷ []) (place 11 [])) (
-      seq (calls #handling·reply-of (copy (place 6 []) ∷ []) (place 0 [])) return))))))))));
+      seq (calls #service-one·put-record (copy (place 13 []) ∷ copy (place 3 []) ∷ copy (place 7 []) ∷ []) (place 11 [])) (
+      seq (calls #service-one·reply-of (copy (place 6 []) ∷ []) (place 0 [])) return))))))))));
 }
 
 -- what the core says, and what the call says
@@ -165,11 +165,11 @@ module _ {M : Type 1} (𝓤 : URA M) (H : Heap 𝓤) (A : Atoms 𝓤) (W : Given
       suffices ! _ (ends-at 𝓤 H A whole-call.ended stayed (call-clauses 𝓤 H A call) W (((κ₀, (κ₁, tt)), (q₀, (q₁, tt)), tt, a, vals), tt) v r (zs, (m₁, (tt, tt))) (le, (tt, (tt, tt)))) $ says ! e $
       nothing ! $ move ! (2 ∷ 0 ∷ []) $ join ! $ move ! (1 ∷ 0 ∷ []) $ join ! $ frame ! $ nothing ! $ owned ! usize (Is usize) (uint-makes 𝓤 H A W w64) k _ (refl, k-fits) $ fjoin ! $ move ! (2 ∷ 0 ∷ []) $ fjoin ! $ move ! (1 ∷ 0 ∷ []) $ fjoin ! $ frame ! $ owned ! Y.the-row (Is Y.the-row) (EL.makes Y.the-type Y′.the-plain 𝓤 H A) r _ r-is $ done !
 
-  module _ (C : Calls 𝓤 H) (Λ : Loops 𝓤 H) (fm : FmC 𝓤 H (W .laws) C) (known-at : Triple 𝓤 (C #handling·record-at) (RecordAt 𝓤 H A mem run))
+  module _ (C : Calls 𝓤 H) (Λ : Loops 𝓤 H) (fm : FmC 𝓤 H (W .laws) C) (known-at : Triple 𝓤 (C #service-one·record-at) (RecordAt 𝓤 H A mem run))
       (known-core : Triple 𝓤 (C #core) (Core 𝓤 H A call))
-      (known-record : Triple 𝓤 (C #handling·record-of) (RecordOf 𝓤 H A mem run))
-      (known-put : Triple 𝓤 (C #handling·put-record) (PutRecord 𝓤 H A mem run))
-      (known-reply : Triple 𝓤 (C #handling·reply-of) (ReplyOf 𝓤 H A mem run)) where
+      (known-record : Triple 𝓤 (C #service-one·record-of) (RecordOf 𝓤 H A mem run))
+      (known-put : Triple 𝓤 (C #service-one·put-record) (PutRecord 𝓤 H A mem run))
+      (known-reply : Triple 𝓤 (C #service-one·reply-of) (ReplyOf 𝓤 H A mem run)) where
     walk : ent 𝓤 (onEntry 𝓤 H A whole-call.signature (κ₀, (κ₁, tt)) (q₀, (q₁, tt)) a vals) (WpFn 𝓤 H C Λ (asking #core) (s₀ ∷ vptr b₁ o₁ ∷ vint w64 k ∷ []) Post)
     walk =
         qed W ((‵ (flft κ₀ q₀) ⊛ ‵ (flft κ₁ q₁) ⊛ ‵ ftrue) ∷ ‵ (owns (MutSlice (named 0) κ₀ R ∷ MutRef (named 1) κ₁ u64 ∷ usize ∷ []) a vals) ∷ []) ∵
@@ -246,7 +246,7 @@ module _ {M : Type 1} (𝓤 : URA M) (H : Heap 𝓤) (A : Atoms 𝓤) (W : Given
   goes : AllGo 𝓤 H A W 2 (whole-call.signature .params) (whole-call.ended .kept) stayed
   goes = (goes-gave-slice 𝓤 H A W 2 0 tt (plain (λ _. R)), (goes-gave-ref 𝓤 H A W 2 1 tt (plain (λ _. u64)), (goes-none 𝓤 H A W 2 (λ _. usize) yes (λ κs x f. refl), tt)))
 
-  pub meets : (𝓣 : Tables 𝓤 H) → Triple 𝓤 (𝓣 .C #handling·record-at) (RecordAt 𝓤 H A mem run) → Triple 𝓤 (𝓣 .C #core) (Core 𝓤 H A call) → Triple 𝓤 (𝓣 .C #handling·record-of) (RecordOf 𝓤 H A mem run) → Triple 𝓤 (𝓣 .C #handling·put-record) (PutRecord 𝓤 H A mem run) → Triple 𝓤 (𝓣 .C #handling·reply-of) (ReplyOf 𝓤 H A mem run)
+  pub meets : (𝓣 : Tables 𝓤 H) → Triple 𝓤 (𝓣 .C #service-one·record-at) (RecordAt 𝓤 H A mem run) → Triple 𝓤 (𝓣 .C #core) (Core 𝓤 H A call) → Triple 𝓤 (𝓣 .C #service-one·record-of) (RecordOf 𝓤 H A mem run) → Triple 𝓤 (𝓣 .C #service-one·put-record) (PutRecord 𝓤 H A mem run) → Triple 𝓤 (𝓣 .C #service-one·reply-of) (ReplyOf 𝓤 H A mem run)
       → Meets 𝓤 H A whole-call.signature (WpFn 𝓤 H (𝓣 .C) (𝓣 .Λ) (asking #core)) (closing 𝓤 H A whole-call.ended (call-clauses 𝓤 H A call))
   meets 𝓣 k₁ k₂ k₃ k₄ k₅ =
       walk-meets 𝓤 H A whole-call.ended stayed W goes (call-clauses 𝓤 H A call) (WpFn 𝓤 H (𝓣 .C) (𝓣 .Λ) (asking #core)) (WpFn-mono 𝓤 H (W .laws) 𝓣 (asking #core))

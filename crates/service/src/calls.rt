@@ -1,22 +1,22 @@
 // The seven calls. The list must have exactly four records, whatever they hold; the last caller served goes into each call and comes out
 // of it. A refusal changes nothing.
-use handling::Reply;
-use handling::ask_one;
-use handling::close_one;
-use handling::forget_one;
-use handling::open_one;
-use handling::place_of;
-use handling::put_record;
-use handling::record_at;
-use handling::record_of;
-use handling::reply_of;
-use handling::return_one;
-use handling::set_one;
-use serving::serve_four;
-use sharing::Caller;
+use service_one::ask_one;
+use service_one::close_one;
+use service_one::forget_one;
+use service_one::open_one;
+use service_one::place_of;
+use service_one::put_record;
+use service_one::record_at;
+use service_one::record_of;
+use service_one::reply_of;
+use service_one::return_one;
+use service_one::set_one;
+use service_serve::serve_four;
+use spec_service::Caller;
+use spec_service::Reply;
 ghost use mathlib.Core.Path.{_≡_};
-ghost use Rattle.sharing.specs.Call.{open-for, ask-for, close-for, set-mark, return-to, forget};
-ghost use Rattle.handling.specs.Reply.{shared, Does, Served};
+ghost use Rattle.spec_service.specs.Call.{open-for, ask-for, close-for, set-mark, return-to, forget};
+ghost use Rattle.spec_service.specs.Reply.{shared, Does, Served};
 
 // Opens for caller k with a program file: before the first schedule.
 pub fn open(callers: &mut [Caller], last: &mut u64, k: usize, file: &[u8]) -> Reply

@@ -10,7 +10,3 @@ pub use calls::open;
 pub use calls::return_to;
 pub use calls::serve;
 pub use calls::set;
-pub use handling::Kept;
-pub use handling::Reply;
-pub use sharing::Caller;
-pub use sharing::Mark;

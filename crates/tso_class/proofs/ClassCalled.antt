@@ -6,38 +6,39 @@ use mathlib.Core.Bool.{Bool, true, false}
 use mathlib.Core.Option.{none, some}
 use mathlib.Core.List.{List, [], _∷_, reverse}
 use lib.ListN.{length, take}
-use Rattle.program.specs.Program.{Program}
-use Rattle.program.specs.Decode.{Decoded, accepted, decode}
-use Rattle.program.specs.WellFormed.{WellFormed, allAccesses}
-use Rattle.decoder.specs.declared.file.Answer.{Answer}
-use Rattle.decoder.specs.declared.file.Verdict.the-variants as File
-use Rattle.decoder.specs.Compiled.{programOf, answerOf}
-use Rattle.decoder.proofs.Decoded.{decoded-refused, decoded-accepted}
-use Rattle.schedules.specs.Order.{Schedule}
-use Rattle.schedules.specs.System.{ended, Allowed, FullFrom}
-use Rattle.schedules.proofs.Runs.{full-allowed}
-use Rattle.model.specs.Answers.{refusesFrom}
-use Rattle.model.specs.OnFile.{admit}
-use Rattle.model.specs.ClassSize.{leaving, classSize, Class, sized, refused-class, classBy, classOf, classOn, classFile}
-use Rattle.model.proofs.ClassSize.{class-times}
-use Rattle.sc.proofs.Rows.{row-at, order-at}
+use Rattle.spec_file.specs.Program.{Program}
+use Rattle.spec_file.specs.Decode.{Decoded, accepted, decode}
+use Rattle.spec_file.specs.WellFormed.{WellFormed, allAccesses}
+use Rattle.file_decoder.specs.declared.file.Answer.{Answer}
+use Rattle.file_decoder.specs.declared.file.Verdict.the-variants as File
+use Rattle.file_decoder.specs.Compiled.{programOf, answerOf}
+use Rattle.file_decoder.proofs.Decoded.{decoded-refused, decoded-accepted}
+use Rattle.spec_schedules.specs.Order.{Schedule}
+use Rattle.spec_schedules.specs.System.{ended, Allowed, FullFrom}
+use Rattle.spec_schedules.proofs.Runs.{full-allowed}
+use Rattle.spec_model.specs.Answers.{refusesFrom}
+use Rattle.spec_model.specs.OnFile.{admit}
+use Rattle.spec_model.specs.ClassSize.{leaving, classSize, Class, sized, refused-class, classBy, classOf, classOn, classFile}
+use Rattle.spec_model.proofs.ClassSize.{class-times}
+use Rattle.spec_sc.proofs.Rows.{row-at, order-at}
 use Rattle.graph_writer.specs.Notes.{Noted}
 use Rattle.graph_writer.specs.NoteText.{notesAt}
 use Rattle.graph_writer.proofs.NotesHeld.{notes-held}
-use Rattle.replay.specs.declared.replaying.Verdict.{Verdict}
-use Rattle.replay.specs.declared.replaying.Verdict.the-variants.{Whole, Refused}
-use Rattle.classing.specs.Moves.{quotient}
-use Rattle.classing.proofs.Divided.{divided-graph}
-use Rattle.tso.specs.State.{State, withoutQueues, step, enabled, TSO, start}
-use Rattle.tso.specs.Graph.{graphOf, graph, endOf, Full}
-use Rattle.tso.proofs.Seen.{graph-rows}
-use Rattle.tso.proofs.OwnSources.{full-sourced}
-use Rattle.tso_model.specs.TotalStoreOrder.{tso}
-use Rattle.tso_model.proofs.Laws.{tso-laws}
-use Rattle.tso_model.proofs.Demand3.{few-none, refused-41, admitted-16, refused-first}
+use Rattle.machine_replay.specs.declared.replaying.Verdict.{Verdict}
+use Rattle.machine_replay.specs.declared.replaying.Verdict.the-variants.{Whole, Refused}
+use Rattle.class_size.specs.Moves.{quotient}
+use Rattle.class_size.proofs.Divided.{divided-graph}
+use Rattle.spec_tso.specs.State.{State, withoutQueues, step, enabled, TSO, start}
+use Rattle.spec_tso.specs.Graph.{graphOf, graph, endOf, Full}
+use Rattle.spec_tso.proofs.Seen.{graph-rows}
+use Rattle.spec_tso.proofs.OwnSources.{full-sourced}
+use Rattle.spec_tso.specs.TotalStoreOrder.{tso}
+use Rattle.spec_tso.proofs.Laws.{tso-laws}
+use Rattle.spec_tso.proofs.Admits.{few-none, refused-41, admitted-16, refused-first}
 use Rattle.tso_replay.specs.declared.replaying.Run.{Run}
 use Rattle.tso_replay.specs.Noted.{notes}
-use Rattle.tso_replay.specs.Carried.{refusalOf, HoldsRun}
+use Rattle.machine_replay.specs.Carried.{refusalOf}
+use Rattle.tso_replay.specs.Carried.{HoldsRun}
 use Rattle.tso_replay.proofs.NotesHere.{seen-reads, seen-orders}
 use Rattle.tso_replay.proofs.FewNotes.{notes-16}
 

@@ -1,18 +1,18 @@
 // How large the class of a full schedule is under total store order.
-use classing::ClassAnswer;
-use classing::quotient_of;
-use decoder::Compiled;
-use replay::Verdict;
+use class_size::ClassAnswer;
+use class_size::quotient_of;
+use file_decoder::Compiled;
+use machine_replay::Verdict;
 use tso_replay::replayed;
 use tso_replay::too_many;
 ghost use mathlib.Core.Path.{_≡_};
-ghost use Rattle.program.specs.WellFormed.{WellFormed};
-ghost use Rattle.program.specs.Decode.{accepted};
-ghost use Rattle.decoder.specs.Compiled.{programOf};
-ghost use Rattle.model.specs.OnFile.{admit};
-ghost use Rattle.model.specs.ClassSize.{classOn, classFile};
-ghost use Rattle.tso_model.specs.TotalStoreOrder.{tso};
-ghost use Rattle.classing.specs.ClassWord.{classAnswerOf};
+ghost use Rattle.spec_file.specs.WellFormed.{WellFormed};
+ghost use Rattle.spec_file.specs.Decode.{accepted};
+ghost use Rattle.file_decoder.specs.Compiled.{programOf};
+ghost use Rattle.spec_model.specs.OnFile.{admit};
+ghost use Rattle.spec_model.specs.ClassSize.{classOn, classFile};
+ghost use Rattle.spec_tso.specs.TotalStoreOrder.{tso};
+ghost use Rattle.class_size.specs.ClassWord.{classAnswerOf};
 
 // Of an accepted program: 41 comes first, then 20 and 21.
 fn class_of(p: Compiled, schedule: &[u8]) -> ClassAnswer
@@ -42,11 +42,11 @@ fn class_of(p: Compiled, schedule: &[u8]) -> ClassAnswer
 pub fn class_size(file: &[u8], schedule: &[u8]) -> ClassAnswer
     ensures { λ r. ⌜ r ≡ classAnswerOf (classFile tso (now (file .entry)) (now (schedule .entry))) ⌝ }
 {
-    let a = decoder::decode(file);
+    let a = file_decoder::decode(file);
     let v = a.verdict;
     match v {
-        decoder::Verdict::Refused(n, k) => ClassAnswer::Refused(n, k),
-        decoder::Verdict::Accepted => {
+        file_decoder::Verdict::Refused(n, k) => ClassAnswer::Refused(n, k),
+        file_decoder::Verdict::Accepted => {
             let p = a.program;
             class_of(p, schedule)
         }

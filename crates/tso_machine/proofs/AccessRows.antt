@@ -8,11 +8,11 @@ use mathlib.Core.List.{List, [], _∷_}
 use lib.Dec.{leb}
 use lib.ListN.{getD}
 use borrow.Author.Tests.{le-leb, lt-leb}
-use Rattle.rows.specs.Rows.{instructionAt}
-use Rattle.rows.proofs.Rows.{row-store, row-load, row-fetch-add, row-compare-swap, row-no-access}
-use Rattle.accesses.proofs.HeldRows.{access-store, access-load, access-fetch-add, access-compare-swap, no-access}
-use Rattle.sc.specs.Local.{beginsWithAccess, firstPlace, accessPlace}
-use Rattle.tso.specs.State.{firstLocks, accessLocks}
+use Rattle.file_rows.specs.Rows.{instructionAt}
+use Rattle.file_rows.proofs.Rows.{row-store, row-load, row-fetch-add, row-compare-swap, row-no-access}
+use Rattle.machine_local.proofs.HeldRows.{access-store, access-load, access-fetch-add, access-compare-swap, no-access}
+use Rattle.spec_sc.specs.Local.{beginsWithAccess, firstPlace, accessPlace}
+use Rattle.spec_tso.specs.State.{firstLocks, accessLocks}
 
 module _ (code : List ℕ) (k : ℕ) (h : k < 96) where
   abbrev b : ℕ

@@ -9,11 +9,11 @@ use mathlib.Core.List.{List, [], _∷_}
 use lib.Dec.{ltb, leb}
 use borrow.Author.Tests.{lt-ltb, le-ltb, lt-leb, le-leb}
 use lib.ListN.{length, getD}
-use Rattle.rows.specs.Rows.{instructionAt}
+use Rattle.file_rows.specs.Rows.{instructionAt}
 use Rattle.machine.specs.declared.state.LastWrite.{LastWrite}
 use Rattle.machine.specs.Held.{threadAt}
-use Rattle.tso.specs.Queue.{Entry, newest}
-use Rattle.tso.specs.State.{State, access, threadOf, firstLocks, able}
+use Rattle.spec_tso.specs.Queue.{Entry, newest}
+use Rattle.spec_tso.specs.State.{State, access, threadOf, firstLocks, able}
 use Rattle.tso_machine.specs.declared.state.QueuedMachine.{QueuedMachine}
 use Rattle.tso_machine.specs.declared.state.Pending.{Pending}
 use Rattle.tso_machine.specs.Slots.{noStore, queueAt, entryIn}

@@ -9,22 +9,22 @@ use mathlib.Core.List.{List, [], _∷_}
 use lib.Dec.{eqb}
 use lib.ListN.{length, getD, set}
 use lib.Seq.{set-getD}
-use Rattle.rows.specs.Rows.{instructionAt}
-use Rattle.sc.specs.Local.{beginsWithAccess, firstPlace, puts}
-use Rattle.sc.specs.State as SC
-use Rattle.sc.specs.State.{initialWrite}
-use Rattle.sc.specs.Actions.{given}
-use Rattle.accesses.specs.declared.thread.ThreadState.{ThreadState}
+use Rattle.file_rows.specs.Rows.{instructionAt}
+use Rattle.spec_sc.specs.Local.{beginsWithAccess, firstPlace, puts}
+use Rattle.spec_sc.specs.State as SC
+use Rattle.spec_sc.specs.State.{initialWrite}
+use Rattle.spec_sc.specs.Actions.{given}
+use Rattle.machine_access.specs.declared.thread.ThreadState.{ThreadState}
 use Rattle.machine.specs.declared.state.LastWrite.{LastWrite}
 use Rattle.machine.specs.declared.state.Machine.{Machine}
 use Rattle.machine.specs.declared.stepping.After.{After}
 use Rattle.machine.specs.Held as Core
 use Rattle.machine.specs.Held.{idle, unwritten, threadAt, lastAt, threadAfter, whole, ReadyThread}
-use Rattle.tso.specs.Queue.{newest}
-use Rattle.tso.specs.State.{State, access, move, threadOf, cellOf, unqueued, firstLocks, locked, finds, numberOf, reaches, place, stepOf, able, kindOf, owner, byteFor, enabled}
-use Rattle.tso.specs.Actions.{reading, locking}
-use Rattle.tso.proofs.Bytes.{kind-low, kind-move, owner-move, owner-access}
-use Rattle.tso.proofs.Steps.{enabled-small, enabled-for, putting}
+use Rattle.spec_tso.specs.Queue.{newest}
+use Rattle.spec_tso.specs.State.{State, access, move, threadOf, cellOf, unqueued, firstLocks, locked, finds, numberOf, reaches, place, stepOf, able, kindOf, owner, byteFor, enabled}
+use Rattle.spec_tso.specs.Actions.{reading, locking}
+use Rattle.spec_tso.proofs.Bytes.{kind-low, kind-move, owner-move, owner-access}
+use Rattle.spec_tso.proofs.Steps.{enabled-small, enabled-for, putting}
 use Rattle.tso_machine.specs.declared.state.Pending.{Pending}
 use Rattle.tso_machine.specs.declared.state.QueuedMachine.{QueuedMachine}
 use Rattle.tso_machine.specs.declared.looking.Sight.{Sight}

@@ -9,15 +9,15 @@ use mathlib.Core.Option.{none, some}
 use mathlib.Core.List.{List}
 use lib.ListN.{length, getD, set, length-set}
 use lib.Seq.{getD-set-same, getD-set-other}
-use Rattle.program.specs.WellFormed.{accesses}
-use Rattle.rows.specs.Rows.{threadCode}
-use Rattle.sc.specs.State.{Cell, latest}
+use Rattle.spec_file.specs.WellFormed.{accesses}
+use Rattle.file_rows.specs.Rows.{threadCode}
+use Rattle.spec_sc.specs.State.{Cell, latest}
 use Rattle.machine.specs.declared.state.LastWrite.{LastWrite}
 use Rattle.machine.specs.Held.{threadAt, lastAt, unwritten, eventOf, HoldsThread}
-use Rattle.accesses.specs.declared.thread.ThreadState.{ThreadState}
-use Rattle.tso.specs.State.{Thread, State, Kind, threadOf, cellOf, unqueued, numberOf, threadBehind, place, stepOf, able}
-use Rattle.tso.proofs.Steps.{able-range, cell-other, putting, still-cell, stepOf-threads, stepOf-cells}
-use Rattle.tso.proofs.Change.{thread-cases, wrote-own}
+use Rattle.machine_access.specs.declared.thread.ThreadState.{ThreadState}
+use Rattle.spec_tso.specs.State.{Thread, State, Kind, threadOf, cellOf, unqueued, numberOf, threadBehind, place, stepOf, able}
+use Rattle.spec_tso.proofs.Steps.{able-range, cell-other, putting, still-cell, stepOf-threads, stepOf-cells}
+use Rattle.spec_tso.proofs.Change.{thread-cases, wrote-own}
 use Rattle.tso_machine.specs.declared.state.QueuedMachine.{QueuedMachine}
 use Rattle.tso_machine.specs.Held.{coreOf, headAt, tailAt, limitAt, slotAt, queueOf, Holds}
 use Rattle.tso_machine.proofs.HeldCore.{core-six, core-eight, core-thread, core-registers, core-value, core-source, core-of}

@@ -6,19 +6,19 @@ use mathlib.Core.Path.{_≡_, refl, sym, ap, subst, _∙_}
 use mathlib.Core.Bool.{true, false, true≢false}
 use mathlib.Core.List.{List}
 use lib.ListN.{length, getD, length-map, List·getD-eq-default}
-use Rattle.program.specs.WellFormed.{accesses}
-use Rattle.rows.specs.Rows.{threadCode}
-use Rattle.schedules.proofs.Group.{getD-any}
-use Rattle.sc.specs.Local.{pending}
-use Rattle.sc.specs.State as SC
-use Rattle.sc.specs.State.{Cell, latest}
-use Rattle.sc.proofs.Access.{nothing-pending}
-use Rattle.accesses.proofs.HeldSettling.{length-code, code-end}
+use Rattle.spec_file.specs.WellFormed.{accesses}
+use Rattle.file_rows.specs.Rows.{threadCode}
+use Rattle.spec_schedules.proofs.Group.{getD-any}
+use Rattle.spec_sc.specs.Local.{pending}
+use Rattle.spec_sc.specs.State as SC
+use Rattle.spec_sc.specs.State.{Cell, latest}
+use Rattle.spec_sc.proofs.Access.{nothing-pending}
+use Rattle.machine_access.proofs.HeldSettling.{length-code, code-end}
 use Rattle.machine.specs.declared.state.Machine.{Machine}
 use Rattle.machine.specs.Held as Core
 use Rattle.machine.specs.Held.{threadAt, lastAt, eventOf, HoldsThread}
-use Rattle.tso.specs.State.{State, threadOf, cellOf, unqueued, withoutQueues}
-use Rattle.tso.proofs.Seen.{seen-thread, seen-cell}
+use Rattle.spec_tso.specs.State.{State, threadOf, cellOf, unqueued, withoutQueues}
+use Rattle.spec_tso.proofs.Seen.{seen-thread, seen-cell}
 use Rattle.tso_machine.specs.declared.state.QueuedMachine.{QueuedMachine}
 use Rattle.tso_machine.specs.Held.{coreOf, headAt, tailAt, limitAt, Holds}
 

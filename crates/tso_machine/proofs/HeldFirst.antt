@@ -9,29 +9,30 @@ use lib.Dec.{ltb}
 use lib.ListN.{length, getD, set, replicate, length-replicate, getD-replicate, List·getD-eq-default}
 use lib.Seq.{getD-set-same, getD-set-other}
 use borrow.Author.Tests.{lt-ltb, le-ltb}
-use Rattle.schedules.proofs.Group.{getD-any}
-use Rattle.program.specs.Program.{Program}
-use Rattle.program.specs.WellFormed.{accesses, allAccesses}
-use Rattle.rows.specs.Rows.{threadCode}
-use Rattle.sc.specs.Local.{begin}
-use Rattle.sc.specs.State as SC
-use Rattle.sc.proofs.Access.{suffix-accesses, begin-law}
-use Rattle.sc.proofs.Steps as SCSteps
-use Rattle.sc.proofs.Start as SCStart
+use Rattle.spec_schedules.proofs.Group.{getD-any}
+use Rattle.spec_file.specs.Program.{Program}
+use Rattle.spec_file.specs.WellFormed.{accesses, allAccesses}
+use Rattle.file_rows.specs.Rows.{threadCode}
+use Rattle.spec_sc.specs.Local.{begin}
+use Rattle.spec_sc.specs.State as SC
+use Rattle.spec_sc.proofs.Access.{suffix-accesses, begin-law}
+use Rattle.spec_sc.proofs.Steps as SCSteps
+use Rattle.spec_sc.proofs.Start as SCStart
 use Rattle.machine.specs.declared.state.Machine.{Machine}
 use Rattle.machine.specs.Held as Core
 use Rattle.machine.specs.Held.{Loaded}
 use Rattle.machine.proofs.HeldStart.{accesses-held, threads-held, code-held, short-held}
-use Rattle.accesses.proofs.HeldSettling.{length-code}
-use Rattle.tso.specs.State.{Thread, threadOf, idle, start, withoutQueues}
-use Rattle.tso.proofs.Seen.{seen-drained, drained-thread}
+use Rattle.machine_access.proofs.HeldSettling.{length-code}
+use Rattle.spec_tso.specs.State.{Thread, threadOf, idle, start, withoutQueues}
+use Rattle.spec_tso.proofs.Seen.{seen-drained, drained-thread}
 use Rattle.tso_machine.specs.declared.state.Pending.{Pending}
 use Rattle.tso_machine.specs.declared.state.QueuedMachine.{QueuedMachine}
 use Rattle.tso_machine.specs.Slots.{noStore, queueAt}
 use Rattle.tso_machine.specs.Held.{coreOf, slotAt, Holds}
-use Rattle.tso_machine.specs.Counted.{accessesBelow, HoldsFirst}
+use Rattle.machine_access.specs.Counted.{accessesBelow}
+use Rattle.tso_machine.specs.Counted.{HoldsFirst}
 use Rattle.tso_machine.proofs.InSlots.{queue-none}
-use Rattle.accesses.proofs.HeldCounting.{below-next}
+use Rattle.machine_access.proofs.HeldCounting.{below-next}
 
 -- the smaller of two numbers of threads
 abbrev pub least : ℕ → ℕ → ℕ

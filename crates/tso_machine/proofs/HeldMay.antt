@@ -8,17 +8,17 @@ use mathlib.Core.List.{List, [], _∷_}
 use lib.Dec.{ltb}
 use lib.ListN.{length, getD}
 use borrow.Author.Tests.{lt-ltb, le-ltb}
-use Rattle.rows.specs.Rows.{instructionAt}
-use Rattle.schedules.specs.System.{ended}
-use Rattle.schedules.proofs.Runs.{ended-of, ended-none}
-use Rattle.sc.specs.Local.{pending}
-use Rattle.accesses.proofs.HeldSettling.{code-at}
+use Rattle.file_rows.specs.Rows.{instructionAt}
+use Rattle.spec_schedules.specs.System.{ended}
+use Rattle.spec_schedules.proofs.Runs.{ended-of, ended-none}
+use Rattle.spec_sc.specs.Local.{pending}
+use Rattle.machine_access.proofs.HeldSettling.{code-at}
 use Rattle.machine.specs.Held.{threadAt}
-use Rattle.tso.specs.Queue.{Entry, isEmpty, free, movable}
-use Rattle.tso.specs.State.{Thread, State, Kind, access, move, threadOf, unqueued, firstLocks, locked, able, kindOf, owner, byteFor, enabled, TSO}
-use Rattle.tso.proofs.Bytes.{ByteCase, of-access, of-move, byte-case, kind-low, owner-access}
-use Rattle.tso.proofs.Steps.{enabled-small, enabled-able, enabled-for, enabled-access}
-use Rattle.tso.proofs.Lawful.{lawful}
+use Rattle.spec_tso.specs.Queue.{Entry, isEmpty, free, movable}
+use Rattle.spec_tso.specs.State.{Thread, State, Kind, access, move, threadOf, unqueued, firstLocks, locked, able, kindOf, owner, byteFor, enabled, TSO}
+use Rattle.spec_tso.proofs.Bytes.{ByteCase, of-access, of-move, byte-case, kind-low, owner-access}
+use Rattle.spec_tso.proofs.Steps.{enabled-small, enabled-able, enabled-for, enabled-access}
+use Rattle.spec_tso.proofs.Lawful.{lawful}
 use Rattle.tso_machine.specs.declared.state.QueuedMachine.{QueuedMachine}
 use Rattle.tso_machine.specs.Slots.{entryAt, queueAt}
 use Rattle.tso_machine.specs.Held.{coreOf, headAt, tailAt, Holds}

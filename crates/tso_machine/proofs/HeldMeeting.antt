@@ -11,33 +11,33 @@ use mathlib.Core.List.{List, [], _∷_}
 use lib.Dec.{eqb}
 use lib.ListN.{length, getD, set, drop, length-set}
 use lib.Seq.{getD-set-same, getD-set-other}
-use Rattle.program.specs.declared.instruction.Instruction.{Instruction}
-use Rattle.program.specs.declared.instruction.Instruction.the-variants.{Memory, Alone}
-use Rattle.rows.specs.Rows.{instructionAt, threadCode}
-use Rattle.sc.specs.Local.{Local, beginsWithAccess, firstPlace, pending, placeOf, takes, puts, next}
-use Rattle.sc.specs.State as SC
-use Rattle.sc.specs.State.{Cell, freshCell, latest}
-use Rattle.sc.specs.Actions as SCActions
-use Rattle.sc.specs.Actions.{given}
-use Rattle.sc.proofs.Access.{next-fewer}
-use Rattle.sc.proofs.Steps as SCSteps
-use Rattle.sc.proofs.Change as SCChange
+use Rattle.spec_file.specs.declared.instruction.Instruction.{Instruction}
+use Rattle.spec_file.specs.declared.instruction.Instruction.the-variants.{Memory, Alone}
+use Rattle.file_rows.specs.Rows.{instructionAt, threadCode}
+use Rattle.spec_sc.specs.Local.{Local, beginsWithAccess, firstPlace, pending, placeOf, takes, puts, next}
+use Rattle.spec_sc.specs.State as SC
+use Rattle.spec_sc.specs.State.{Cell, freshCell, latest}
+use Rattle.spec_sc.specs.Actions as SCActions
+use Rattle.spec_sc.specs.Actions.{given}
+use Rattle.spec_sc.proofs.Access.{next-fewer}
+use Rattle.spec_sc.proofs.Steps as SCSteps
+use Rattle.spec_sc.proofs.Change as SCChange
 use Rattle.graph_writer.specs.Notes.{note, noteBytes}
 use Rattle.graph_writer.proofs.NotesHeld.{flag, byte-wrote}
 use Rattle.graph_writer.proofs.NoteGraph.{noted-wrote}
-use Rattle.accesses.specs.declared.thread.ThreadState.{ThreadState}
-use Rattle.accesses.proofs.HeldSettling.{code-at}
+use Rattle.machine_access.specs.declared.thread.ThreadState.{ThreadState}
+use Rattle.machine_access.proofs.HeldSettling.{code-at}
 use Rattle.machine.specs.declared.state.LastWrite.{LastWrite}
 use Rattle.machine.specs.declared.state.Machine.{Machine}
 use Rattle.machine.specs.declared.stepping.After.{After}
 use Rattle.machine.specs.Held as Core
 use Rattle.machine.specs.Held.{threadAt, lastAt, idle, eventOf, threadAfter, whole, HoldsThread, ReadyThread}
-use Rattle.tso.specs.Queue.{Entry, newest, foundIn}
-use Rattle.tso.specs.State.{Thread, State, access, threadOf, cellOf, unqueued, withoutQueues, firstLocks, locked, finds, target, threadBehind, place, able, enabled}
-use Rattle.tso.proofs.Bytes.{kind-low, owner-access}
-use Rattle.tso.proofs.Steps.{enabled-small, enabled-access, able-pending}
-use Rattle.tso.proofs.Change.{access-done}
-use Rattle.tso.proofs.Seen.{seen-thread}
+use Rattle.spec_tso.specs.Queue.{Entry, newest, foundIn}
+use Rattle.spec_tso.specs.State.{Thread, State, access, threadOf, cellOf, unqueued, withoutQueues, firstLocks, locked, finds, target, threadBehind, place, able, enabled}
+use Rattle.spec_tso.proofs.Bytes.{kind-low, owner-access}
+use Rattle.spec_tso.proofs.Steps.{enabled-small, enabled-access, able-pending}
+use Rattle.spec_tso.proofs.Change.{access-done}
+use Rattle.spec_tso.proofs.Seen.{seen-thread}
 use Rattle.tso_machine.specs.declared.state.QueuedMachine.{QueuedMachine}
 use Rattle.tso_machine.specs.declared.looking.Sight.{Sight}
 use Rattle.tso_machine.specs.Held.{coreOf, tailAt, queueOf, Holds}

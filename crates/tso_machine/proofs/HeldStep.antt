@@ -10,20 +10,20 @@ use mathlib.Core.Option.{Option, none, some}
 use mathlib.Core.List.{List, [], _∷_, _++_, append-nil}
 use lib.ListN.{length, getD, set, length-set}
 use lib.Seq.{getD-set-same, getD-set-other}
-use Rattle.program.specs.WellFormed.{accesses}
-use Rattle.rows.specs.Rows.{threadCode}
-use Rattle.sc.specs.Local.{Local, placeOf, puts}
-use Rattle.sc.specs.State.{Cell}
-use Rattle.schedules.proofs.Group.{getD-any}
-use Rattle.sc.specs.Actions.{given}
-use Rattle.sc.proofs.Access.{next-fewer}
+use Rattle.spec_file.specs.WellFormed.{accesses}
+use Rattle.file_rows.specs.Rows.{threadCode}
+use Rattle.spec_sc.specs.Local.{Local, placeOf, puts}
+use Rattle.spec_sc.specs.State.{Cell}
+use Rattle.spec_schedules.proofs.Group.{getD-any}
+use Rattle.spec_sc.specs.Actions.{given}
+use Rattle.spec_sc.proofs.Access.{next-fewer}
 use Rattle.machine.specs.declared.state.LastWrite.{LastWrite}
 use Rattle.machine.specs.Held.{threadAt, idle, eventOf, HoldsThread}
-use Rattle.accesses.specs.declared.thread.ThreadState.{ThreadState}
-use Rattle.tso.specs.Queue.{Entry, queued, atOnce, movable, newer, oldestNumber, oldestPlace, oldestValue}
-use Rattle.tso.specs.State.{Thread, State, Kind, access, move, threadOf, cellOf, unqueued, locked, finds, target, numberOf, reaches, threadBehind, place, stepOf, able, kindOf, owner, step}
-use Rattle.tso.specs.Actions.{Action, action, actionOf, reading, locking}
-use Rattle.tso.proofs.Steps.{able-pending, able-movable, able-range, putting}
+use Rattle.machine_access.specs.declared.thread.ThreadState.{ThreadState}
+use Rattle.spec_tso.specs.Queue.{Entry, queued, atOnce, movable, newer, oldestNumber, oldestPlace, oldestValue}
+use Rattle.spec_tso.specs.State.{Thread, State, Kind, access, move, threadOf, cellOf, unqueued, locked, finds, target, numberOf, reaches, threadBehind, place, stepOf, able, kindOf, owner, step}
+use Rattle.spec_tso.specs.Actions.{Action, action, actionOf, reading, locking}
+use Rattle.spec_tso.proofs.Steps.{able-pending, able-movable, able-range, putting}
 use Rattle.tso_machine.specs.declared.state.Pending.{Pending}
 use Rattle.tso_machine.specs.declared.state.QueuedMachine.{QueuedMachine}
 use Rattle.tso_machine.specs.declared.meeting.Met.{Met}

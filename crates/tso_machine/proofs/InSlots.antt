@@ -8,8 +8,8 @@ use mathlib.Core.List.{List, [], _∷_, _++_}
 use borrow.Author.Tests.{eq-eqb, ne-eqb, lt-ltb, le-ltb}
 use lib.ListN.{length, getD, set}
 use lib.Seq.{getD-set-same, getD-set-other}
-use Rattle.schedules.specs.Lists.{range}
-use Rattle.tso.specs.Queue.{Entry, newest}
+use Rattle.spec_schedules.specs.Lists.{range}
+use Rattle.spec_tso.specs.Queue.{Entry, newest}
 use Rattle.tso_machine.specs.declared.state.Pending.{Pending}
 use Rattle.tso_machine.specs.Slots.{noStore, entryOf, entryAt, queueAt, entryIn}
 

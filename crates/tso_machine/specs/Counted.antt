@@ -5,7 +5,7 @@ use mathlib.Core.Bool.{cond}
 use mathlib.Core.List.{List}
 use lib.Dec.{ltb}
 use lib.ListN.{length, getD}
-unfoldable pub use Rattle.accesses.specs.Counted.{accessesBelow}
+use Rattle.machine_access.specs.Counted.{accessesBelow}
 
 -- thread t's slots begin behind those of the threads before it
 pub record HoldsFirst (code lengths : List ℕ) (threads : ℕ) (first : List ℕ) : Type 0 where

@@ -5,13 +5,13 @@ use mathlib.Core.Path.{_≡_}
 use mathlib.Core.Bool.{true}
 use mathlib.Core.List.{List}
 use lib.ListN.{length, getD}
-use Rattle.program.specs.WellFormed.{accesses}
-use Rattle.accesses.specs.declared.thread.ThreadState.{ThreadState}
+use Rattle.spec_file.specs.WellFormed.{accesses}
+use Rattle.machine_access.specs.declared.thread.ThreadState.{ThreadState}
 use Rattle.machine.specs.declared.state.LastWrite.{LastWrite}
 use Rattle.machine.specs.declared.state.Machine.{Machine}
 use Rattle.machine.specs.Held as SC
-use Rattle.tso.specs.Queue.{Entry}
-use Rattle.tso.specs.State.{State, withoutQueues, threadOf, enabled}
+use Rattle.spec_tso.specs.Queue.{Entry}
+use Rattle.spec_tso.specs.State.{State, withoutQueues, threadOf, enabled}
 use Rattle.tso_machine.specs.declared.state.Pending.{Pending}
 use Rattle.tso_machine.specs.declared.state.QueuedMachine.{QueuedMachine}
 use Rattle.tso_machine.specs.Slots.{noStore, queueAt}

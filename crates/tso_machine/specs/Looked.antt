@@ -3,7 +3,7 @@ use Prim.Native.Nat.{ℕ}
 use mathlib.Core.Bool.{Bool, true, false}
 use mathlib.Core.Option.{Option, none, some}
 use Rattle.machine.specs.declared.state.LastWrite.{LastWrite}
-use Rattle.tso.specs.Queue.{Entry}
+use Rattle.spec_tso.specs.Queue.{Entry}
 use Rattle.tso_machine.specs.declared.looking.Sight.{Sight}
 
 -- thread t's own store if there is one, else the value v in memory, written by w

@@ -5,8 +5,8 @@ use mathlib.Core.Option.{Option, none, some}
 use mathlib.Core.List.{List, map}
 use lib.Dec.{ltb}
 use lib.ListN.{getD}
-use Rattle.schedules.specs.Lists.{range}
-use Rattle.tso.specs.Queue.{Entry}
+use Rattle.spec_schedules.specs.Lists.{range}
+use Rattle.spec_tso.specs.Queue.{Entry}
 use Rattle.tso_machine.specs.declared.state.Pending.{Pending}
 
 -- what an array of slots reads as behind its end

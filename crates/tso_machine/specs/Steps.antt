@@ -5,14 +5,14 @@ use mathlib.Core.Bool.{Bool, false, cond}
 use mathlib.Core.Option.{none, some}
 use mathlib.Core.List.{List}
 use lib.ListN.{getD, set}
-use Rattle.rows.specs.Rows.{threadCode}
-use Rattle.sc.specs.Local.{placeOf, takes, puts, next}
-use Rattle.sc.specs.State.{Event, Cell, initialWrite}
+use Rattle.file_rows.specs.Rows.{threadCode}
+use Rattle.spec_sc.specs.Local.{placeOf, takes, puts, next}
+use Rattle.spec_sc.specs.State.{Event, Cell, initialWrite}
 use Rattle.machine.specs.Held.{eventOf, HoldsThread}
-use Rattle.tso.specs.Queue.{newest}
-use Rattle.tso.specs.State.{Thread, State, Kind, access, move, threadOf, cellOf, unqueued, locked, finds, threadBehind, place, step}
-use Rattle.tso.specs.State.{kindOf, owner}
-use Rattle.tso.specs.Actions.{action}
+use Rattle.spec_tso.specs.Queue.{newest}
+use Rattle.spec_tso.specs.State.{Thread, State, Kind, access, move, threadOf, cellOf, unqueued, locked, finds, threadBehind, place, step}
+use Rattle.spec_tso.specs.State.{kindOf, owner}
+use Rattle.spec_tso.specs.Actions.{action}
 use Rattle.tso_machine.specs.declared.state.QueuedMachine.{QueuedMachine}
 use Rattle.tso_machine.specs.declared.meeting.Met.{Met}
 use Rattle.tso_machine.specs.declared.stepping.Change.{Change}

@@ -1,18 +1,16 @@
 // What may be asked of a machine: whether a byte may step, whether none may, whether something is pending, whether an assertion failed.
 use crate::rows_of::locks_at;
 use crate::state::QueuedMachine;
-use lines::wide;
-use machine::Machine;
-use rows::Code;
+use file_lines::wide;
+use file_rows::Code;
 ghost use mathlib.Core.Path.{_≡_};
 ghost use Prim.Native.Nat.{_<_, _≤_};
 ghost use lib.Dec.{ltb};
-ghost use Rattle.schedules.specs.System.{ended};
-ghost use Rattle.tso.specs.State.{State, TSO, able, access, threadOf, enabled};
+ghost use Rattle.spec_schedules.specs.System.{ended};
+ghost use Rattle.spec_tso.specs.State.{State, TSO, able, access, threadOf, enabled};
 ghost use lib.ListN.{length, getD};
 ghost use mathlib.Core.List.{List};
 ghost use Prim.Native.Nat.{ℕ};
-ghost use Rattle.machine.specs.Asked.{failsBy};
 ghost use Rattle.machine.specs.Held.{threadAt};
 ghost use Rattle.tso_machine.specs.Held.{coreOf, headAt, tailAt, Holds};
 
@@ -76,18 +74,4 @@ pub fn ended_all(lengths: &[usize; 6], m: QueuedMachine) -> bool
         t += 1;
     }
     true
-}
-
-// Whether some assertion failed.
-pub fn fails(m: QueuedMachine) -> bool
-    ensures { λ r. ⌜ r ≡ failsBy (coreOf m) ⌝ }
-{
-    let threads = m.threads;
-    let memory = m.memory;
-    let last = m.last;
-    machine::fails(Machine {
-        threads: threads,
-        memory: memory,
-        last: last,
-    })
 }

@@ -17,7 +17,6 @@ mod asking;
 
 pub use asking::enabled;
 pub use asking::ended_all;
-pub use asking::fails;
 pub use asking::may_access;
 pub use rows_of::locks_at;
 pub use starting::started;

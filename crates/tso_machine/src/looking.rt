@@ -1,10 +1,10 @@
 // What a thread finds at a location: its newest pending store there, else what memory holds.
 use crate::state::Pending;
-use lines::wide;
+use file_lines::wide;
 use machine::LastWrite;
 ghost use mathlib.Core.Path.{_≡_};
 ghost use Prim.Native.Nat.{_≤_, _-_};
-ghost use Rattle.tso.specs.Queue.{newest};
+ghost use Rattle.spec_tso.specs.Queue.{newest};
 ghost use Rattle.tso_machine.specs.Slots.{queueAt, entryIn};
 ghost use Rattle.tso_machine.specs.Looked.{lookOf};
 

@@ -1,11 +1,11 @@
 // What the access in a row is, read off the row's bytes.
-use rows::Code;
+use file_rows::Code;
 ghost use mathlib.Core.Path.{_≡_};
 ghost use mathlib.Core.List.{[], _∷_};
 ghost use Prim.Native.Nat.{_<_};
-ghost use Rattle.rows.specs.Rows.{instructionAt};
-ghost use Rattle.sc.specs.Local.{beginsWithAccess, firstPlace};
-ghost use Rattle.tso.specs.State.{firstLocks};
+ghost use Rattle.file_rows.specs.Rows.{instructionAt};
+ghost use Rattle.spec_sc.specs.Local.{beginsWithAccess, firstPlace};
+ghost use Rattle.spec_tso.specs.State.{firstLocks};
 ghost use mathlib.Core.Bool.{true};
 
 // Whether the row holds a fetch and add or a compare and swap.

@@ -1,16 +1,16 @@
 // The state before the first step: that of sequential consistency, with nothing pending.
 use crate::state::Pending;
 use crate::state::QueuedMachine;
-use accesses::accesses_below;
-use rows::Code;
+use file_rows::Code;
+use machine_access::accesses_below;
 ghost use mathlib.Core.Path.{_≡_};
 ghost use Prim.Native.Nat.{_≤_};
 ghost use mathlib.Core.Bool.{cond};
 ghost use lib.Dec.{ltb};
-ghost use Rattle.program.specs.Program.{Program, initial};
-ghost use Rattle.program.specs.WellFormed.{allAccesses};
+ghost use Rattle.spec_file.specs.Program.{Program, initial};
+ghost use Rattle.spec_file.specs.WellFormed.{allAccesses};
 ghost use Rattle.machine.specs.Held.{Loaded};
-ghost use Rattle.tso.specs.State.{start};
+ghost use Rattle.spec_tso.specs.State.{start};
 ghost use Rattle.tso_machine.specs.Held.{Holds};
 ghost use Rattle.tso_machine.specs.Counted.{HoldsFirst};
 

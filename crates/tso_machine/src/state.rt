@@ -1,6 +1,6 @@
 // The machine's state under total store order: what sequential consistency's machine holds, and each thread's queue of pending stores.
-use accesses::ThreadState;
 use machine::LastWrite;
+use machine_access::ThreadState;
 
 // A pending store: its value, the number of the access that made it, and its location.
 pub struct Pending {

@@ -2,16 +2,16 @@
 use crate::meeting::meet;
 use crate::state::Pending;
 use crate::state::QueuedMachine;
-use accesses::ThreadState;
-use lines::wide;
+use file_lines::wide;
+use file_rows::Code;
 use machine::LastWrite;
-use rows::Code;
+use machine_access::ThreadState;
 ghost use mathlib.Core.Path.{_≡_};
 ghost use mathlib.Core.Bool.{true, cond, not, _&&_};
 ghost use mathlib.Core.List.{List};
 ghost use Prim.Native.Nat.{ℕ, _+_, _<_, _≤_};
 ghost use Rattle.machine.specs.Held.{ReadyThread};
-ghost use Rattle.tso.specs.State.{State, place, kindOf, owner, byteFor, access, move, enabled};
+ghost use Rattle.spec_tso.specs.State.{State, place, kindOf, owner, byteFor, access, move, enabled};
 ghost use Rattle.tso_machine.specs.Held.{Holds, MayStep, partsOf};
 ghost use Rattle.tso_machine.specs.Steps.{HoldsStep, behind};
 

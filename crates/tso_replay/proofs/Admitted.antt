@@ -5,13 +5,13 @@ use mathlib.Core.Path.{_≡_, sym, ap, _∙_}
 use mathlib.Core.List.{List}
 use lib.Dec.{ltb}
 use lib.ListN.{getD}
-use Rattle.program.specs.Program.{Program}
-use Rattle.program.specs.WellFormed.{allAccesses}
+use Rattle.spec_file.specs.Program.{Program}
+use Rattle.spec_file.specs.WellFormed.{allAccesses}
 use Rattle.machine.specs.Held.{Loaded}
 use Rattle.machine.proofs.HeldStart.{threads-held, short-held}
-use Rattle.tso.specs.State.{owner}
-use Rattle.tso.proofs.Bytes.{ByteCase, of-access, of-move, byte-case}
-use Rattle.accesses.specs.Counted.{accessesBelow}
+use Rattle.spec_tso.specs.State.{owner}
+use Rattle.spec_tso.proofs.Bytes.{ByteCase, of-access, of-move, byte-case}
+use Rattle.machine_access.specs.Counted.{accessesBelow}
 use Rattle.machine.proofs.HeldStart.{accesses-held}
 
 module _ (code lengths : List ℕ) (threads : ℕ) (p : Program) (loaded : Loaded code lengths threads p) where

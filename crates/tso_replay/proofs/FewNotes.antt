@@ -7,25 +7,25 @@ use mathlib.Core.Bool.{Bool, true, false, cond, _||_, true≢false, false≢true
 use mathlib.Core.Option.{Option, none, some}
 use mathlib.Core.List.{List, [], _∷_, map}
 use lib.ListN.{length, getD, set, length-append}
-use Rattle.program.specs.Program.{Program}
-use Rattle.program.specs.WellFormed.{accesses, allAccesses}
-use Rattle.program.specs.declared.instruction.Access.the-variants.{Store, Load, FetchAdd, CompareSwap}
-use Rattle.program.specs.declared.instruction.Instruction.{Instruction}
-use Rattle.program.specs.declared.instruction.Instruction.the-variants.{Memory, Alone}
-use Rattle.schedules.specs.Order.{Schedule}
-use Rattle.schedules.specs.System.{run, Allowed}
-use Rattle.sc.specs.Local.{Local, accessTakes, accessPuts, firstTakes, firstPuts, placeOf, takes, puts}
-use Rattle.sc.specs.State as SC
-use Rattle.sc.specs.State.{Cell}
-use Rattle.sc.specs.Actions.{given}
-use Rattle.sc.proofs.Access.{next-fewer}
-use Rattle.sc.proofs.Lawful.{start-size}
+use Rattle.spec_file.specs.Program.{Program}
+use Rattle.spec_file.specs.WellFormed.{accesses, allAccesses}
+use Rattle.spec_file.specs.declared.instruction.Access.the-variants.{Store, Load, FetchAdd, CompareSwap}
+use Rattle.spec_file.specs.declared.instruction.Instruction.{Instruction}
+use Rattle.spec_file.specs.declared.instruction.Instruction.the-variants.{Memory, Alone}
+use Rattle.spec_schedules.specs.Order.{Schedule}
+use Rattle.spec_schedules.specs.System.{run, Allowed}
+use Rattle.spec_sc.specs.Local.{Local, accessTakes, accessPuts, firstTakes, firstPuts, placeOf, takes, puts}
+use Rattle.spec_sc.specs.State as SC
+use Rattle.spec_sc.specs.State.{Cell}
+use Rattle.spec_sc.specs.Actions.{given}
+use Rattle.spec_sc.proofs.Access.{next-fewer}
+use Rattle.spec_sc.proofs.Lawful.{start-size}
 use Rattle.graph_writer.specs.Notes.{Note}
-use Rattle.tso.specs.Queue.{queued, atOnce}
-use Rattle.tso.specs.State.{Thread, State, Kind, access, move, accessLocks, firstLocks, locked, noThread, threadOf, cellOf, idle, drained, finds, reaches, threadBehind, place, stepOf, able, kindOf, owner, step, enabled, TSO, start}
-use Rattle.tso.specs.Actions.{action, actionOf, reading}
-use Rattle.tso.proofs.Lawful.{newer-fewer}
-use Rattle.tso.proofs.Steps.{enabled-able, able-pending, able-movable, able-range}
+use Rattle.spec_tso.specs.Queue.{queued, atOnce}
+use Rattle.spec_tso.specs.State.{Thread, State, Kind, access, move, accessLocks, firstLocks, locked, noThread, threadOf, cellOf, idle, drained, finds, reaches, threadBehind, place, stepOf, able, kindOf, owner, step, enabled, TSO, start}
+use Rattle.spec_tso.specs.Actions.{action, actionOf, reading}
+use Rattle.spec_tso.proofs.Lawful.{newer-fewer}
+use Rattle.spec_tso.proofs.Steps.{enabled-able, able-pending, able-movable, able-range}
 use Rattle.tso_replay.specs.Noted.{noteOf, noted, notes}
 
 -- an access that is not locked reads or writes, not both

@@ -8,33 +8,34 @@ use mathlib.Core.List.{List}
 use lib.Dec.{ltb}
 use lib.ListN.{length, take}
 use borrow.Author.Tests.{lt-ltb, le-ltb, ltb-true, ltb-false}
-use Rattle.lines.specs.Over.{over}
-use Rattle.program.specs.Program.{Program}
-use Rattle.program.specs.WellFormed.{WellFormed, allAccesses}
-use Rattle.program.specs.Decode.{Decoded, accepted, decode}
-use Rattle.decoder.specs.declared.file.Answer.{Answer}
-use Rattle.decoder.specs.declared.file.Verdict.the-variants as File
-use Rattle.decoder.specs.Compiled.{programOf, answerOf}
-use Rattle.decoder.proofs.Decoded.{decoded-refused, decoded-accepted, decoded-well-formed}
-use Rattle.schedules.specs.Order.{Schedule}
-use Rattle.schedules.specs.System.{Allowed}
-use Rattle.model.specs.OnFile.{admit}
-use Rattle.sc.specs.Text.{graphText, textOf}
-use Rattle.sc.specs.GraphCall.{GraphResult, texted, refusing, graphOutput}
+use Rattle.spec_file.specs.Over.{over}
+use Rattle.spec_file.specs.Program.{Program}
+use Rattle.spec_file.specs.WellFormed.{WellFormed, allAccesses}
+use Rattle.spec_file.specs.Decode.{Decoded, accepted, decode}
+use Rattle.file_decoder.specs.declared.file.Answer.{Answer}
+use Rattle.file_decoder.specs.declared.file.Verdict.the-variants as File
+use Rattle.file_decoder.specs.Compiled.{programOf, answerOf}
+use Rattle.file_decoder.proofs.Decoded.{decoded-refused, decoded-accepted, decoded-well-formed}
+use Rattle.spec_schedules.specs.Order.{Schedule}
+use Rattle.spec_schedules.specs.System.{Allowed}
+use Rattle.spec_model.specs.OnFile.{admit}
+use Rattle.spec_sc.specs.Text.{graphText, textOf}
+use Rattle.spec_sc.specs.GraphCall.{GraphResult, texted, refusing, graphOutput}
 use Rattle.graph_writer.specs.Notes.{Note, Noted}
 use Rattle.graph_writer.specs.NoteText.{noteFrames}
-use Rattle.replay.specs.declared.graph_call.GraphAnswer.the-variants.{Written}
-use Rattle.replay.specs.declared.replaying.Verdict.{Verdict}
-use Rattle.replay.specs.declared.replaying.Verdict.the-variants.{Whole, Refused}
-use Rattle.replay.specs.GraphWord.{graphAnswerOf}
-use Rattle.tso.specs.State.{TSO, start}
-use Rattle.tso.specs.Graph.{graph}
-use Rattle.tso_model.specs.TotalStoreOrder.{tso}
-use Rattle.tso_model.specs.GraphCall.{textUnless, graphAnswer, graphOn, graphFile}
-use Rattle.tso_model.proofs.Demand3.{refused-41, admitted-16, refused-first}
+use Rattle.machine_replay.specs.declared.graph_call.GraphAnswer.the-variants.{Written}
+use Rattle.machine_replay.specs.declared.replaying.Verdict.{Verdict}
+use Rattle.machine_replay.specs.declared.replaying.Verdict.the-variants.{Whole, Refused}
+use Rattle.machine_replay.specs.GraphWord.{graphAnswerOf}
+use Rattle.spec_tso.specs.State.{TSO, start}
+use Rattle.spec_tso.specs.Graph.{graph}
+use Rattle.spec_tso.specs.TotalStoreOrder.{tso}
+use Rattle.spec_tso.specs.GraphCall.{textUnless, graphAnswer, graphOn, graphFile}
+use Rattle.spec_tso.proofs.Admits.{refused-41, admitted-16, refused-first}
 use Rattle.tso_replay.specs.declared.replaying.Run.{Run}
 use Rattle.tso_replay.specs.Noted.{notes}
-use Rattle.tso_replay.specs.Carried.{refusalOf, HoldsRun}
+use Rattle.machine_replay.specs.Carried.{refusalOf}
+use Rattle.tso_replay.specs.Carried.{HoldsRun}
 use Rattle.tso_replay.proofs.NotesHere.{graph-text-notes}
 use Rattle.tso_replay.proofs.FewNotes.{notes-16}
 

@@ -7,27 +7,28 @@ use mathlib.Core.Option.{none, some}
 use mathlib.Core.List.{List, [], _∷_, _++_, append-nil}
 use lib.ListN.{length, getD, set, take, drop, drop-of-length-le, length-set, length-append}
 use lib.Seq.{take-suc, take-suc-set, take-all, drop-cons, length-take-le}
-use Rattle.program.specs.Program.{Program}
-use Rattle.program.specs.WellFormed.{allAccesses}
-use Rattle.schedules.specs.Order.{Schedule}
-use Rattle.schedules.specs.System.{run, ended, Allowed}
-use Rattle.schedules.proofs.Runs.{run-snoc, allowed-join, allowed-length}
-use Rattle.model.specs.Answers.{refusesFrom}
+use Rattle.spec_file.specs.Program.{Program}
+use Rattle.spec_file.specs.WellFormed.{allAccesses}
+use Rattle.spec_schedules.specs.Order.{Schedule}
+use Rattle.spec_schedules.specs.System.{run, ended, Allowed}
+use Rattle.spec_schedules.proofs.Runs.{run-snoc, allowed-join, allowed-length}
+use Rattle.spec_model.specs.Answers.{refusesFrom}
 use Rattle.graph_writer.specs.Notes.{Note, noteBytes, Noted, putNote}
 use Rattle.graph_writer.proofs.HeldNotes.{noted-none, note-put}
 use Rattle.machine.specs.Held.{Loaded}
-use Rattle.replay.specs.declared.replaying.Verdict.the-variants.{Whole, Refused}
-use Rattle.tso.specs.State.{State, kindOf, owner, place, step, enabled, TSO, start}
-use Rattle.tso.specs.Actions.{action, actionOf}
-use Rattle.tso.proofs.Lawful.{lawful, start-32}
-use Rattle.tso.proofs.Steps.{enabled-able}
-use Rattle.tso.proofs.Regular.{place-in, regular-run, regular-start}
+use Rattle.machine_replay.specs.declared.replaying.Verdict.the-variants.{Whole, Refused}
+use Rattle.spec_tso.specs.State.{State, kindOf, owner, place, step, enabled, TSO, start}
+use Rattle.spec_tso.specs.Actions.{action, actionOf}
+use Rattle.spec_tso.proofs.Lawful.{lawful, start-32}
+use Rattle.spec_tso.proofs.Steps.{enabled-able}
+use Rattle.spec_tso.proofs.Regular.{place-in, regular-run, regular-start}
 use Rattle.tso_machine.specs.declared.state.QueuedMachine.{QueuedMachine}
 use Rattle.tso_machine.specs.declared.stepping.Stepped.{Stepped}
 use Rattle.tso_machine.specs.Held.{Holds, MayStep}
 use Rattle.tso_machine.specs.Steps.{HoldsStep}
 use Rattle.tso_replay.specs.Noted.{noteOf, noted, notes, bytesOf}
-use Rattle.tso_replay.specs.Carried.{refusalOf, HoldsRun}
+use Rattle.machine_replay.specs.Carried.{refusalOf}
+use Rattle.tso_replay.specs.Carried.{HoldsRun}
 use Rattle.tso_replay.proofs.NotesHere.{notes-snoc}
 use Rattle.tso_replay.proofs.FewNotes.{notes-16}
 

@@ -11,28 +11,28 @@ use mathlib.Core.List.{List, [], _∷_, _++_, append-nil, append-assoc, reverse,
 use borrow.Author.Tests.{eq-eqb, ne-eqb}
 use lib.Dec.{eqb}
 use lib.ListN.{length}
-use Rattle.program.specs.Program.{Program}
-use Rattle.program.specs.WellFormed.{WellFormed}
-use Rattle.schedules.specs.Order.{Schedule}
-use Rattle.schedules.specs.System.{run, Allowed}
-use Rattle.sc.specs.Local.{takes}
-use Rattle.sc.specs.State as SC
-use Rattle.sc.specs.State.{Event, Cell}
-use Rattle.sc.specs.Actions.{given}
-use Rattle.sc.specs.Text.{frames, textOf, graphText}
-use Rattle.sc.proofs.Change.{noted-reads}
-use Rattle.sc.proofs.Start as SCStart
+use Rattle.spec_file.specs.Program.{Program}
+use Rattle.spec_file.specs.WellFormed.{WellFormed}
+use Rattle.spec_schedules.specs.Order.{Schedule}
+use Rattle.spec_schedules.specs.System.{run, Allowed}
+use Rattle.spec_sc.specs.Local.{takes}
+use Rattle.spec_sc.specs.State as SC
+use Rattle.spec_sc.specs.State.{Event, Cell}
+use Rattle.spec_sc.specs.Actions.{given}
+use Rattle.spec_sc.specs.Text.{frames, textOf, graphText}
+use Rattle.spec_sc.proofs.Change.{noted-reads}
+use Rattle.spec_sc.proofs.Start as SCStart
 use Rattle.graph_writer.specs.Notes.{Note}
 use Rattle.graph_writer.specs.NoteText.{readIn, writeIn, readsIn, writesIn, noteFrames}
 use Rattle.graph_writer.proofs.Collected.{collected-append}
 use Rattle.graph_writer.proofs.NoteGraph.{read-other, read-not, reversed-read, latest-first, first-to-last, state-frames}
-use Rattle.tso.specs.State.{Thread, State, Kind, access, move, threadOf, cellOf, unqueued, withoutQueues, idle, finds, numberOf, threadBehind, place, stepOf, able, kindOf, owner, step, enabled, TSO, start}
-use Rattle.tso.specs.Actions.{action, actionOf, reading}
-use Rattle.tso.specs.Graph.{graphOf, endOf, graph}
-use Rattle.tso.proofs.Steps.{enabled-able, able-range, cell-other, putting, still-cell}
-use Rattle.tso.proofs.Change.{thread-cases, wrote-own}
-use Rattle.tso.proofs.Regular.{Regular, place-in, regular-step, regular-run, regular-start}
-use Rattle.tso.proofs.Seen.{seen-thread, seen-cell, drained-thread, drained-cell}
+use Rattle.spec_tso.specs.State.{Thread, State, Kind, access, move, threadOf, cellOf, unqueued, withoutQueues, idle, finds, numberOf, threadBehind, place, stepOf, able, kindOf, owner, step, enabled, TSO, start}
+use Rattle.spec_tso.specs.Actions.{action, actionOf, reading}
+use Rattle.spec_tso.specs.Graph.{graphOf, endOf, graph}
+use Rattle.spec_tso.proofs.Steps.{enabled-able, able-range, cell-other, putting, still-cell}
+use Rattle.spec_tso.proofs.Change.{thread-cases, wrote-own}
+use Rattle.spec_tso.proofs.Regular.{Regular, place-in, regular-step, regular-run, regular-start}
+use Rattle.spec_tso.proofs.Seen.{seen-thread, seen-cell, drained-thread, drained-cell}
 use Rattle.tso_machine.specs.Steps.{sourceOf}
 use Rattle.tso_machine.proofs.HeldCore.{seen-threads, seen-cells}
 use Rattle.tso_replay.specs.Noted.{noteOf, noted, notes}

@@ -1,25 +1,19 @@
 -- What carrying out a schedule leaves.
 use Prim.Native.Nat.{ℕ, _≤_}
 use mathlib.Core.Path.{_≡_}
-use mathlib.Core.Option.{Option, none, some}
 use mathlib.Core.List.{List}
 use lib.ListN.{length, take}
-use Rattle.program.specs.Program.{Program}
-use Rattle.schedules.specs.Order.{Schedule}
-use Rattle.schedules.specs.System.{run, Allowed}
-use Rattle.model.specs.Answers.{refusesFrom}
+use Rattle.spec_file.specs.Program.{Program}
+use Rattle.spec_schedules.specs.Order.{Schedule}
+use Rattle.spec_schedules.specs.System.{run, Allowed}
+use Rattle.spec_model.specs.Answers.{refusesFrom}
 use Rattle.graph_writer.specs.Notes.{Noted}
-use Rattle.replay.specs.declared.replaying.Verdict.{Verdict}
-use Rattle.replay.specs.declared.replaying.Verdict.the-variants.{Whole, Refused}
-use Rattle.tso.specs.State.{TSO, start}
+use Rattle.machine_replay.specs.declared.replaying.Verdict.the-variants.{Whole}
+use Rattle.machine_replay.specs.Carried.{refusalOf}
+use Rattle.spec_tso.specs.State.{TSO, start}
 use Rattle.tso_machine.specs.Held.{Holds}
 use Rattle.tso_replay.specs.declared.replaying.Run.{Run}
 use Rattle.tso_replay.specs.Noted.{notes}
-
--- what refuses the schedule, by the verdict
-unfoldable pub refusalOf : Verdict → Option (ℕ × ℕ)
-refusalOf Whole = none
-refusalOf (Refused n k) = some (n, k)
 
 -- what carrying out a schedule leaves: the steps that were made, each of which might be and stands in the run's own schedule, the state
 -- behind them, their notes, and the answer

@@ -3,10 +3,10 @@
 use Prim.Native.Nat.{ℕ}
 use mathlib.Core.Bool.{cond, _||_}
 use mathlib.Core.List.{List, [], _∷_, _++_}
-use Rattle.schedules.specs.Order.{Schedule}
+use Rattle.spec_schedules.specs.Order.{Schedule}
 use Rattle.graph_writer.specs.Notes.{Note}
-use Rattle.tso.specs.State.{State, threadOf, kindOf, owner, step}
-use Rattle.tso.specs.Actions.{action}
+use Rattle.spec_tso.specs.State.{State, threadOf, kindOf, owner, step}
+use Rattle.spec_tso.specs.Actions.{action}
 use Rattle.tso_machine.specs.declared.stepping.Stepped.{Stepped}
 use Rattle.tso_machine.specs.Steps.{sourceOf, cellAt}
 

@@ -1,10 +1,10 @@
 // What total store order turns away: a program with more than sixteen accesses in the file.
-use accesses::accesses_below;
-use rows::Code;
+use file_rows::Code;
+use machine_access::accesses_below;
 ghost use mathlib.Core.Path.{_≡_};
 ghost use lib.Dec.{ltb};
-ghost use Rattle.program.specs.Program.{Program};
-ghost use Rattle.program.specs.WellFormed.{allAccesses};
+ghost use Rattle.spec_file.specs.Program.{Program};
+ghost use Rattle.spec_file.specs.WellFormed.{allAccesses};
 ghost use Rattle.machine.specs.Held.{Loaded};
 
 // Whether the program in these rows has more, also of those that no run does.

@@ -1,22 +1,22 @@
 // The graph of a schedule under total store order, as text in front of a lent output.
 use crate::admitting::too_many;
 use crate::replaying::replayed;
-use decoder::Compiled;
+use file_decoder::Compiled;
 use graph_writer::write_graph;
-use replay::GraphAnswer;
-use replay::Verdict;
+use machine_replay::GraphAnswer;
+use machine_replay::Verdict;
 ghost use mathlib.Core.Path.{_≡_};
 ghost use mathlib.Core.Bool.{cond};
 ghost use lib.Dec.{ltb};
 ghost use lib.ListN.{length};
-ghost use Rattle.program.specs.WellFormed.{WellFormed};
-ghost use Rattle.program.specs.Decode.{accepted};
-ghost use Rattle.decoder.specs.Compiled.{programOf};
-ghost use Rattle.model.specs.OnFile.{admit};
-ghost use Rattle.sc.specs.GraphCall.{graphOutput};
-ghost use Rattle.tso_model.specs.TotalStoreOrder.{tso};
-ghost use Rattle.tso_model.specs.GraphCall.{graphOn, graphFile};
-ghost use Rattle.replay.specs.GraphWord.{graphAnswerOf};
+ghost use Rattle.spec_file.specs.WellFormed.{WellFormed};
+ghost use Rattle.spec_file.specs.Decode.{accepted};
+ghost use Rattle.file_decoder.specs.Compiled.{programOf};
+ghost use Rattle.spec_model.specs.OnFile.{admit};
+ghost use Rattle.spec_sc.specs.GraphCall.{graphOutput};
+ghost use Rattle.spec_tso.specs.TotalStoreOrder.{tso};
+ghost use Rattle.spec_tso.specs.GraphCall.{graphOn, graphFile};
+ghost use Rattle.machine_replay.specs.GraphWord.{graphAnswerOf};
 
 // What refuses a program before its schedule is looked at: 41 for too many accesses, then 22 for an output shorter than 512 bytes; else 0.
 fn early_refusal(many: bool, room: usize) -> u8
@@ -66,11 +66,11 @@ pub fn graph(file: &[u8], schedule: &[u8], out: &mut [u8]) -> GraphAnswer
     ensures output { λ r. ⌜ now (out .exit) ≡ graphOutput (graphFile (now (file .entry)) (now (schedule .entry))
         (length (now (out .entry)))) (now (out .entry)) ⌝ }
 {
-    let a = decoder::decode(file);
+    let a = file_decoder::decode(file);
     let v = a.verdict;
     match v {
-        decoder::Verdict::Refused(n, k) => GraphAnswer::Refused(n, k),
-        decoder::Verdict::Accepted => {
+        file_decoder::Verdict::Refused(n, k) => GraphAnswer::Refused(n, k),
+        file_decoder::Verdict::Accepted => {
             let p = a.program;
             graph_of(p, schedule, out)
         }

@@ -5,7 +5,7 @@ ghost use mathlib.Core.Path.{_≡_};
 ghost use mathlib.Core.Bool.{cond, _||_};
 ghost use Prim.Native.Nat.{_<_, _+_};
 ghost use Rattle.graph_writer.specs.Notes.{putNote};
-ghost use Rattle.tso.specs.State.{owner};
+ghost use Rattle.spec_tso.specs.State.{owner};
 ghost use Rattle.tso_replay.specs.Noted.{bytesOf};
 
 // The thread that the byte b names.

@@ -1,8 +1,8 @@
 // A schedule of any length carried out as far as it goes: whole, or refused by 20 at its first byte that may not step, or by 21 if it is
 // not full.
 use crate::noting::note_step;
-use replay::Verdict;
-use rows::Code;
+use file_rows::Code;
+use machine_replay::Verdict;
 use tso_machine::QueuedMachine;
 use tso_machine::enabled;
 use tso_machine::ended_all;
@@ -10,8 +10,8 @@ use tso_machine::started;
 use tso_machine::step;
 ghost use mathlib.Core.Path.{_≡_};
 ghost use Prim.Native.Nat.{_≤_};
-ghost use Rattle.program.specs.Program.{Program, initial};
-ghost use Rattle.program.specs.WellFormed.{allAccesses};
+ghost use Rattle.spec_file.specs.Program.{Program, initial};
+ghost use Rattle.spec_file.specs.WellFormed.{allAccesses};
 ghost use Rattle.machine.specs.Held.{Loaded};
 ghost use Rattle.tso_replay.specs.Carried.{HoldsRun};
 

@@ -11,47 +11,49 @@ use native.Mathlib.Decide.{decLt}
 use lib.Dec.{eqb}
 use lib.ListN.{length, getD, drop}
 use borrow.Author.Tests.{eqb-true, eq-eqb}
-use Rattle.program.specs.declared.instruction.Access.{Access}
-use Rattle.program.specs.declared.instruction.Access.the-variants.{Store, Load, FetchAdd, CompareSwap}
-use Rattle.program.specs.declared.instruction.Instruction.{Instruction}
-use Rattle.program.specs.declared.instruction.Instruction.the-variants.{Memory, Alone}
-use Rattle.program.specs.Program.{Program}
-use Rattle.program.proofs.Tests.{equal-tests}
-use Rattle.rows.specs.Rows.{instructionAt, threadCode}
-use Rattle.schedules.specs.Lists.{range, any, all}
-use Rattle.schedules.specs.Order.{Schedule}
-use Rattle.schedules.specs.System.{Allowed}
-use Rattle.schedules.proofs.Lists.{in-range, of-range, any-yes, any-of, all-at, all-of}
-use Rattle.accesses.proofs.HeldSettling.{code-at, code-end}
-use Rattle.sc.specs.Local.{Local, firstPlace, firstTakes, accessTakes, placeOf, takes}
-use Rattle.sc.proofs.Access.{nothing-pending}
-use Rattle.prefix.proofs.RowAccess.{place-first}
-use Rattle.sc.specs.Ahead.{couldMeet}
-use Rattle.survivors.specs.Sets.{has, setOf}
-use Rattle.survivors.specs.Sleepers.{readsLeft, writesLeft, meets}
-use Rattle.survivors.proofs.Sets.{has-none, set-has, set-none, set-same}
-use Rattle.survivors.proofs.WhatIsLeft.{left-exact}
+use Rattle.spec_file.specs.declared.instruction.Access.{Access}
+use Rattle.spec_file.specs.declared.instruction.Access.the-variants.{Store, Load, FetchAdd, CompareSwap}
+use Rattle.spec_file.specs.declared.instruction.Instruction.{Instruction}
+use Rattle.spec_file.specs.declared.instruction.Instruction.the-variants.{Memory, Alone}
+use Rattle.spec_file.specs.Program.{Program}
+use Rattle.spec_file.proofs.Tests.{equal-tests}
+use Rattle.file_rows.specs.Rows.{instructionAt, threadCode}
+use Rattle.spec_schedules.specs.Lists.{range, any, all}
+use Rattle.spec_schedules.specs.Order.{Schedule}
+use Rattle.spec_schedules.specs.System.{Allowed}
+use Rattle.spec_schedules.proofs.Lists.{in-range, of-range, any-yes, any-of, all-at, all-of}
+use Rattle.machine_access.proofs.HeldSettling.{code-at, code-end}
+use Rattle.spec_sc.specs.Local.{Local, firstPlace, firstTakes, accessTakes, placeOf, takes}
+use Rattle.spec_sc.proofs.Access.{nothing-pending}
+use Rattle.search_place.proofs.RowAccess.{place-first}
+use Rattle.theory_search.specs.Ahead.{couldMeet}
+use Rattle.spec_schedules.specs.Sets.{has}
+use Rattle.theory_sc.specs.Sets.{setOf}
+use Rattle.theory_sc.specs.Sleepers.{readsLeft, writesLeft, meets}
+use Rattle.theory_sc.proofs.Sets.{has-none, set-has, set-none, set-same}
+use Rattle.theory_sc.proofs.WhatIsLeft.{left-exact}
 use Rattle.machine.specs.Held.{threadAt}
-use Rattle.rules.specs.Left.{ShortAt, meetsAt}
-use Rattle.tso.specs.Queue.{Entry, movable, oldestPlace}
-use Rattle.tso.specs.State.{Thread, State, Kind, access, move, unqueued, threadOf, accessLocks, firstLocks, locked, target, place, kindOf, owner, byteFor, enabled, start, TSO}
-use Rattle.tso.specs.Graph.{endOf}
-use Rattle.tso.specs.Actions.{action}
-use Rattle.tso.proofs.Bytes.{kind-for, owner-for}
-use Rattle.tso.proofs.Steps.{enabled-for, able-pending, able-movable}
-use Rattle.tso.proofs.Seen.{seen-thread}
-use Rattle.tso.proofs.Regular.{place-in, regular-run, regular-start}
-use Rattle.tso_list.specs.Rules.{late, taken, fears, wakes, unwoken, asleep}
+use Rattle.search_rules.specs.Left.{ShortAt, meetsAt}
+use Rattle.spec_tso.specs.Queue.{Entry, movable, oldestPlace}
+use Rattle.spec_tso.specs.State.{Thread, State, Kind, access, move, unqueued, threadOf, accessLocks, firstLocks, locked, target, place, kindOf, owner, byteFor, enabled, start, TSO}
+use Rattle.spec_tso.specs.Graph.{endOf}
+use Rattle.spec_tso.specs.Actions.{action}
+use Rattle.spec_tso.proofs.Bytes.{kind-for, owner-for}
+use Rattle.spec_tso.proofs.Steps.{enabled-for, able-pending, able-movable}
+use Rattle.spec_tso.proofs.Seen.{seen-thread}
+use Rattle.spec_tso.proofs.Regular.{place-in, regular-run, regular-start}
+use Rattle.theory_tso.specs.Rules.{late, taken, fears, wakes, unwoken, asleep}
 use Rattle.tso_machine.specs.Slots.{noStore, entryAt, queueAt}
 use Rattle.tso_machine.specs.Held.{coreOf, headAt, tailAt, Holds}
 use Rattle.tso_machine.specs.declared.state.Pending.{Pending}
 use Rattle.tso_machine.specs.declared.state.QueuedMachine.{QueuedMachine}
-use Rattle.tso_carried.specs.LateBytes.{bytesOf, lateAt}
-use Rattle.tso_waits.specs.Freed.{storesTo}
-use Rattle.tso_prefix.specs.Reached.{Reached}
-use Rattle.tso_prefix.specs.declared.place.Place.{Place}
-use Rattle.tso_waits.proofs.HeldDeeds.{queue-none, queue-more}
-use Rattle.tso_waits.proofs.Choices.{bytes-has}
+use Rattle.theory_search.specs.LateSet.{backAt}
+use Rattle.theory_tso.specs.LateBytes.{bytesOf, lateAt}
+use Rattle.tso_order.specs.Freed.{storesTo}
+use Rattle.tso_place.specs.Reached.{Reached}
+use Rattle.tso_place.specs.declared.place.Place.{Place}
+use Rattle.tso_order.proofs.HeldDeeds.{queue-none, queue-more}
+use Rattle.tso_order.proofs.Choices.{bytes-has}
 use Rattle.tso_rules.specs.Shown.{Shown, ReadyAt}
 
 -- ---- sets
@@ -216,7 +218,7 @@ and-regrouped false b c = refl
 -- R3: some access, or else some move
 pub asleep-some : (p : Program) (v : Schedule) (lt ov : ℕ) → lt ≡ bytesOf (lateAt p v) access → ov ≡ bytesOf (lateAt p v) move →
     (any (λ t. has lt t && unwoken (endOf p v) (byteFor access t)) (range 0 6) || any (λ t. has ov t && unwoken (endOf p v) (byteFor move t)) (range 0 6)) ≡ any (asleep p v (endOf p v)) (TSO .names)
-unfolding asleep lateAt byteFor
+unfolding asleep backAt byteFor
 asleep-some p v lt ov el eo =
     ap₂ (λ (x y : Bool). x || y)
     (any-six (λ t. has lt t && unwoken (endOf p v) (byteFor access t)) (asleep p v (endOf p v)) (λ t h. ap (λ (b : Bool). b && unwoken (endOf p v) (byteFor access t)) (ap (λ (s : ℕ). has s t) el ∙ bytes-has (lateAt p v) access t h)
@@ -227,7 +229,7 @@ asleep-some p v lt ov el eo =
 
 -- a late byte may step
 pub late-may : (p : Program) (v : Schedule) (k : Kind) (s : ℕ) → s ≡ bytesOf (lateAt p v) k → (t : ℕ) → t < 6 → has s t ≡ true → enabled (endOf p v) (byteFor k t) ≡ true
-unfolding lateAt
+unfolding backAt
 late-may p v k s e t h i = first (enabled (endOf p v) (byteFor k t)) _ (sym (ap (λ (j : ℕ). has j t) e ∙ bytes-has (lateAt p v) k t h) ∙ i)
   where
     first : (a b : Bool) → (a && b) ≡ true → a ≡ true

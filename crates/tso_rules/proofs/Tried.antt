@@ -7,27 +7,29 @@ use native.Mathlib.Omega.{arith}
 use lib.Dec.{eqb, ltb}
 use lib.ListN.{getD}
 use borrow.Author.Tests.{le-ltb}
-use Rattle.program.specs.Program.{Program}
-use Rattle.program.proofs.Tests.{both, equal-tests}
-use Rattle.schedules.specs.Lists.{range, any}
-use Rattle.schedules.specs.Order.{Schedule}
-use Rattle.schedules.proofs.Lists.{of-range, any-yes, any-of}
-use Rattle.model.specs.Exchange.{together}
-use Rattle.survivors.specs.Sets.{has}
-use Rattle.tso.specs.State.{State, Kind, access, move, kindOf, owner, byteFor, enabled}
-use Rattle.tso.specs.Graph.{endOf}
-use Rattle.tso.specs.Actions.{action}
-use Rattle.tso.proofs.Bytes.{ByteCase, of-access, of-move, byte-case, kind-low, owner-for}
-use Rattle.tso.proofs.Steps.{enabled-small}
-use Rattle.tso_model.specs.TotalStoreOrder.{tso}
-use Rattle.tso_list.specs.Rules.{late, taken, twin}
-use Rattle.tso_survivors.specs.Far.{far}
-use Rattle.tso_survivors.proofs.FarSet.{far-access}
-use Rattle.tso_carried.specs.LateBytes.{bytesOf, lateAt, farAt}
-use Rattle.tso_carried.proofs.Twins.{twin-by-word}
-use Rattle.tso_prefix.specs.Reached.{Reached}
-use Rattle.tso_prefix.specs.declared.place.Place as Held
-use Rattle.tso_waits.proofs.Choices.{bytes-has}
+use Rattle.spec_file.specs.Program.{Program}
+use Rattle.spec_file.proofs.DigitValues.{both}
+use Rattle.spec_file.proofs.Tests.{equal-tests}
+use Rattle.spec_schedules.specs.Lists.{range, any}
+use Rattle.spec_schedules.specs.Order.{Schedule}
+use Rattle.spec_schedules.proofs.Lists.{of-range, any-yes, any-of}
+use Rattle.spec_model.specs.Exchange.{together}
+use Rattle.spec_schedules.specs.Sets.{has}
+use Rattle.spec_tso.specs.State.{State, Kind, access, move, kindOf, owner, byteFor, enabled}
+use Rattle.spec_tso.specs.Graph.{endOf}
+use Rattle.spec_tso.specs.Actions.{action}
+use Rattle.spec_tso.proofs.Bytes.{ByteCase, of-access, of-move, byte-case, kind-low, owner-for}
+use Rattle.spec_tso.proofs.Steps.{enabled-small}
+use Rattle.spec_tso.specs.TotalStoreOrder.{tso}
+use Rattle.theory_tso.specs.Rules.{late, taken, twin}
+use Rattle.theory_tso.specs.Far.{far}
+use Rattle.theory_tso.proofs.Far.{far-access}
+use Rattle.theory_search.specs.LateSet.{backAt}
+use Rattle.theory_tso.specs.LateBytes.{bytesOf, lateAt, farAt}
+use Rattle.theory_tso.proofs.TwinWords.{twin-by-word}
+use Rattle.tso_place.specs.Reached.{Reached}
+use Rattle.tso_place.specs.declared.place.Place as Held
+use Rattle.tso_order.proofs.Choices.{bytes-has}
 use Rattle.tso_rules.specs.Tried.{tried}
 
 any-same : (f g : ℕ → Bool) (l : List ℕ) → ((u : ℕ) → List·Memᴰ u l → f u ≡ g u) → any f l ≡ any g l
@@ -41,11 +43,11 @@ module _ (p : Program) (v : Schedule) (b : ℕ) where
   not-enabled e = sym (rw e)
 
   pub is-late : lateAt p v b ≡ true → false ≡ tried p v b
-  unfolding tried lateAt
+  unfolding tried backAt
   is-late e = let q = both (enabled (endOf p v) b) _ e in let x = q .0 in let y = q .1 in sym (rw (x, y))
 
   pub is-far : enabled (endOf p v) b ≡ true → lateAt p v b ≡ false → farAt p v b ≡ true → false ≡ tried p v b
-  unfolding tried farAt
+  unfolding tried backAt far
   is-far m l e = let y = both (enabled (endOf p v) b) _ e .1 in sym (rw (m, y) (ends (not (late (taken p v) (action (endOf p v) b))) (not (any (twin p (endOf p v) (owner b)) (range 0 (owner b))))))
     where
       ends : (x y : Bool) → (x && (y && false)) ≡ false
@@ -54,7 +56,7 @@ module _ (p : Program) (v : Schedule) (b : ℕ) where
       ends false y = refl
 
   tried-else : enabled (endOf p v) b ≡ true → lateAt p v b ≡ false → far p v (endOf p v) b ≡ false → (q : Bool) → q ≡ any (twin p (endOf p v) (owner b)) (range 0 (owner b)) → not q ≡ tried p v b
-  unfolding tried lateAt
+  unfolding tried backAt
   tried-else m l f q e =
       let y : late (taken p v) (action (endOf p v) b) ≡ false = sym (ap (λ (x : Bool). x && late (taken p v) (action (endOf p v) b)) m) ∙ l in
       ap not e ∙ sym (rw (m, y, f) (and-true (not (any (twin p (endOf p v) (owner b)) (range 0 (owner b))))))
@@ -98,10 +100,10 @@ module _ (code lengths class : List ℕ) (threads groups : ℕ) (x : Held.Place)
 
   pub access-else : enabled (endOf p v) t ≡ true → lateAt p v t ≡ false → (ws : List ℕ) → x .words ≡ ws → (q : Bool) → q ≡ any (λ u. together (p .groups) u t && eqb (getD ws u 0) (getD ws t 0)) (range 0 t) → not q ≡ tried p v t
   unfolding byteFor
-  access-else m l ws ew q eq = tried-else p v t m l (far-access p v t (r .allowed) m (kind-low t (omega (arith, h)))) q (by-twins t (owner-for access t (omega (arith, h))) ws ew q eq)
+  access-else m l ws ew q eq = tried-else p v t m l (far-access p v t (kind-low t (omega (arith, h)))) q (by-twins t (owner-for access t (omega (arith, h))) ws ew q eq)
 
   pub move-else : enabled (endOf p v) (t + 16) ≡ true → lateAt p v (t + 16) ≡ false → farAt p v (t + 16) ≡ false → (ws : List ℕ) → x .words ≡ ws → (q : Bool) → q ≡ any (λ u. together (p .groups) u t && eqb (getD ws u 0) (getD ws t 0)) (range 0 t) → not q ≡ tried p v (t + 16)
-  unfolding byteFor farAt
+  unfolding byteFor backAt far
   move-else m l f ws ew q eq = tried-else p v (t + 16) m l (sym (ap (λ (y : Bool). y && far p v (endOf p v) (t + 16)) m) ∙ f) q (by-twins (t + 16) (owner-for move t (omega (arith, h))) ws ew q eq)
 
 -- a byte of no thread

@@ -4,8 +4,8 @@ use mathlib.Core.Path.{_≡_}
 use mathlib.Core.Bool.{true}
 use mathlib.Core.List.{List}
 use lib.ListN.{getD, drop}
-use Rattle.rows.specs.Rows.{threadCode}
-use Rattle.tso.specs.State.{State, Kind, threadOf, place, byteFor, enabled}
+use Rattle.file_rows.specs.Rows.{threadCode}
+use Rattle.spec_tso.specs.State.{State, Kind, threadOf, place, byteFor, enabled}
 use Rattle.tso_machine.specs.Slots.{queueAt}
 use Rattle.tso_machine.specs.declared.state.Pending.{Pending}
 

@@ -1,14 +1,14 @@
 // R1, R2 and R2 far: whether a byte is tried.
-use prefix::is_in;
-use rules::has_same_word;
-use tso_waits::Sets;
+use search_place::is_in;
+use search_rules::has_same_word;
+use tso_order::Sets;
 ghost use mathlib.Core.Path.{_≡_};
 ghost use mathlib.Core.List.{List};
 ghost use Prim.Native.Nat.{ℕ, _+_, _<_};
-ghost use Rattle.program.specs.Program.{Program};
-ghost use Rattle.schedules.specs.Order.{Schedule};
-ghost use Rattle.tso_prefix.specs.Reached.{Reached};
-ghost use Rattle.tso_prefix.specs.declared.place.Place.{Place};
+ghost use Rattle.spec_file.specs.Program.{Program};
+ghost use Rattle.spec_schedules.specs.Order.{Schedule};
+ghost use Rattle.tso_place.specs.Reached.{Reached};
+ghost use Rattle.tso_place.specs.declared.place.Place.{Place};
 ghost use Rattle.tso_rules.specs.Tried.{tried};
 
 // Whether thread t's next access is tried: it may be done, is not late, and t has no smaller twin.

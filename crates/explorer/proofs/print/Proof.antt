@@ -7,8 +7,8 @@ use mathlib.Core.List.{List, [], _++_, append-assoc}
 use native.Mathlib.Omega.{arith}
 use lib.ListN.{length, take, length-append}
 use lib.Seq.{length-take-le}
-use Rattle.listing.specs.Printed.{printed}
-use Rattle.printing.specs.Pieces.{rest, Sound}
+use Rattle.spec_calls.specs.Printed.{printed}
+use Rattle.explorer_lines.specs.Pieces.{rest, Sound}
 use Rattle.explorer.proofs.print.Statement.{statement}
 use Rattle.explorer.proofs.print.Tie as tie
 

@@ -1,6 +1,6 @@
 -- `asserts_nothing` asks the state before the first step; nothing is claimed of its answer.
 use borrow.Author.Needs.{needs}
-use Rattle.decoder.specs.Compiled.{programOf}
+use Rattle.file_decoder.specs.Compiled.{programOf}
 use Rattle.machine.proofs.HeldStart.{loaded-compiled}
 use Rattle.force.proofs.answering.asserts_nothing.Statement.{statement}
 use Rattle.force.proofs.answering.asserts_nothing.Tie as tie

@@ -4,14 +4,14 @@ use native.Mathlib.Omega.{arith}
 use mathlib.Core.Path.{refl, sym, _∙_}
 use mathlib.Core.Option.{none, some}
 use mathlib.Core.List.{[]}
-use Rattle.decoder.specs.Compiled.{programOf}
-use Rattle.sc.specs.State.{start}
+use Rattle.file_decoder.specs.Compiled.{programOf}
+use Rattle.spec_sc.specs.State.{start}
 use Rattle.machine.proofs.HeldStart.{loaded-compiled, starting-compiled}
-use Rattle.game.specs.Forced.{hostile-can, friendly-can}
-use Rattle.game.proofs.Answers.{steps-forced, steps-lost, pass-won, pass-lost}
+use Rattle.spec_force.specs.Forced.{hostile-can, friendly-can}
+use Rattle.spec_force.proofs.Answers.{steps-forced, steps-lost, pass-won, pass-lost}
 use Rattle.force.specs.Answered.{answerOf}
-use Rattle.moves.specs.Standing.{sideOf}
-use Rattle.moves.proofs.Steps.{standing-start}
+use Rattle.force_moves.specs.Standing.{sideOf}
+use Rattle.force_moves.proofs.Steps.{standing-start}
 use Rattle.force.proofs.Forcing.{pass-friendly, pass-hostile}
 use Rattle.force.proofs.answering.decided.Statement.{statement}
 use Rattle.force.proofs.answering.decided.Tie as tie

@@ -4,10 +4,10 @@ use Prim.Native.Nat.{ℕ}
 use native.Mathlib.Omega.{arith}
 use mathlib.Core.Path.{_≡_, refl, sym, subst, _∙_}
 use lib.ListN.{length}
-use Rattle.decoder.specs.Compiled.{programOf}
-use Rattle.decoder.proofs.Decoded.{decoded-refused, decoded-accepted, decoded-well-formed}
+use Rattle.file_decoder.specs.Compiled.{programOf}
+use Rattle.file_decoder.proofs.Decoded.{decoded-refused, decoded-accepted, decoded-well-formed}
 use Rattle.machine.proofs.HeldStart.{loaded-compiled, threads-held}
-use Rattle.game.specs.Forced.{refusing, program-refused, set-refused, played}
+use Rattle.spec_force.specs.Forced.{refusing, program-refused, set-refused, played}
 use Rattle.force.specs.Answered.{answerOf}
 use Rattle.force.proofs.Names.{all-named, lowest-missing}
 use Rattle.force.proofs.answering.force.Statement.{statement}

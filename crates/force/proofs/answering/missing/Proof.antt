@@ -5,7 +5,7 @@ use native.Mathlib.Omega.{arith}
 use mathlib.Core.Path.{_≡_, sym, _∙_}
 use mathlib.Core.Logic.{⊎-elim}
 use mathlib.Core.Bool.{true, true≢false}
-use Rattle.survivors.specs.Sets.{has}
+use Rattle.spec_schedules.specs.Sets.{has}
 use Rattle.machine.proofs.HeldAsking.{one-more}
 use Rattle.force.proofs.answering.missing.Statement.{statement}
 use Rattle.force.proofs.answering.missing.Tie as tie

@@ -3,9 +3,9 @@ use borrow.Author.Needs.{needs}
 use native.Mathlib.Omega.{arith}
 use mathlib.Core.Path.{refl, sym, _∙_}
 use lib.ListN.{replicate}
-use Rattle.program.proofs.AcceptedWellFormed.{accepted-well-formed}
-use Rattle.decoder.specs.Compiled.{programOf}
-use Rattle.game.specs.Forced.{friendly-can, friendly-forces}
+use Rattle.spec_file.proofs.AcceptedWellFormed.{accepted-well-formed}
+use Rattle.file_decoder.specs.Compiled.{programOf}
+use Rattle.spec_force.specs.Forced.{friendly-can, friendly-forces}
 use Rattle.force.specs.Answered.{answerOf}
 use Rattle.force.proofs.Forcing.{no-violation}
 use Rattle.force.proofs.answering.played.Statement.{statement}

@@ -5,11 +5,11 @@ use mathlib.Core.Path.{_≡_, refl, _∙_, sym}
 use borrow.Author.Tests.{not-true, not-false}
 use native.Mathlib.Omega.{arith}
 use lib.ListN.{drop}
-use Rattle.schedules.proofs.Lists.{all-cons}
-use Rattle.lines.specs.Frame.{pairs}
-use Rattle.schedules.specs.Lists.{all}
-use Rattle.sc.specs.Text.{eventsIn}
-use Rattle.consistent.specs.Reading.{isEvent, writesIn}
+use Rattle.spec_schedules.proofs.Lists.{all-cons}
+use Rattle.spec_file.specs.Frame.{pairs}
+use Rattle.spec_schedules.specs.Lists.{all}
+use Rattle.spec_sc.specs.Text.{eventsIn}
+use Rattle.spec_judge.specs.Reading.{isEvent, writesIn}
 use Rattle.graph_reader.proofs.LineWrites.{event-here, no-event}
 use Rattle.graph_reader.proofs.refusal.all_events.Statement.{statement}
 use Rattle.graph_reader.proofs.refusal.all_events.Tie as tie

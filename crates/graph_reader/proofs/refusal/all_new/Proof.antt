@@ -6,11 +6,11 @@ use mathlib.Core.Bool.{true}
 use mathlib.Core.List.{List, [], _∷_}
 use native.Mathlib.Omega.{arith}
 use lib.ListN.{length, drop, length-set}
-use Rattle.lines.specs.Frame.{pairs}
-use Rattle.schedules.specs.Lists.{all}
-use Rattle.sc.specs.State.{Event}
-use Rattle.sc.specs.Text.{eventsIn}
-use Rattle.consistent.specs.Reading.{isEvent, writesIn, allNew}
+use Rattle.spec_file.specs.Frame.{pairs}
+use Rattle.spec_schedules.specs.Lists.{all}
+use Rattle.spec_sc.specs.State.{Event}
+use Rattle.spec_sc.specs.Text.{eventsIn}
+use Rattle.spec_judge.specs.Reading.{isEvent, writesIn, allNew}
 use Rattle.graph_reader.specs.Held.{Seen}
 use Rattle.graph_reader.proofs.Marks.{seen-more}
 use Rattle.graph_reader.proofs.MarkLoop.{iteration-named, iteration-found, iteration-next}

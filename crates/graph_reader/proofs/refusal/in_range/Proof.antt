@@ -3,9 +3,10 @@ use borrow.Author.Needs.{needs}
 use mathlib.Core.Path.{_∙_, sym}
 use native.Mathlib.Omega.{arith}
 use borrow.Author.Tests.{eq-eqb, ne-eqb, lt-leb, le-leb, not-true, not-false}
-use Rattle.lines.specs.Frame.{pairs}
-use Rattle.consistent.specs.Reading.{inRange, isRead}
-use Rattle.graph_reader.proofs.Ranks.{not-read, write-shape}
+use Rattle.spec_file.specs.Frame.{pairs}
+use Rattle.spec_judge.specs.Reading.{inRange, isRead}
+use Rattle.graph_reader.proofs.Ranks.{not-read}
+use Rattle.spec_judge.proofs.LineRanges.{write-shape}
 use Rattle.graph_reader.proofs.refusal.in_range.Statement.{statement}
 use Rattle.graph_reader.proofs.refusal.in_range.Tie as tie
 

@@ -1,6 +1,6 @@
 -- `is_event` compares both numbers.
 use borrow.Author.Tests.{le-ltb, lt-ltb}
-use Rattle.consistent.specs.Reading.{isEvent}
+use Rattle.spec_judge.specs.Reading.{isEvent}
 use Rattle.graph_reader.proofs.refusal.is_event.Statement.{statement}
 use Rattle.graph_reader.proofs.refusal.is_event.Tie as tie
 

@@ -2,9 +2,9 @@
 use borrow.Author.Needs.{needs}
 use borrow.Author.Tests.{eq-eqb, ne-eqb}
 use mathlib.Core.Path.{_∙_}
-use Rattle.consistent.specs.Reading.{isSource}
-use Rattle.sc.specs.State.{initialWrite}
-use Rattle.consistent.specs.Same.{sameEvent}
+use Rattle.spec_judge.specs.Reading.{isSource}
+use Rattle.spec_sc.specs.State.{initialWrite}
+use Rattle.spec_sc.specs.Same.{sameEvent}
 use Rattle.graph_reader.proofs.refusal.is_source.Statement.{statement}
 use Rattle.graph_reader.proofs.refusal.is_source.Tie as tie
 

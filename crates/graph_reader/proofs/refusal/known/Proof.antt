@@ -2,7 +2,7 @@
 use borrow.Author.Needs.{needs}
 use borrow.Author.Tests.{eq-eqb, ne-eqb, lt-leb, le-leb}
 use mathlib.Core.Path.{_∙_, sym}
-use Rattle.consistent.specs.Reading.{known, isRead}
+use Rattle.spec_judge.specs.Reading.{known, isRead}
 use Rattle.graph_reader.proofs.refusal.known.Statement.{statement}
 use Rattle.graph_reader.proofs.refusal.known.Tie as tie
 

@@ -2,7 +2,7 @@
 use borrow.Author.Needs.{needs}
 use borrow.Author.Tests.{eq-eqb, ne-eqb}
 use native.Mathlib.Omega.{arith}
-use Rattle.consistent.specs.Reading.{isRead}
+use Rattle.spec_judge.specs.Reading.{isRead}
 use Rattle.graph_reader.specs.Held.{rankOf}
 use Rattle.graph_reader.proofs.refusal.rank.Statement.{statement}
 use Rattle.graph_reader.proofs.refusal.rank.Tie as tie

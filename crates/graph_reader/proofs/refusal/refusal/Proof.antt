@@ -3,9 +3,10 @@ use borrow.Author.Needs.{needs}
 use mathlib.Core.Path.{_∙_, sym}
 use native.Mathlib.Omega.{arith}
 use borrow.Author.Tests.{not-true, not-false}
-use Rattle.lines.specs.Frame.{pairs}
+use Rattle.spec_file.specs.Frame.{pairs}
 use Rattle.graph_reader.proofs.HeldRefusal.{refused-kind, refused-range, refused-early, passes-read, by-writes}
-use Rattle.graph_reader.proofs.Ranks.{is-read, not-read, write-shape, write-range, events-six}
+use Rattle.graph_reader.proofs.Ranks.{is-read, not-read, events-six}
+use Rattle.spec_judge.proofs.LineRanges.{write-shape, write-range}
 use Rattle.graph_reader.proofs.refusal.refusal.Statement.{statement}
 use Rattle.graph_reader.proofs.refusal.refusal.Tie as tie
 

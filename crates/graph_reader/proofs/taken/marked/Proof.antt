@@ -5,10 +5,10 @@ use mathlib.Core.Path.{_≡_, refl, _∙_, sym}
 use mathlib.Core.Bool.{true}
 use native.Mathlib.Omega.{arith}
 use lib.ListN.{length, drop, length-set}
-use Rattle.lines.specs.Frame.{pairs}
-use Rattle.schedules.specs.Lists.{all}
-use Rattle.sc.specs.Text.{eventsIn}
-use Rattle.consistent.specs.Reading.{isEvent, writesIn}
+use Rattle.spec_file.specs.Frame.{pairs}
+use Rattle.spec_schedules.specs.Lists.{all}
+use Rattle.spec_sc.specs.Text.{eventsIn}
+use Rattle.spec_judge.specs.Reading.{isEvent, writesIn}
 use Rattle.graph_reader.specs.Held.{markedBy}
 use Rattle.graph_reader.proofs.MarkLoop.{iteration-named, iteration-marked}
 use Rattle.graph_reader.proofs.LineWrites.{no-event}

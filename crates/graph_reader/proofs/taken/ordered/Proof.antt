@@ -4,9 +4,9 @@ use Prim.Native.Nat.{ℕ, _≤_, _+_, _*_, _-_}
 use mathlib.Core.Path.{_≡_, _∙_, sym, ap₂}
 use native.Mathlib.Omega.{arith}
 use lib.ListN.{length}
-use Rattle.lines.specs.Frame.{pairs}
-use Rattle.sc.specs.State.{Event}
-use Rattle.consistent.specs.Reading.{writesIn}
+use Rattle.spec_file.specs.Frame.{pairs}
+use Rattle.spec_sc.specs.State.{Event}
+use Rattle.spec_judge.specs.Reading.{writesIn}
 use Rattle.graph_reader.specs.Held.{Ordered}
 use Rattle.graph_reader.proofs.LineWrites.{write-at}
 use Rattle.graph_reader.proofs.Entries.{length-put, ordered-none, ordered-more}

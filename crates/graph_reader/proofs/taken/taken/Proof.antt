@@ -4,11 +4,12 @@ use Prim.Native.Nat.{_-_}
 use mathlib.Core.Path.{_≡_, sym, subst}
 use native.Mathlib.Omega.{arith}
 use lib.ListN.{length}
-use Rattle.lines.specs.Frame.{pairs}
+use Rattle.spec_file.specs.Frame.{pairs}
 use Rattle.graph_reader.specs.declared.table.Table.{Table}
-use Rattle.consistent.specs.Reading.{after}
+use Rattle.spec_judge.specs.Reading.{after}
 use Rattle.graph_reader.specs.Held.{Holds}
-use Rattle.graph_reader.proofs.Ranks.{is-read, not-read, read-range, write-range, write-shape, events-six}
+use Rattle.graph_reader.proofs.Ranks.{is-read, not-read, events-six}
+use Rattle.spec_judge.proofs.LineRanges.{read-range, write-range, write-shape}
 use Rattle.graph_reader.proofs.HeldAfter.{held-read}
 use Rattle.graph_reader.proofs.HeldAfterWrites.{held-writes}
 use Rattle.graph_reader.proofs.taken.taken.Statement.{statement}

@@ -4,7 +4,7 @@ use Prim.Native.Nat.{_≤_, _-_}
 use mathlib.Core.Path.{_∙_, sym}
 use native.Mathlib.Omega.{arith}
 use lib.ListN.{length}
-use Rattle.lines.proofs.Split.{before-end}
+use Rattle.spec_file.proofs.Split.{before-end}
 use Rattle.graph_reader.proofs.HeldText.{Progress, progress-start, read-done, read-unended, read-broken, read-remark, read-size, read-refused, read-passes, read-more}
 use Rattle.graph_reader.proofs.text.read_graph.Statement.{statement}
 use Rattle.graph_reader.proofs.text.read_graph.Tie as tie

@@ -6,7 +6,7 @@ use native.Mathlib.Omega.{arith}
 use mathlib.Core.List.{flatMap}
 use lib.ListN.{length}
 use borrow.Rule.Slice.PartMut.{mid-len}
-use Rattle.schedules.specs.Lists.{range}
+use Rattle.spec_schedules.specs.Lists.{range}
 use Rattle.graph_writer.specs.NoteText.{readFramesIn, notesAt, Wrote}
 use Rattle.graph_writer.proofs.WrittenLines.{wrote-within, wrote-more}
 use Rattle.graph_writer.proofs.NotesHeld.{threads-next}

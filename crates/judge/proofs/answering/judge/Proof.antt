@@ -3,7 +3,7 @@ use borrow.Author.Needs.{needs}
 use mathlib.Core.Path.{_≡_}
 use borrow.Author.Tests.{not-true, not-false}
 use lib.ListN.{length}
-use Rattle.decoder.specs.Compiled.{programOf}
+use Rattle.file_decoder.specs.Compiled.{programOf}
 use Rattle.machine.proofs.HeldStart.{starting-compiled}
 use Rattle.judge.proofs.CallAnswer.{says-refused, says-no, says-yes, call-refused, call-loaded, call-few, call-short, call-line, call-read, call-no, call-yes}
 use Rattle.judge.proofs.answering.judge.Statement.{statement}

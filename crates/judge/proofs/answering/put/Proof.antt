@@ -4,8 +4,8 @@ use Prim.Native.Nat.{_≤_, _-_}
 use mathlib.Core.Path.{_≡_, _∙_, sym}
 use native.Mathlib.Omega.{arith}
 use lib.ListN.{length, take, length-set}
-use Rattle.lines.specs.Over.{over}
-use Rattle.lines.proofs.Over.{over-nil}
+use Rattle.spec_file.specs.Over.{over}
+use Rattle.spec_file.proofs.Over.{over-nil}
 use Rattle.judge.proofs.CallAnswer.{put-more}
 use Rattle.judge.proofs.answering.put.Statement.{statement}
 use Rattle.judge.proofs.answering.put.Tie as tie

@@ -4,7 +4,7 @@ use mathlib.Core.Path.{_≡_, _∙_, sym, subst}
 use mathlib.Core.Bool.{Bool}
 use borrow.Author.Tests.{not-true, not-false}
 use lib.ListN.{length}
-use Rattle.consistent.proofs.Walk.{judge}
+use Rattle.spec_judge.proofs.Walk.{judge}
 use Rattle.machine.proofs.HeldAsking.{ended-by}
 use Rattle.judge.specs.HeldYes.{JudgedAs}
 use Rattle.judge.proofs.JudgeTables.{answer-running, answer-pairs, answer-counts, answer-yes}

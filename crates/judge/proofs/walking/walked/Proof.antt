@@ -4,13 +4,13 @@ use Prim.Native.Nat.{ℕ, _≤_, _-_}
 use mathlib.Core.Path.{_≡_, sym, _∙_}
 use native.Mathlib.Omega.{arith}
 use lib.ListN.{length, getD, length-set}
-use Rattle.program.specs.Program.{Program, initial}
-use Rattle.schedules.specs.System.{run}
-use Rattle.sc.specs.State.{SC, start}
-use Rattle.sc.specs.Graph.{Graph}
-use Rattle.allowed.specs.HeldWalk.{Given}
-use Rattle.rounds.proofs.HeldValues.{zeros}
-use Rattle.allowed.proofs.WalkChoice.{walk-near, walk-ready}
+use Rattle.spec_file.specs.Program.{Program, initial}
+use Rattle.spec_schedules.specs.System.{run}
+use Rattle.spec_sc.specs.State.{SC, start}
+use Rattle.spec_sc.specs.Graph.{Graph}
+use Rattle.judge_next.specs.HeldWalk.{Given}
+use Rattle.judge_values.proofs.HeldRoundLoop.{zeros}
+use Rattle.judge_next.proofs.WalkChoice.{walk-near, walk-ready}
 use Rattle.judge.proofs.WalkLoop.{Progress, walk-start, walk-on, walk-whole, walk-stops, walk-enabled, walk-note, walk-more, few-more}
 use Rattle.judge.proofs.walking.walked.Statement.{statement}
 use Rattle.judge.proofs.walking.walked.Tie as tie

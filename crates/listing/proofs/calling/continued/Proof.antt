@@ -1,13 +1,16 @@
 -- `continued` carries the schedule out first.
 use borrow.Author.Needs.{needs}
+use Prim.Native.Nat.{ℕ, _<_, _≤_}
 use mathlib.Core.Bool.{false}
-use mathlib.Core.Path.{sym, ap, _∙_}
-use Rattle.decoder.specs.Compiled.{programOf}
-use Rattle.list.specs.Search.{sought}
-use Rattle.walker.proofs.Pages.{sought-48}
-use Rattle.schedules.specs.Calls.{Result}
+use mathlib.Core.Path.{sym, ap, subst, _∙_}
+use lib.ListN.{length}
+use Rattle.file_decoder.specs.Compiled.{programOf}
+use Rattle.spec_model.specs.Search.{sought}
+use Rattle.listing_cursor.proofs.ListPages.{sought-48}
+use Rattle.spec_schedules.specs.Calls.{Result}
+use Rattle.listing_model.specs.ModelOf.{modelOf}
+use Rattle.listing_model.proofs.ModelLaws.{model-laws, need-48}
 use Rattle.listing.specs.AnswerOf.{listAnswerOf}
-use Rattle.machine.proofs.HeldStart.{loaded-compiled, starting-compiled}
 use Rattle.listing.proofs.FileCalls.{continue-short, continue-refused, continue-whole, continue-output}
 use Rattle.listing.proofs.calling.continued.Statement.{statement}
 use Rattle.listing.proofs.calling.continued.Tie as tie
@@ -15,45 +18,33 @@ use Rattle.listing.proofs.calling.continued.Tie as tie
 returns : tie.Need-returns
 unfolding listAnswerOf
 returns c =
-    let args = c .before .before .before .args in
-    let e = continue-short (programOf (args .program)) (args .schedule .now) (args .out .now) (c .if1 .taken) in
+    let args = c .before .before .before .before .args in
+    let e = continue-short (modelOf (args .model)) (programOf (args .program)) (args .schedule .now) (args .out .now) (subst (λ (n : ℕ). length (args .out .now) < n) (c .before .width .ensures) (c .if1 .taken)) in
     (ap (λ (r : Result). listAnswerOf (r .0)) (sym e), ap (λ (r : Result). r .1) (sym e))
-
-replayed-requires : tie.Need-replayed-requires
-replayed-requires c κs =
-    let entry = c .before .before .before .before .before .before .before .before in
-    let pre = entry .pre in
-    let args = entry .args in
-    (programOf (args .program), loaded-compiled (args .program) (pre), starting-compiled (args .program))
 
 returns-2 : tie.Need-returns-2
 unfolding listAnswerOf
 returns-2 c =
-    let entry = c .before .before .before .before .before .before .before .before .before .before .before .before in
-    let pre = entry .pre in
-    let args = entry .args in
-    let if1 = c .before .before .before .before .before .before .before .before .before .if1 in
-    let replayed = c .before .before .before .replayed in
-    let v = c .before .v in
-    let p = args .program in
-    let e = continue-refused (programOf p) (args .schedule .now) (args .out .now) (p .code) (p .lengths) (replayed .result) (replayed .ensures (programOf p) (loaded-compiled p (pre)) (starting-compiled p)) (if1 .left) _ _ (v .given .1) in
+    let args = c .before .before .before .before .before .before .before .before .args in
+    let refusal = c .before .before .before .refusal in
+    let wide = subst (λ (n : ℕ). n ≤ length (args .out .now)) (c .before .before .before .before .before .width .ensures) (c .before .before .before .before .if1 .left) in
+    let e = continue-refused (modelOf (args .model)) (programOf (args .program)) (args .schedule .now) (args .out .now) wide (refusal .result) (refusal .ensures) _ _ (c .before .v .given .1) in
     (ap (λ (r : Result). listAnswerOf (r .0)) (sym e), ap (λ (r : Result). r .1) (sym e))
 
 returns-3 : tie.Need-returns-3
 returns-3 c =
-    let entry = c .before .before .before .before .before .before .before .before .before .before .before .before .before .before .before .before in
-    let pre = entry .pre in
+    let entry = c .before .before .before .before .before .before .before .before .before .before .before .before in
     let args = entry .args in
-    let if1 = c .before .before .before .before .before .before .before .before .before .before .before .before .before .if1 in
-    let replayed = c .before .before .before .before .before .before .before .replayed in
-    let enum-told = c .before .before .before .before .before .enum-told in
+    let M = modelOf (args .model) in
+    let p = programOf (args .program) in
+    let refusal = c .before .before .before .before .before .before .before .refusal in
+    let wide = subst (λ (n : ℕ). n ≤ length (args .out .now)) (c .before .before .before .before .before .before .before .before .before .width .ensures) (c .before .before .before .before .before .before .before .before .if1 .left) in
+    let is = c .before .before .before .before .before .enum-told .given .1 in
     let next-listed = c .before .before .next-listed in
-    let p = args .program in
-    let after = c .before .before .before .before .behind .ensures (sought false (programOf p)) (sought-48 (programOf p) pre false) in
-    let h = replayed .ensures (programOf p) (loaded-compiled p (pre)) (starting-compiled p) in (
-      next-listed .ensures .0 ∙ ap listAnswerOf (continue-whole (programOf p) (args .schedule .now) (args .out .now) (p .code) (p .lengths) (replayed .result) h (if1 .left) _ after (enum-told .given .1)),
-      next-listed .ensures .1 ∙ continue-output (programOf p) (args .schedule .now) (args .out .now) (p .code) (p .lengths) (replayed .result) h (if1 .left) _ after (enum-told .given .1),
+    let after = c .before .before .before .before .behind .ensures (sought M false p) (sought-48 M (model-laws (args .model)) p (entry .pre) false (need-48 (args .model))) in (
+      next-listed .ensures .0 ∙ ap listAnswerOf (continue-whole M p (args .schedule .now) (args .out .now) wide (refusal .result) (refusal .ensures) _ after is),
+      next-listed .ensures .1 ∙ continue-output M p (args .schedule .now) (args .out .now) wide (refusal .result) (refusal .ensures) _ after is,
     )
 
 pub continued-spec : {M : Type 1} → statement M
-continued-spec = tie.close (tie.spec returns replayed-requires (λ c. search needs) (λ c. search needs) (λ c κs. search needs) (λ c κs. search needs) returns-2 (λ c. search needs) returns-3)
+continued-spec = tie.close (tie.spec (λ c κs. search needs) returns (λ c κs. search needs) (λ c. search needs) (λ c. search needs) (λ c κs. search needs) (λ c κs. search needs) returns-2 (λ c. search needs) returns-3)

@@ -1,79 +1,60 @@
--- `next_listed` asks for one row and reads it back.
+-- `next_listed` lends `next_of` a row of the model's width.
 use borrow.Author.Needs.{needs}
-use mathlib.Core.Path.{_≡_, refl, sym, ap, _∙_}
-use lib.ListN.{length}
+use Prim.Native.Nat.{ℕ, _+_, _<_, _≤_}
+use mathlib.Core.Path.{_≡_, refl, sym, ap, subst, _∙_}
+use mathlib.Core.Bool.{Bool, false}
+use lib.ListN.{length, take}
+use lib.Seq.{length-take-le}
 use native.Mathlib.Omega.{arith}
-use Rattle.lines.specs.Over.{over}
-use Rattle.decoder.specs.Compiled.{programOf}
-use Rattle.schedules.specs.Calls.{Answer, content}
-use Rattle.walker.specs.Cursor.{remaining}
-use Rattle.schedules.proofs.Offered.{content-found, content-nomore, content-refused}
+use borrow.Author.Tests.{le-ltb}
+use Rattle.file_decoder.specs.Compiled.{programOf}
+use Rattle.spec_schedules.specs.Lists.{headOf}
+use Rattle.spec_schedules.specs.Calls.{Answer, answerTo, short, content}
+use Rattle.spec_schedules.proofs.Offered.{content-refused}
+use Rattle.listing_cursor.specs.ListRows.{remaining}
+use Rattle.spec_calls.proofs.Answered.{answer-short}
+use Rattle.listing_model.specs.ModelOf.{modelOf}
+use Rattle.listing_model.proofs.ModelLaws.{need-48}
 use Rattle.listing.specs.AnswerOf.{listAnswerOf}
-use Rattle.listing.specs.declared.calling.ListAnswer.{ListAnswer}
-use Rattle.listing.specs.declared.calling.ListAnswer.the-variants.{Found}
-use Rattle.list.specs.Answers.{failing}
-use Rattle.pages.proofs.Answered.{answer-short, answer-none, answer-some}
-use Rattle.pages.proofs.FirstRow.{first-none, first-of, first-head, first-length, first-steps}
-use Rattle.walker.proofs.Pages.{remaining-24}
 use Rattle.listing.proofs.calling.next_listed.Statement.{statement}
 use Rattle.listing.proofs.calling.next_listed.Tie as tie
 
 returns : tie.Need-returns
 unfolding listAnswerOf
 returns c =
-    let out = c .before .before .args .out .now in
-    let e = answer-short 24 out _ (c .if1 .taken) in
+    let args = c .before .before .before .args in
+    let out = args .out .now in
+    let e = answer-short (modelOf (args .model) .need) out _ (subst (λ (n : ℕ). length out < n) (c .before .width .ensures) (c .if1 .taken)) in
     (ap listAnswerOf (sym e), sym (content-refused 22 0 out) ∙ ap (λ (a : Answer). content a out) (sym e))
 
+add-row : tie.Need-add-row
+add-row c = omega (arith, c .before .width .ensures, need-48 (c .before .before .before .args .model))
+
+array-borrow-prefix-row : tie.Need-array-borrow-prefix-row
+array-borrow-prefix-row c = omega (arith, c .before .width .ensures, need-48 (c .before .before .before .args .model))
+
+slice-aggregate-next-of : tie.Need-slice-aggregate-next-of
+slice-aggregate-next-of c = sym (length-take-le _ _ (omega (arith, c .before .before .width .ensures, need-48 (c .before .before .before .before .args .model))))
+
+next-of-requires : tie.Need-next-of-requires
+next-of-requires c κs =
+    let entry = c .before .before .before .before .before in
+    let w = c .before .before .before .width .ensures in (
+      entry .pre,
+      length-take-le _ _ (omega (arith, w, need-48 (entry .args .model))) ∙ ap (λ (n : ℕ). n + 2) w,
+      subst (λ (n : ℕ). n ≤ length (entry .args .out .now)) w (c .before .before .if1 .left),
+    )
+
 returns-2 : tie.Need-returns-2
-unfolding listAnswerOf
 returns-2 c =
-    let args = c .before .before .before .before .before .before .before .args in
-    let if1 = c .before .before .before .before .before .if1 in
-    let page = c .before .before .before .next-page in
+    let args = c .before .before .before .before .before .before .before .before .before .args in
+    let M = modelOf (args .model) in
     let out = args .out .now in
-    let p = programOf (args .program) in
-    let l = remaining p (args .failures) (args .cursor) in
-    let e = answer-none 24 out _ (if1 .left) (first-none 24 (failing p) _ (page .last .1 .1 .1 .0) (page .result .rows) refl l (page .ensures .shown) (c .if2 .taken)) in
-    (ap listAnswerOf (sym e), sym (content-nomore out) ∙ ap (λ (a : Answer). content a out) (sym e))
-
-put-schedule-requires : tie.Need-put-schedule-requires
-put-schedule-requires c κs =
-    let entry = c .before .before .before .before .before .before .before .before .before .before in
-    let pre = entry .pre in
-    let args = entry .args in
-    let if1 = c .before .before .before .before .before .before .before .before .if1 in
-    let page = c .before .before .before .before .before .before .next-page in
-    let if2 = c .before .before .before .if2 in
-    let wide = c .before .before .wide in
-    let p = programOf (args .program) in
-    let row = page .last .1 .1 .1 .0 in
-    let l = remaining p (args .failures) (args .cursor) in
-    let h = remaining-24 p pre (args .failures) (args .cursor) _ (first-of 24 (failing p) _ row (page .result .rows) refl l (page .ensures .shown) (if2 .left)) in
-    let n = first-length 24 (failing p) _ row (page .result .rows) refl l (page .ensures .shown) (if2 .left) (wide .result) (wide .ensures .0) in
-    let size : length row ≡ 26 = search needs in
-    (omega (arith, h, n, if1 .left), omega (arith, h, n, size))
-
-returns-3 : tie.Need-returns-3
-unfolding listAnswerOf
-returns-3 c =
-    let entry = c .before .before .before .before .before .before .before .before .before .before .before .before .before in
-    let pre = entry .pre in
-    let args = entry .args in
-    let if1 = c .before .before .before .before .before .before .before .before .before .before .before .if1 in
-    let page = c .before .before .before .before .before .before .before .before .before .next-page in
-    let if2 = c .before .before .before .before .before .before .if2 in
-    let wide = c .before .before .before .before .before .wide in
-    let put-schedule = c .before .before .put-schedule in
-    let out = args .out .now in
-    let p = programOf (args .program) in
-    let row = page .last .1 .1 .1 .0 in
-    let l = remaining p (args .failures) (args .cursor) in
-    let h = remaining-24 p pre (args .failures) (args .cursor) _ (first-of 24 (failing p) _ row (page .result .rows) refl l (page .ensures .shown) (if2 .left)) in
-    let n = first-length 24 (failing p) _ row (page .result .rows) refl l (page .ensures .shown) (if2 .left) (wide .result) (wide .ensures .0) in
-    let s = first-steps 24 (failing p) _ row (page .result .rows) refl l (page .ensures .shown) (if2 .left) (wide .result) (wide .ensures .0) h in
-    let e = answer-some 24 out _ _ (if1 .left) (first-head 24 (failing p) _ row (page .result .rows) refl l (page .ensures .shown) (if2 .left)) in
-    (ap {B = ListAnswer} (λ k. Found k) n ∙ ap listAnswerOf (sym e), put-schedule .ensures ∙ ap (λ t. over t out) s ∙ sym (content-found _ out) ∙ ap (λ (a : Answer). content a out) (sym e))
+    let o = headOf (remaining M (programOf (args .program)) (args .failures) (args .cursor)) in
+    let next-of = c .before .before .before .next-of in
+    let long : short (M .need) out ≡ false = le-ltb (length out) (M .need) (subst (λ (n : ℕ). n ≤ length out) (c .before .before .before .before .before .before .before .width .ensures) (c .before .before .before .before .before .before .if1 .left)) in
+    let e : answerTo false o ≡ answerTo (short (M .need) out) o = ap (λ (b : Bool). answerTo b o) (sym long) in
+    (next-of .ensures .0 ∙ ap listAnswerOf e, next-of .ensures .1 ∙ ap (λ (a : Answer). content a out) e)
 
 pub next-listed-spec : {M : Type 1} → statement M
-next-listed-spec = tie.close (tie.spec returns (λ c. search needs) (λ c κs. search needs) returns-2 (λ c. search needs) (λ c κs. search needs) (λ c. search needs) put-schedule-requires (λ c. search needs) returns-3)
+next-listed-spec = tie.close (tie.spec (λ c κs. search needs) returns add-row array-borrow-prefix-row slice-aggregate-next-of next-of-requires (λ c. search needs) returns-2)

@@ -4,8 +4,8 @@ use Prim.Native.Nat.{ℕ, _-_, _<_, _≤_}
 use mathlib.Core.Path.{_≡_, refl, _∙_}
 use native.Mathlib.Omega.{arith}
 use lib.ListN.{length, getD, length-set}
-use Rattle.program.specs.Program.{Program}
-use Rattle.sc.specs.State.{start}
+use Rattle.spec_file.specs.Program.{Program}
+use Rattle.spec_sc.specs.State.{start}
 use Rattle.machine.specs.Held.{idle, HoldsAt, Loaded}
 use Rattle.machine.proofs.HeldStart.{short-held, one-more, start-held}
 use Rattle.machine.proofs.starting.started.Statement.{statement}

@@ -39,41 +39,41 @@ use denote.Triple.Clauses.{ensured, lasts}
 use denote.Triple.Table.{entered, cited}
 use denote.Triple.Walked.{says, Stays, gave-slice, gave-ref, stay-none, stay-none-slice, walkOf, AllGo, goes-gave-slice, goes-gave-ref, goes-none, goes-none-slice, Walks, ends-at, walked, walk-meets}
 use denote.Exit.{yes}
-use Rattle.sharing.specs.declared.caller.Caller.{Caller}
-use Rattle.sharing.specs.Record.{fresh}
-use Rattle.sharing.specs.Call.{serve}
-use Rattle.handling.specs.declared.answer.Kept.{Kept}
-use Rattle.handling.specs.declared.answer.Reply.{Reply}
-use Rattle.handling.specs.Reply.{shared, Served}
-use Rattle.serving.specs.Kept.{Four}
-use Rattle.sharing.proofs.caller.Caller as T
-use Rattle.sharing.proofs.caller.Caller.Laws as T′
-use Rattle.handling.proofs.answer.Kept as K′
-use Rattle.handling.proofs.answer.Kept.Laws as K′′
-use Rattle.handling.proofs.answer.Reply as Y
-use Rattle.handling.proofs.answer.Reply.Laws as Y′
-use Rattle.handling.proofs.Looking.{RecordAt, looks-at}
-use Rattle.handling.proofs.Putting.{PutRecord, puts-at}
-use Rattle.handling.proofs.Parts.{RecordOf, ReplyOf, PlaceOf, takes-record, takes-reply, takes-place}
-use Rattle.handling.proofs.record_at.Symbol as at-def
-use Rattle.handling.proofs.record_at.Symbol.{name as #handling·record-at}
-use Rattle.handling.proofs.record_at.Met as at-thm
-use Rattle.handling.proofs.put_record.Symbol as put-def
-use Rattle.handling.proofs.put_record.Symbol.{name as #handling·put-record}
-use Rattle.handling.proofs.put_record.Met as put-thm
-use Rattle.handling.proofs.record_of.Symbol as record-def
-use Rattle.handling.proofs.record_of.Symbol.{name as #handling·record-of}
-use Rattle.handling.proofs.record_of.Met as record-thm
-use Rattle.handling.proofs.reply_of.Symbol as reply-def
-use Rattle.handling.proofs.reply_of.Symbol.{name as #handling·reply-of}
-use Rattle.handling.proofs.reply_of.Met as reply-thm
-use Rattle.handling.proofs.place_of.Symbol as place-def
-use Rattle.handling.proofs.place_of.Symbol.{name as #handling·place-of}
-use Rattle.handling.proofs.place_of.Met as place-thm
-use Rattle.serving.proofs.serve_four as core
-use Rattle.serving.proofs.serve_four.Symbol as core-def
-use Rattle.serving.proofs.serve_four.Symbol.{name as #core}
-use Rattle.serving.proofs.serve_four.Met as core-thm
+use Rattle.spec_service.specs.declared.caller.Caller.{Caller}
+use Rattle.spec_service.specs.Record.{fresh}
+use Rattle.spec_service.specs.Call.{serve}
+use Rattle.service_one.specs.declared.answer.Kept.{Kept}
+use Rattle.spec_service.specs.declared.reply.Reply.{Reply}
+use Rattle.spec_service.specs.Reply.{shared, Served}
+use Rattle.service_serve.specs.Kept.{Four}
+use Rattle.spec_service.proofs.caller.Caller as T
+use Rattle.spec_service.proofs.caller.Caller.Laws as T′
+use Rattle.service_one.proofs.answer.Kept as K′
+use Rattle.service_one.proofs.answer.Kept.Laws as K′′
+use Rattle.spec_service.proofs.reply.Reply as Y
+use Rattle.spec_service.proofs.reply.Reply.Laws as Y′
+use Rattle.service_one.proofs.Looking.{RecordAt, looks-at}
+use Rattle.service_one.proofs.Putting.{PutRecord, puts-at}
+use Rattle.service_one.proofs.Parts.{RecordOf, ReplyOf, PlaceOf, takes-record, takes-reply, takes-place}
+use Rattle.service_one.proofs.record_at.Symbol as at-def
+use Rattle.service_one.proofs.record_at.Symbol.{name as #service-one·record-at}
+use Rattle.service_one.proofs.record_at.Met as at-thm
+use Rattle.service_one.proofs.put_record.Symbol as put-def
+use Rattle.service_one.proofs.put_record.Symbol.{name as #service-one·put-record}
+use Rattle.service_one.proofs.put_record.Met as put-thm
+use Rattle.service_one.proofs.record_of.Symbol as record-def
+use Rattle.service_one.proofs.record_of.Symbol.{name as #service-one·record-of}
+use Rattle.service_one.proofs.record_of.Met as record-thm
+use Rattle.service_one.proofs.reply_of.Symbol as reply-def
+use Rattle.service_one.proofs.reply_of.Symbol.{name as #service-one·reply-of}
+use Rattle.service_one.proofs.reply_of.Met as reply-thm
+use Rattle.service_one.proofs.place_of.Symbol as place-def
+use Rattle.service_one.proofs.place_of.Symbol.{name as #service-one·place-of}
+use Rattle.service_one.proofs.place_of.Met as place-thm
+use Rattle.service_serve.proofs.serve_four as core
+use Rattle.service_serve.proofs.serve_four.Symbol as core-def
+use Rattle.service_serve.proofs.serve_four.Symbol.{name as #core}
+use Rattle.service_serve.proofs.serve_four.Met as core-thm
 use Rattle.service.proofs.calls.serve.Key.{name as #serving}
 use Rattle.service.proofs.calls.serve as serving
 use Rattle.service.proofs.calls.serve.Statement as stated
@@ -148,12 +148,12 @@ module _ {M : Type 1} (𝓤 : URA M) (H : Heap 𝓤) (A : Atoms 𝓤) (W : Given
       suffices ! _ (ends-at 𝓤 H A serving.ended stayed (serving.clauses 𝓤 H A mem run) W (((κ₀, (κ₁, (κ₂, tt))), (q₀, (q₁, (q₂, tt))), tt, a, vals), tt) v r (zs, (m₁, (g, tt))) (le, (tt, (lg, tt)))) $ says ! e $
       nothing ! $ move ! (3 ∷ 0 ∷ []) $ join ! $ move ! (2 ∷ 0 ∷ []) $ join ! $ move ! (1 ∷ 0 ∷ []) $ join ! $ frame ! $ move ! (2 ∷ []) $ nothing ! $ move ! (1 ∷ 0 ∷ []) $ fjoin ! $ move ! (2 ∷ 0 ∷ []) $ fjoin ! $ move ! (1 ∷ 0 ∷ []) $ fjoin ! $ frame ! $ owned ! Y.the-row (Is Y.the-row) (EL.makes Y.the-type Y′.the-plain 𝓤 H A) r _ r-is $ done !
 
-  module _ (C : Calls 𝓤 H) (Λ : Loops 𝓤 H) (fm : FmC 𝓤 H (W .laws) C) (known-at : Triple 𝓤 (C #handling·record-at) (RecordAt 𝓤 H A mem run))
+  module _ (C : Calls 𝓤 H) (Λ : Loops 𝓤 H) (fm : FmC 𝓤 H (W .laws) C) (known-at : Triple 𝓤 (C #service-one·record-at) (RecordAt 𝓤 H A mem run))
       (known-core : Triple 𝓤 (C #core) (Core 𝓤 H A mem run))
-      (known-record : Triple 𝓤 (C #handling·record-of) (RecordOf 𝓤 H A mem run))
-      (known-put : Triple 𝓤 (C #handling·put-record) (PutRecord 𝓤 H A mem run))
-      (known-reply : Triple 𝓤 (C #handling·reply-of) (ReplyOf 𝓤 H A mem run))
-      (known-place : Triple 𝓤 (C #handling·place-of) (PlaceOf 𝓤 H A mem run)) where
+      (known-record : Triple 𝓤 (C #service-one·record-of) (RecordOf 𝓤 H A mem run))
+      (known-put : Triple 𝓤 (C #service-one·put-record) (PutRecord 𝓤 H A mem run))
+      (known-reply : Triple 𝓤 (C #service-one·reply-of) (ReplyOf 𝓤 H A mem run))
+      (known-place : Triple 𝓤 (C #service-one·place-of) (PlaceOf 𝓤 H A mem run)) where
     walk : ent 𝓤 (onEntry 𝓤 H A serving.signature (κ₀, (κ₁, (κ₂, tt))) (q₀, (q₁, (q₂, tt))) a vals) (WpFn 𝓤 H C Λ code.function (s₀ ∷ vptr b₁ o₁ ∷ s₂ ∷ []) Post)
     walk =
         qed W ((‵ (flft κ₀ q₀) ⊛ ‵ (flft κ₁ q₁) ⊛ ‵ (flft κ₂ q₂) ⊛ ‵ ftrue) ∷ ‵ (owns (MutSlice (named 0) κ₀ R ∷ MutRef (named 1) κ₁ u64 ∷ MutSlice (named 2) κ₂ u8 ∷ []) a vals) ∷ []) ∵
@@ -262,7 +262,7 @@ module _ {M : Type 1} (𝓤 : URA M) (H : Heap 𝓤) (A : Atoms 𝓤) (W : Given
   goes : AllGo 𝓤 H A W 3 (serving.signature .params) (serving.ended .kept) stayed
   goes = (goes-gave-slice 𝓤 H A W 3 0 tt (plain (λ _. R)), (goes-gave-ref 𝓤 H A W 3 1 tt (plain (λ _. u64)), (goes-gave-slice 𝓤 H A W 3 2 tt (plain (λ _. u8)), tt)))
 
-  meets : (𝓣 : Tables 𝓤 H) → Triple 𝓤 (𝓣 .C #handling·record-at) (RecordAt 𝓤 H A mem run) → Triple 𝓤 (𝓣 .C #core) (Core 𝓤 H A mem run) → Triple 𝓤 (𝓣 .C #handling·record-of) (RecordOf 𝓤 H A mem run) → Triple 𝓤 (𝓣 .C #handling·put-record) (PutRecord 𝓤 H A mem run) → Triple 𝓤 (𝓣 .C #handling·reply-of) (ReplyOf 𝓤 H A mem run) → Triple 𝓤 (𝓣 .C #handling·place-of) (PlaceOf 𝓤 H A mem run)
+  meets : (𝓣 : Tables 𝓤 H) → Triple 𝓤 (𝓣 .C #service-one·record-at) (RecordAt 𝓤 H A mem run) → Triple 𝓤 (𝓣 .C #core) (Core 𝓤 H A mem run) → Triple 𝓤 (𝓣 .C #service-one·record-of) (RecordOf 𝓤 H A mem run) → Triple 𝓤 (𝓣 .C #service-one·put-record) (PutRecord 𝓤 H A mem run) → Triple 𝓤 (𝓣 .C #service-one·reply-of) (ReplyOf 𝓤 H A mem run) → Triple 𝓤 (𝓣 .C #service-one·place-of) (PlaceOf 𝓤 H A mem run)
       → Meets 𝓤 H A serving.signature (WpFn 𝓤 H (𝓣 .C) (𝓣 .Λ) code.function) (serving.spec 𝓤 H A mem run)
   meets 𝓣 k₁ k₂ k₃ k₄ k₅ k₆ =
       walk-meets 𝓤 H A serving.ended stayed W goes (serving.clauses 𝓤 H A mem run) (WpFn 𝓤 H (𝓣 .C) (𝓣 .Λ) code.function) (WpFn-mono 𝓤 H (W .laws) 𝓣 code.function)
@@ -277,9 +277,9 @@ serve-spec 𝓤 H 𝓜 𝓖 𝓡 =
     entered 𝓤 H (tripleOf 𝓤 H (𝓖 .A) serving.signature (serving.spec 𝓤 H (𝓖 .A) (𝓜 .mem) (𝓡 .run)))
     (tables 𝓤 H 𝓜 𝓡 code.env .C) (tables 𝓤 H 𝓜 𝓡 code.env .Λ) #serving code.function (code.unfolded 𝓤 H 𝓜 𝓡)
     (meets 𝓤 H (𝓖 .A) (givenOf 𝓤 H 𝓜 𝓖) (𝓜 .mem) (𝓡 .run) (tablesOf 𝓤 H 𝓜 (tables 𝓤 H 𝓜 𝓡 code.env))
-    (cited 𝓤 H (RecordAt 𝓤 H (𝓖 .A) (𝓜 .mem) (𝓡 .run)) 𝓜 𝓡 code.env #handling·record-at at-def.routine code.calls-handling·record-at (at-thm.met 𝓤 H 𝓜 𝓖 𝓡))
-    (cited 𝓤 H (Core 𝓤 H (𝓖 .A) (𝓜 .mem) (𝓡 .run)) 𝓜 𝓡 code.env #core core-def.routine code.calls-serving·serve-four (core-thm.met 𝓤 H 𝓜 𝓖 𝓡))
-    (cited 𝓤 H (RecordOf 𝓤 H (𝓖 .A) (𝓜 .mem) (𝓡 .run)) 𝓜 𝓡 code.env #handling·record-of record-def.routine code.calls-handling·record-of (record-thm.met 𝓤 H 𝓜 𝓖 𝓡))
-    (cited 𝓤 H (PutRecord 𝓤 H (𝓖 .A) (𝓜 .mem) (𝓡 .run)) 𝓜 𝓡 code.env #handling·put-record put-def.routine code.calls-handling·put-record (put-thm.met 𝓤 H 𝓜 𝓖 𝓡))
-    (cited 𝓤 H (ReplyOf 𝓤 H (𝓖 .A) (𝓜 .mem) (𝓡 .run)) 𝓜 𝓡 code.env #handling·reply-of reply-def.routine code.calls-handling·reply-of (reply-thm.met 𝓤 H 𝓜 𝓖 𝓡))
-    (cited 𝓤 H (PlaceOf 𝓤 H (𝓖 .A) (𝓜 .mem) (𝓡 .run)) 𝓜 𝓡 code.env #handling·place-of place-def.routine code.calls-handling·place-of (place-thm.met 𝓤 H 𝓜 𝓖 𝓡)))
+    (cited 𝓤 H (RecordAt 𝓤 H (𝓖 .A) (𝓜 .mem) (𝓡 .run)) 𝓜 𝓡 code.env #service-one·record-at at-def.routine code.calls-service-one·record-at (at-thm.met 𝓤 H 𝓜 𝓖 𝓡))
+    (cited 𝓤 H (Core 𝓤 H (𝓖 .A) (𝓜 .mem) (𝓡 .run)) 𝓜 𝓡 code.env #core core-def.routine code.calls-service-serve·serve-four (core-thm.met 𝓤 H 𝓜 𝓖 𝓡))
+    (cited 𝓤 H (RecordOf 𝓤 H (𝓖 .A) (𝓜 .mem) (𝓡 .run)) 𝓜 𝓡 code.env #service-one·record-of record-def.routine code.calls-service-one·record-of (record-thm.met 𝓤 H 𝓜 𝓖 𝓡))
+    (cited 𝓤 H (PutRecord 𝓤 H (𝓖 .A) (𝓜 .mem) (𝓡 .run)) 𝓜 𝓡 code.env #service-one·put-record put-def.routine code.calls-service-one·put-record (put-thm.met 𝓤 H 𝓜 𝓖 𝓡))
+    (cited 𝓤 H (ReplyOf 𝓤 H (𝓖 .A) (𝓜 .mem) (𝓡 .run)) 𝓜 𝓡 code.env #service-one·reply-of reply-def.routine code.calls-service-one·reply-of (reply-thm.met 𝓤 H 𝓜 𝓖 𝓡))
+    (cited 𝓤 H (PlaceOf 𝓤 H (𝓖 .A) (𝓜 .mem) (𝓡 .run)) 𝓜 𝓡 code.env #service-one·place-of place-def.routine code.calls-service-one·place-of (place-thm.met 𝓤 H 𝓜 𝓖 𝓡)))

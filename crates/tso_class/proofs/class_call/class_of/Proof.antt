@@ -4,13 +4,13 @@ use Prim.Native.Nat.{ℕ}
 use mathlib.Core.Path.{sym, ap, _∙_}
 use mathlib.Core.List.{List}
 use borrow.Author.Tests.{ltb-true, ltb-false}
-use Rattle.decoder.specs.Compiled.{programOf}
+use Rattle.file_decoder.specs.Compiled.{programOf}
 use Rattle.machine.proofs.HeldStart.{loaded-compiled, starting-compiled}
-use Rattle.prefix.proofs.ClassGroups.{program-groups}
+use Rattle.search_place.proofs.ClassGroups.{program-groups}
 use Rattle.graph_writer.specs.NoteText.{notesAt}
-use Rattle.classing.specs.declared.class_call.ClassAnswer.the-variants.{Sized}
-use Rattle.classing.specs.ClassWord.{classAnswerOf}
-use Rattle.classing.specs.Moves.{quotient}
+use Rattle.class_size.specs.declared.class_call.ClassAnswer.the-variants.{Sized}
+use Rattle.class_size.specs.ClassWord.{classAnswerOf}
+use Rattle.class_size.specs.Moves.{quotient}
 use Rattle.tso_class.proofs.ClassCalled.{class-41, class-refused, class-24, class-sized}
 use Rattle.tso_class.proofs.class_call.class_of.Statement.{statement}
 use Rattle.tso_class.proofs.class_call.class_of.Tie as tie

@@ -1,8 +1,8 @@
 -- `class_size` decodes the file first.
 use borrow.Author.Needs.{needs}
 use mathlib.Core.Path.{sym, ap, _∙_}
-use Rattle.decoder.proofs.Decoded.{decoded-well-formed}
-use Rattle.classing.specs.ClassWord.{classAnswerOf}
+use Rattle.file_decoder.proofs.Decoded.{decoded-well-formed}
+use Rattle.class_size.specs.ClassWord.{classAnswerOf}
 use Rattle.tso_class.proofs.ClassCalled.{file-refused, file-sized}
 use Rattle.tso_class.proofs.class_call.class_size.Statement.{statement}
 use Rattle.tso_class.proofs.class_call.class_size.Tie as tie

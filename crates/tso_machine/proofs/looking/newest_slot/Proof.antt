@@ -3,7 +3,7 @@ use borrow.Author.Needs.{needs}
 use Prim.Native.Nat.{_-_, _≤_}
 use native.Mathlib.Omega.{arith}
 use mathlib.Core.Path.{_≡_, refl, _∙_}
-use Rattle.tso.specs.Queue.{newest}
+use Rattle.spec_tso.specs.Queue.{newest}
 use Rattle.tso_machine.specs.Slots.{queueAt}
 use Rattle.tso_machine.proofs.InSlots.{look-here, look-before, look-nothing}
 use Rattle.tso_machine.proofs.looking.newest_slot.Statement.{statement}

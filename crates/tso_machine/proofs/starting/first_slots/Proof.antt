@@ -4,7 +4,7 @@ use Prim.Native.Nat.{ℕ, _-_, _<_, _≤_}
 use native.Mathlib.Omega.{arith}
 use mathlib.Core.Path.{_≡_, refl, ap, _∙_}
 use lib.ListN.{length, getD, length-set}
-use Rattle.tso_machine.specs.Counted.{accessesBelow}
+use Rattle.machine_access.specs.Counted.{accessesBelow}
 use Rattle.tso_machine.proofs.HeldFirst.{least, first-more, first-below, first-short}
 use Rattle.tso_machine.proofs.starting.first_slots.Statement.{statement}
 use Rattle.tso_machine.proofs.starting.first_slots.Tie as tie

@@ -3,8 +3,8 @@ use borrow.Author.Needs.{needs}
 use Prim.Native.Nat.{ℕ, _-_, _<_, _≤_}
 use native.Mathlib.Omega.{arith}
 use mathlib.Core.Path.{_≡_, sym}
-use Rattle.tso.specs.State.{owner}
-use Rattle.tso.proofs.Bytes.{ByteCase, of-access, of-move, byte-case}
+use Rattle.spec_tso.specs.State.{owner}
+use Rattle.spec_tso.proofs.Bytes.{ByteCase, of-access, of-move, byte-case}
 use Rattle.tso_machine.proofs.stepping.thread_of.Statement.{statement}
 use Rattle.tso_machine.proofs.stepping.thread_of.Tie as tie
 

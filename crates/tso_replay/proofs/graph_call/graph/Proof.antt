@@ -2,8 +2,8 @@
 use borrow.Author.Needs.{needs}
 use mathlib.Core.Path.{_∙_, sym, ap}
 use lib.ListN.{length}
-use Rattle.sc.specs.GraphCall.{GraphResult, graphOutput}
-use Rattle.replay.specs.GraphWord.{graphAnswerOf}
+use Rattle.spec_sc.specs.GraphCall.{GraphResult, graphOutput}
+use Rattle.machine_replay.specs.GraphWord.{graphAnswerOf}
 use Rattle.tso_replay.proofs.GraphCalled.{file-refused, file-well-formed, file-answered}
 use Rattle.tso_replay.proofs.graph_call.graph.Statement.{statement}
 use Rattle.tso_replay.proofs.graph_call.graph.Tie as tie

@@ -2,9 +2,9 @@
 use borrow.Author.Needs.{needs}
 use mathlib.Core.Path.{sym, ap}
 use lib.ListN.{length}
-use Rattle.decoder.specs.Compiled.{programOf}
-use Rattle.sc.specs.GraphCall.{GraphResult, graphOutput}
-use Rattle.replay.specs.GraphWord.{graphAnswerOf}
+use Rattle.file_decoder.specs.Compiled.{programOf}
+use Rattle.spec_sc.specs.GraphCall.{GraphResult, graphOutput}
+use Rattle.machine_replay.specs.GraphWord.{graphAnswerOf}
 use Rattle.machine.proofs.HeldStart.{loaded-compiled, starting-compiled}
 use Rattle.tso_replay.proofs.GraphCalled.{away-refused, away-none, graph-refused, graph-24, graph-answered}
 use Rattle.tso_replay.proofs.graph_call.graph_of.Statement.{statement}

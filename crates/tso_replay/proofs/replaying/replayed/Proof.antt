@@ -5,10 +5,10 @@ use native.Mathlib.Omega.{arith}
 use mathlib.Core.Path.{refl, sym, subst, _∙_}
 use borrow.Author.Tests.{not-true, not-false}
 use lib.ListN.{length}
-use Rattle.program.specs.Program.{Program}
-use Rattle.program.specs.WellFormed.{allAccesses}
+use Rattle.spec_file.specs.Program.{Program}
+use Rattle.spec_file.specs.WellFormed.{allAccesses}
 use Rattle.machine.specs.Held.{Loaded}
-use Rattle.tso.specs.State.{start}
+use Rattle.spec_tso.specs.State.{start}
 use Rattle.tso_machine.specs.Held.{Holds}
 use Rattle.tso_replay.specs.Carried.{HoldsRun}
 use Rattle.tso_replay.proofs.HeldReplay.{Progress, progress-start, notes-room, replay-stops, replay-may, replay-room, replay-more, replay-whole, replay-short, replay-held}

@@ -7,9 +7,9 @@ use mathlib.Core.Bool.{Bool, _&&_}
 use mathlib.Core.Option.{some}
 use native.Mathlib.Omega.{arith}
 use lib.ListN.{getD}
-use Rattle.rows.specs.Rows.{instructionAt}
-use Rattle.tso.specs.State.{byteFor, access, place, threadOf}
-use Rattle.tso_list.specs.Rules.{wakes, unwoken}
+use Rattle.file_rows.specs.Rows.{instructionAt}
+use Rattle.spec_tso.specs.State.{byteFor, access, place, threadOf}
+use Rattle.theory_tso.specs.Rules.{wakes, unwoken}
 use Rattle.tso_rules.proofs.Asleep.{quiet-but, unwoken-reader, unwoken-store, reads-or-not, shown-place, shown-locks, shown-takes}
 use Rattle.tso_rules.proofs.sleeping.is_access_asleep.Statement.{statement}
 use Rattle.tso_rules.proofs.sleeping.is_access_asleep.Tie as tie

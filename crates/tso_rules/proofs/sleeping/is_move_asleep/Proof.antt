@@ -7,8 +7,8 @@ use mathlib.Core.Bool.{Bool, true, _&&_}
 use mathlib.Core.Option.{some}
 use native.Mathlib.Omega.{arith}
 use lib.ListN.{getD}
-use Rattle.tso.specs.State.{byteFor, move, place, threadOf}
-use Rattle.tso_list.specs.Rules.{wakes, unwoken}
+use Rattle.spec_tso.specs.State.{byteFor, move, place, threadOf}
+use Rattle.theory_tso.specs.Rules.{wakes, unwoken}
 use Rattle.tso_machine.specs.Slots.{noStore}
 use Rattle.tso_rules.proofs.Asleep.{quiet-but, unwoken-move, shown-oldest}
 use Rattle.tso_rules.proofs.sleeping.is_move_asleep.Statement.{statement}

@@ -2,9 +2,10 @@
 use borrow.Author.Needs.{needs}
 use mathlib.Core.Bool.{Bool, cond, not, true, false, _&&_, _||_}
 use native.Mathlib.Omega.{arith}
-use Rattle.survivors.specs.Sets.{has, setOf}
-use Rattle.tso.specs.State.{byteFor, access}
-use Rattle.tso_list.specs.Rules.{unwoken}
+use Rattle.spec_schedules.specs.Sets.{has}
+use Rattle.theory_sc.specs.Sets.{setOf}
+use Rattle.spec_tso.specs.State.{byteFor, access}
+use Rattle.theory_tso.specs.Rules.{unwoken}
 use Rattle.tso_rules.proofs.Asleep.{set-some}
 use Rattle.tso_rules.proofs.sleeping.is_some_access.Statement.{statement}
 use Rattle.tso_rules.proofs.sleeping.is_some_access.Tie as tie

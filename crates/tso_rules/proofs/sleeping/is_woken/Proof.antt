@@ -7,12 +7,12 @@ use mathlib.Core.Bool.{false, not, _&&_}
 use mathlib.Core.List.{List}
 use mathlib.Core.Option.{some}
 use lib.Dec.{eqb}
-use Rattle.schedules.specs.Lists.{range, any}
-use Rattle.schedules.proofs.Lists.{in-range, any-of}
+use Rattle.spec_schedules.specs.Lists.{range, any}
+use Rattle.spec_schedules.proofs.Lists.{in-range, any-of}
 use Rattle.machine.proofs.HeldAsking.{one-more}
-use Rattle.rules.specs.Left.{Left}
-use Rattle.tso.specs.State.{State, threadOf}
-use Rattle.tso_list.specs.Rules.{wakes}
+use Rattle.search_rules.specs.Left.{Left}
+use Rattle.spec_tso.specs.State.{State, threadOf}
+use Rattle.theory_tso.specs.Rules.{wakes}
 use Rattle.tso_rules.specs.Shown.{Shown}
 use Rattle.tso_rules.proofs.Asleep.{any-none}
 use Rattle.tso_rules.proofs.sleeping.is_woken.Statement.{statement}

@@ -3,13 +3,13 @@ use borrow.Author.Needs.{needs}
 use Prim.Native.Nat.{ℕ}
 use mathlib.Core.Path.{sym, ap, ap₂, _∙_}
 use mathlib.Core.Bool.{Bool, _&&_, _||_}
-use Rattle.survivors.specs.Sets.{has}
-use Rattle.schedules.specs.Lists.{range, any}
-use Rattle.tso.specs.State.{byteFor, access, move}
-use Rattle.tso.specs.Graph.{endOf}
-use Rattle.tso_list.specs.Rules.{unwoken}
-use Rattle.tso_waits.proofs.HeldDeeds.{ends, short-at}
-use Rattle.tso_prefix.specs.Reached.{machineOf}
+use Rattle.spec_schedules.specs.Sets.{has}
+use Rattle.spec_schedules.specs.Lists.{range, any}
+use Rattle.spec_tso.specs.State.{byteFor, access, move}
+use Rattle.spec_tso.specs.Graph.{endOf}
+use Rattle.theory_tso.specs.Rules.{unwoken}
+use Rattle.tso_order.proofs.HeldDeeds.{ends, short-at}
+use Rattle.tso_place.specs.Reached.{machineOf}
 use Rattle.tso_rules.proofs.Asleep.{none-asleep, asleep-some, shown-held, short-held, counters-16, ready-late}
 use Rattle.tso_rules.proofs.sleeping.some_asleep.Statement.{statement}
 use Rattle.tso_rules.proofs.sleeping.some_asleep.Tie as tie

@@ -7,11 +7,11 @@ use mathlib.Core.Bool.{Bool, not, _&&_}
 use mathlib.Core.Option.{some}
 use native.Mathlib.Omega.{arith}
 use lib.ListN.{getD}
-use Rattle.rules.specs.Left.{meetsAt}
-use Rattle.tso.specs.State.{threadOf}
-use Rattle.tso_list.specs.Rules.{wakes}
+use Rattle.search_rules.specs.Left.{meetsAt}
+use Rattle.spec_tso.specs.State.{threadOf}
+use Rattle.theory_tso.specs.Rules.{wakes}
 use Rattle.tso_machine.specs.Slots.{queueAt}
-use Rattle.tso_waits.specs.Freed.{storesTo}
+use Rattle.tso_order.specs.Freed.{storesTo}
 use Rattle.tso_rules.proofs.Asleep.{wakes-queue, wakes-code}
 use Rattle.tso_rules.proofs.sleeping.wakes.Statement.{statement}
 use Rattle.tso_rules.proofs.sleeping.wakes.Tie as tie

@@ -4,7 +4,7 @@ use borrow.Author.Tests.{not-true, not-false}
 use Prim.Native.Nat.{ℕ, _+_, _-_, _*_, _<_, _≤_}
 use mathlib.Core.Path.{_≡_, refl, sym, ap, _∙_}
 use native.Mathlib.Omega.{arith}
-use Rattle.tso_waits.specs.declared.sets.Sets.{Sets}
+use Rattle.tso_order.specs.declared.sets.Sets.{Sets}
 use Rattle.tso_rules.proofs.Tried.{not-enabled, is-late, is-far, live-has, late-has, moving-has, overdue-has, far-has, access-else, move-else}
 use Rattle.tso_rules.proofs.trying.is_access_tried.Statement.{statement}
 use Rattle.tso_rules.proofs.trying.is_access_tried.Tie as tie

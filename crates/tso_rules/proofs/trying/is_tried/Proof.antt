@@ -3,7 +3,7 @@ use borrow.Author.Needs.{needs}
 use Prim.Native.Nat.{ℕ, _+_, _-_, _*_, _<_, _≤_}
 use mathlib.Core.Path.{_≡_, refl, sym, ap, _∙_}
 use native.Mathlib.Omega.{arith}
-use Rattle.tso.specs.Graph.{endOf}
+use Rattle.spec_tso.specs.Graph.{endOf}
 use Rattle.tso_rules.specs.Tried.{tried}
 use Rattle.tso_rules.proofs.Tried.{not-enabled, nobody, low-nobody, high-nobody}
 use Rattle.tso_rules.proofs.trying.is_tried.Statement.{statement}

@@ -1,7 +1,0 @@
--- The laws, in the order in which they rest on each other.
--- bits, and the cases of a word and a stamp
-pub mod Bits
--- the access in a row, as far as others have to wait for it
-pub mod RowAccess
--- R1 read off the machine behind a step
-pub mod LateNow

@@ -1,0 +1,71 @@
+// How large the class of a full schedule is.
+use crate::by_number::permutation_table;
+use crate::counting::count;
+use crate::moving::leaving_moves;
+use crate::moving::permitted_moves;
+use file_decoder::Compiled;
+use machine_replay::Verdict;
+use machine_replay::replayed;
+ghost use mathlib.Core.Path.{_≡_};
+ghost use Prim.Native.Nat.{_≤_};
+ghost use Rattle.spec_file.specs.WellFormed.{WellFormed};
+ghost use Rattle.file_decoder.specs.Compiled.{programOf};
+ghost use Rattle.graph_writer.specs.NoteText.{notesAt};
+ghost use Rattle.search_place.specs.ClassGroups.{groupsOf};
+ghost use Rattle.spec_model.specs.ClassSize.{classOf, classFile};
+ghost use Rattle.spec_sc.specs.Sequential.{sc};
+ghost use Rattle.class_size.specs.Moves.{quotient};
+ghost use Rattle.class_size.specs.ClassWord.{classAnswerOf};
+
+pub enum ClassAnswer {
+    // So many graphs.
+    Sized(usize),
+    // The refusal's number and place.
+    Refused(u8, usize),
+}
+
+// How many permutations move threads within their `02` lines, divided by how many of these leave the graph of the notes the same.
+pub fn quotient_of(class: [usize; 6], groups: usize, log: [u8; 192], steps: usize) -> usize
+    requires { ⌜ steps ≤ 24 ⌝ }
+    ensures { λ r. ⌜ r ≡ quotient (groupsOf class groups) (notesAt log steps) ⌝ }
+{
+    let table = permutation_table();
+    let may = permitted_moves(class, groups);
+    let left = leaving_moves(may, &log, steps);
+    count(may, &table) / count(left, &table)
+}
+
+// Of an accepted program.
+fn class_of(p: Compiled, schedule: &[u8]) -> ClassAnswer
+    requires { ⌜ WellFormed (programOf p) ⌝ }
+    ensures { λ r. ⌜ r ≡ classAnswerOf (classOf sc (programOf p) (now (schedule .entry))) ⌝ }
+{
+    let code = p.code;
+    let lengths = p.lengths;
+    let starting = p.starting;
+    let r = replayed(&code, &lengths, p.threads, starting, schedule);
+    let v = r.verdict;
+    match v {
+        Verdict::Refused(n, k) => ClassAnswer::Refused(n, k),
+        Verdict::Whole => {
+            let class = p.class;
+            let log = r.log;
+            ClassAnswer::Sized(quotient_of(class, p.groups, log, r.steps))
+        }
+    }
+}
+
+// Of a program file: its refusals come first, then 20 and 21 of the schedule, which need not be listed.
+pub fn class_size(file: &[u8], schedule: &[u8]) -> ClassAnswer
+    ensures { λ r. ⌜ r ≡ classAnswerOf (classFile sc (now (file .entry)) (now (schedule .entry))) ⌝ }
+{
+    let a = file_decoder::decode(file);
+    let v = a.verdict;
+    match v {
+        file_decoder::Verdict::Refused(n, k) => ClassAnswer::Refused(n, k),
+        file_decoder::Verdict::Accepted => {
+            let p = a.program;
+            class_of(p, schedule)
+        }
+    }
+}

@@ -1,0 +1,23 @@
+-- The laws, in the order in which they rest on each other.
+-- the eight values, one by one
+pub mod Values
+-- the test of two outcomes
+pub mod Same
+-- outcomes looked for in the list
+pub mod Attained
+-- the call's answer is what the list gives, and there is one only
+pub mod Comparisons
+-- lists with the same outcomes, each first by the same schedule
+pub mod Firsts
+-- batches, entry by entry
+pub mod BatchLaws
+-- rows read as entries
+pub mod RowEntries
+-- the outcome of a schedule that was carried out
+pub mod Replays
+-- the list walked by batches
+pub mod BatchWalks
+-- outcomes marked, and the first that is not
+pub mod Marking
+-- the answer by batches
+pub mod ByBatches

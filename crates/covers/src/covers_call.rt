@@ -1,0 +1,104 @@
+// The call: whether the first program covers the second, or the first listed schedule of the second with an outcome that the first lacks.
+use crate::collecting::collect;
+use crate::lacking::first_lacking;
+use file_decoder::Compiled;
+use listing_cursor::beginning;
+use listing_cursor::is_end;
+use spec_file::STEPS;
+ghost use mathlib.Core.Path.{_≡_};
+ghost use mathlib.Core.List.{List};
+ghost use Prim.Native.Nat.{ℕ, _≤_};
+ghost use lib.ListN.{length, take};
+ghost use Rattle.spec_file.specs.Over.{over};
+ghost use Rattle.spec_file.specs.WellFormed.{WellFormed};
+ghost use Rattle.spec_file.specs.Decode.{accepted, decode};
+ghost use Rattle.file_decoder.specs.Compiled.{programOf};
+ghost use Rattle.spec_covers.specs.Answer.{Answer, Comparison, outputAfter};
+ghost use Rattle.covers.specs.AnswerOf.{coversAnswerOf};
+
+pub enum CoversAnswer {
+    // Each outcome of the second is one of the first.
+    Covered,
+    // A schedule of so many steps stands in front of the output.
+    Lacking(usize),
+    // The first file's refusal: number and place.
+    RefusedFirst(u8, usize),
+    // The second file's.
+    RefusedSecond(u8, usize),
+    // The output's.
+    RefusedOutput(u8, usize),
+}
+
+// Copies the first n steps to the front of the output.
+fn put_steps(out: &mut [u8], schedule: [u8; STEPS], n: usize)
+    requires { ⌜ (n ≤ 24) × (24 ≤ length (now out)) ⌝ }
+    ensures { λ r. ⌜ now (out .exit) ≡ over (take n schedule) (now (out .entry)) ⌝ }
+{
+    let mut k = 0;
+    while k < n {
+        out[k] = schedule[k];
+        k += 1;
+    }
+}
+
+// Two accepted programs: the second's list is walked once, the first's once for each batch of the second's outcomes.
+fn compared(first: Compiled, second: Compiled, out: &mut [u8]) -> CoversAnswer
+    requires { ⌜ WellFormed (programOf first) × WellFormed (programOf second) ⌝ }
+    ensures { λ r. ⌜ ((file other : List ℕ) → decode file ≡ accepted (programOf first) → decode other ≡ accepted (programOf second)
+        → (a : Answer) × Comparison file other (length (now (out .entry))) a × (r ≡ coversAnswerOf a)
+        × (now (out .exit) ≡ outputAfter a (now (out .entry)))) ⌝ }
+{
+    if out.len() < STEPS {
+        return CoversAnswer::RefusedOutput(22, 0);
+    }
+    let mut cursor = beginning();
+    while !is_end(cursor) {
+        let c = collect(second, cursor);
+        let batch = c.batch;
+        let size = batch.size;
+        let k = first_lacking(first, batch);
+        if k < size {
+            let f = batch.table[k];
+            let steps = f.steps;
+            let schedule = f.schedule;
+            put_steps(out, schedule, steps);
+            return CoversAnswer::Lacking(steps);
+        }
+        cursor = c.cursor;
+    }
+    CoversAnswer::Covered
+}
+
+// An accepted program against a file.
+fn against(first: Compiled, second: &[u8], out: &mut [u8]) -> CoversAnswer
+    requires { ⌜ WellFormed (programOf first) ⌝ }
+    ensures { λ r. ⌜ ((file : List ℕ) → decode file ≡ accepted (programOf first)
+        → (a : Answer) × Comparison file (now (second .entry)) (length (now (out .entry))) a × (r ≡ coversAnswerOf a)
+        × (now (out .exit) ≡ outputAfter a (now (out .entry)))) ⌝ }
+{
+    let a = file_decoder::decode(second);
+    let v = a.verdict;
+    match v {
+        file_decoder::Verdict::Refused(n, k) => CoversAnswer::RefusedSecond(n, k),
+        file_decoder::Verdict::Accepted => {
+            let q = a.program;
+            compared(first, q, out)
+        }
+    }
+}
+
+// Of two program files: the first's refusals come first, then the second's, then 22 for an output shorter than 24 bytes.
+pub fn covers(first: &[u8], second: &[u8], out: &mut [u8]) -> CoversAnswer
+    ensures { λ r. ⌜ ((a : Answer) × Comparison (now (first .entry)) (now (second .entry)) (length (now (out .entry))) a
+        × (r ≡ coversAnswerOf a) × (now (out .exit) ≡ outputAfter a (now (out .entry)))) ⌝ }
+{
+    let a = file_decoder::decode(first);
+    let v = a.verdict;
+    match v {
+        file_decoder::Verdict::Refused(n, k) => CoversAnswer::RefusedFirst(n, k),
+        file_decoder::Verdict::Accepted => {
+            let p = a.program;
+            against(p, second, out)
+        }
+    }
+}

@@ -1,0 +1,2 @@
+-- Both memory models have the laws of one.
+pub mod ModelLaws

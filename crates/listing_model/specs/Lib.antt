@@ -1,0 +1,2 @@
+-- The memory model that a call lists by.
+pub mod ModelOf

@@ -1,3 +1,0 @@
--- What a reader of this crate must believe beside `sharing`, in reading order.
--- a slot as a number, and the refusals that come before the marks
-pub mod Numbers

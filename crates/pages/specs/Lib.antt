@@ -1,9 +1,0 @@
--- What a reader of this crate must believe, in reading order.
--- schedules as rows of bytes in a buffer
-pub mod Rows
--- a cursor in a list, and pages of it
-pub mod Cursor
--- a search's bound, step by step; for the code
-pub mod Bounds
--- what a search adds to the rows in its output; for the code
-pub mod Walked

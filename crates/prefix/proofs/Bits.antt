@@ -1,2 +1,0 @@
--- Bits, passed on.
-pub use Rattle.carried.proofs.Bits.{six-bits}

@@ -1,1 +1,0 @@
-// Sequential consistency: threads and memory, steps, full schedules, graphs and their text. Definitions and laws; no functions.

@@ -1,1 +1,0 @@
-// Sequential consistency as a memory model: that it has every law asked of one. There is no code here.

@@ -1,0 +1,39 @@
+-- The sizes of the classes of the whole case, computed from the file's bytes: 1, 2, 1, sum 4; and the same file with its `02` line taken
+-- out is the file of row `wholeApart`, of which four are listed.
+use Prim.Native.Nat.{ℕ}
+use mathlib.Core.Path.{_≡_, refl}
+use mathlib.Core.Bool.{cond}
+use mathlib.Core.List.{List, [], _∷_, _++_, map}
+use Rattle.spec_file.specs.Plain.{joined}
+use Rattle.spec_file.specs.Decode.{Decoded, accepted, refused, decode}
+use Rattle.spec_file.specs.Ungrouped.{declaring, undeclared, withoutAlike}
+use Rattle.spec_schedules.specs.Order.{Schedule}
+use Rattle.spec_model.specs.Answers.{refusesFrom}
+use Rattle.spec_model.specs.OnFile.{unless, admit}
+use Rattle.spec_model.specs.Alike as Model
+use Rattle.spec_model.specs.ClassSize.{total, sameGraph, images, classGraphs, classSize, Class, sized, classBy, classOf, classOn, classFile}
+use Rattle.spec_sc.specs.Text.{textOf}
+use Rattle.spec_sc.specs.Sequential.{sc}
+use Rattle.spec_cases.specs.Rows.{whole, wholeApart}
+use Rattle.spec_cases.specs.Table.{computed}
+
+-- the three listed schedules, and one that is not listed, alike to the second
+abbrev asked : List Schedule
+asked = (0 ∷ 1 ∷ 2 ∷ []) ∷ (1 ∷ 0 ∷ 2 ∷ []) ∷ (1 ∷ 2 ∷ 0 ∷ []) ∷ (2 ∷ 0 ∷ 1 ∷ []) ∷ []
+
+pub whole-classes : map (λ s. classFile sc (textOf (whole .file)) s) asked ≡ sized 1 ∷ sized 2 ∷ sized 1 ∷ sized 2 ∷ []
+unfolding computed unless admit refusesFrom sameGraph images classGraphs classSize classBy classOf classOn
+whole-classes = refl
+
+-- over the whole list
+pub sumOn : Decoded → ℕ
+sumOn (accepted p) = total (classSize sc p) (Model.listOf sc p)
+sumOn (refused n k) = 0
+
+pub whole-sum : sumOn (decode (textOf (whole .file))) ≡ 4
+unfolding computed sumOn total Model.listOf Model.alikeBy sameGraph images classGraphs classSize
+whole-sum = refl
+
+pub whole-taken-out : withoutAlike (textOf (whole .file)) ≡ textOf (wholeApart .file)
+unfolding computed declaring undeclared withoutAlike joined
+whole-taken-out = refl

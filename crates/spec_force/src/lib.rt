@@ -1,0 +1,1 @@
+// Who can force the failure. Definitions and laws; no functions.

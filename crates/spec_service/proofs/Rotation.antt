@@ -1,0 +1,81 @@
+-- The callers in turn. `distance n k` callers come between the last one served and caller k; whoever asks and comes first is no farther, and
+-- from that one on k is nearer.
+use Prim.Native.Nat.{ℕ, zero, suc, _+_, _-_, _%_, _<_, _≤_}
+use mathlib.Core.Path.{_≡_, refl, sym, ap, _∙_}
+use mathlib.Core.Logic.{_⊎_, inl, inr, ⊎-elim}
+use mathlib.Core.Bool.{Bool, true, false, _&&_, _||_, false≢true}
+use mathlib.Core.Option.{Option, some}
+use mathlib.Core.List.{List, [], _∷_, map}
+use native.Mathlib.Omega.{arith}
+use borrow.Author.Tests.{eqb-true, ltb-true, leb-true}
+use lib.Dec.{eqb, ltb, leb}
+use lib.ListN.{length, getD}
+use Rattle.spec_file.proofs.DigitValues.{both}
+use Rattle.spec_file.proofs.Tests.{either}
+use Rattle.spec_schedules.specs.Lists.{range, all, find}
+use Rattle.spec_schedules.proofs.Lists.{all-at, in-range, find-yes, find-no}
+use Rattle.spec_service.specs.Call.{lastRead, inTurn}
+
+unfoldable pub distance : ℕ → ℕ → ℕ
+distance n k = (k + 3 - n) % 4
+
+-- where k stands in turn, and who stands before it
+unfoldable nearer : ℕ → ℕ → ℕ → Bool
+nearer n k j = ltb (getD (inTurn n) j 0) 4 && (leb (distance n k) j || ltb (distance (getD (inTurn n) j 0) k) (distance n k))
+
+unfoldable right : ℕ → ℕ → Bool
+right n k = eqb (getD (inTurn n) (distance n k) 0) k && (ltb (distance n k) 4 && all (nearer n k) (range 0 4))
+
+all-sixteen : all (λ n. all (right n) (range 0 4)) (range 0 4) ≡ true
+unfolding all range right nearer inTurn lastRead distance
+all-sixteen = refl
+
+-- what the test says of two callers
+rightly : (n k : ℕ) → n < 4 → k < 4 → right n k ≡ true
+rightly n k h i = all-at (right n) (range 0 4) k (all-at (λ m. all (right m) (range 0 4)) (range 0 4) n all-sixteen (in-range 0 4 n (omega arith) h)) (in-range 0 4 k (omega arith) i)
+
+-- the first that passes a test stands no later than one that does
+find-at : (f : ℕ → Bool) (xs : List ℕ) (i : ℕ) → i < length xs → f (getD xs i 0) ≡ true →
+    (j : ℕ) × (j ≤ i) × (find f xs ≡ some (getD xs j 0)) × (f (getD xs j 0) ≡ true)
+find-at f [] i h e = absurd (omega arith)
+find-at f (x ∷ xs) i h e = go (f x) refl i h e (λ m. find-at f xs m)
+  where
+    go : (b : Bool) → f x ≡ b → (i : ℕ) → i < length (x ∷ xs) → f (getD (x ∷ xs) i 0) ≡ true →
+        ((m : ℕ) → m < length xs → f (getD xs m 0) ≡ true → (j : ℕ) × (j ≤ m) × (find f xs ≡ some (getD xs j 0)) × (f (getD xs j 0) ≡ true)) →
+        (j : ℕ) × (j ≤ i) × (find f (x ∷ xs) ≡ some (getD (x ∷ xs) j 0)) × (f (getD (x ∷ xs) j 0) ≡ true)
+    go true q i h e ih = (0, omega arith, find-yes f x xs q, q)
+    go false q zero h e ih = absurd (false≢true (sym q ∙ e))
+    go false q (suc i) h e ih = let r = ih i (omega arith) e in (suc (r .0), omega (arith, r .1), find-no f x xs q ∙ r .2, r .3)
+
+-- THE NEXT in turn that passes a test which k passes: k itself, or one behind whom k is nearer
+pub next-nearer : (f : ℕ → Bool) (n k : ℕ) → n < 4 → k < 4 → f k ≡ true →
+    (m : ℕ) × (find f (inTurn n) ≡ some m) × (m < 4) × (f m ≡ true) × ((m ≡ k) ⊎ (distance m k < distance n k))
+unfolding right nearer inTurn
+next-nearer f n k h i e = (getD (inTurn n) j 0, r .2, ltb-true _ 4 (here .0), r .3, near)
+  where
+    t : (eqb (getD (inTurn n) (distance n k) 0) k ≡ true) × ((ltb (distance n k) 4 && all (nearer n k) (range 0 4)) ≡ true)
+    t = both (eqb (getD (inTurn n) (distance n k) 0) k) (ltb (distance n k) 4 && all (nearer n k) (range 0 4)) (rightly n k h i)
+
+    u : (ltb (distance n k) 4 ≡ true) × (all (nearer n k) (range 0 4) ≡ true)
+    u = both (ltb (distance n k) 4) (all (nearer n k) (range 0 4)) (t .1)
+
+    at : getD (inTurn n) (distance n k) 0 ≡ k
+    at = eqb-true _ k (t .0)
+
+    close : distance n k < 4
+    close = ltb-true _ 4 (u .0)
+
+    r : (j : ℕ) × (j ≤ distance n k) × (find f (inTurn n) ≡ some (getD (inTurn n) j 0)) × (f (getD (inTurn n) j 0) ≡ true)
+    r = find-at f (inTurn n) (distance n k) close (ap f at ∙ e)
+
+    j : ℕ
+    j = r .0
+
+    here : (ltb (getD (inTurn n) j 0) 4 ≡ true) × ((leb (distance n k) j || ltb (distance (getD (inTurn n) j 0) k) (distance n k)) ≡ true)
+    here = both (ltb (getD (inTurn n) j 0) 4) (leb (distance n k) j || ltb (distance (getD (inTurn n) j 0) k) (distance n k))
+        (all-at (nearer n k) (range 0 4) j (u .1) (in-range 0 4 j (omega arith) (omega (arith, r .1, close))))
+
+    near : (getD (inTurn n) j 0 ≡ k) ⊎ (distance (getD (inTurn n) j 0) k < distance n k)
+    near = ⊎-elim (λ (q : leb (distance n k) j ≡ true). inl (ap (λ (m : ℕ). getD (inTurn n) m 0) (let z : j ≡ distance n k = omega (arith, r .1, leb-true _ j q) in z) ∙ at))
+        (λ (q : ltb (distance (getD (inTurn n) j 0) k) (distance n k) ≡ true). inr (ltb-true _ _ q))
+        (either (leb (distance n k) j) (ltb (distance (getD (inTurn n) j 0) k) (distance n k)) (here .1))

@@ -1,7 +1,0 @@
--- What the check of a program file says: answered, with nothing written, or the refusal.
-use Rattle.program.specs.Decode.{Decoded, accepted, refused}
-use Rattle.words.specs.Word as word
-
-unfoldable pub checkReply : Decoded → word.Reply
-checkReply (accepted p) = word.answered 0
-checkReply (refused k n) = word.refused k n

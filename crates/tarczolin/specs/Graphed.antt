@@ -1,8 +1,0 @@
--- What the graph call says: answered, with the text's length, or the refusal.
-use lib.ListN.{length}
-use Rattle.sc.specs.GraphCall.{GraphResult, texted, refusing}
-use Rattle.words.specs.Word as word
-
-unfoldable pub graphReply : GraphResult → word.Reply
-graphReply (texted t) = word.answered (length t)
-graphReply (refusing n k) = word.refused n k

@@ -1,9 +1,0 @@
--- What the judge says: answered, with the schedule's length; nothing for no; or the refusal.
-use lib.ListN.{length}
-use Rattle.consistent.specs.Answer.{Answer, consistent, inconsistent, refusing}
-use Rattle.words.specs.Word as word
-
-unfoldable pub judged : Answer → word.Reply
-judged (consistent s) = word.answered (length s)
-judged inconsistent = word.nothing
-judged (refusing n k) = word.refused n k

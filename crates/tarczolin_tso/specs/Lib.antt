@@ -1,2 +1,0 @@
--- What a reader of this crate must believe stands in the crates below: what the calls say of a file in `model`, `tso_model` and `tso_listing`,
--- and the words in `tarczolin` and `words`.

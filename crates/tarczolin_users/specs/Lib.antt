@@ -1,3 +1,0 @@
--- What a reader of this crate must believe.
--- what the calls of four callers say, and leave
-pub mod Users

@@ -1,1 +1,0 @@
--- Nothing is defined here: the call is stated by `classFile` of the model crate and by total store order of its own.

@@ -1,0 +1,2 @@
+-- What the search adds to the rows in its output.
+pub mod Rows

@@ -1,7 +1,0 @@
--- The laws, in the order in which they rest on each other.
--- what an access leaves, by what it writes; values are 32-bit
-pub mod Leaving
--- the machine with events and the one of values, step by step and along a run
-pub mod Steps
--- adding zero changes no outcome
-pub mod SameOutcomes
