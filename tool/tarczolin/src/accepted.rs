@@ -1,7 +1,8 @@
 //! A program that the library accepts: its file is read once, asked about once and taken apart once for each command.
-use crate::asm::Remarks;
-use crate::error::Error;
-use crate::input::{self, Source};
+use crate::asm::{Remarks, Said};
+use crate::error::{Error, Mark};
+use crate::expect::{self, Expectation};
+use crate::input::{self, Content, Source};
 use crate::model::Model;
 use crate::program::{self, Called, Names, Program};
 use crate::{ask, refusal};
@@ -17,19 +18,38 @@ pub struct Accepted {
     pub remarks: Remarks,
     /// What has to be known of how it was read.
     pub notes: Vec<String>,
+    /// What looks like a slip in it, and the lines that expect something of it.
+    pub warnings: Vec<Mark>,
+    pub said: Vec<Said>,
 }
 
 impl Accepted {
     /// The program of this file, if the library accepts it under this model. Where it is read for both models the fences of a text are kept,
     /// and it is asked about under sequential consistency, which takes all that total store order takes.
     pub fn read(name: &OsStr, model: Option<Model>) -> Result<Accepted, Error> {
-        let Source { name, file, names, remarks, notes, asked } = input::program(name, model)?;
+        let accepted = Accepted::of(&input::content(name)?, model)?;
+        input::warn(&accepted.name, accepted.warnings.clone());
+        Ok(accepted)
+    }
+
+    /// The same of what a file holds; what looks like a slip is not told yet.
+    pub fn of(content: &Content, model: Option<Model>) -> Result<Accepted, Error> {
+        let Source { name, file, names, remarks, notes, asked, warnings, said } = content.source(model)?;
         let model = model.unwrap_or_default();
         if !asked || model == Model::Tso {
             ask::accepted(model, &file).map_err(|r| refusal::of_program(&name, &file, r))?;
         }
         let program = Program::of_accepted(&file).named(&names).under(model);
-        Ok(Accepted { name, file, program, remarks, notes })
+        let wrong = expect::wrong_statements(&said, &program);
+        if !wrong.is_empty() {
+            return Err(Error::Text { name, marks: wrong });
+        }
+        Ok(Accepted { name, file, program, remarks, notes, warnings, said })
+    }
+
+    /// What is expected of it, or all that is wrong with the lines that say so.
+    pub fn expectations(&self) -> Result<Vec<Expectation>, Error> {
+        expect::read(&self.said, &self.program).map_err(|marks| Error::Text { name: self.name.clone(), marks })
     }
 
     /// The same with its locations moved, no two to one, and called so. It is accepted too and has the same list: which accesses meet
@@ -39,6 +59,7 @@ impl Accepted {
         let file = program::file(&frames.into_iter().map(|frame| frame.moved(to)).collect::<Vec<_>>());
         let names = Names { locations: locations.clone(), ..self.program.names.clone() };
         let program = Program::of_accepted(&file).named(&names).under(self.program.model);
-        Accepted { name: self.name.clone(), file, program, remarks: self.remarks.clone(), notes: self.notes.clone() }
+        let (name, remarks, notes) = (self.name.clone(), self.remarks.clone(), self.notes.clone());
+        Accepted { name, file, program, remarks, notes, warnings: self.warnings.clone(), said: self.said.clone() }
     }
 }

@@ -4,8 +4,10 @@ mod fence;
 mod limits;
 mod marked;
 mod parse;
+mod places;
 mod remarks;
 mod resolve;
+mod said;
 mod statement;
 mod symbols;
 mod threads;
@@ -27,7 +29,9 @@ use threads::Threads;
 use wrong::Wrongs;
 
 pub use marked::named;
+pub use places::{fenced, places, Group, Place};
 pub use remarks::Remarks;
+pub use said::{said, Said};
 pub use words::constant;
 pub use write::text;
 pub use wrong::Wrong;
@@ -41,6 +45,8 @@ pub struct Assembled {
     pub warnings: Vec<Mark>,
     /// So many fences are left out.
     pub left_out: usize,
+    /// What is expected of it.
+    pub said: Vec<Said>,
 }
 
 /// The program file of a text for both memory models, or all that is wrong with it.
@@ -67,11 +73,25 @@ pub fn assemble_for(text: &[u8], model: Option<Model>) -> Result<Assembled, Vec<
     }
     let mut warnings = warnings::of_locations(&statements);
     warnings.extend(threads.unused_labels());
+    warnings.extend(slips(text, true));
     let fences = statements.iter().filter(|statement| model == Some(Model::Sc) && statement.kind == Kind::Fence);
     let left_out: Vec<usize> = fences.map(|statement| statement.line).collect();
-    let remarks = Remarks::of_text_without(text, &threads.lines(), &left_out);
-    let (names, warnings, left_out) = (threads.names(&symbols), marks(warnings), left_out.len());
-    Ok(Assembled { file, names, remarks, warnings, left_out })
+    let said = said::said(text, true);
+    let (names, warnings) = (threads.names(&symbols), marks(warnings));
+    let expected = said.iter().map(|one| (one.line, said::remark_line(one, |word| names.constants.get(word).copied()))).collect();
+    let remarks = Remarks::of_text_without(text, &threads.lines(), &left_out, expected);
+    Ok(Assembled { file, names, remarks, warnings, left_out: left_out.len(), said })
+}
+
+/// Remarks of a text, or of a program file, that look like expectations and are none.
+fn slips(text: &[u8], form: bool) -> Vec<Wrong> {
+    let wrong = |(line, column, message)| Wrong { line, column, message };
+    said::slips(text, form).into_iter().map(wrong).collect()
+}
+
+/// The same of a program file, for the eye.
+pub fn slips_of_file(file: &[u8]) -> Vec<Mark> {
+    slips(file, false).into_iter().map(|one| mark(file, one)).collect()
 }
 
 /// The program file of these frames with remark lines, in front of them a line for each name and each fence; where it would be too long,

@@ -1,4 +1,5 @@
 //! Statements of the text form, line by line. What is wrong with a line does not hide what is wrong with the others.
+use super::said::begins;
 use super::statement::{Jump, Kind, Statement, Test, Word};
 use super::tokens::{tokens, Token};
 use super::words::{self, KEYWORDS};
@@ -10,6 +11,10 @@ pub fn statements(text: &[u8]) -> (Vec<Statement>, Vec<Wrong>) {
     let (mut all, mut wrong) = (Vec::new(), Vec::new());
     for (k, line) in text.split(|&c| c == b'\n').enumerate() {
         let number = k + 1;
+        // what is expected of the program is read once that is known
+        if std::str::from_utf8(line).is_ok_and(|line| begins(line.trim_start())) {
+            continue;
+        }
         let tokens = std::str::from_utf8(line).map_err(|error| no_text(line, number, error)).and_then(|l| tokens(l, number));
         let read = tokens.and_then(|tokens| line_of(&tokens, number, &mut all));
         wrong.extend(read.err());
@@ -240,7 +245,8 @@ fn unknown(word: &str) -> String {
         ("load" | "fetch_add" | "cas", _) => format!("{word} needs a register for the old value: r0 = {word} .."),
         (_, Some(known)) => format!("a statement does not begin with {word}; is it {known}?"),
         _ => format!(
-            "a statement does not begin with {word}; it begins with thread, alike, const, init, store, if, goto, assert, fail, fence or a register"
+            "a statement does not begin with {word}; it begins with thread, alike, const, init, store, if, goto, assert, fail, fence, exists, forbid, forall, expect \
+             or a register"
         ),
     }
 }

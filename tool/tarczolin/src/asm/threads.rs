@@ -105,7 +105,7 @@ impl<'a> Threads<'a> {
     }
 
     pub fn names(&self, symbols: &Symbols) -> Names {
-        let mut names = Names::default();
+        let mut names = Names { constants: symbols.constants.clone(), ..Names::default() };
         for (name, l) in &symbols.locations {
             names.locations[*l as usize] = Some(name.clone());
         }

@@ -30,6 +30,11 @@ fn assembled(question: &Question, remarks: bool, model: Option<Model>) -> Result
     if remarks {
         let frames = program::frames(&file).expect("frames only");
         file = asm::remarked(&frames, &made.names, &made.remarks);
+        if asm::said(&file, false).len() < made.said.len() {
+            let message =
+                "with its remark lines the program file would be longer than 4096 bytes, and what is expected stands in them";
+            return Err(Error::Unfit { name, message: message.to_string() });
+        }
     }
     let file = String::from_utf8(file).expect("digits, and remarks of a text");
     question.answer_text(file.clone(), [("text", file.into())], End::Answered)

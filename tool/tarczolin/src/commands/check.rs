@@ -1,19 +1,39 @@
 //! check: is this a program? What it uses of what there is, or why not.
 use super::arguments::Arguments;
+use super::expected::{self, Asking};
 use super::models::only_model;
-use super::reply::each;
+use super::reply::{each, Question};
+use crate::accepted::Accepted;
 use crate::end::End;
 use crate::error::Error;
+use crate::input;
 use crate::json::{object, Json};
+use crate::model::Model;
 use crate::program::{Used, ACCESSES, ACCESSES_TSO, INSTRUCTIONS, LOCATIONS, REGISTERS, THREADS};
 
 pub fn run(arguments: &Arguments) -> Result<End, Error> {
-    let model = only_model(arguments)?;
-    each("check", arguments, |question| {
-        let used = question.source_for(model)?.program.used();
-        let fields = [("accepted", true.into()), ("used", json(&used))];
-        question.answer(&format!("accepted: {}", told(&used)), fields, End::Answered)
-    })
+    let (model, asking) = (only_model(arguments)?, Asking::of(arguments, 1)?);
+    each("check", arguments, |question| checked(question, model, asking))
+}
+
+fn checked(question: &Question, model: Option<Model>, asking: Asking) -> Result<End, Error> {
+    let content = input::content(question.file)?;
+    let source = Accepted::of(&content, model)?;
+    input::warn(&source.name, source.warnings.clone());
+    question.noted(&source.name, &source.notes)?;
+    let expectations = source.expectations()?;
+    let used = source.program.used();
+    let fields = [("accepted", true.into()), ("used", json(&used))];
+    let mut end = question.answer(&format!("accepted: {}", told(&used)), fields, End::Answered)?;
+    let speaks = |one: Model| expectations.iter().any(|expectation| expectation.speaks_of(one));
+    for one in Model::BOTH.into_iter().filter(|one| model.is_none_or(|model| model == *one) && speaks(*one)) {
+        let source = Accepted::of(&content, Some(one))?;
+        end = end.max(expected::tell(question, &source, &expectations, asking)?);
+    }
+    if let Some(model) = model {
+        expected::tell_others(question, &expectations, model);
+    }
+    Ok(end)
 }
 
 /// What is used, for the eye.

@@ -15,7 +15,7 @@ pub fn import(arguments: &Arguments) -> Result<End, Error> {
     each("import-litmus", arguments, |question| {
         let text = input::text(question.file)?;
         let name = called(question.file).to_string();
-        let form = litmus::import(&String::from_utf8_lossy(&text)).map_err(|marks| Error::Text { name, marks })?;
+        let form = litmus::import(&String::from_utf8_lossy(&text)).map_err(|marks| Error::Text { name, marks })?.form;
         question.answer_text(form.clone(), [("text", form.into())], End::Answered)
     })
 }

@@ -1,6 +1,7 @@
 //! Names that the text form gives to locations, threads and registers, and how things are called by them.
 use super::instruction::{number, Comparison, Instruction, Operand};
 use super::limits::{LOCATIONS, REGISTERS};
+use std::collections::BTreeMap;
 use Instruction::*;
 
 /// The statement of an instruction that is a fence.
@@ -14,6 +15,8 @@ pub type Called = [Option<String>; LOCATIONS as usize];
 pub struct Names {
     pub locations: Called,
     pub threads: Vec<ThreadNames>,
+    /// What the constants of a text are.
+    pub constants: BTreeMap<String, u32>,
 }
 
 /// The names of one thread.
