@@ -69,8 +69,8 @@ fn fewest_changes_of_thread() {
     assert_eq!(ran.status, 1);
     assert_eq!(answer.get("violation"), Some(&Value::Text(first.to_string())));
     assert_eq!(answer.get("fewest"), Some(&Value::Text(best.to_string())));
-    assert_eq!(answer.get("fewest_switches"), Some(&Value::Number(least as u64)));
-    assert_eq!(answer.get("failing"), Some(&Value::Number(failing.count() as u64)));
+    assert_eq!(answer.get("fewest_switches"), Some(&Value::Number(least as i64)));
+    assert_eq!(answer.get("failing"), Some(&Value::Number(failing.count() as i64)));
     let ran = run_with(&["violation", "--fewest", "switches", "-"], text.as_bytes());
     assert!(
         ran.out.starts_with(&format!("first   {first}, ")) && ran.out.contains(&format!("\nfewest  {best}, ")),

@@ -120,7 +120,7 @@ fn fewest_by_exhaustion() {
     let answer = parse(ran.out.trim_end());
     let Some(Value::List(told)) = answer.get("sets") else { panic!("{}", ran.out) };
     assert_eq!(told.len(), wanted, "{}", ran.out);
-    assert!(told.iter().all(|set| set.get("fences") == Some(&Value::Number(least as u64))), "{}", ran.out);
+    assert!(told.iter().all(|set| set.get("fences") == Some(&Value::Number(least as i64))), "{}", ran.out);
 }
 
 /// Room for fewer fences than it takes is told, and a limit is a refusal.

@@ -66,7 +66,7 @@ fn refusal_40_in_words() {
 #[test]
 fn litmus_tests() {
     let test = "X86 init\n{ x=2; int y=0; [z]=0x10; 0:EAX=0; }\n P0          ;\n MOV EAX,[x] ;\nexists (0:EAX=2)\n";
-    let form = "# init\n# exists: (P0.eax=2)\ninit x 2\ninit z 0x10\nthread P0\n  eax = load x\n";
+    let form = "# init\n# exists (P0.eax=2) under tso\ninit x 2\ninit z 0x10\nthread P0\n  eax = load x\n";
     answered(run_with(&["import-litmus", "-"], test.as_bytes()), form);
     let back = run_with(&["export-litmus", "-"], form.as_bytes());
     assert!(back.out.starts_with("X86 exported\n{ x=2; z=16; }\n"), "{back:?}");

@@ -71,7 +71,7 @@ fn a_line_each() {
     assert_eq!(lines[1], "FAILS           b.asm: line 6: expect none under sc: FAILS, first by 0001");
     assert_eq!(lines[2], "                b.asm: line 6: expect none under tso: FAILS, first by 001001");
     assert_eq!(lines[3], "refused         c/d.asm:2:3: a statement does not begin with stor; is it store?");
-    assert!(lines.contains(&"refused         c/e.asm:3:8: there is no location z".to_string()), "{lines:?}");
+    assert!(lines.contains(&"refused         c/e.asm:3:8: there is no location z; is it x?".to_string()), "{lines:?}");
     assert!(
         lines.contains(&"no expectation  f.hex".to_string()) && lines.contains(&"no expectation  h.asm".to_string()),
         "{lines:?}"

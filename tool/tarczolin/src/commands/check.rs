@@ -1,6 +1,6 @@
 //! check: is this a program? What it uses of what there is, or why not.
 use super::arguments::Arguments;
-use super::expected::{self, Asking};
+use super::expected::{self, Asking, Found};
 use super::models::only_model;
 use super::reply::{each, Question};
 use crate::accepted::Accepted;
@@ -24,16 +24,17 @@ fn checked(question: &Question, model: Option<Model>, asking: Asking) -> Result<
     let expectations = source.expectations()?;
     let used = source.program.used();
     let fields = [("accepted", true.into()), ("used", json(&used))];
-    let mut end = question.answer(&format!("accepted: {}", told(&used)), fields, End::Answered)?;
+    let end = question.answer(&format!("accepted: {}", told(&used)), fields, End::Answered)?;
     let speaks = |one: Model| expectations.iter().any(|expectation| expectation.speaks_of(one));
-    for one in Model::BOTH.into_iter().filter(|one| model.is_none_or(|model| model == *one) && speaks(*one)) {
-        let source = Accepted::of(&content, Some(one))?;
-        end = end.max(expected::tell(question, &source, &expectations, asking)?);
-    }
+    let asked = Model::BOTH.into_iter().filter(|one| model.is_none_or(|model| model == *one) && speaks(*one));
+    let sources = asked.map(|one| Accepted::of(&content, Some(one))).collect::<Vec<_>>();
+    // a model that does not take the program keeps nothing from being told of the other
+    let found = sources.iter().flatten().map(|source| Found::of(source, &expectations, asking)).collect::<Vec<_>>();
+    let end = end.max(expected::tell_found(question, &found)?);
     if let Some(model) = model {
         expected::tell_others(question, &expectations, model);
     }
-    Ok(end)
+    sources.into_iter().find_map(Result::err).map_or(Ok(end), Err)
 }
 
 /// What is used, for the eye.

@@ -114,18 +114,24 @@ fn first(shown: &Shown) -> String {
 
 /// Decides what is expected of a program under its model, tells it, and says how that ends.
 pub fn tell(question: &Question, source: &Accepted, all: &[Expectation], asking: Asking) -> Result<End, Error> {
-    let found = Found::of(source, all, asking);
+    tell_found(question, &[Found::of(source, all, asking)])
+}
+
+/// Tells what was found under each model, and says how that ends.
+pub fn tell_found(question: &Question, all: &[Found]) -> Result<End, Error> {
     let mut text = String::new();
-    for (one, verdict) in found.verdicts() {
-        text += &match question.json {
-            true => question.object(found.fields(one, verdict)),
-            false => format!("{}{}\n", question.front(), found.told(one, verdict)),
-        };
+    for found in all {
+        for (one, verdict) in found.verdicts() {
+            text += &match question.json {
+                true => question.object(found.fields(one, verdict)),
+                false => format!("{}{}\n", question.front(), found.told(one, verdict)),
+            };
+        }
     }
     if !text.is_empty() && !question.json {
         text += &format!("{}({NOTE})\n", question.front());
     }
-    output::answer(text, found.end())
+    output::answer(text, all.iter().map(Found::end).max().unwrap_or(End::Answered))
 }
 
 /// Says how many expectations speak of another model alone, which is not asked here.

@@ -1,5 +1,5 @@
-//! The text form in a table, for the help and the manual page: the statements in this order are a program, save the last.
-pub const STATEMENTS: [(&str, &str); 18] = [
+//! The text form in a table, for the help and the manual page: the statements up to the label are a program, in this order.
+pub const STATEMENTS: [(&str, &str); 22] = [
     ("# remark", "up to the end of the line; # name x3 lock gives a name, in a program file too"),
     ("const FULL = 0x10", "a named number: decimal, hexadecimal or negative"),
     ("init tail FULL", "what a location starts with, in front of all threads; else 0"),
@@ -18,6 +18,10 @@ pub const STATEMENTS: [(&str, &str); 18] = [
     ("fail", "the thread fails and ends"),
     ("done:", "a label, alone or in front of a statement"),
     ("alike first second", "threads of the same code that may be exchanged; behind all threads"),
+    ("exists x = 1", "expected: some execution ends so; a condition as behind outcomes --where, of final memory and registers"),
+    ("forbid x = 1", "expected: no execution ends so; in a program file these four are remarks: # forbid x3 = 1"),
+    ("forall x = 1", "expected: all executions end so; under sc or under tso behind any of these: under that model alone"),
+    ("expect none", "expected: no assertion fails; expect violation: some does"),
 ];
 
 /// What words of a statement may be.

@@ -134,9 +134,10 @@ impl Telling {
             .to_string(),
             false => {
                 let word = if files == 1 { "file" } else { "files" };
+                let asked = if expectations == 1 { "expectation" } else { "expectations" };
                 let left = if left == 0 { String::new() } else { format!(", {left} not begun") };
                 let counts = format!("{ok} ok, {failing} FAILS, {refused} refused, {without} without expectation{left}");
-                format!("{files} {word}: {counts}; {expectations} expectations in {milliseconds} ms\n({NOTE})")
+                format!("{files} {word}: {counts}; {expectations} {asked} in {milliseconds} ms\n({NOTE})")
             }
         };
         let end = if left > 0 { self.end.max(End::Refused) } else { self.end };

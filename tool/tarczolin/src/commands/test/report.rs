@@ -1,8 +1,8 @@
 //! What was found of one file of a suite.
-use super::super::expected::{Asking, Found};
 use super::files::Named;
 use crate::accepted::Accepted;
 use crate::called::{called, recorded};
+use crate::commands::expected::{Asking, Found};
 use crate::decide::Verdict;
 use crate::end::End;
 use crate::error::{Error, Mark};
