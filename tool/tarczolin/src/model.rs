@@ -30,6 +30,14 @@ impl Model {
     /// Both, the stronger first.
     pub const BOTH: [Model; 2] = [Model::Sc, Model::Tso];
 
+    /// What it is called.
+    pub fn name(self) -> &'static str {
+        match self {
+            Model::Sc => "sequential consistency",
+            Model::Tso => "total store order",
+        }
+    }
+
     /// The word for it behind `--model` and `under`.
     pub fn word(self) -> &'static str {
         match self {

@@ -107,6 +107,11 @@ impl<'a> Scope<'a> {
         }
     }
 
+    /// The labels, each with the statements behind it.
+    pub fn labels(&self) -> Vec<(&'a str, &[&'a Statement])> {
+        self.labels.iter().map(|(name, (at, _))| (*name, &self.body[*at..])).collect()
+    }
+
     /// The labels that no jump goes to.
     pub fn unused_labels(&self) -> Vec<&'a Statement> {
         let goes = |name: &str| {

@@ -8,7 +8,7 @@ use super::translate::{instructions, Made};
 use super::words;
 use super::wrong::{Wrong, Wrongs};
 use crate::model::Model;
-use crate::program::{Frame, Names, ThreadNames, FENCE, THREADS};
+use crate::program::{Frame, Names, ThreadNames, Written, FENCE, THREADS};
 use std::collections::BTreeMap;
 
 /// A thread: the statement that opens it, its instructions, its registers' names.
@@ -18,6 +18,8 @@ struct Thread<'a> {
     made: Vec<Made<'a>>,
     registers: BTreeMap<String, u8>,
     unused_labels: Vec<&'a Statement>,
+    /// The labels, each in front of an instruction, by its place.
+    labels: Vec<(usize, String)>,
 }
 
 pub struct Threads<'a> {
@@ -62,7 +64,8 @@ impl<'a> Threads<'a> {
             let scope = Scope::of(symbols, t, &code, wrong);
             let made = instructions(&scope.code(wrong), model != Some(Model::Sc));
             let unused_labels = scope.unused_labels();
-            threads.push(Thread { number: t, opens, made, registers: scope.registers, unused_labels });
+            let labels = placed(scope.labels(), &made);
+            threads.push(Thread { number: t, opens, made, registers: scope.registers, unused_labels, labels });
         }
         let mut made: Vec<&mut Vec<Made>> = threads.iter_mut().map(|thread| &mut thread.made).collect();
         fence::choose(&mut made, wrong);
@@ -141,8 +144,26 @@ impl Thread<'_> {
             true => Some(FENCE.to_string()),
             false => several(made).then(|| made.statement.text.clone()),
         };
-        ThreadNames { name, registers, statements: self.made.iter().map(statement).collect() }
+        let written = |made: &Made| Written { line: made.statement.line, text: made.statement.text.clone() };
+        ThreadNames {
+            name,
+            registers,
+            statements: self.made.iter().map(statement).collect(),
+            written: self.made.iter().map(written).collect(),
+            labels: self.labels.clone(),
+        }
     }
+}
+
+/// Where labels stand among the instructions: each in front of the first one of the statements behind it.
+fn placed(labels: Vec<(&str, &[&Statement])>, made: &[Made]) -> Vec<(usize, String)> {
+    let place = |behind: &[&Statement]| {
+        let first = |one: &&Statement| made.iter().position(|made| std::ptr::eq(made.statement, *one));
+        behind.iter().find_map(first).unwrap_or(made.len())
+    };
+    let mut all: Vec<(usize, String)> = labels.into_iter().map(|(name, behind)| (place(behind), name.to_string())).collect();
+    all.sort();
+    all
 }
 
 /// What the init lines say, each for another location.
