@@ -21,6 +21,8 @@ pub struct Accepted {
     /// What looks like a slip in it, and the lines that expect something of it.
     pub warnings: Vec<Mark>,
     pub said: Vec<Said>,
+    /// The lines that repeat or use a definition, and how many accesses each had made.
+    pub made: Vec<(usize, usize)>,
 }
 
 impl Accepted {
@@ -34,7 +36,7 @@ impl Accepted {
 
     /// The same of what a file holds; what looks like a slip is not told yet.
     pub fn of(content: &Content, model: Option<Model>) -> Result<Accepted, Error> {
-        let Source { name, file, names, remarks, notes, asked, warnings, said } = content.source(model)?;
+        let Source { name, file, names, remarks, notes, asked, warnings, said, made } = content.source(model)?;
         let model = model.unwrap_or_default();
         if !asked || model == Model::Tso {
             ask::accepted(model, &file).map_err(|r| refusal::of_program(&name, &file, r))?;
@@ -44,7 +46,7 @@ impl Accepted {
         if !wrong.is_empty() {
             return Err(Error::Text { name, marks: wrong });
         }
-        Ok(Accepted { name, file, program, remarks, notes, warnings, said })
+        Ok(Accepted { name, file, program, remarks, notes, warnings, said, made })
     }
 
     /// What is expected of it, or all that is wrong with the lines that say so.
@@ -60,6 +62,15 @@ impl Accepted {
         let names = Names { locations: locations.clone(), ..self.program.names.clone() };
         let program = Program::of_accepted(&file).named(&names).under(self.program.model);
         let (name, remarks, notes) = (self.name.clone(), self.remarks.clone(), self.notes.clone());
-        Accepted { name, file, program, remarks, notes, warnings: self.warnings.clone(), said: self.said.clone() }
+        Accepted {
+            name,
+            file,
+            program,
+            remarks,
+            notes,
+            warnings: self.warnings.clone(),
+            said: self.said.clone(),
+            made: self.made.clone(),
+        }
     }
 }

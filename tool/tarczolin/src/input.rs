@@ -32,6 +32,8 @@ pub struct Source {
     pub warnings: Vec<Mark>,
     /// The lines that expect something of it.
     pub said: Vec<Said>,
+    /// The lines that repeat or use a definition, and how many accesses each had made.
+    pub made: Vec<(usize, usize)>,
 }
 
 /// Standard input, where it is open: one that was closed from the start is no empty file.
@@ -122,16 +124,26 @@ impl Content {
             Form::Litmus(Imported { form, .. }) => form.as_bytes(),
         };
         let made = asm::assemble_for(text, model).map_err(|marks| self.wrong(marks))?;
-        let Assembled { file, names, remarks, warnings, left_out, said } = made;
+        let Assembled { file, names, remarks, warnings, left_out, said, made } = made;
         let (warnings, said) = (self.at_home(warnings), self.said(said));
-        Ok(Source { name, file, names, remarks, notes: notes(left_out), asked: true, warnings, said })
+        Ok(Source { name, file, names, remarks, notes: notes(left_out), asked: true, warnings, said, made })
     }
 
     /// A program file, whatever it holds.
     fn file(&self) -> Source {
         let (file, (names, remarks)) = (self.bytes.clone(), asm::named(&self.bytes));
         let (warnings, said) = (asm::slips_of_file(&file), asm::said(&file, false));
-        Source { name: self.name.clone(), file, names, remarks, notes: Vec::new(), asked: false, warnings, said }
+        Source {
+            name: self.name.clone(),
+            file,
+            names,
+            remarks,
+            notes: Vec::new(),
+            asked: false,
+            warnings,
+            said,
+            made: Vec::new(),
+        }
     }
 
     fn wrong(&self, marks: Vec<Mark>) -> Error {

@@ -48,7 +48,7 @@ fn store_buffering() {
     for words in [&["check", "-"][..], &["disasm", "-"], &["export-litmus", "-"], &["asm", "-"]] {
         assert_eq!(run_with(words, BUFFERED.as_bytes()).err, "", "it is not run, and nothing is left out: {words:?}");
     }
-    let shown = under("tso", &["show", "-", "0010000001110101"], BUFFERED).out;
+    let shown = without_statements(&under("tso", &["show", "-", "0010000001110101"], BUFFERED).out);
     assert!(shown.contains("#1   a  fence\n#2   a  load y -> n = 0             initial\n"), "{shown}");
     assert!(shown.ends_with("memory     x = 1, y = 1\nregisters  a.n = 0, b.n = 1\n"), "{shown}");
     let page = under("tso", &["show", "-", "0010000001110101", "--html", "-"], BUFFERED).out;

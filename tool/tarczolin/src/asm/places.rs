@@ -1,5 +1,6 @@
 //! Places of a text where a fence may do something, and texts with fences at some of them.
 use super::parse;
+use super::remarks::Remarks;
 use super::statement::{Jump, Kind, Statement};
 use super::tokens::tokens;
 use std::collections::{BTreeMap, BTreeSet};
@@ -26,7 +27,9 @@ impl Bodies {
     fn of(text: &[u8]) -> Bodies {
         let mut all: Vec<Vec<(Statement, bool)>> = Vec::new();
         let mut labelled = false;
-        for statement in parse::statements(text).0 {
+        let given = Remarks::of_text(text, &[]).names();
+        let given: Vec<String> = given.locations.into_iter().flatten().collect();
+        for statement in parse::statements(text, &given).0 {
             match (&statement.kind, all.last_mut()) {
                 (Kind::Thread(_), _) => all.push(Vec::new()),
                 (Kind::Label(_), _) => {

@@ -30,8 +30,16 @@ fn named(line: &str) -> Option<(Thing, &str)> {
         ["#", "name", of, register, name] => (Thing::Register(thread(of)?, words::register(register)?.ok()?), *name),
         _ => return None,
     };
-    let plain = name.bytes().all(|c| c.is_ascii_alphanumeric() || c == b'_');
-    (plain && words::is_name(name)).then_some((thing, name))
+    let plain = |name: &str| !name.is_empty() && name.bytes().all(|c| c.is_ascii_alphanumeric() || c == b'_');
+    // a location may be a place of an array: next[2]
+    let array = || {
+        matches!(thing, Thing::Location(_))
+            && name
+                .strip_suffix(']')
+                .and_then(|name| name.split_once('['))
+                .is_some_and(|(name, k)| plain(name) && k.parse::<u32>().is_ok_and(|number| number.to_string() == k))
+    };
+    ((plain(name) || array()) && words::is_name(name)).then_some((thing, name))
 }
 
 /// The name line of a thing.

@@ -1,6 +1,7 @@
 //! The threads of a text: where each begins, its code, and the limits that it keeps.
 use super::fence;
 use super::limits;
+use super::line::as_written;
 use super::resolve::Scope;
 use super::statement::{Kind, Statement, Word};
 use super::symbols::Symbols;
@@ -139,7 +140,7 @@ impl Thread<'_> {
         for (name, r) in &self.registers {
             registers[*r as usize] = Some(name.clone());
         }
-        let several = |made: &Made| self.made.iter().filter(|other| other.statement.line == made.statement.line).count() > 1;
+        let several = |made: &Made| self.made.iter().filter(|other| std::ptr::eq(other.statement, made.statement)).count() > 1;
         let statement = |made: &Made| match made.is_fence() {
             true => Some(FENCE.to_string()),
             false => several(made).then(|| made.statement.text.clone()),
@@ -161,7 +162,8 @@ fn placed(labels: Vec<(&str, &[&Statement])>, made: &[Made]) -> Vec<(usize, Stri
         let first = |one: &&Statement| made.iter().position(|made| std::ptr::eq(made.statement, *one));
         behind.iter().find_map(first).unwrap_or(made.len())
     };
-    let mut all: Vec<(usize, String)> = labels.into_iter().map(|(name, behind)| (place(behind), name.to_string())).collect();
+    let mut all: Vec<(usize, String)> =
+        labels.into_iter().map(|(name, behind)| (place(behind), as_written(name).to_string())).collect();
     all.sort();
     all
 }

@@ -2,7 +2,7 @@
 use crate::program::{LOCATIONS, REGISTERS};
 
 /// The words that begin a statement, or stand inside one; no name may be one of them.
-pub const KEYWORDS: [&str; 18] = [
+pub const KEYWORDS: [&str; 20] = [
     "thread",
     "alike",
     "const",
@@ -21,6 +21,8 @@ pub const KEYWORDS: [&str; 18] = [
     "forbid",
     "forall",
     "expect",
+    "repeat",
+    "def",
 ];
 
 /// A letter and digits: the number behind the letter.

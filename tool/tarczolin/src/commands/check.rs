@@ -7,7 +7,7 @@ use crate::accepted::Accepted;
 use crate::end::End;
 use crate::error::Error;
 use crate::input;
-use crate::json::{object, Json};
+use crate::json::{list, object, Json};
 use crate::model::Model;
 use crate::program::{Used, ACCESSES, ACCESSES_TSO, INSTRUCTIONS, LOCATIONS, REGISTERS, THREADS};
 
@@ -23,8 +23,15 @@ fn checked(question: &Question, model: Option<Model>, asking: Asking) -> Result<
     question.noted(&source.name, &source.notes)?;
     let expectations = source.expectations()?;
     let used = source.program.used();
-    let fields = [("accepted", true.into()), ("used", json(&used))];
-    let end = question.answer(&format!("accepted: {}", told(&used)), fields, End::Answered)?;
+    let made = |(line, accesses): &(usize, usize)| {
+        object([("line", Json::from(*line as u64)), ("accesses", Json::from(*accesses as u64))])
+    };
+    let fields = [("accepted", true.into()), ("used", json(&used)), ("made", list(source.made.iter().map(made)))];
+    let mut words = format!("accepted: {}", told(&used));
+    for (line, accesses) in &source.made {
+        words += &format!("\n{}line {line} makes {accesses} of these accesses", question.front());
+    }
+    let end = question.answer(&words, fields, End::Answered)?;
     let speaks = |one: Model| expectations.iter().any(|expectation| expectation.speaks_of(one));
     let asked = Model::BOTH.into_iter().filter(|one| model.is_none_or(|model| model == *one) && speaks(*one));
     let sources = asked.map(|one| Accepted::of(&content, Some(one))).collect::<Vec<_>>();

@@ -54,7 +54,7 @@ fn folded(words: &str) -> String {
 
 /// The text form.
 fn form() -> String {
-    let row = |(statement, about): &(&str, &str)| format!("  {statement:<21} {about}\n");
+    let row = |(statement, about): &(&str, &str)| format!("  {statement:<23} {about}\n");
     let front = folded(&format!("The text form, a statement a line. {WORDS}"));
     format!("{front}\n{}", STATEMENTS.iter().map(row).collect::<String>())
 }

@@ -78,7 +78,7 @@ fn tokens(text: &str) -> Result<Vec<(usize, String)>, Misread> {
     let mut tokens: Vec<(usize, String)> = Vec::new();
     let mut inside = false;
     for (at, c) in text.chars().enumerate() {
-        let word = c.is_ascii_alphanumeric() || "_.-".contains(c);
+        let word = c.is_ascii_alphanumeric() || "_.-[]".contains(c);
         let last = tokens.last().map_or("", |(_, last)| last);
         // && and || are the same as & and |
         let again = "&|".contains(c) && last == c.to_string();
@@ -226,6 +226,10 @@ impl Reader<'_> {
         if let Some(value) = names.constants.get(word) {
             return Ok(Value::Number(*value));
         }
+        // a place of an array, its index a constant: next[LAST]
+        let index = word.strip_suffix(']').and_then(|word| word.split_once('['));
+        let place = index.and_then(|(array, index)| Some(format!("{array}[{}]", names.constants.get(index)?)));
+        let word = place.as_deref().unwrap_or(word);
         let called = |l: &u8| names.location(*l) == word || format!("x{l}") == word;
         let found = (0..LOCATIONS).find(called);
         let known = || (0..LOCATIONS).map(|l| names.location(l)).chain(names.constants.keys().cloned()).collect();
