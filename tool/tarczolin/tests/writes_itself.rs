@@ -90,6 +90,8 @@ fn errors_point_into_the_text() {
         ("thread\n  store next[0] 1\n", "2:9: there is no array next"),
         ("const next[0..3]\nthread\n  store nxt[0] 1\n", "3:9: there is no array nxt; is it next?"),
         ("const next[0..3]\nthread\n  store next[4] 1\n", "3:14: next has the places 0 to 3, not 4"),
+        ("const a[0..1]\ndef f(k) {\n  store a[k] 1\n}\nthread\n  f(2)\n", "3:11: a has the places 0 to 1, not 2; here by line 6"),
+        ("def g() {\n  none(1)\n}\nthread\n  repeat 2 {\n    g()\n  }\n", "2:3: nothing defines none; here by line 6, by line 5"),
         ("const next[0..3]\nthread\n  n = load next[n]\n", "3:17: an index is a number or a constant, not n"),
         ("const next[0..3]\nthread\n  store next[1 1\n", "3:16: ] is expected here, not 1"),
         ("const next[0..3]\nthread\n  store next[\n", "3:9: an index and ] are expected behind next["),

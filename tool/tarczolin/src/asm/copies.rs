@@ -21,7 +21,11 @@ fn head(line: &Line, constants: &BTreeMap<String, u32>) -> Option<Result<Head, W
     let star = line.pieces.iter().position(|piece| piece.text == "*")?;
     let wrong = |at: usize, message: String| {
         let last = line.pieces.last().map_or(1, |piece| piece.column + piece.text.chars().count());
-        Some(Err(Wrong { line: line.number, column: line.pieces.get(at).map_or(last, |piece| piece.column), message }))
+        Some(Err(Wrong {
+            line: line.number,
+            column: line.pieces.get(at).map_or(last, |piece| piece.column),
+            message: message + &used(&line.uses),
+        }))
     };
     if first(line) != "thread" || star > 2 {
         return wrong(star, "* has no meaning here".to_string());

@@ -6,7 +6,7 @@ use super::line::{Line, Piece};
 use super::said::begins;
 use super::tokens::tokens;
 use super::words::{constant, KEYWORDS};
-use super::wrong::Wrong;
+use super::wrong::{used, Wrong};
 use crate::near::hint;
 use std::collections::BTreeMap;
 
@@ -117,7 +117,7 @@ impl<'a> Expansion<'a> {
     fn error(&mut self, line: &Line, at: usize, message: String) {
         let end = line.pieces.last().map_or(1, |piece| piece.column + piece.text.chars().count());
         let column = line.pieces.get(at).map_or(end, |piece| piece.column);
-        self.wrong.push(Wrong { line: line.number, column, message });
+        self.wrong.push(Wrong { line: line.number, column, message: message + &used(&line.uses) });
     }
 
     /// Takes in the definitions, which stand outside of all other blocks.
@@ -207,7 +207,7 @@ impl<'a> Expansion<'a> {
         match self.arrays.joined(line, &self.constants) {
             Ok(line) => line,
             Err((line, wrong)) => {
-                self.wrong.push(wrong);
+                self.wrong.push(Wrong { message: wrong.message + &used(&line.uses), ..wrong });
                 line
             }
         }
@@ -216,7 +216,7 @@ impl<'a> Expansion<'a> {
     fn line(&mut self, line: &Line, scope: &Scope) {
         let mut line = self.substituted(line, scope);
         let front = if label(&line.pieces).is_some() { 2 } else { 0 };
-        if !line.pieces.get(front + 1).is_some_and(|sign| sign.text == "(") {
+        if line.pieces.get(front + 1).is_none_or(|sign| sign.text != "(") {
             return self.made.push(line);
         }
         let call = Line { pieces: line.pieces.split_off(front), ..line.clone() };
