@@ -1,7 +1,7 @@
 //! Threads of the same code: `thread worker * 3 alike` is three threads, worker0 to worker2, declared alike.
 use super::line::{Line, Piece};
 use super::words::constant;
-use super::wrong::Wrong;
+use super::wrong::{used, Wrong};
 use crate::program::THREADS;
 use std::collections::BTreeMap;
 
