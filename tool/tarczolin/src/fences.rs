@@ -21,8 +21,8 @@ pub struct Set {
 
 /// What was found.
 pub enum Least {
-    /// These, all of the least cost; a set of no place where no fence is needed.
-    Sets(Vec<Set>),
+    /// These, all of the least cost; a set of no place where no fence is needed. So many sets of as few fences or fewer do not fit the program.
+    Sets(Vec<Set>, usize),
     /// Fences cannot help: under sequential consistency, where they mean nothing, this execution is wrong too.
     None(Schedule),
 }
@@ -88,7 +88,7 @@ impl Search<'_> {
             );
         }
         if self.wrong(&bare, &goals_tso)?.is_none() {
-            return Ok(Least::Sets(vec![self.set(&[], self.text.to_vec(), &bare, &bare)]));
+            return Ok(Least::Sets(vec![self.set(&[], self.text.to_vec(), &bare, &bare)], 0));
         }
         let strong = self.accepted(self.text, Model::Sc)?;
         if let Some(schedule) = self.wrong(&strong, &goals(&strong, Model::Sc)?)? {
@@ -132,7 +132,7 @@ impl Search<'_> {
                  not fit the program, which has room for {room} more accesses of {ACCESSES_TSO}"
             )));
         }
-        Ok(Least::Sets(found))
+        Ok(Least::Sets(found, unfit))
     }
 }
 

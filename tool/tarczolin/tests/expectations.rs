@@ -182,6 +182,29 @@ fn too_many_accesses_for_one_model() {
     assert_eq!(run_with(&["check", "-"], format!("# exists true under sc\n{file}").as_bytes()).status, 0);
 }
 
+/// What speaks of another model is told in JSON too; `asm` passes over nothing, and `export-litmus` says what it leaves out.
+#[test]
+fn nothing_is_left_out_in_silence() {
+    let text = format!("{PAIR}forbid T0.n = 1 under tso\n");
+    let ran = run_with(&["violation", "-", "--json"], text.as_bytes());
+    assert!(
+        ran.out.starts_with(
+            "{\"command\":\"violation\",\"file\":\"standard input\",\"notes\":[\"1 expectation speaks of another model"
+        ),
+        "{}",
+        ran.out
+    );
+    for words in [&["asm", "-"][..], &["asm", "--remarks", "-"], &["disasm", "-"]] {
+        let ran = run_with(words, format!("{PAIR}forbid z = 1\n").as_bytes());
+        assert!(ran.status == 2 && ran.err.contains(":7:8: there is no location z"), "{words:?}: {}", ran.err);
+    }
+    let ran = run_with(&["export-litmus", "-"], text.as_bytes());
+    assert!(ran.status == 0 && ran.err.contains("what is expected of the program is left out"), "{}", ran.err);
+    let long = format!("{}{PAIR}forbid T0.n = 9\n", format!("# {}\n", "x".repeat(500)).repeat(9));
+    let ran = run_with(&["asm", "--remarks", "-"], long.as_bytes());
+    assert!(ran.status == 2 && ran.err.contains("what is expected stands in them"), "{}", ran.err);
+}
+
 #[test]
 fn as_json() {
     let text = format!("{PAIR}forbid T0.n = 1 under sc\nexists x = 5 under tso\n");

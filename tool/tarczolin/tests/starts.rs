@@ -26,7 +26,7 @@ fn there_and_back() {
 #[test]
 fn shown() {
     let ran = run_with(&["show", "-"], FORM.as_bytes());
-    assert!(ran.out.contains("fetch_add tail 1 -> mine = 1, tail = 2  initial\n"), "{}", ran.out);
+    assert!(ran.out.contains("fetch_add tail 1 -> mine = 1, tail = 2  initial  5 | mine = fetch_add tail 1\n"), "{}", ran.out);
     assert!(ran.out.contains("memory     tail = 2, other = 5, x3 = 0xffffffff\n"), "{}", ran.out);
     let page = run_with(&["show", "-", "--html", "-"], FORM.as_bytes());
     assert!(page.out.contains(">initial: tail is 1, x3 is 0xffffffff, all else is 0</text>"), "{page:?}");

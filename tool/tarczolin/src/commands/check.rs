@@ -22,6 +22,9 @@ fn checked(question: &Question, model: Option<Model>, asking: Asking) -> Result<
     input::warn(&source.name, source.warnings.clone());
     question.noted(&source.name, &source.notes)?;
     let expectations = source.expectations()?;
+    if let Some(model) = model {
+        expected::note_others(question, &source, &expectations, model)?;
+    }
     let used = source.program.used();
     let made = |(line, accesses): &(usize, usize)| {
         object([("line", Json::from(*line as u64)), ("accesses", Json::from(*accesses as u64))])
@@ -38,9 +41,6 @@ fn checked(question: &Question, model: Option<Model>, asking: Asking) -> Result<
     // a model that does not take the program keeps nothing from being told of the other
     let found = sources.iter().flatten().map(|source| Found::of(source, &expectations, asking)).collect::<Vec<_>>();
     let end = end.max(expected::tell_found(question, &found)?);
-    if let Some(model) = model {
-        expected::tell_others(question, &expectations, model);
-    }
     sources.into_iter().find_map(Result::err).map_or(Ok(end), Err)
 }
 

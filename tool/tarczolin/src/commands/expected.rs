@@ -134,12 +134,10 @@ pub fn tell_found(question: &Question, all: &[Found]) -> Result<End, Error> {
     output::answer(text, all.iter().map(Found::end).max().unwrap_or(End::Answered))
 }
 
-/// Says how many expectations speak of another model alone, which is not asked here.
-pub fn tell_others(question: &Question, all: &[Expectation], model: Model) {
+/// Says in front of the answer how many expectations speak of another model alone, which is not asked about here.
+pub fn note_others(question: &Question, source: &Accepted, all: &[Expectation], model: Model) -> Result<(), Error> {
     let others = all.iter().filter(|one| !one.speaks_of(model)).count();
     let (word, verb) = if others == 1 { ("expectation", "speaks") } else { ("expectations", "speak") };
-    if others > 0 {
-        let name = crate::called::called(question.file);
-        output::tell(&format!("{name}: {others} {word} {verb} of another model, and nothing is said of it here"));
-    }
+    let note = format!("{others} {word} {verb} of another model, and nothing is said of it here");
+    question.noted(&source.name, if others > 0 { std::slice::from_ref(&note) } else { &[] })
 }

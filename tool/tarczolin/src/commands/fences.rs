@@ -45,15 +45,29 @@ fn found(question: &Question, out: Option<&OsStr>, limit: u64) -> Result<End, Er
                 "no fences do it: under sequential consistency, where they mean nothing, {} is wrong too\n{NOTE}\n",
                 schedule.told()
             );
-            let fields = [("sets", list(Vec::<Json>::new())), ("schedule", schedule.to_string().into()), ("written", Json::Null)];
+            let fields = [
+                ("sets", list(Vec::<Json>::new())),
+                ("unfit", 0u64.into()),
+                ("schedule", schedule.to_string().into()),
+                ("written", Json::Null),
+            ];
             question.answer_text(words, fields, End::Violation)
         }
-        Least::Sets(sets) => {
+        Least::Sets(sets, unfit) => {
             let written = out.map(|out| write(question, out, &content.name, &sets[0])).transpose()?;
             let words = sets.iter().map(|set| told(set, lines)).collect::<String>();
-            let others = contrary(&content)?;
+            let others = if sets[0].places.is_empty() { String::new() } else { contrary(&content)? };
+            let others = match unfit {
+                0 => others,
+                _ => format!("{unfit} sets of as few fences or fewer do not fit the program, and are not asked for\n{others}"),
+            };
             let tail = written.as_ref().map_or(String::new(), |name| format!("with the first of these in {name}\n"));
-            let fields = [("sets", list(sets.iter().map(json))), ("schedule", Json::Null), ("written", written.into())];
+            let fields = [
+                ("sets", list(sets.iter().map(json))),
+                ("unfit", (unfit as u64).into()),
+                ("schedule", Json::Null),
+                ("written", written.into()),
+            ];
             question.answer_text(format!("{words}{others}{tail}{NOTE}\n"), fields, End::Answered)
         }
     }

@@ -6,6 +6,9 @@ use crate::end::End;
 use crate::error::Error;
 use crate::{input, litmus};
 
+/// What is told where a program that expects something is exported.
+const LEFT_OUT: &str = "what is expected of the program is left out: the test has the condition exists (true)";
+
 /// What does not fit.
 fn unfit(question: &Question, message: String) -> Error {
     Error::Unfit { name: called(question.file), message }
@@ -24,6 +27,9 @@ pub fn export(arguments: &Arguments) -> Result<End, Error> {
     each("export-litmus", arguments, |question| {
         let source = question.whole_source()?;
         let test = litmus::export("exported", &source.program).map_err(|message| unfit(question, message))?;
+        if !source.said.is_empty() {
+            question.noted(&source.name, &[LEFT_OUT.to_string()])?;
+        }
         question.answer_text(test.clone(), [("text", test.into())], End::Answered)
     })
 }

@@ -25,8 +25,8 @@ pub fn run(arguments: &Arguments) -> Result<End, Error> {
     each("outcomes", arguments, |question| {
         let source = question.source_under(piece.model)?;
         let expectations = source.expectations()?;
+        expected::note_others(question, &source, &expectations, piece.model)?;
         let end = outcomes(question, &source, &piece, condition)?;
-        expected::tell_others(question, &expectations, piece.model);
         Ok(end.max(expected::tell(question, &source, &expectations, asking)?))
     })
 }

@@ -34,9 +34,9 @@ pub fn run(arguments: &Arguments) -> Result<End, Error> {
     each("violation", arguments, |question| {
         let source = question.source_under(piece.model)?;
         let expectations = source.expectations()?;
+        expected::note_others(question, &source, &expectations, piece.model)?;
         let showing = Showing { show: arguments.flag("--show"), fewest, limit: asking.limit };
         let end = violation(question, &source, &piece, showing)?;
-        expected::tell_others(question, &expectations, piece.model);
         Ok(end.max(expected::tell(question, &source, &expectations, asking)?))
     })
 }

@@ -16,7 +16,7 @@ pub fn read(said: &[Said], program: &Program) -> Result<Vec<Expectation>, Vec<Ma
     }
 }
 
-/// What is wrong with those lines that are statements of a text, which no command passes over.
+/// What is wrong with those lines that are statements of a text: no command that makes a program of it passes over them.
 pub fn wrong_statements(said: &[Said], program: &Program) -> Vec<Mark> {
     said.iter().filter(|one| one.statement).filter_map(|one| of(one, program).err()).collect()
 }
