@@ -137,9 +137,9 @@ fn no_room_and_a_limit() {
 /// A set that has no register left for its fence is not asked for, and that is told.
 #[test]
 fn sets_that_do_not_fit_are_told() {
-    let left = "thread left\n  store x 1\n  n = load y\n  a = load y\n  b = load y\n  c = load y\n  store z n\n  store z a\n";
-    let text =
-        format!("{left}  store z b\n  store z c\nthread right\n  store y 1\n  n = load x\nforbid left.a = 0 & right.n = 0\n");
+    let loads: String = ["a", "b", "c", "n"].map(|r| format!("  {r} = load z\n")).concat();
+    let left = format!("thread left\n{loads}  store x 1\n  if n != 0 goto end\n  n = load y\nend:\n");
+    let text = format!("{left}thread right\n  store y 1\n  n = load x\nforbid left.n = 0 & right.n = 0\n");
     let (status, told) = fences(&text);
     assert_eq!(status, 0, "{told}");
     assert!(told.contains(" do not fit the program, and are not asked for\n"), "{told}");
