@@ -2,8 +2,10 @@
 mod common;
 
 use common::json::{parse, Value};
-use common::{folder, run, run_with};
+use common::{folder, run, run_with, tool};
 use std::path::PathBuf;
+use std::process::{Command, Stdio};
+use std::time::Duration;
 use tarczolin_tests::files::path;
 
 /// A fresh folder with these files.
@@ -122,6 +124,26 @@ fn links() {
     assert_eq!((ran.status, ran.out.matches("ok  ").count()), (0, 1), "{}", ran.out);
     std::os::unix::fs::symlink("nowhere", format!("{folder}/gone.asm")).unwrap();
     assert_eq!(run(&["test", &folder]).status, 2);
+}
+
+/// Ctrl-C ends a suite: what is not decided and what is not begun is told, and that is no success.
+#[test]
+fn interrupted() {
+    let long = String::from_utf8(std::fs::read(path("examples/long.asm")).unwrap()).unwrap();
+    let folder = suite("suite-interrupted", &[("a.asm", &format!("{long}\nforbid x0 = 77 under sc\n")), ("b.asm", GOOD)]);
+    let mut command = tool(&["test", &folder, "--limit", "1000000000000"]);
+    let child = command.stdout(Stdio::piped()).stderr(Stdio::null()).spawn().unwrap();
+    std::thread::sleep(Duration::from_millis(2000));
+    assert!(Command::new("kill").args(["-INT", &child.id().to_string()]).status().unwrap().success());
+    let output = child.wait_with_output().unwrap();
+    let out = String::from_utf8(output.stdout).unwrap();
+    assert_eq!(output.status.code(), Some(2), "{out}");
+    assert!(
+        out.contains("not decided: interrupted behind ")
+            && out.contains("0 ok, 0 FAILS, 1 refused")
+            && out.contains(", 1 not begun"),
+        "{out}"
+    );
 }
 
 #[test]
