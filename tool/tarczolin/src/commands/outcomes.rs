@@ -113,8 +113,9 @@ fn told(question: &Question, list: &List, number: u64, outcome: &Outcome, exchan
     let failures = end.failed.iter().enumerate().filter_map(|(t, failed)| Some((t as u8, (*failed)?)));
     let failures: Vec<String> = failures
         .map(|(t, failed)| {
-            let thread = list.program.names.thread(t);
-            format!("{thread}: {} (instruction {})", execution.failure(t, &failed), failed.at)
+            let names = &list.program.names;
+            let line = names.written(t, failed.at).map_or(String::new(), |written| format!(", line {}", written.line));
+            format!("{}: {} (instruction {}{line})", names.thread(t), execution.failure(t, &failed), failed.at)
         })
         .collect();
     if question.json {
