@@ -25,8 +25,8 @@ fn each_kind() {
         ("forbid T0.n = 1 & T1.n = 1", 1, "FAILS, first by 00010001"),
         ("forall x = 1 & y = 1", 0, "holds: all of 3 listed end so"),
         ("forall T0.n = 0", 1, "FAILS, first by 00010001"),
-        ("expect none", 0, "holds: none of 3 listed fails"),
-        ("expect violation", 1, "FAILS: none of 3 listed fails"),
+        ("expect none", 0, "holds: the program asserts nothing"),
+        ("expect violation", 1, "FAILS: the program asserts nothing"),
     ];
     for (expected, status, told) in cases {
         let text = format!("{PAIR}{expected}\n");
@@ -36,6 +36,9 @@ fn each_kind() {
     }
     let fails = "thread\n  n = load x\n  assert n == 0\nthread\n  store x 1\n";
     assert_eq!(lines(&["check", "-", "--model", "sc"], &format!("{fails}expect violation\n")).0, 0);
+    let holds = fails.replace("== 0", "<= 1");
+    let (status, told) = lines(&["check", "-", "--model", "sc"], &format!("{holds}expect none\n"));
+    assert_eq!((status, told), (0, vec!["line 6: expect none under sc: holds: none of 2 listed fails".to_string()]));
     let (status, told) = lines(&["check", "-", "--model", "sc"], &format!("{fails}expect none\n"));
     assert_eq!((status, told), (1, vec!["line 6: expect none under sc: FAILS, first by 0100".to_string()]));
 }

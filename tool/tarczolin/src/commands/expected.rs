@@ -10,6 +10,7 @@ use crate::expect::{Expectation, Kind};
 use crate::json::Json;
 use crate::model::Model;
 use crate::output;
+use crate::program::Instruction;
 
 /// So many listed executions are looked at where nothing else is said.
 pub const MOST: u64 = 1_000_000;
@@ -42,6 +43,8 @@ pub struct Found {
     pub all: Vec<Expectation>,
     pub model: Model,
     pub decided: Decided,
+    /// Some assertion stands in the program: without one that none fails says little.
+    asserts: bool,
 }
 
 impl Found {
@@ -51,7 +54,8 @@ impl Found {
         let all: Vec<Expectation> = all.iter().filter(|one| one.speaks_of(model)).cloned().collect();
         tarczolin_sys::note_interrupts();
         let decided = decide(source, &all.iter().collect::<Vec<_>>(), asking.jobs, asking.limit);
-        Found { all, model, decided }
+        let asserts = source.program.threads.iter().flatten().any(Instruction::is_assertion);
+        Found { all, model, decided, asserts }
     }
 
     pub fn verdicts(&self) -> impl Iterator<Item = (&Expectation, Verdict)> {
@@ -75,6 +79,7 @@ impl Found {
     fn words(&self, one: &Expectation, verdict: Verdict) -> String {
         let walked = self.decided.walked;
         let none = match one.kind {
+            Kind::Violation | Kind::NoViolation if !self.asserts => "the program asserts nothing".to_string(),
             Kind::Violation | Kind::NoViolation => format!("none of {walked} listed fails"),
             Kind::Forall(_) => format!("all of {walked} listed end so"),
             _ => format!("none of {walked} listed ends so"),
