@@ -4,7 +4,7 @@ mod common;
 mod fenced;
 
 use common::json::{fits_the_schema, parse, Value};
-use common::{run_with, Ran};
+use common::{run_with, without_statements, Ran};
 use fenced::{asserted, random, End, Fenced};
 use std::collections::BTreeSet;
 use tarczolin_tests::random::Random;
@@ -37,7 +37,8 @@ fn store_buffering() {
     assert_eq!((ran.status, ran.err.as_str()), (0, told));
     let bare = BUFFERED.replace("  fence\n", "");
     for words in [&["list", "-"][..], &["show", "-"], &["count", "-", "--classes"], &["outcomes", "-"], &["cuts", "-", "2"]] {
-        assert_eq!(run_with(words, BUFFERED.as_bytes()).out, run_with(words, bare.as_bytes()).out, "{words:?}");
+        let [fenced, bare] = [BUFFERED, &bare].map(|text| without_statements(&run_with(words, text.as_bytes()).out));
+        assert_eq!(fenced, bare, "{words:?}");
     }
     for words in [&["force", "-", "--hostile", "a"][..], &["check", "-", "--model", "sc"], &["covers", "-", "examples/whole.hex"]]
     {
@@ -46,7 +47,7 @@ fn store_buffering() {
     for words in [&["check", "-"][..], &["disasm", "-"], &["export-litmus", "-"], &["asm", "-"]] {
         assert_eq!(run_with(words, BUFFERED.as_bytes()).err, "", "it is not run, and nothing is left out: {words:?}");
     }
-    let shown = under("tso", &["show", "-", "0010000001110101"], BUFFERED).out;
+    let shown = without_statements(&under("tso", &["show", "-", "0010000001110101"], BUFFERED).out);
     assert!(shown.contains("#1   a  fence\n#2   a  load y -> n = 0             initial\n"), "{shown}");
     assert!(shown.ends_with("memory     x = 1, y = 1\nregisters  a.n = 0, b.n = 1\n"), "{shown}");
     let page = under("tso", &["show", "-", "0010000001110101", "--html", "-"], BUFFERED).out;
@@ -266,7 +267,7 @@ fn there_and_back() {
     let form = run_with(&["disasm", "-"], file.as_bytes()).out;
     assert!(form.ends_with(BUFFERED) && !form.contains("# fence"), "{form}");
     assert_eq!(run_with(&["asm", "--remarks", "-"], form.as_bytes()).out, file);
-    assert_eq!(under("tso", &["show", "-"], &file).out, under("tso", &["show", "-"], BUFFERED).out);
+    assert_eq!(under("tso", &["show", "-"], &file).out, without_statements(&under("tso", &["show", "-"], BUFFERED).out));
     let bare = run_with(&["asm", "-"], BUFFERED.as_bytes()).out;
     assert!(run_with(&["disasm", "-"], bare.as_bytes()).out.contains("  r3 = fetch_add x7 0\n"));
     let litmus = run_with(&["export-litmus", "-"], file.as_bytes()).out;

@@ -34,7 +34,7 @@ fn every_answer(at: &str, mut each: impl FnMut(&[&str], &[u8], i32, usize)) -> B
     let [graph, piece] =
         [("graph", &["graph", QUEUE, "00000102020201"][..]), ("piece", &["list", QUEUE])].map(|one| kept(at, one));
     let (no, pair) = (b"400001ffff\n400101ffff\n41000000\n41010100\n", "examples/store-load-pair.hex");
-    let cases: [(&[&str], &[u8], i32, usize); 33] = [
+    let cases: [(&[&str], &[u8], i32, usize); 42] = [
         (&["list", QUEUE], b"", 1, 7),
         (&["count", QUEUE], b"", 1, 1),
         (&["count", QUEUE, "--jobs", "2"], b"", 1, 1),
@@ -68,6 +68,15 @@ fn every_answer(at: &str, mut each: impl FnMut(&[&str], &[u8], i32, usize)) -> B
         (&["graph", pair, "000001011011", "--model", "tso"], b"", 0, 1),
         (&["outcomes", pair, "--model", "tso"], b"", 0, 5),
         (&["count", "examples/accesses-24.hex", "--model", "tso"], b"", 2, 1),
+        (&["violation", QUEUE, "--fewest", "switches"], b"", 1, 1),
+        (&["check", "-", "--limit", "1"], b"thread\n  store x 1\nthread\n  store x 2\nforbid x = 3\nexists x = 1\n", 2, 5),
+        (&["violation", "-"], b"thread\n  store x 1\nexpect none\n", 0, 2),
+        (&["outcomes", "-"], b"thread\n  store x 1\nforbid x = 1\n", 1, 3),
+        (&["check", "-"], b"thread\n  store x 1\nforbid z = 1\n", 2, 1),
+        (&["test", "examples/suite", "examples/whole.hex", "no/such/file"], b"", 2, 8),
+        (&["test", "-"], b"thread\n  store x 1\nforbid z = 1\n", 2, 2),
+        (&["fences", "examples/suite/dekker.asm"], b"", 0, 1),
+        (&["fences", "-"], b"thread\n  n = load x\n  assert n == 1\n", 1, 1),
     ];
     cases.iter().for_each(|(words, input, status, objects)| each(words, input, *status, *objects));
     cases.iter().map(|(words, ..)| words[0].to_string()).collect()
