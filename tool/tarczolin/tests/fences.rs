@@ -132,6 +132,15 @@ fn nothing_can_tell_a_fence_where_threads_fail() {
     assert!(!share::whole() || (compared > 30 && without > 20 && fences > 30), "{compared} {without} {fences}");
 }
 
+/// Outcomes without the lines of failed assertions, `(instruction 4, line 7)`, which a program file has not.
+fn without_lines(out: &str) -> String {
+    let bare = |line: &str| match line.split_once(", line ").filter(|_| line.starts_with("fails ")) {
+        Some((front, _)) => format!("{front})\n"),
+        None => format!("{line}\n"),
+    };
+    out.lines().map(bare).collect()
+}
+
 /// Compares these, and says how many were compared, how many had no register for a fence, and how many fences the first ones had.
 fn all_compared(programs: impl Iterator<Item = Fenced>) -> (usize, usize, usize) {
     let (mut compared, mut without, mut fences) = (0, 0, 0);
@@ -154,7 +163,8 @@ fn all_compared(programs: impl Iterator<Item = Fenced>) -> (usize, usize, usize)
             assert_eq!(found, kept, "{model}\n{text}{plain}");
         }
         let file = run_with(&["asm", "--remarks", "-"], text.as_bytes()).out;
-        assert_eq!(under("tso", &["outcomes", "-"], &file).out, under("tso", &["outcomes", "-"], &text).out, "{text}{file}");
+        let of_text = without_lines(&under("tso", &["outcomes", "-"], &text).out);
+        assert_eq!(under("tso", &["outcomes", "-"], &file).out, of_text, "{text}{file}");
         compared += 1;
         fences += text.matches("fence").count();
     }
