@@ -190,13 +190,9 @@ fn too_many_accesses_for_one_model() {
 fn nothing_is_left_out_in_silence() {
     let text = format!("{PAIR}forbid T0.n = 1 under tso\n");
     let ran = run_with(&["violation", "-", "--json"], text.as_bytes());
-    assert!(
-        ran.out.starts_with(
-            "{\"command\":\"violation\",\"file\":\"standard input\",\"notes\":[\"1 expectation speaks of another model"
-        ),
-        "{}",
-        ran.out
-    );
+    let note = "{\"kind\":\"note\",\"line\":null,\"column\":null,\"message\":\"1 expectation speaks of another model";
+    let front = "{\"command\":\"violation\",\"file\":\"standard input\",\"notes\":[";
+    assert!(ran.out.starts_with(&format!("{front}{note}")), "{}", ran.out);
     for words in [&["asm", "-"][..], &["asm", "--remarks", "-"], &["disasm", "-"]] {
         let ran = run_with(words, format!("{PAIR}forbid z = 1\n").as_bytes());
         assert!(ran.status == 2 && ran.err.contains(":7:8: there is no location z"), "{words:?}: {}", ran.err);

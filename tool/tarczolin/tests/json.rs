@@ -76,7 +76,7 @@ fn every_answer(at: &str, mut each: impl FnMut(&[&str], &[u8], i32, usize)) -> B
         (&["test", "examples/suite", "examples/whole.hex", "no/such/file"], b"", 2, 8),
         (&["test", "-"], b"thread\n  store x 1\nforbid z = 1\n", 2, 2),
         (&["fences", "examples/suite/dekker.asm"], b"", 0, 1),
-        (&["fences", "-"], b"thread\n  n = load x\n  assert n == 1\n", 1, 1),
+        (&["fences", "-"], b"thread\n  n = load x\n  assert n == 1\n", 1, 2),
     ];
     cases.iter().for_each(|(words, input, status, objects)| each(words, input, *status, *objects));
     cases.iter().map(|(words, ..)| words[0].to_string()).collect()
@@ -147,6 +147,12 @@ fn warnings() {
     let Some(Value::List(notes)) = found[0].get("notes") else { panic!("{found:?}") };
     let kinds: Vec<_> = notes.iter().map(|note| note.get("kind").cloned()).collect();
     assert_eq!(kinds, ["warning", "note"].map(|kind| Some(Value::Text(kind.to_string()))));
+    // in a suite that fences are left out under one of its models is no news
+    let expecting = [&both[..], b"forbid slot = 8\n"].concat();
+    for (command, objects) in [("test", 3), ("fences", 2)] {
+        let (_, found) = held(&[command, "-"], &expecting);
+        assert_eq!((found.len(), found[0].get("notes")), (objects, Some(&slip)), "{command}: {found:?}");
+    }
     let path = folder("json-warnings").join("slip.asm");
     std::fs::write(&path, text).unwrap();
     let (_, found) = held(&["users"], format!("open 0 {}\n", path.display()).as_bytes());
@@ -184,6 +190,22 @@ fn fences_that_are_left_out() {
     assert_eq!(found.iter().map(|one| one.get("notes").is_some()).collect::<Vec<_>>(), [true, true, false]);
     let (_, found) = held(&["users"], format!("open 0 {path}\nask 0\n").as_bytes());
     assert_eq!((found.len(), found[0].get("notes"), found[0].get("line")), (3, Some(&note), Some(&Value::Number(1))));
+}
+
+/// What is not said of the expectations is a note, behind those of how the file was read.
+#[test]
+fn notes_of_expectations() {
+    let text = b"thread\n  store x 1\n  fence\nforbid x = 2 under tso\n";
+    let nowhere = || [Value::Null, Value::Null];
+    let other = note("note", nowhere(), "1 expectation speaks of another model, and nothing is said of it here");
+    for command in ["check", "outcomes", "violation"] {
+        let (_, found) = held(&[command, "-", "--model", "sc"], text);
+        assert!(found[0].get("notes").is_some_and(|first| *first != other), "{command}: {found:?}");
+        assert_eq!(found[1].get("notes"), Some(&other), "{command}: {found:?}");
+    }
+    let left_out = "what is expected of the program is left out: the test has the condition exists (true)";
+    let (_, found) = held(&["export-litmus", "-"], text);
+    assert_eq!((found.len(), found[0].get("notes")), (2, Some(&note("note", nowhere(), left_out))), "{found:?}");
 }
 
 /// The commands that answer by a text, beside disasm.

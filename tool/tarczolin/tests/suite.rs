@@ -129,8 +129,9 @@ fn links() {
 /// Ctrl-C ends a suite: what is not decided and what is not begun is told, and that is no success.
 #[test]
 fn interrupted() {
-    let long = String::from_utf8(std::fs::read(path("examples/long.asm")).unwrap()).unwrap();
-    let folder = suite("suite-interrupted", &[("a.asm", &format!("{long}\nforbid x0 = 77 under sc\n")), ("b.asm", GOOD)]);
+    // more executions than anyone waits for
+    let long = format!("thread\n{}", "  store x 1\n".repeat(4)).repeat(6);
+    let folder = suite("suite-interrupted", &[("a.asm", &format!("{long}forbid x = 77 under sc\n")), ("b.asm", GOOD)]);
     let mut command = tool(&["test", &folder, "--limit", "1000000000000"]);
     let child = command.stdout(Stdio::piped()).stderr(Stdio::null()).spawn().unwrap();
     std::thread::sleep(Duration::from_millis(2000));

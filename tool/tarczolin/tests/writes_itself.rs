@@ -123,9 +123,10 @@ fn accesses_are_told() {
     assert!(ran.out.ends_with("line 8 makes 12 of these accesses\nline 9 makes 12 of these accesses\n"), "{}", ran.out);
     assert!(ran.out.contains("12 of 24 accesses"), "{}", ran.out);
     assert!(ran.err.contains("5:1: warning: nothing uses spare"), "{}", ran.err);
-    let object = parse(run_with(&["check", "-", "--json"], text.as_bytes()).out.trim_end());
+    let objects: Vec<Value> = run_with(&["check", "-", "--json"], text.as_bytes()).out.lines().map(parse).collect();
+    assert!(objects.len() == 2 && objects[0].get("notes").is_some(), "{objects:?}");
     assert!(
-        matches!(object.get("made"), Some(Value::List(made)) if made.len() == 2 && made[0].get("accesses") == Some(&Value::Number(12)))
+        matches!(objects[1].get("made"), Some(Value::List(made)) if made.len() == 2 && made[0].get("accesses") == Some(&Value::Number(12)))
     );
 }
 
