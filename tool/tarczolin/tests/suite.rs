@@ -3,9 +3,9 @@ mod common;
 
 use common::json::{parse, Value};
 use common::{folder, run, run_with, tool};
+use std::io::{BufRead, BufReader, Read};
 use std::path::PathBuf;
 use std::process::{Command, Stdio};
-use std::time::Duration;
 use tarczolin_tests::files::path;
 
 /// A fresh folder with these files.
@@ -126,25 +126,26 @@ fn links() {
     assert_eq!(run(&["test", &folder]).status, 2);
 }
 
-/// Ctrl-C ends a suite: what is not decided and what is not begun is told, and that is no success.
+/// Ctrl-C ends a suite: what is not decided and what is not begun is told, and that is no success. The list of the second file has no end
+/// that a test could wait for, and Ctrl-C comes once the first file is told, so that it is noted.
 #[test]
 fn interrupted() {
-    // more executions than anyone waits for
-    let long = format!("thread\n{}", "  store x 1\n".repeat(4)).repeat(6);
-    let folder = suite("suite-interrupted", &[("a.asm", &format!("{long}forbid x = 77 under sc\n")), ("b.asm", GOOD)]);
+    let endless = format!("{}forbid x = 77 under sc\n", format!("thread\n{}", "  r0 = fetch_add x 1\n".repeat(6)).repeat(4));
+    let folder = suite("suite-interrupted", &[("a.asm", GOOD), ("b.asm", &endless), ("c.asm", GOOD)]);
     let mut command = tool(&["test", &folder, "--limit", "1000000000000"]);
-    let child = command.stdout(Stdio::piped()).stderr(Stdio::null()).spawn().unwrap();
-    std::thread::sleep(Duration::from_millis(2000));
+    let mut child = command.stdout(Stdio::piped()).stderr(Stdio::null()).spawn().unwrap();
+    let mut told = BufReader::new(child.stdout.take().unwrap());
+    let mut out = String::new();
+    told.read_line(&mut out).unwrap();
     assert!(Command::new("kill").args(["-INT", &child.id().to_string()]).status().unwrap().success());
-    let output = child.wait_with_output().unwrap();
-    let out = String::from_utf8(output.stdout).unwrap();
-    assert_eq!(output.status.code(), Some(2), "{out}");
-    assert!(
-        out.contains("not decided: interrupted behind ")
-            && out.contains("0 ok, 0 FAILS, 1 refused")
-            && out.contains(", 1 not begun"),
-        "{out}"
-    );
+    told.read_to_string(&mut out).unwrap();
+    assert_eq!(child.wait().unwrap().code(), Some(2), "{out}");
+    // the second file may have been begun by then, or not
+    let begun = out.contains("not decided: interrupted behind ")
+        && out.contains("1 ok, 0 FAILS, 1 refused")
+        && out.contains(", 1 not begun");
+    let not_begun = out.contains("1 ok, 0 FAILS, 0 refused") && out.contains(", 2 not begun");
+    assert!(out.starts_with("ok ") && (begun || not_begun), "{out}");
 }
 
 #[test]
