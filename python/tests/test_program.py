@@ -3,7 +3,7 @@ import itertools
 import unittest
 
 from here import EXAMPLES, ROOT, answers, file, programs
-from tarczolin import Count, Execution, Force, Program, Refused, Unfit
+from tarczolin import Count, Execution, Force, Program, Refused, TextError, Unfit
 
 QUEUE = file('queue-broken.hex')
 PAIR = file('store-load-pair.hex')
@@ -78,8 +78,20 @@ class Asked(unittest.TestCase):
             for model in ('sc', 'tso'):
                 told = answers('outcomes', '-', '--model', model, text=text.encode())
                 found = Program(text, model).outcomes()
+                # behind the outcomes stand the sums, and what the test expects
                 self.assertEqual([(one.memory, one.registers) for one in found],
-                                 [(one['memory'], one['registers']) for one in told[:-1]], path.name)
+                                 [(one['memory'], one['registers']) for one in told if 'outcome' in one], path.name)
+                self.assertIn('expectation', told[-1])
+
+    def test_a_text_that_writes_itself(self):
+        made = Program('def put(k) {\n  store x k\n}\nthread w * 2 alike\n  repeat 2 {\n    put(1)\n  }\nforbid x = 2\n')
+        plain = Program('thread a\n  store x 1\n  store x 1\nthread b\n  store x 1\n  store x 1\nalike a b\n')
+        frames = [[line for line in one.file.splitlines() if not line.startswith(b'#')] for one in (made, plain)]
+        self.assertEqual(frames[0], frames[1])
+        self.assertEqual(made.count(), plain.count())
+        with self.assertRaises(TextError) as caught:
+            Program('def put(k) {\n  stor x k\n}\nthread\n  put(1)\n')
+        self.assertEqual((caught.exception.place, caught.exception.line), (2, '  stor x k'))
 
     def test_failed_threads(self):
         fails = [one for one in Program.read(EXAMPLES / 'queue-broken.asm').outcomes() if one.fails]
@@ -87,7 +99,7 @@ class Asked(unittest.TestCase):
         self.assertEqual(len(fails), 3)
         for one, (failure,) in zip(fails, told):
             ((thread, at),) = one.failed.items()
-            self.assertTrue(failure.startswith(f'{thread}: ') and failure.endswith(f'(instruction {at})'), failure)
+            self.assertTrue(failure.startswith(f'{thread}: ') and f'(instruction {at}, line ' in failure, failure)
         self.assertEqual(fails[0].registers['consumer.item'], 0)
 
     def test_judge(self):

@@ -2,7 +2,7 @@
 use crate::ask::{self, Listed, Refusal};
 use crate::graph::{Event, Graph};
 use crate::machine::{Done, Failure, Machine, Queue};
-use crate::program::{number, Comparison, Instruction, Operand, Program, FENCE};
+use crate::program::{number, Comparison, Instruction, Operand, Program, Written, FENCE};
 use crate::schedule::Schedule;
 use std::collections::BTreeMap;
 
@@ -132,6 +132,11 @@ impl<'a> Execution<'a> {
         }
     }
 
+    /// The statement of an access as the program's text has it, with its line; none for a program file.
+    pub fn written(&self, done: &Done) -> Option<&Written> {
+        self.program.names.written(done.event.t, done.at)
+    }
+
     /// The write that a read saw, for the eye: `T0 store #2` or `initial`; a fetch and add of zero, which only reads, is told apart.
     pub fn source(&self, step: &Step) -> String {
         let seen = match &step.source {
@@ -154,6 +159,7 @@ impl<'a> Execution<'a> {
         let Failure { at, test, r, asserted, value, wanted } = failure;
         let (name, sign) = (names.register(t, *r), test.signs().0);
         let statement = names.statement(t, *at);
+        let own = names.written(t, *at).map(|written| written.text.as_str());
         // a statement that compares as two's complement may end in another assertion
         let signed = statement.is_some_and(|statement| statement.contains(['<', '>']));
         let read = |value: &u32| if signed { Comparison::AtMost.number(*value) } else { test.number(*value) };
@@ -162,10 +168,12 @@ impl<'a> Execution<'a> {
             (Some(statement), _) => format!("{statement} FAILS: {name} = {}", read(value)),
             (None, Operand::Register(p)) => {
                 let other = names.register(t, *p);
-                format!("assert {name} {sign} {other} FAILS: {name} = {}, {other} = {}", read(value), read(wanted))
+                let plain = format!("assert {name} {sign} {other}");
+                format!("{} FAILS: {name} = {}, {other} = {}", own.unwrap_or(&plain), read(value), read(wanted))
             }
             (None, Operand::Constant(_)) => {
-                format!("assert {name} {sign} {} FAILS: {name} = {}", names.compared(t, *test, *asserted), read(value))
+                let plain = format!("assert {name} {sign} {}", names.compared(t, *test, *asserted));
+                format!("{} FAILS: {name} = {}", own.unwrap_or(&plain), read(value))
             }
         }
     }

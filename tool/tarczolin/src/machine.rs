@@ -32,6 +32,8 @@ pub enum Queue {
 #[derive(Clone, Copy, Debug, PartialEq, Eq)]
 pub struct Done {
     pub event: Event,
+    /// Its place in the thread's code.
+    pub at: usize,
     pub instruction: Instruction,
     pub location: u8,
     /// The value that it found, if it reads, and the value that it left, if it writes.
@@ -88,7 +90,7 @@ impl Thread {
     /// Does the next access, which finds what its location looks like, and the instructions behind it.
     /// A fence leaves its register as it is: nothing of the program can tell what the library puts there.
     fn access(&mut self, t: u8, code: &[Instruction], fence: bool, look: impl FnOnce(u8) -> u32) -> Done {
-        let instruction = code[self.next];
+        let (at, instruction) = (self.next, code[self.next]);
         let event = Event { t, i: self.accesses };
         // operands are read before a register changes
         let (l, r, operands) = match instruction {
@@ -113,6 +115,7 @@ impl Thread {
         self.settle(code);
         Done {
             event,
+            at,
             instruction,
             location: l,
             found: r.map(|_| old),

@@ -27,6 +27,25 @@ pub fn is_move(byte: u8) -> bool {
 }
 
 impl Model {
+    /// Both, the stronger first.
+    pub const BOTH: [Model; 2] = [Model::Sc, Model::Tso];
+
+    /// What it is called.
+    pub fn name(self) -> &'static str {
+        match self {
+            Model::Sc => "sequential consistency",
+            Model::Tso => "total store order",
+        }
+    }
+
+    /// The word for it behind `--model` and `under`.
+    pub fn word(self) -> &'static str {
+        match self {
+            Model::Sc => "sc",
+            Model::Tso => "tso",
+        }
+    }
+
     /// A schedule has at most so many steps, and an output for it so many bytes.
     pub fn steps(self) -> usize {
         match self {

@@ -1,4 +1,5 @@
-//! An execution in two columns: on the left the steps, on the right the write that each read saw; below, the values at the end.
+//! An execution in two columns: on the left the steps, on the right the write that each read saw; of a text beside them the statement as it is
+//! written, with its line. Below, the values at the end.
 use crate::execution::{Execution, Step};
 use crate::schedule::NO_STEP;
 use std::fmt::Write;
@@ -29,11 +30,12 @@ pub fn columns(execution: &Execution, by: By) -> String {
         By::Time => lines(execution, |_| true),
         By::Thread => execution.program.numbers().flat_map(|t| lines(execution, move |of| of == t)).collect(),
     };
-    let width = lines.iter().map(|(left, _)| left.chars().count()).max().unwrap_or(0);
+    let wide = |column: usize| lines.iter().map(|line| line[column].chars().count()).max().unwrap_or(0);
+    let (first, second) = (wide(0), wide(1));
     let mut text = header(execution) + "\n";
-    for (left, right) in lines {
-        let line = if right.is_empty() { left } else { format!("{left:<width$}  {right}") };
-        writeln!(text, "{line}").expect("text grows");
+    for [left, right, own] in &lines {
+        let line = format!("{left:<first$}  {right:<second$}  {own}");
+        writeln!(text, "{}", line.trim_end()).expect("text grows");
     }
     text + &end_lines(execution)
 }
@@ -46,23 +48,24 @@ pub fn end_lines(execution: &Execution) -> String {
     all.into_iter().filter(|(_, values)| !values.is_empty()).map(line).collect()
 }
 
-/// The lines of some threads, left and right.
-fn lines(execution: &Execution, of: impl Fn(u8) -> bool) -> Vec<(String, String)> {
+/// The lines of some threads: left, right, and the statement of a text.
+fn lines(execution: &Execution, of: impl Fn(u8) -> bool) -> Vec<[String; 3]> {
     let names = &execution.program.names;
     let width = execution.program.numbers().map(|t| names.thread(t).chars().count()).max().unwrap_or(0);
     let front = |mark: &str, t: u8| format!("{mark:<4} {:<width$}  ", names.thread(t));
+    let own = |t: u8, at: usize| names.written(t, at).map_or(String::new(), ToString::to_string);
     let mut lines = Vec::new();
     for (t, failed) in execution.at_once.iter().filter(|(t, _)| of(*t)) {
         let left = format!("{}{}, before the first step", front("!!", *t), execution.failure(*t, failed));
-        lines.push((left, String::new()));
+        lines.push([left, String::new(), own(*t, failed.at)]);
     }
     for step in execution.steps.iter().filter(|step| of(step.done.event.t)) {
         let Step { done, .. } = step;
         let t = done.event.t;
         let left = front(&format!("#{}", done.event.i), t) + &execution.access(done);
-        lines.push((left, execution.source(step)));
+        lines.push([left, execution.source(step), own(t, done.at)]);
         if let Some(failed) = &done.failure {
-            lines.push((front("!!", t) + &execution.failure(t, failed), String::new()));
+            lines.push([front("!!", t) + &execution.failure(t, failed), String::new(), own(t, failed.at)]);
         }
     }
     lines

@@ -43,7 +43,7 @@ fn check_tells_what_is_used() {
                   3 of 8 locations, 2 of 4 registers\n";
     answered(run(&["check", "examples/queue-broken.asm"]), 0, wanted);
     let json = run(&["check", "--json", "examples/queue-broken.asm"]).out;
-    let used = "\"used\":{\"threads\":3,\"instructions\":8,\"accesses\":9,\"locations\":3,\"registers\":2}}\n";
+    let used = "\"used\":{\"threads\":3,\"instructions\":8,\"accesses\":9,\"locations\":3,\"registers\":2},\"made\":[]}\n";
     assert!(json.ends_with(used), "{json}");
     assert!(run_with(&["check", "-"], b"").out.starts_with("accepted: 0 of 6 threads, 0 of 16 instructions"));
 }

@@ -80,8 +80,8 @@ fn locations_by_name() {
 not covered: new has an outcome that old lacks
 
 execution: schedule 00 00, does not fail
-#0   T0  store tail = 1
-#1   T0  store head = 2
+#0   T0  store tail = 1    2 | store tail 1
+#1   T0  store head = 2    3 | store head 2
 memory     head = 2, tail = 1
 outcome    head=2, tail=1
 
@@ -145,7 +145,7 @@ fn names_that_do_not_fit() {
     assert_eq!((ran.status, ran.out.as_str()), (0, "covered\n"), "{}", ran.err);
     let ran = compared("called", stores(&["head"]).as_bytes(), b"thread\n  store tail 2\n", &["--by", "number"]);
     assert!(
-        ran.out.ends_with("outcome    x0=2\n\noutcomes of old:\n  x0=1\n") && ran.out.contains("store x0 = 2\n"),
+        ran.out.ends_with("outcome    x0=2\n\noutcomes of old:\n  x0=1\n") && ran.out.contains("store x0 = 2 "),
         "{}",
         ran.out
     );

@@ -34,7 +34,7 @@ fn every_answer(at: &str, mut each: impl FnMut(&[&str], &[u8], i32, usize)) -> B
     let [graph, piece] =
         [("graph", &["graph", QUEUE, "00000102020201"][..]), ("piece", &["list", QUEUE])].map(|one| kept(at, one));
     let (no, pair) = (b"400001ffff\n400101ffff\n41000000\n41010100\n", "examples/store-load-pair.hex");
-    let cases: [(&[&str], &[u8], i32, usize); 33] = [
+    let cases: [(&[&str], &[u8], i32, usize); 42] = [
         (&["list", QUEUE], b"", 1, 7),
         (&["count", QUEUE], b"", 1, 1),
         (&["count", QUEUE, "--jobs", "2"], b"", 1, 1),
@@ -68,6 +68,15 @@ fn every_answer(at: &str, mut each: impl FnMut(&[&str], &[u8], i32, usize)) -> B
         (&["graph", pair, "000001011011", "--model", "tso"], b"", 0, 1),
         (&["outcomes", pair, "--model", "tso"], b"", 0, 5),
         (&["count", "examples/accesses-24.hex", "--model", "tso"], b"", 2, 1),
+        (&["violation", QUEUE, "--fewest", "switches"], b"", 1, 1),
+        (&["check", "-", "--limit", "1"], b"thread\n  store x 1\nthread\n  store x 2\nforbid x = 3\nexists x = 1\n", 2, 5),
+        (&["violation", "-"], b"thread\n  store x 1\nexpect none\n", 0, 2),
+        (&["outcomes", "-"], b"thread\n  store x 1\nforbid x = 1\n", 1, 3),
+        (&["check", "-"], b"thread\n  store x 1\nforbid z = 1\n", 2, 1),
+        (&["test", "examples/suite", "examples/whole.hex", "no/such/file"], b"", 2, 8),
+        (&["test", "-"], b"thread\n  store x 1\nforbid z = 1\n", 2, 2),
+        (&["fences", "examples/suite/dekker.asm"], b"", 0, 1),
+        (&["fences", "-"], b"thread\n  n = load x\n  assert n == 1\n", 1, 2),
     ];
     cases.iter().for_each(|(words, input, status, objects)| each(words, input, *status, *objects));
     cases.iter().map(|(words, ..)| words[0].to_string()).collect()
@@ -138,6 +147,12 @@ fn warnings() {
     let Some(Value::List(notes)) = found[0].get("notes") else { panic!("{found:?}") };
     let kinds: Vec<_> = notes.iter().map(|note| note.get("kind").cloned()).collect();
     assert_eq!(kinds, ["warning", "note"].map(|kind| Some(Value::Text(kind.to_string()))));
+    // in a suite that fences are left out under one of its models is no news
+    let expecting = [&both[..], b"forbid slot = 8\n"].concat();
+    for (command, objects) in [("test", 3), ("fences", 2)] {
+        let (_, found) = held(&[command, "-"], &expecting);
+        assert_eq!((found.len(), found[0].get("notes")), (objects, Some(&slip)), "{command}: {found:?}");
+    }
     let path = folder("json-warnings").join("slip.asm");
     std::fs::write(&path, text).unwrap();
     let (_, found) = held(&["users"], format!("open 0 {}\n", path.display()).as_bytes());
@@ -175,6 +190,22 @@ fn fences_that_are_left_out() {
     assert_eq!(found.iter().map(|one| one.get("notes").is_some()).collect::<Vec<_>>(), [true, true, false]);
     let (_, found) = held(&["users"], format!("open 0 {path}\nask 0\n").as_bytes());
     assert_eq!((found.len(), found[0].get("notes"), found[0].get("line")), (3, Some(&note), Some(&Value::Number(1))));
+}
+
+/// What is not said of the expectations is a note, behind those of how the file was read.
+#[test]
+fn notes_of_expectations() {
+    let text = b"thread\n  store x 1\n  fence\nforbid x = 2 under tso\n";
+    let nowhere = || [Value::Null, Value::Null];
+    let other = note("note", nowhere(), "1 expectation speaks of another model, and nothing is said of it here");
+    for command in ["check", "outcomes", "violation"] {
+        let (_, found) = held(&[command, "-", "--model", "sc"], text);
+        assert!(found[0].get("notes").is_some_and(|first| *first != other), "{command}: {found:?}");
+        assert_eq!(found[1].get("notes"), Some(&other), "{command}: {found:?}");
+    }
+    let left_out = "what is expected of the program is left out: the test has the condition exists (true)";
+    let (_, found) = held(&["export-litmus", "-"], text);
+    assert_eq!((found.len(), found[0].get("notes")), (2, Some(&note("note", nowhere(), left_out))), "{found:?}");
 }
 
 /// The commands that answer by a text, beside disasm.

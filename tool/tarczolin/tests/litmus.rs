@@ -20,7 +20,12 @@ fn test(name: &str, rows: &str, condition: &str) -> String {
 fn imported(litmus: &str) -> (String, String) {
     let form = run_with(&["import-litmus", "-"], litmus.as_bytes());
     assert_eq!((form.status, form.err.as_str()), (0, ""), "{litmus}");
-    let condition = form.out.lines().find_map(|line| line.strip_prefix("# exists: ")).unwrap().to_string();
+    let expected = form.out.lines().find_map(|line| line.strip_prefix("# ")?.strip_suffix(" under tso")).unwrap();
+    let condition = match expected.split_once(' ').unwrap() {
+        ("exists" | "forbid", condition) => condition.to_string(),
+        ("forall", condition) => format!("!({condition})"),
+        other => panic!("{other:?}"),
+    };
     (form.out, condition)
 }
 
@@ -189,7 +194,7 @@ exists 1:EAX=6 /\\ z=0 /\\ (y=0 \\/ not 0:EBX=0)
 ";
 const FORM: &str = "\
 # much
-# exists: P1.eax=6 & z=0 & (y=0 | ! P0.ebx=0)
+# exists P1.eax=6 & z=0 & (y=0 | ! P0.ebx=0) under tso
 init x 5
 init z 0
 thread P0
@@ -221,7 +226,7 @@ fn more_of_x86() {
     }
     let turned = |words: &str| imported(&test("A", "P0; MOV EAX,[x]", words)).1;
     assert_eq!(turned("forall (x=0) \\/ (0:EAX=1)"), "!((x=0) | (P0.eax=1))", "the whole of it is turned");
-    assert_eq!(turned("forall (x=0 /\\ 0:EAX=0)"), "!(x=0 & P0.eax=0)");
+    assert_eq!(turned("forall (x=0 /\\ 0:EAX=0)"), "!((x=0 & P0.eax=0))");
     assert_eq!(turned("~exists ~ (x=0) /\\ [x]=1"), "! (x=0) & x=1");
 }
 
@@ -242,7 +247,7 @@ fn any_text() {
             text.splice(at..end, put);
         }
         let text: String = text.into_iter().collect();
-        match import(&text) {
+        match import(&text).map(|imported| imported.form) {
             Ok(form) => {
                 assert!(assemble(form.as_bytes()).is_ok(), "{text}\n{form}");
                 taken += 1;

@@ -33,7 +33,12 @@ fn answers_as_each_says() {
         let imported = run(&["import-litmus", &file.display().to_string()]);
         assert_eq!((imported.status, imported.err.as_str()), (0, ""), "{text}");
         let form = imported.out;
-        let condition = form.lines().find_map(|line| line.strip_prefix("# exists: ")).unwrap();
+        let said_of = |model: &str| {
+            form.lines().find_map(|line| line.strip_prefix("# ")?.strip_suffix(&format!(" under {model}"))).unwrap()
+        };
+        let (word, condition) = said_of("tso").split_once(' ').unwrap();
+        assert_eq!(word, if said(&text)[1] == "allowed" { "exists" } else { "forbid" }, "the answer is what is expected: {form}");
+        assert_eq!(said_of("sc"), format!("forbid {condition}"), "{form}");
         assert_eq!(["sc", "tso"].map(|model| answered(&form, condition, model)), said(&text), "{text}{form}");
         assert_eq!(form.matches("  fence\n").count(), text.matches("MFENCE").count(), "no fence is dropped: {form}");
         let name = file.file_stem().unwrap().to_str().unwrap();

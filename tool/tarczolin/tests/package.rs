@@ -135,6 +135,10 @@ fn the_debian_package() {
     let (right, said) = shell(&format!("cd {} && md5sum --quiet --check var/lib/dpkg/info/tarczolin.md5sums", root.display()));
     assert!(right, "{said}");
     used(&root, ".gz");
+    let suite =
+        format!("cd {0}/usr/share/doc/tarczolin && {0}/usr/bin/tarczolin test examples/suite tests/litmus", root.display());
+    let (holds, said) = shell(&suite);
+    assert!(holds && said.contains(" ok, 0 FAILS, 0 refused, 0 without expectation; "), "{said}");
     assert!(files(&root).iter().any(|name| name.contains("__pycache__")), "what Python adds is taken away as well");
     let (done, said) = dpkg(&root, "--purge tarczolin");
     assert!(done, "{said}");

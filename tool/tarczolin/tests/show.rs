@@ -121,6 +121,6 @@ fn values_and_sources_are_the_oracles() {
 fn adding_zero_reads() {
     let form = "thread\n  store x 5\nthread\n  r1 = fetch_add x 0\n  r1 = fetch_add x 1\n";
     let ran = run_with(&["show", "-", "000101"], form.as_bytes()).out;
-    assert!(ran.contains("#0   T1  fetch_add x 0 -> r1 = 5, reads  reads T0 store #0\n"), "{ran}");
-    assert!(ran.contains("#1   T1  fetch_add x 1 -> r1 = 5, x = 6  T0 store #0\n"), "{ran}");
+    assert!(ran.contains("#0   T1  fetch_add x 0 -> r1 = 5, reads  reads T0 store #0  4 | r1 = fetch_add x 0\n"), "{ran}");
+    assert!(ran.contains("#1   T1  fetch_add x 1 -> r1 = 5, x = 6  T0 store #0        5 | r1 = fetch_add x 1\n"), "{ran}");
 }

@@ -12,8 +12,8 @@ fn said(words: &[&str], input: &[u8], part: &str) {
 #[test]
 fn another_kind_of_file() {
     said(
-        &["show", "examples/sb.litmus"],
-        b"",
+        &["show", "-"],
+        b"X86 SB\n{ }\n",
         "refusal 2 at line 1: column 1 has the character X; only 0-9, a-f and A-F may stand in a line, or # at its front; \
         this is a litmus test: import-litmus makes a program of it",
     );

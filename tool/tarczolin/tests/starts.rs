@@ -26,7 +26,7 @@ fn there_and_back() {
 #[test]
 fn shown() {
     let ran = run_with(&["show", "-"], FORM.as_bytes());
-    assert!(ran.out.contains("fetch_add tail 1 -> mine = 1, tail = 2  initial\n"), "{}", ran.out);
+    assert!(ran.out.contains("fetch_add tail 1 -> mine = 1, tail = 2  initial  5 | mine = fetch_add tail 1\n"), "{}", ran.out);
     assert!(ran.out.contains("memory     tail = 2, other = 5, x3 = 0xffffffff\n"), "{}", ran.out);
     let page = run_with(&["show", "-", "--html", "-"], FORM.as_bytes());
     assert!(page.out.contains(">initial: tail is 1, x3 is 0xffffffff, all else is 0</text>"), "{page:?}");
@@ -66,7 +66,7 @@ fn refusal_40_in_words() {
 #[test]
 fn litmus_tests() {
     let test = "X86 init\n{ x=2; int y=0; [z]=0x10; 0:EAX=0; }\n P0          ;\n MOV EAX,[x] ;\nexists (0:EAX=2)\n";
-    let form = "# init\n# exists: (P0.eax=2)\ninit x 2\ninit z 0x10\nthread P0\n  eax = load x\n";
+    let form = "# init\n# exists (P0.eax=2) under tso\ninit x 2\ninit z 0x10\nthread P0\n  eax = load x\n";
     answered(run_with(&["import-litmus", "-"], test.as_bytes()), form);
     let back = run_with(&["export-litmus", "-"], form.as_bytes());
     assert!(back.out.starts_with("X86 exported\n{ x=2; z=16; }\n"), "{back:?}");

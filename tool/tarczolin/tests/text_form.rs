@@ -1,7 +1,7 @@
 //! The text form from end to end: what statements do when they run, names in every answer, all errors in one run, warnings.
 mod common;
 
-use common::{folder, run, run_with};
+use common::{folder, run, run_with, without_statements};
 use tarczolin::asm::assemble;
 use tarczolin::execution::Execution;
 use tarczolin::program::Program;
@@ -161,8 +161,11 @@ fn every_command_takes_a_text() {
 fn names_in_columns_page_messages_and_disasm() {
     let form = "examples/queue-broken.asm";
     let columns = run(&["show", form, "--only", "failing"]).out;
-    assert!(columns.contains("#0   consumer  load tail -> filled = 3                 second fetch_add #0\n"), "{columns}");
-    assert!(columns.contains("!!   consumer  assert item == 7 FAILS: item = 0\n"));
+    assert!(
+        columns.contains("#0   consumer  load tail -> filled = 3                 second fetch_add #0  23 | filled = load tail\n"),
+        "{columns}"
+    );
+    assert!(columns.contains("!!   consumer  assert item == ITEM FAILS: item = 0 "));
     let page = run(&["show", form, "--html", "-"]).out;
     for words in
         [">consumer</text>", "load slot2 -&gt; item = 0", "<div>first store #1</div></td>", "✗ assert item", "#0 load tail: 3"]
@@ -179,7 +182,8 @@ fn names_in_columns_page_messages_and_disasm() {
 /// A failure is told by the statement that was written, not by what it was translated to.
 #[test]
 fn failures_by_their_statements() {
-    let show = |body: &str| run_with(&["show", "-"], format!("thread\n  n = load x\n  {body}\n").as_bytes()).out;
+    let show =
+        |body: &str| without_statements(&run_with(&["show", "-"], format!("thread\n  n = load x\n  {body}\n").as_bytes()).out);
     assert!(show("assert n != 0").contains("!!   T0  assert n != 0 FAILS: n = 0\n"));
     assert!(show("fail").contains("!!   T0  fail FAILS\n"));
     assert!(show("assert n == n\n  m = 1\n  assert n == m").contains("assert n == m FAILS: n = 0, m = 1\n"));

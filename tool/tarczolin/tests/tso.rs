@@ -48,17 +48,17 @@ fn a_pending_store_is_read() {
     let text = b"thread a\n  store x 1\n  store x 2\n  r0 = load x\nthread b\n  r0 = load x\n";
     let shown = "\
 execution: schedule 00 00 00 10 01 10, does not fail
-#0   a  store x = 1, pending
-#1   a  store x = 2, pending
-#2   a  load x -> r0 = 2            a store #1, pending
-#0   a  store x = 1 reaches memory
-#0   b  load x -> r0 = 1            a store #0
-#1   a  store x = 2 reaches memory
+#0   a  store x = 1, pending                             2 | store x 1
+#1   a  store x = 2, pending                             3 | store x 2
+#2   a  load x -> r0 = 2            a store #1, pending  4 | r0 = load x
+#0   a  store x = 1 reaches memory                       2 | store x 1
+#0   b  load x -> r0 = 1            a store #0           6 | r0 = load x
+#1   a  store x = 2 reaches memory                       3 | store x 2
 ";
     let (_, out) = under_tso(&["show", "-", "000000100110"], text);
     assert!(out.starts_with(shown), "{out}");
     let (_, out) = under_tso(&["show", "-", "000000100110", "--by", "thread"], text);
-    assert!(out.contains("#1   a  store x = 2 reaches memory\n#0   b  load x"), "{out}");
+    assert!(out.contains("#1   a  store x = 2 reaches memory                       3 | store x 2\n#0   b  load x"), "{out}");
 }
 
 /// The classic tests, asked as a user does: 1 where it can happen.

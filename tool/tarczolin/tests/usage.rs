@@ -8,7 +8,7 @@ use tarczolin::commands::{all, Values};
 /// The names in the parser's table.
 fn names() -> Vec<&'static str> {
     let names: Vec<&str> = all().iter().map(|command| command.name).collect();
-    assert!(names.len() == 20 && names.contains(&"outcomes") && names.contains(&"completions"));
+    assert!(names.len() == 22 && names.contains(&"outcomes") && names.contains(&"completions"));
     names
 }
 
@@ -128,7 +128,17 @@ fn the_whole_is_told() {
         "fail",
         "done:",
     ];
-    for statement in statements.iter().chain(&["alike first second"]) {
+    for statement in statements.iter().chain(&[
+        "alike first second",
+        "thread worker * 3 alike",
+        "repeat 2 {",
+        "def push(node) {",
+        "const next[0..3]",
+        "exists x = 1",
+        "forbid x = 1",
+        "forall x = 1",
+        "expect none",
+    ]) {
         assert!(man.contains(&format!("\n{statement}\n")), "{statement} in {man}");
         for text in [&help, &run(&["help", "asm"]).out] {
             assert!(text.contains(&format!("\n  {statement} ")), "{statement} in {text}");

@@ -1,7 +1,7 @@
 //! A no of the judge is explained, a yes is not: the explanation agrees with the library on random graphs, and fits the graph.
 mod common;
 
-use common::run_with;
+use common::{folder, run_with};
 use tarczolin::ask;
 use tarczolin::graph::{Graph, Order};
 use tarczolin::program::Program;
@@ -58,14 +58,19 @@ fn a_cycle_edge_by_edge() {
     let shown = "\
 no
 these go in a circle (explained by plain Rust, which is not proved; the answer is):
-  T0 #0 before T0 #1: program order
-  T0 #1 before T1 #0: from reads
-  T1 #0 before T1 #1: program order
-  T1 #1 before T0 #0: from reads
+  T0 #0 (store x0 1) before T0 #1 (r0 = load x1): program order
+  T0 #1 (r0 = load x1) before T1 #0 (store x1 1): from reads
+  T1 #0 (store x1 1) before T1 #1 (r0 = load x0): program order
+  T1 #1 (r0 = load x0) before T0 #0 (store x0 1): from reads
 ";
     let judge = |graph: &str| run_with(&["judge", "examples/store-load-pair.hex", "-"], graph.as_bytes());
     let ran = judge("400001ffff\n400101ffff\n41000000\n41010100\n");
     assert_eq!((ran.status, ran.out.as_str()), (1, shown));
+    let text = folder("why").join("pair.asm");
+    std::fs::write(&text, "const ONE = 1\nthread\n  store x ONE\n  n = load y\nthread\n  store y ONE\n  n = load x\n").unwrap();
+    let ran = run_with(&["judge", &text.display().to_string(), "-"], b"400001ffff\n400101ffff\n41000000\n41010100\n");
+    let own = "  T0 #0 (3 | store x ONE) before T0 #1 (4 | n = load y): program order\n";
+    assert!(ran.out.contains(own), "the statements as they are written: {}", ran.out);
     let ran = judge("400001ffff\n41000000\n41010100\n");
     assert!(ran.out.contains("T1 #1 reads, and no 40 line says from where"), "{}", ran.out);
     let ran = judge("400001ffff\n4001010001\n41000000\n41010100\n");

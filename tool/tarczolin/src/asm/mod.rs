@@ -1,11 +1,18 @@
 //! The text form of a program: a statement a line, translated to the lines of the program file.
+mod arrays;
+mod blocks;
 mod condition;
+mod copies;
+mod expand;
 mod fence;
 mod limits;
+mod line;
 mod marked;
 mod parse;
+mod places;
 mod remarks;
 mod resolve;
+mod said;
 mod statement;
 mod symbols;
 mod threads;
@@ -22,12 +29,15 @@ use crate::model::Model;
 use crate::program::{self, Frame, Names, FILE_LIMIT};
 use crate::refusal;
 use statement::Kind;
+use std::collections::BTreeMap;
 use symbols::Symbols;
 use threads::Threads;
 use wrong::Wrongs;
 
 pub use marked::named;
+pub use places::{fenced, places, Group, Place};
 pub use remarks::Remarks;
+pub use said::{said, Said};
 pub use words::constant;
 pub use write::text;
 pub use wrong::Wrong;
@@ -41,6 +51,10 @@ pub struct Assembled {
     pub warnings: Vec<Mark>,
     /// So many fences are left out.
     pub left_out: usize,
+    /// What is expected of it.
+    pub said: Vec<Said>,
+    /// The lines that repeat or use a definition, and how many accesses each had made.
+    pub made: Vec<(usize, usize)>,
 }
 
 /// The program file of a text for both memory models, or all that is wrong with it.
@@ -51,9 +65,9 @@ pub fn assemble(text: &[u8]) -> Result<Assembled, Vec<Mark>> {
 /// The same for one memory model, or for both. The library itself says whether the program is accepted.
 pub fn assemble_for(text: &[u8], model: Option<Model>) -> Result<Assembled, Vec<Mark>> {
     let text = unmarked(text);
-    let (statements, unread) = parse::statements(text);
-    let mut wrong = Wrongs::of_lines(text, unread);
     let given = Remarks::of_text(text, &[]).names();
+    let (statements, unread, unused) = parse::statements(text, &places_of_arrays(&given));
+    let mut wrong = Wrongs::of_lines(text, unread);
     let symbols = Symbols::of(&statements, given, &mut wrong);
     let threads = Threads::of(&statements, &symbols, model, &mut wrong);
     let marks = |all: Vec<Wrong>| all.into_iter().map(|one| mark(text, one)).collect::<Vec<_>>();
@@ -67,11 +81,44 @@ pub fn assemble_for(text: &[u8], model: Option<Model>) -> Result<Assembled, Vec<
     }
     let mut warnings = warnings::of_locations(&statements);
     warnings.extend(threads.unused_labels());
+    warnings.extend(slips(text, true));
+    warnings.extend(unused);
+    warnings.sort();
+    warnings.dedup();
+    let made = made(&statements);
     let fences = statements.iter().filter(|statement| model == Some(Model::Sc) && statement.kind == Kind::Fence);
     let left_out: Vec<usize> = fences.map(|statement| statement.line).collect();
-    let remarks = Remarks::of_text_without(text, &threads.lines(), &left_out);
-    let (names, warnings, left_out) = (threads.names(&symbols), marks(warnings), left_out.len());
-    Ok(Assembled { file, names, remarks, warnings, left_out })
+    let said = said::said(text, true);
+    let (names, warnings) = (threads.names(&symbols), marks(warnings));
+    let expected = said.iter().map(|one| (one.line, said::remark_line(one, |word| names.constants.get(word).copied()))).collect();
+    let remarks = Remarks::of_text_without(text, &threads.lines(), &left_out, expected);
+    Ok(Assembled { file, names, remarks, warnings, left_out: left_out.len(), said, made })
+}
+
+/// The places of arrays that name lines know.
+fn places_of_arrays(names: &Names) -> Vec<String> {
+    names.locations.iter().flatten().filter(|name| name.contains('[')).cloned().collect()
+}
+
+/// How many accesses the statements have that each line had made.
+fn made(statements: &[statement::Statement]) -> Vec<(usize, usize)> {
+    let mut all: BTreeMap<usize, usize> = BTreeMap::new();
+    for statement in statements {
+        let access = statement.kind == Kind::Fence || statement.kind.is_access();
+        statement.uses.iter().for_each(|line| *all.entry(*line).or_default() += access as usize);
+    }
+    all.into_iter().collect()
+}
+
+/// Remarks of a text, or of a program file, that look like expectations and are none.
+fn slips(text: &[u8], form: bool) -> Vec<Wrong> {
+    let wrong = |(line, column, message)| Wrong { line, column, message };
+    said::slips(text, form).into_iter().map(wrong).collect()
+}
+
+/// The same of a program file, for the eye.
+pub fn slips_of_file(file: &[u8]) -> Vec<Mark> {
+    slips(file, false).into_iter().map(|one| mark(file, one)).collect()
 }
 
 /// The program file of these frames with remark lines, in front of them a line for each name and each fence; where it would be too long,

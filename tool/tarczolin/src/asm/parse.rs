@@ -1,34 +1,36 @@
 //! Statements of the text form, line by line. What is wrong with a line does not hide what is wrong with the others.
+use super::expand::{expand, Expanded};
+use super::line::{as_written, Line};
 use super::statement::{Jump, Kind, Statement, Test, Word};
-use super::tokens::{tokens, Token};
+use super::tokens::Token;
 use super::words::{self, KEYWORDS};
-use super::wrong::Wrong;
+use super::wrong::{used, Wrong};
 use crate::near::{hint, near};
 
-/// The statements of a text, and what is wrong with its lines. Empty lines and remarks are left out.
-pub fn statements(text: &[u8]) -> (Vec<Statement>, Vec<Wrong>) {
-    let (mut all, mut wrong) = (Vec::new(), Vec::new());
-    for (k, line) in text.split(|&c| c == b'\n').enumerate() {
-        let number = k + 1;
-        let tokens = std::str::from_utf8(line).map_err(|error| no_text(line, number, error)).and_then(|l| tokens(l, number));
-        let read = tokens.and_then(|tokens| line_of(&tokens, number, &mut all));
-        wrong.extend(read.err());
+/// The statements of a text, what is wrong with its lines, and what looks like a slip. Empty lines and remarks are left out. Some places of
+/// arrays are known already.
+pub fn statements(text: &[u8], given: &[String]) -> (Vec<Statement>, Vec<Wrong>, Vec<Wrong>) {
+    let Expanded { lines, mut wrong, warnings } = expand(text, given);
+    let mut all = Vec::new();
+    for line in &lines {
+        let tokens: Vec<Token> = line.pieces.iter().map(|piece| Token { text: &piece.text, column: piece.column }).collect();
+        let read = line_of(&tokens, line, &mut all);
+        wrong.extend(read.err().map(|one| Wrong { message: one.message + &used(&line.uses), ..one }));
     }
-    (all, wrong)
-}
-
-fn no_text(line: &[u8], number: usize, error: std::str::Utf8Error) -> Wrong {
-    let column = String::from_utf8_lossy(&line[..error.valid_up_to()]).chars().count() + 1;
-    Wrong { line: number, column, message: "the text is not UTF-8 here".to_string() }
+    wrong.sort();
+    wrong.dedup();
+    (all, wrong, warnings)
 }
 
 /// The statements of a line: a label, a statement, or both.
-fn line_of(tokens: &[Token], line: usize, all: &mut Vec<Statement>) -> Result<(), Wrong> {
+fn line_of(tokens: &[Token], at: &Line, all: &mut Vec<Statement>) -> Result<(), Wrong> {
+    let (line, uses) = (at.number, at.uses.clone());
     let mut rest = tokens;
     if let [label, colon, behind @ ..] = tokens {
         if colon.text == ":" {
             let name = Reader::new(line, tokens).name("a label")?;
-            all.push(Statement { line, column: label.column, kind: Kind::Label(name), text: format!("{}:", label.text) });
+            let text = format!("{}:", as_written(label.text));
+            all.push(Statement { line, column: label.column, kind: Kind::Label(name), text, uses: uses.clone() });
             rest = behind;
         }
     }
@@ -36,8 +38,8 @@ fn line_of(tokens: &[Token], line: usize, all: &mut Vec<Statement>) -> Result<()
     let mut reader = Reader::new(line, rest);
     let kind = reader.statement()?;
     reader.nothing_more()?;
-    let text = rest.iter().map(|token| token.text).collect::<Vec<_>>().join(" ");
-    all.push(Statement { line, column: first.column, kind, text });
+    let text = rest.iter().map(|token| as_written(token.text)).collect::<Vec<_>>().join(" ");
+    all.push(Statement { line, column: first.column, kind, text, uses });
     Ok(())
 }
 
@@ -240,7 +242,8 @@ fn unknown(word: &str) -> String {
         ("load" | "fetch_add" | "cas", _) => format!("{word} needs a register for the old value: r0 = {word} .."),
         (_, Some(known)) => format!("a statement does not begin with {word}; is it {known}?"),
         _ => format!(
-            "a statement does not begin with {word}; it begins with thread, alike, const, init, store, if, goto, assert, fail, fence or a register"
+            "a statement does not begin with {word}; it begins with thread, alike, const, init, store, if, goto, assert, fail, fence, exists, forbid, forall, expect, repeat, def, \
+             or a register"
         ),
     }
 }

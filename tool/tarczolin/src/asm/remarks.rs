@@ -1,6 +1,7 @@
 //! Remark lines of programs, and names kept in them: `# name x3 lock`, `# name T0 producer`, `# name T0 r1 old`; fences too: `# fence T0 2`.
 use super::words;
 use crate::program::{Names, INSTRUCTIONS, THREADS};
+use std::collections::BTreeMap;
 
 /// The remark line in place of a fence that is left out.
 const LEFT_OUT: &str = "# a fence is left out here: under sequential consistency it means nothing";
@@ -29,8 +30,16 @@ fn named(line: &str) -> Option<(Thing, &str)> {
         ["#", "name", of, register, name] => (Thing::Register(thread(of)?, words::register(register)?.ok()?), *name),
         _ => return None,
     };
-    let plain = name.bytes().all(|c| c.is_ascii_alphanumeric() || c == b'_');
-    (plain && words::is_name(name)).then_some((thing, name))
+    let plain = |name: &str| !name.is_empty() && name.bytes().all(|c| c.is_ascii_alphanumeric() || c == b'_');
+    // a location may be a place of an array: next[2]
+    let array = || {
+        matches!(thing, Thing::Location(_))
+            && name
+                .strip_suffix(']')
+                .and_then(|name| name.split_once('['))
+                .is_some_and(|(name, k)| plain(name) && k.parse::<u32>().is_ok_and(|number| number.to_string() == k))
+    };
+    ((plain(name) || array()) && words::is_name(name)).then_some((thing, name))
 }
 
 /// The name line of a thing.
@@ -82,15 +91,17 @@ impl Remarks {
 
     /// The remark lines of a text, by the lines of the text that its frames come from.
     pub fn of_text(text: &[u8], lines: &[usize]) -> Remarks {
-        Remarks::of_text_without(text, lines, &[])
+        Remarks::of_text_without(text, lines, &[], BTreeMap::new())
     }
 
-    /// The same of a text whose fences in some lines are left out: a remark line stands in place of each.
-    pub fn of_text_without(text: &[u8], lines: &[usize], left_out: &[usize]) -> Remarks {
+    /// The same of a text whose fences in some lines are left out: a remark line stands in place of each. So does one in place of each line
+    /// that expects something.
+    pub fn of_text_without(text: &[u8], lines: &[usize], left_out: &[usize], expected: BTreeMap<usize, String>) -> Remarks {
         let all = (1..).zip(text.split(|&c| c == b'\n').map(<[u8]>::trim_ascii));
-        let own =
-            all.filter(|(_, line)| line.starts_with(b"#")).map(|(at, line)| (at, String::from_utf8_lossy(line).into_owned()));
+        let own = all.filter(|(at, line)| line.starts_with(b"#") && !expected.contains_key(at));
+        let own = own.map(|(at, line)| (at, String::from_utf8_lossy(line).into_owned()));
         let mut remarks: Vec<(usize, String)> = own.chain(left_out.iter().map(|at| (*at, LEFT_OUT.to_string()))).collect();
+        remarks.extend(expected);
         remarks.sort_by_key(|(at, _)| *at);
         let before = |at: usize| lines.iter().filter(|line| **line < at).count();
         Remarks(remarks.into_iter().map(|(at, line)| (before(at), line)).collect())

@@ -1,5 +1,6 @@
 //! The code of one thread with numbers in place of names.
 use super::condition::Condition;
+use super::line::as_written;
 use super::statement::{Jump, Kind, Statement, Test, Word};
 use super::symbols::Symbols;
 use super::words;
@@ -38,7 +39,7 @@ impl<'a> Scope<'a> {
                 continue;
             };
             if labels.insert(name.text.as_str(), (body.len(), statement)).is_some() {
-                wrong.add(statement, name, format!("the label {} stands in this thread twice", name.text));
+                wrong.add(statement, name, format!("the label {} stands in this thread twice", as_written(&name.text)));
             }
         }
         let mut registers = BTreeMap::new();
@@ -105,6 +106,11 @@ impl<'a> Scope<'a> {
                 Code::Fail
             }
         }
+    }
+
+    /// The labels, each with the statements behind it.
+    pub fn labels(&self) -> Vec<(&'a str, &[&'a Statement])> {
+        self.labels.iter().map(|(name, (at, _))| (*name, &self.body[*at..])).collect()
     }
 
     /// The labels that no jump goes to.
@@ -217,13 +223,14 @@ impl Line<'_, '_> {
         match self.scope.labels.get(name) {
             Some((to, _)) if *to > self.at => return *to,
             Some((_, label)) => {
+                let name = as_written(name);
                 let message =
                     format!("{name} stands above, in line {}: jumps go forward only, programs have no loops", label.line);
                 self.wrong.add(self.statement, word, message);
             }
             None if self.wrong.may_be_said(name) => {}
             None => {
-                let hint = hint(name, self.scope.labels.keys().copied());
+                let hint = hint(name, self.scope.labels.keys().copied().filter(|label| !label.contains('#')));
                 self.wrong.add(self.statement, word, format!("there is no label {name} in this thread{hint}"));
             }
         }

@@ -53,6 +53,8 @@ pub struct Statement {
     pub kind: Kind,
     /// The statement as it is written, without spaces that mean nothing.
     pub text: String,
+    /// The lines that had it made: uses of the definition that it stands in, and what repeats it; outermost first.
+    pub uses: Vec<usize>,
 }
 
 impl Kind {
@@ -71,6 +73,11 @@ impl Kind {
             Kind::Load { r, .. } | Kind::FetchAdd { r, .. } | Kind::CompareSwap { r, .. } | Kind::Set { r, .. } => Some(r),
             _ => None,
         }
+    }
+
+    /// Does it read or write a location as its thread steps?
+    pub fn is_access(&self) -> bool {
+        !matches!(self, Kind::Init { .. }) && self.location().is_some()
     }
 
     /// Does it read, does it give a location a value?

@@ -1,6 +1,7 @@
 //! The threads of a text: where each begins, its code, and the limits that it keeps.
 use super::fence;
 use super::limits;
+use super::line::as_written;
 use super::resolve::Scope;
 use super::statement::{Kind, Statement, Word};
 use super::symbols::Symbols;
@@ -8,7 +9,7 @@ use super::translate::{instructions, Made};
 use super::words;
 use super::wrong::{Wrong, Wrongs};
 use crate::model::Model;
-use crate::program::{Frame, Names, ThreadNames, FENCE, THREADS};
+use crate::program::{Frame, Names, ThreadNames, Written, FENCE, THREADS};
 use std::collections::BTreeMap;
 
 /// A thread: the statement that opens it, its instructions, its registers' names.
@@ -18,6 +19,8 @@ struct Thread<'a> {
     made: Vec<Made<'a>>,
     registers: BTreeMap<String, u8>,
     unused_labels: Vec<&'a Statement>,
+    /// The labels, each in front of an instruction, by its place.
+    labels: Vec<(usize, String)>,
 }
 
 pub struct Threads<'a> {
@@ -62,7 +65,8 @@ impl<'a> Threads<'a> {
             let scope = Scope::of(symbols, t, &code, wrong);
             let made = instructions(&scope.code(wrong), model != Some(Model::Sc));
             let unused_labels = scope.unused_labels();
-            threads.push(Thread { number: t, opens, made, registers: scope.registers, unused_labels });
+            let labels = placed(scope.labels(), &made);
+            threads.push(Thread { number: t, opens, made, registers: scope.registers, unused_labels, labels });
         }
         let mut made: Vec<&mut Vec<Made>> = threads.iter_mut().map(|thread| &mut thread.made).collect();
         fence::choose(&mut made, wrong);
@@ -105,7 +109,7 @@ impl<'a> Threads<'a> {
     }
 
     pub fn names(&self, symbols: &Symbols) -> Names {
-        let mut names = Names::default();
+        let mut names = Names { constants: symbols.constants.clone(), ..Names::default() };
         for (name, l) in &symbols.locations {
             names.locations[*l as usize] = Some(name.clone());
         }
@@ -136,13 +140,32 @@ impl Thread<'_> {
         for (name, r) in &self.registers {
             registers[*r as usize] = Some(name.clone());
         }
-        let several = |made: &Made| self.made.iter().filter(|other| other.statement.line == made.statement.line).count() > 1;
+        let several = |made: &Made| self.made.iter().filter(|other| std::ptr::eq(other.statement, made.statement)).count() > 1;
         let statement = |made: &Made| match made.is_fence() {
             true => Some(FENCE.to_string()),
             false => several(made).then(|| made.statement.text.clone()),
         };
-        ThreadNames { name, registers, statements: self.made.iter().map(statement).collect() }
+        let written = |made: &Made| Written { line: made.statement.line, text: made.statement.text.clone() };
+        ThreadNames {
+            name,
+            registers,
+            statements: self.made.iter().map(statement).collect(),
+            written: self.made.iter().map(written).collect(),
+            labels: self.labels.clone(),
+        }
     }
+}
+
+/// Where labels stand among the instructions: each in front of the first one of the statements behind it.
+fn placed(labels: Vec<(&str, &[&Statement])>, made: &[Made]) -> Vec<(usize, String)> {
+    let place = |behind: &[&Statement]| {
+        let first = |one: &&Statement| made.iter().position(|made| std::ptr::eq(made.statement, *one));
+        behind.iter().find_map(first).unwrap_or(made.len())
+    };
+    let mut all: Vec<(usize, String)> =
+        labels.into_iter().map(|(name, behind)| (place(behind), as_written(name).to_string())).collect();
+    all.sort();
+    all
 }
 
 /// What the init lines say, each for another location.

@@ -14,6 +14,9 @@ enum Class {
     Word,
     Sign,
     Colon,
+    Dots,
+    /// A sign by itself, whatever stands beside it.
+    Alone,
 }
 
 fn class(c: char) -> Option<Class> {
@@ -22,6 +25,8 @@ fn class(c: char) -> Option<Class> {
         'a'..='z' | 'A'..='Z' | '0'..='9' | '_' | '-' => Some(Class::Word),
         '=' | '!' | '+' | '<' | '>' => Some(Class::Sign),
         ':' => Some(Class::Colon),
+        '.' => Some(Class::Dots),
+        '{' | '}' | '(' | ')' | '[' | ']' | ',' | '*' => Some(Class::Alone),
         _ => None,
     }
 }
@@ -40,7 +45,7 @@ pub fn tokens(line: &str, number: usize) -> Result<Vec<Token<'_>>, Wrong> {
             return Err(Wrong { line: number, column: column + 1, message });
         };
         if class != Class::Space {
-            if class != last {
+            if class != last || class == Class::Alone {
                 began = at;
                 tokens.push(Token { text: "", column: column + 1 });
             }

@@ -2,8 +2,28 @@
 use crate::program::{LOCATIONS, REGISTERS};
 
 /// The words that begin a statement, or stand inside one; no name may be one of them.
-pub const KEYWORDS: [&str; 14] =
-    ["thread", "alike", "const", "init", "store", "load", "fetch_add", "cas", "if", "goto", "assert", "fail", "skip", "fence"];
+pub const KEYWORDS: [&str; 20] = [
+    "thread",
+    "alike",
+    "const",
+    "init",
+    "store",
+    "load",
+    "fetch_add",
+    "cas",
+    "if",
+    "goto",
+    "assert",
+    "fail",
+    "skip",
+    "fence",
+    "exists",
+    "forbid",
+    "forall",
+    "expect",
+    "repeat",
+    "def",
+];
 
 /// A letter and digits: the number behind the letter.
 fn lettered(word: &str, letter: char) -> Option<&str> {

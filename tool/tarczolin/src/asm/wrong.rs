@@ -1,6 +1,16 @@
 //! What is wrong with a text, and where: line and column from 1.
 use super::statement::{Statement, Word};
 
+/// The lines that had a line made, to stand behind a message about it.
+pub fn used(uses: &[usize]) -> String {
+    let lines: Vec<String> = uses.iter().rev().map(|line| format!("line {line}")).collect();
+    if lines.is_empty() {
+        String::new()
+    } else {
+        format!("; here by {}", lines.join(", by "))
+    }
+}
+
 #[derive(Clone, Debug, PartialEq, Eq, PartialOrd, Ord)]
 pub struct Wrong {
     pub line: usize,
@@ -26,6 +36,7 @@ impl Wrongs {
 
     /// A message about a word of a statement.
     pub fn add(&mut self, statement: &Statement, word: &Word, message: String) {
+        let message = message + &used(&statement.uses);
         self.all.push(Wrong { line: statement.line, column: word.column, message });
     }
 
@@ -37,6 +48,7 @@ impl Wrongs {
 
     /// A message about a whole statement.
     pub fn add_at(&mut self, statement: &Statement, message: String) {
+        let message = message + &used(&statement.uses);
         self.all.push(Wrong { line: statement.line, column: statement.column, message });
     }
 

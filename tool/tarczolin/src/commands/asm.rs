@@ -6,7 +6,8 @@ use crate::called::called;
 use crate::end::End;
 use crate::error::Error;
 use crate::model::Model;
-use crate::{ask, asm, input, program, refusal};
+use crate::program::Program;
+use crate::{ask, asm, expect, input, program, refusal};
 
 pub fn run(arguments: &Arguments) -> Result<End, Error> {
     let (remarks, model) = (arguments.flag("--remarks"), only_model(arguments)?);
@@ -24,11 +25,20 @@ fn assembled(question: &Question, remarks: bool, model: Option<Model>) -> Result
     let made = asm::assemble_for(&text, model).map_err(|marks| Error::Text { name: name.clone(), marks })?;
     let accepted = ask::accepted(model.unwrap_or_default(), &made.file);
     accepted.map_err(|refused| refusal::of_program(&name, &made.file, refused))?;
+    let wrong = expect::wrong_statements(&made.said, &Program::of_accepted(&made.file).named(&made.names));
+    if !wrong.is_empty() {
+        return Err(Error::Text { name, marks: wrong });
+    }
     question.noted(&name, &input::notes(made.warnings, made.left_out))?;
     let mut file = made.file;
     if remarks {
         let frames = program::frames(&file).expect("frames only");
         file = asm::remarked(&frames, &made.names, &made.remarks);
+        if asm::said(&file, false).len() < made.said.len() {
+            let message =
+                "with its remark lines the program file would be longer than 4096 bytes, and what is expected stands in them";
+            return Err(Error::Unfit { name, message: message.to_string() });
+        }
     }
     let file = String::from_utf8(file).expect("digits, and remarks of a text");
     question.answer_text(file.clone(), [("text", file.into())], End::Answered)

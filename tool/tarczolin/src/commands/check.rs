@@ -1,19 +1,46 @@
 //! check: is this a program? What it uses of what there is, or why not.
 use super::arguments::Arguments;
+use super::expected::{self, Asking, Found};
 use super::models::only_model;
-use super::reply::each;
+use super::reply::{each, Question};
+use crate::accepted::Accepted;
 use crate::end::End;
 use crate::error::Error;
-use crate::json::{object, Json};
+use crate::input;
+use crate::json::{list, object, Json};
+use crate::model::Model;
 use crate::program::{Used, ACCESSES, ACCESSES_TSO, INSTRUCTIONS, LOCATIONS, REGISTERS, THREADS};
 
 pub fn run(arguments: &Arguments) -> Result<End, Error> {
-    let model = only_model(arguments)?;
-    each("check", arguments, |question| {
-        let used = question.source_for(model)?.program.used();
-        let fields = [("accepted", true.into()), ("used", json(&used))];
-        question.answer(&format!("accepted: {}", told(&used)), fields, End::Answered)
-    })
+    let (model, asking) = (only_model(arguments)?, Asking::of(arguments, 1)?);
+    each("check", arguments, |question| checked(question, model, asking))
+}
+
+fn checked(question: &Question, model: Option<Model>, asking: Asking) -> Result<End, Error> {
+    let content = input::content(question.file)?;
+    let source = Accepted::of(&content, model)?;
+    question.noted(&source.name, &source.notes)?;
+    let expectations = source.expectations()?;
+    if let Some(model) = model {
+        expected::note_others(question, &source, &expectations, model)?;
+    }
+    let used = source.program.used();
+    let made = |(line, accesses): &(usize, usize)| {
+        object([("line", Json::from(*line as u64)), ("accesses", Json::from(*accesses as u64))])
+    };
+    let fields = [("accepted", true.into()), ("used", json(&used)), ("made", list(source.made.iter().map(made)))];
+    let mut words = format!("accepted: {}", told(&used));
+    for (line, accesses) in &source.made {
+        words += &format!("\n{}line {line} makes {accesses} of these accesses", question.front());
+    }
+    let end = question.answer(&words, fields, End::Answered)?;
+    let speaks = |one: Model| expectations.iter().any(|expectation| expectation.speaks_of(one));
+    let asked = Model::BOTH.into_iter().filter(|one| model.is_none_or(|model| model == *one) && speaks(*one));
+    let sources = asked.map(|one| Accepted::of(&content, Some(one))).collect::<Vec<_>>();
+    // a model that does not take the program keeps nothing from being told of the other
+    let found = sources.iter().flatten().map(|source| Found::of(source, &expectations, asking)).collect::<Vec<_>>();
+    let end = end.max(expected::tell_found(question, &found)?);
+    sources.into_iter().find_map(Result::err).map_or(Ok(end), Err)
 }
 
 /// What is used, for the eye.

@@ -1,5 +1,5 @@
-//! The text form in a table, for the help and the manual page: the statements in this order are a program, save the last.
-pub const STATEMENTS: [(&str, &str); 18] = [
+//! The text form in a table, for the help and the manual page: the statements up to the label are a program, in this order.
+pub const STATEMENTS: [(&str, &str); 26] = [
     ("# remark", "up to the end of the line; # name x3 lock gives a name, in a program file too"),
     ("const FULL = 0x10", "a named number: decimal, hexadecimal or negative"),
     ("init tail FULL", "what a location starts with, in front of all threads; else 0"),
@@ -18,6 +18,17 @@ pub const STATEMENTS: [(&str, &str); 18] = [
     ("fail", "the thread fails and ends"),
     ("done:", "a label, alone or in front of a statement"),
     ("alike first second", "threads of the same code that may be exchanged; behind all threads"),
+    ("thread worker * 3 alike", "three threads of the same code, worker0 to worker2; without alike they may not be exchanged"),
+    ("repeat 2 {", "the lines up to a line with } twice, each time with labels of its own"),
+    (
+        "def push(node) {",
+        "lines of a name up to a line with }; push(3) stands for them with 3 for node, and with labels of its own",
+    ),
+    ("const next[0..3]", "an array of four locations, next[0] to next[3]; an index is a number or a constant"),
+    ("exists x = 1", "expected: some execution ends so; a condition as behind outcomes --where, of final memory and registers"),
+    ("forbid x = 1", "expected: no execution ends so; in a program file these four are remarks: # forbid x3 = 1"),
+    ("forall x = 1", "expected: all executions end so; under sc or under tso behind any of these: under that model alone"),
+    ("expect none", "expected: no assertion fails; expect violation: some does"),
 ];
 
 /// What words of a statement may be.

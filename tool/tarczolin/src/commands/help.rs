@@ -11,19 +11,20 @@ const FRONT: &str =
 total store order of x86.\n";
 
 const END: &str = "
-FILE is a program file or a program in the text form, GRAPH a graph text; - is standard input. SCHEDULE is digits,
+FILE is a program file, a program in the text form or a litmus test (.litmus), GRAPH a graph text; - is standard input. SCHEDULE is digits,
 two a step: 00000101. -- ends the options. `tarczolin COMMAND -h` tells a command's options and an example, --version the version.
 ";
 
 /// Which commands know which model.
-pub const MODELS: &str = "list, count, violation, show, graph, outcomes, cuts and check take --model tso; judge, covers, force and users stay \
-with sequential consistency. Under total store order a step from 10 to 15 moves the oldest pending store of thread 0 to 5 to memory, and a \
+pub const MODELS: &str = "list, count, violation, show, graph, outcomes, cuts and check take --model tso; test asks under the models that a \
+file speaks of, fences about total store order; judge, covers, force and users stay with sequential consistency. Under total store order a step from 10 to 15 moves the oldest pending store of thread 0 to 5 to memory, and a \
 program has at most 16 accesses.";
 
 /// What the exit status says.
 pub const STATUS: &str =
     "0 answered; 1 a violation was found, the hostile side can force it (force), an outcome matches (outcomes --where), NEW \
-is not covered (covers), or the judge says no; 2 refused, bad usage, or interrupted before a violation was found.";
+is not covered (covers), the judge says no, what a file expects does not hold (check, outcomes, violation, test), or no fences help \
+(fences); 2 refused, bad usage, not decided, nothing tested (test), or interrupted before a violation was found.";
 
 /// All commands, each with what it does, and what holds for all of them.
 pub fn all(commands: &[&Command]) -> String {
@@ -53,7 +54,7 @@ fn folded(words: &str) -> String {
 
 /// The text form.
 fn form() -> String {
-    let row = |(statement, about): &(&str, &str)| format!("  {statement:<21} {about}\n");
+    let row = |(statement, about): &(&str, &str)| format!("  {statement:<23} {about}\n");
     let front = folded(&format!("The text form, a statement a line. {WORDS}"));
     format!("{front}\n{}", STATEMENTS.iter().map(row).collect::<String>())
 }

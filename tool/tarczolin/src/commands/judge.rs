@@ -8,9 +8,9 @@ use crate::error::Error;
 use crate::graph::{Event, Graph, Order};
 use crate::input;
 use crate::json::{list, object, Json};
-use crate::program::Names;
+use crate::program::Program;
 use crate::schedule::Schedule;
-use crate::why::{why, Edge, Why};
+use crate::why::{places, why, Edge, Why};
 use crate::{ask, refusal};
 use std::ffi::OsStr;
 
@@ -40,8 +40,9 @@ fn yes(question: &Question, graph: &OsStr, schedule: &Schedule) -> Result<End, E
 
 fn no(question: &Question, graph: &OsStr, source: &Accepted, text: &[u8]) -> Result<End, Error> {
     let program = &source.program;
-    let why = why(program, &Graph::of_text(text));
-    let words = why.as_ref().map_or(String::new(), |why| told(&program.names, why));
+    let made = Graph::of_text(text);
+    let why = why(program, &made);
+    let words = why.as_ref().map_or(String::new(), |why| told(program, &made, why));
     let fields = [
         ("graph", graph.to_string_lossy().into_owned().into()),
         ("possible", false.into()),
@@ -61,9 +62,16 @@ fn order(order: Order) -> (&'static str, &'static str) {
 }
 
 /// The explanation for the eye.
-fn told(names: &Names, why: &Why) -> String {
+fn told(program: &Program, graph: &Graph, why: &Why) -> String {
     const NOTE: &str = "(explained by plain Rust, which is not proved; the answer is)";
-    let event = |event: Event| format!("{} #{}", names.thread(event.t), event.i);
+    let (names, places) = (&program.names, places(program, graph));
+    // the statement as it is written, with its line; of a program file the instruction
+    let statement = |event: Event| {
+        let at = *places.get(&event)?;
+        let instruction = || names.statement_at(event.t, at, &program.threads[event.t as usize][at]);
+        Some(format!(" ({})", names.written(event.t, at).map_or_else(instruction, ToString::to_string)))
+    };
+    let event = |event: Event| format!("{} #{}{}", names.thread(event.t), event.i, statement(event).unwrap_or_default());
     match why {
         Why::Misfit(message) => format!("\nthe program does not make this graph: {message} {NOTE}"),
         Why::Cycle(edges) => {

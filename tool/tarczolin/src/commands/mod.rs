@@ -8,6 +8,8 @@ mod count;
 mod covers;
 mod cuts;
 mod disasm;
+mod expected;
+mod fences;
 mod force;
 mod form;
 mod graph;
@@ -29,6 +31,7 @@ mod reply;
 mod show;
 mod spool;
 mod table;
+mod test;
 mod users;
 mod violation;
 

@@ -1,8 +1,10 @@
 //! outcomes: each different end of the listed executions, how many end so, how many executions these stand for, and the first.
 use super::arguments::Arguments;
+use super::expected::{self, Asking};
 use super::piece::{self, Found, Piece};
 use super::record;
 use super::reply::{each, Question};
+use crate::accepted::Accepted;
 use crate::ask::{self, Listed};
 use crate::end::End;
 use crate::error::Error;
@@ -19,7 +21,14 @@ use std::collections::BTreeMap;
 pub fn run(arguments: &Arguments) -> Result<End, Error> {
     let piece = Piece::of(arguments)?;
     let condition = arguments.option("--where")?;
-    each("outcomes", arguments, |question| outcomes(question, &piece, condition))
+    let asking = Asking::of(arguments, piece.jobs)?;
+    each("outcomes", arguments, |question| {
+        let source = question.source_under(piece.model)?;
+        let expectations = source.expectations()?;
+        expected::note_others(question, &source, &expectations, piece.model)?;
+        let end = outcomes(question, &source, &piece, condition)?;
+        Ok(end.max(expected::tell(question, &source, &expectations, asking)?))
+    })
 }
 
 /// Executions that end alike: so many, how many executions they stand for, and the first of them.
@@ -68,9 +77,8 @@ impl Outcomes {
     }
 }
 
-fn outcomes(question: &Question, piece: &Piece, condition: Option<&str>) -> Result<End, Error> {
-    let source = question.source_under(piece.model)?;
-    let list = piece.list(List::of(&source, true))?;
+fn outcomes(question: &Question, source: &Accepted, piece: &Piece, condition: Option<&str>) -> Result<End, Error> {
+    let list = piece.list(List::of(source, true))?;
     let condition = condition.map(|text| Condition::of(text, list.program)).transpose();
     let condition = condition.map_err(|message| Error::Condition { name: source.name.clone(), message })?;
     let mut all = Outcomes::default();
@@ -105,8 +113,9 @@ fn told(question: &Question, list: &List, number: u64, outcome: &Outcome, exchan
     let failures = end.failed.iter().enumerate().filter_map(|(t, failed)| Some((t as u8, (*failed)?)));
     let failures: Vec<String> = failures
         .map(|(t, failed)| {
-            let thread = list.program.names.thread(t);
-            format!("{thread}: {} (instruction {})", execution.failure(t, &failed), failed.at)
+            let names = &list.program.names;
+            let line = names.written(t, failed.at).map_or(String::new(), |written| format!(", line {}", written.line));
+            format!("{}: {} (instruction {}{line})", names.thread(t), execution.failure(t, &failed), failed.at)
         })
         .collect();
     if question.json {

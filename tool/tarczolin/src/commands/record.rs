@@ -32,6 +32,8 @@ fn step(execution: &Execution, step: &Step) -> Json {
         ("left", done.left.into()),
         ("reads_from", source),
         ("queue", queue),
+        ("line", execution.written(done).map(|written| written.line as u64).into()),
+        ("statement", execution.written(done).map(|written| written.text.as_str()).into()),
         ("failure", failure.into()),
     ])
 }

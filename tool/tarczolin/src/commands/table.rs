@@ -1,13 +1,19 @@
 //! The commands, each with its words, its options and an example.
 use super::command::Command;
 use super::count::CLASSES;
+use super::expected::LIMIT;
 use super::models::{FOR_MODEL, MODEL};
 use super::opt::Opt;
 use super::piece::{AFTER, JOBS_OPTION, UNTIL};
 use super::reply::JSON;
-use super::{asm, check, count, covers, cuts, disasm, force, graph, join, judge, list, litmus, outcomes, show, users, violation};
+use super::violation::FEWEST;
+use super::{
+    asm, check, count, covers, cuts, disasm, fences, force, graph, join, judge, list, litmus, outcomes, show, test, users,
+    violation,
+};
 
-const SHOW: Opt = Opt { name: "--show", value: None, about: "the whole execution in two columns, not only its schedule" };
+const SHOW: Opt =
+    Opt { name: "--show", value: None, about: "the whole execution in two columns, and from where its failure comes" };
 const WHERE: Opt = Opt {
     name: "--where",
     value: Some("CONDITION"),
@@ -24,7 +30,7 @@ const SHOW_OPTIONS: &[Opt] = &[
     JSON,
 ];
 
-pub const COMMANDS: [Command; 17] = [
+pub const COMMANDS: [Command; 19] = [
     Command {
         name: "list",
         words: "FILE..",
@@ -45,7 +51,7 @@ pub const COMMANDS: [Command; 17] = [
         name: "violation",
         words: "FILE..",
         about: "the first listed schedule that fails, or none",
-        options: &[SHOW, JOBS_OPTION, MODEL, JSON],
+        options: &[SHOW, FEWEST, JOBS_OPTION, MODEL, LIMIT, JSON],
         example: "tarczolin violation --show examples/queue-broken.asm",
         run: violation::run,
     },
@@ -62,7 +68,7 @@ pub const COMMANDS: [Command; 17] = [
         name: "outcomes",
         words: "FILE..",
         about: "each different final memory, registers and failure, how many listed executions end so, and the first that does",
-        options: &[WHERE, JOBS_OPTION, MODEL, JSON],
+        options: &[WHERE, JOBS_OPTION, MODEL, LIMIT, JSON],
         example: "tarczolin outcomes examples/queue-broken.asm --where 'consumer.item = 0 & tail = 3'",
         run: outcomes::run,
     },
@@ -86,10 +92,28 @@ pub const COMMANDS: [Command; 17] = [
     Command {
         name: "check",
         words: "FILE..",
-        about: "is this a program? accepted and what it uses of what there is, or why not",
-        options: &[FOR_MODEL, JSON],
+        about: "is this a program? accepted and what it uses of what there is, or why not; and does what it expects hold?",
+        options: &[FOR_MODEL, LIMIT, JSON],
         example: "tarczolin check examples/whole.hex",
         run: check::run,
+    },
+    Command {
+        name: "test",
+        words: "PATH..",
+        about: "does what the files expect hold? files and folders (.asm, .hex, .litmus), each under the models that it speaks of: a line each, \
+                and one exit status",
+        options: test::OPTIONS,
+        example: "tarczolin test examples/suite tests/litmus --jobs 2",
+        run: test::run,
+    },
+    Command {
+        name: "fences",
+        words: "FILE",
+        about: "where fences must stand so that under total store order no assertion fails, and nothing that the file forbids happens: all sets \
+                of the fewest, or that none does it",
+        options: fences::OPTIONS,
+        example: "tarczolin fences examples/suite/dekker.asm --write repaired.asm",
+        run: fences::run,
     },
     Command {
         name: "graph",
@@ -157,7 +181,7 @@ pub const COMMANDS: [Command; 17] = [
     Command {
         name: "import-litmus",
         words: "FILE..",
-        about: "from a litmus test for x86 to the text form, MFENCE as fence, its condition as a remark for outcomes --where",
+        about: "from a litmus test for x86 to the text form, MFENCE as fence, its condition or its answers as what is expected",
         options: &[JSON],
         example: "tarczolin import-litmus sb.litmus > sb.asm",
         run: litmus::import,

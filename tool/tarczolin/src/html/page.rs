@@ -55,12 +55,12 @@ impl Page<'_> {
     }
 
     pub fn text(&self) -> String {
-        let name = escaped(self.name);
+        let (name, model) = (escaped(self.name), self.program.model.name());
         let style = include_str!("style.css");
         let mut page = format!(
             "<!DOCTYPE html>\n<html lang=\"en\">\n<head>\n<meta charset=\"utf-8\">\n\
-             <meta name=\"viewport\" content=\"width=device-width\">\n<title>{name}: executions</title>\n\
-             <style>\n{style}</style>\n</head>\n<body>\n{}<h1>{name}</h1>\n",
+             <meta name=\"viewport\" content=\"width=device-width\">\n<title>{name}: executions under {model}</title>\n\
+             <style>\n{style}</style>\n</head>\n<body>\n{}<h1>{name} <span class=\"model\">under {model}</span></h1>\n",
             drawing::arrow_heads()
         );
         page += &self.summary();
@@ -124,7 +124,10 @@ fn code(program: &Program) -> String {
     let mut text = String::from("<div class=\"code\">\n");
     for (t, code) in program.threads.iter().enumerate() {
         let (names, of) = (&program.names, t as u8);
-        let lines: Vec<String> = code.iter().enumerate().map(|(at, i)| escaped(&names.statement_at(of, at, i))).collect();
+        let lines: Vec<String> = match names.written(of, 0) {
+            None => code.iter().enumerate().map(|(at, i)| escaped(&names.statement_at(of, at, i))).collect(),
+            Some(_) => beside(program, of),
+        };
         let name = escaped(&names.thread(of));
         writeln!(text, "<div><h2 class=\"t{t}\">{name}</h2><pre>{}</pre></div>", lines.join("\n")).expect("text grows");
     }
@@ -134,6 +137,29 @@ fn code(program: &Program) -> String {
         writeln!(text, "<p class=\"alike\">alike: {}</p>", members.join(", ")).expect("text grows");
     }
     text
+}
+
+/// A thread of a text: its labels and statements as they are written, with their lines, and beside each the instructions made of it where
+/// these are written otherwise.
+fn beside(program: &Program, t: u8) -> Vec<String> {
+    let names = &program.names;
+    let (code, of) = (&program.threads[t as usize], &names.threads[t as usize]);
+    let wide = of.written.iter().map(|written| written.text.chars().count()).max().unwrap_or(0);
+    let label =
+        |at: usize| of.labels.iter().filter(move |(place, _)| *place == at).map(|(_, name)| format!("      {}:", escaped(name)));
+    let mut lines: Vec<String> = Vec::new();
+    for (at, (instruction, written)) in code.iter().zip(&of.written).enumerate() {
+        lines.extend(label(at));
+        let again = at > 0 && of.written[at - 1] == *written && names.statement(t, at).is_some();
+        let plain = names.statement_at(t, at, instruction);
+        let made = if plain == written.text { String::new() } else { names.instruction(t, instruction) };
+        let made = if names.is_fence(t, at) { String::new() } else { made };
+        let (line, text) = if again { (String::new(), "") } else { (written.line.to_string(), written.text.as_str()) };
+        let row = format!("{line:>4}  {text:<wide$}  {made}");
+        lines.push(escaped(row.trim_end()));
+    }
+    lines.extend(label(code.len()));
+    lines
 }
 
 const LEGEND: &str = "\

@@ -55,12 +55,20 @@ fn table(execution: &Execution, rows: &[Row]) -> String {
             Row::Step(step) => {
                 let number = format!("<td class=\"number\">#{}</td>", step.done.event.i);
                 let seen = execution.source(step);
-                ("", format!("{number}{thread}{}{}", cell("", &execution.access(&step.done)), cell("", &seen)))
+                let own = execution.written(&step.done).map(ToString::to_string);
+                ("", format!("{number}{thread}{}{}", own_cell(&execution.access(&step.done), own), cell("", &seen)))
             }
         };
         writeln!(text, "<tr style=\"height:{ROW}px\" {}{class}>{cells}</tr>", row.data()).expect("text grows");
     }
     text + "</table>\n"
+}
+
+/// A step, and below it the statement of a text as it is written, with its line.
+fn own_cell(words: &str, own: Option<String>) -> String {
+    let Some(own) = own else { return cell("", words) };
+    let (words, own) = (escaped(words), escaped(&own));
+    format!("<td title=\"{words}; {own}\"><div>{words}<br/><span class=\"own\">{own}</span></div></td>")
 }
 
 fn cell(attributes: &str, words: &str) -> String {

@@ -11,9 +11,8 @@ pub struct Asked {
     pub locations: BTreeSet<String>,
 }
 
-/// What the test asks for; where it is turned, whether something else can happen. Locations that the test does not know are wrong: that a
-/// mistyped one is 0 would answer another question.
-pub fn condition(part: Part, turned: bool, known: &BTreeSet<String>) -> Result<Asked, Wrong> {
+/// What the test asks for. Locations that the test does not know are wrong: that a mistyped one is 0 would answer another question.
+pub fn condition(part: Part, known: &BTreeSet<String>) -> Result<Asked, Wrong> {
     let mut asked = Asked { text: String::new(), registers: BTreeSet::new(), locations: BTreeSet::new() };
     let mut rest = part;
     let mut compared = false;
@@ -33,9 +32,6 @@ pub fn condition(part: Part, turned: bool, known: &BTreeSet<String>) -> Result<A
         rest = rest.split_at(length).1;
     }
     asked.text = asked.text.trim().replace("  ", " ");
-    if turned {
-        asked.text = if is_enclosed(&asked.text) { format!("!{}", asked.text) } else { format!("!({})", asked.text) };
-    }
     Ok(asked)
 }
 
@@ -55,16 +51,6 @@ fn sign(rest: Part<'_>) -> (&str, usize) {
         c if c.trim().is_empty() => (" ", first),
         other => (other, first),
     }
-}
-
-/// Is it one bracket from its first sign to its last?
-fn is_enclosed(text: &str) -> bool {
-    let mut open = 0i32;
-    let closes = text.char_indices().find(|(_, c)| {
-        open += (*c == '(') as i32 - (*c == ')') as i32;
-        open == 0
-    });
-    closes.is_some_and(|(at, c)| c == ')' && at + 1 == text.len())
 }
 
 impl Asked {

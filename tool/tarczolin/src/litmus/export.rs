@@ -11,13 +11,22 @@ pub fn export(name: &str, program: &Program) -> Result<String, String> {
         return Err("a litmus test has at least one thread, and this program has none".to_string());
     }
     let height = columns.iter().map(Vec::len).max().unwrap_or(0);
-    let starts = program.starts.iter().map(|(l, value)| format!("{}={value}; ", program.names.location(*l)));
+    let starts = program.starts.iter().map(|(l, value)| format!("{}={value}; ", location(program, *l)));
     let mut text = format!("X86 {name}\n{{ {}}}\n", starts.collect::<String>());
     for row in 0..height {
         let cell = |column: &Vec<String>| format!(" {:<16}", column.get(row).map_or("", String::as_str));
         text += &format!("{};\n", columns.iter().map(cell).collect::<Vec<_>>().join("|"));
     }
     Ok(text + "exists (true)\n")
+}
+
+/// A location's name; a place of an array, as next[1], is next_1, or its number where another one is called so.
+fn location(program: &Program, l: u8) -> String {
+    let plain = |l: u8| program.names.location(l).replace('[', "_").replace(']', "");
+    match (0..8).any(|other| other != l && plain(other) == plain(l)) {
+        true => format!("x{l}"),
+        false => plain(l),
+    }
 }
 
 /// The registers of a thread: by their names where all of them are x86's, else by their numbers.
@@ -53,7 +62,7 @@ fn made(program: &Program, registers: &[String], instruction: &Instruction) -> O
         Operand::Constant(value) => format!("${value}"),
         Operand::Register(r) => register(r).to_string(),
     };
-    let location = |l: u8| program.names.location(l);
+    let location = |l: u8| location(program, l);
     Some(match *instruction {
         Instruction::Store { l, p } => vec![format!("MOV [{}],{}", location(l), operand(p))],
         Instruction::Load { r, l } => vec![format!("MOV {},[{}]", register(r), location(l))],

@@ -1,5 +1,6 @@
 //! From a litmus test to the text form. What is made is assembled and accepted before anybody sees it, and what has no place is an error
 //! with its line and column: no instruction is dropped without a word.
+use super::answers::{answers, expected, Answer};
 use super::cell::{cell, Cell};
 use super::condition::condition;
 use super::part::{Part, MOST};
@@ -12,12 +13,20 @@ use crate::outcome::Condition;
 use crate::program::Program;
 use std::collections::BTreeSet;
 
-/// The text form of a test, with its condition as a remark that `outcomes --where` takes; or all that does not fit, each with its place.
-pub fn import(text: &str) -> Result<String, Vec<Mark>> {
+/// A test in the text form, and for each of its lines the place in the test that it comes from, line and column from 1.
+#[derive(Clone, Debug, PartialEq, Eq)]
+pub struct Imported {
+    pub form: String,
+    pub places: Vec<(usize, usize)>,
+}
+
+/// The text form of a test, with what it expects as remarks; or all that does not fit, each with its place.
+pub fn import(text: &str) -> Result<Imported, Vec<Mark>> {
     let text = text.strip_prefix('\u{feff}').unwrap_or(text);
     let made = without_remarks(text).map_err(|one| vec![one]).and_then(|bare| {
+        let answers = answers(text).map_err(|one| vec![one])?;
         let parts = parts(&bare).map_err(|one| vec![one])?;
-        form(&parts)
+        form(&parts, &answers)
     });
     made.map_err(|mut wrong| {
         wrong.sort();
@@ -31,7 +40,7 @@ const CELLS: usize = 64;
 /// The threads: the head of each, and its cells that are not empty.
 type Threads<'a> = Vec<(Part<'a>, Vec<Cell<'a>>)>;
 
-fn form(parts: &Parts) -> Result<String, Vec<Wrong>> {
+fn form(parts: &Parts, answers: &[Answer]) -> Result<Imported, Vec<Wrong>> {
     let (starts, mut wrong) = starts(parts.initial);
     let threads = threads(parts.code, &mut wrong);
     wrong.extend(starts.iter().filter_map(|start| without_thread(start, threads.len())));
@@ -41,10 +50,11 @@ fn form(parts: &Parts) -> Result<String, Vec<Wrong>> {
     let named: BTreeSet<String> = threads.iter().flat_map(|(_, cells)| cells).filter_map(|cell| cell.location.clone()).collect();
     let begun = starts.iter().filter_map(|start| if let Place::Location(l) = &start.place { Some(l.clone()) } else { None });
     let known: BTreeSet<String> = named.iter().cloned().chain(begun).collect();
-    let asked = condition(parts.condition, parts.turned, &known).map_err(|one| vec![one])?;
+    let asked = condition(parts.condition, &known).map_err(|one| vec![one])?;
     let line = |text: String, part| Line { text, part };
-    let mut lines =
-        vec![line(format!("# {}", parts.name.text()), parts.name), line(format!("# exists: {}", asked.text), parts.condition)];
+    let mut lines = vec![line(name_line(parts.name.text()), parts.name)];
+    let expected = expected(parts.quantifier, &asked.text, answers);
+    lines.extend(expected.into_iter().map(|text| line(text, parts.condition)));
     for start in &starts {
         let Place::Location(l) = &start.place else { continue };
         // 0 needs no statement, but for a location that only the condition names
@@ -59,6 +69,15 @@ fn form(parts: &Parts) -> Result<String, Vec<Wrong>> {
         lines.extend(Thread { number, cells, starts: &starts, asked: registers, old: &old }.lines()?);
     }
     accepted(&lines, &asked.text, parts.condition)
+}
+
+/// The remark line with a test's name, which must not be taken for an expectation.
+fn name_line(name: &str) -> String {
+    let plain = format!("# {name}");
+    match asm::said(plain.as_bytes(), true).is_empty() {
+        true => plain,
+        false => format!("# test {name}"),
+    }
 }
 
 /// The threads of the code.
@@ -119,7 +138,7 @@ fn old(locations: &BTreeSet<String>) -> String {
 }
 
 /// The text of these lines, if it is a program whose condition can be asked for; else what is wrong, by its place in the test.
-fn accepted(lines: &[Line], asked: &str, condition: Part) -> Result<String, Vec<Wrong>> {
+fn accepted(lines: &[Line], asked: &str, condition: Part) -> Result<Imported, Vec<Wrong>> {
     let form: String = lines.iter().map(|line| format!("{}\n", line.text)).collect();
     let made = asm::assemble(form.as_bytes()).map_err(|marks| {
         let back = |mark: Mark| lines.get(mark.line - 1).map_or(condition, |line| line.part).wrong(mark.message);
@@ -127,5 +146,6 @@ fn accepted(lines: &[Line], asked: &str, condition: Part) -> Result<String, Vec<
     })?;
     let program = Program::of_accepted(&made.file).named(&made.names);
     Condition::of(asked, &program).map_err(|message| vec![condition.wrong(message)])?;
-    Ok(form)
+    let places = lines.iter().map(|line| line.part.place()).collect();
+    Ok(Imported { form, places })
 }

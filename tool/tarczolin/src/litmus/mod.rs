@@ -1,4 +1,5 @@
 //! Litmus tests for x86, as herd reads them: the part that fits, to the text form and back.
+mod answers;
 mod cell;
 mod condition;
 mod export;
@@ -10,4 +11,4 @@ mod starts;
 mod thread;
 
 pub use export::export;
-pub use import::import;
+pub use import::{import, Imported};

@@ -10,9 +10,16 @@ pub struct Parts<'a> {
     /// What stands in the braces.
     pub initial: Part<'a>,
     pub code: Part<'a>,
-    /// Is it asked whether something else than the condition can happen?
-    pub turned: bool,
+    pub quantifier: Quantifier,
     pub condition: Part<'a>,
+}
+
+/// What a test says of its condition: that some execution ends so, that none does, that all do.
+#[derive(Clone, Copy, Debug, PartialEq, Eq)]
+pub enum Quantifier {
+    Exists,
+    Never,
+    Forall,
 }
 
 /// The text with spaces in place of remarks, `(* .. *)`, one inside another too, so that all else keeps its place.
@@ -54,8 +61,8 @@ pub fn parts(text: &str) -> Result<Parts<'_>, Wrong> {
     let (_, inner) = rest.split_at(1);
     let (initial, rest) = inner.split_once('}').ok_or_else(|| rest.wrong("the brace is not closed: } is missing"))?;
     let (code, behind) = rest.split_at(end_of_code(rest));
-    let (turned, condition) = asked(behind.trim())?;
-    Ok(Parts { name, initial, code, turned, condition })
+    let (quantifier, condition) = asked(behind.trim())?;
+    Ok(Parts { name, initial, code, quantifier, condition })
 }
 
 /// Where the initial values begin. In front of them stand lines of the tool that made the test, a quoted one among them.
@@ -83,11 +90,11 @@ fn end_of_code(rest: Part) -> usize {
     at
 }
 
-/// Whether it is asked for what is not so, and the condition.
-fn asked(behind: Part) -> Result<(bool, Part), Wrong> {
+/// What is said of the condition, and the condition.
+fn asked(behind: Part) -> Result<(Quantifier, Part), Wrong> {
     let behind = without_locations(behind)?;
-    let found = [("exists", false), ("~exists", false), ("forall", true)].into_iter();
-    let found = found.filter_map(|(word, turned)| Some((turned, behind_word(behind, word)?))).next();
+    let found = [("exists", Quantifier::Exists), ("~exists", Quantifier::Never), ("forall", Quantifier::Forall)].into_iter();
+    let found = found.filter_map(|(word, quantifier)| Some((quantifier, behind_word(behind, word)?))).next();
     match found {
         Some((_, condition)) if condition.is_empty() => Err(condition.wrong("the condition is missing behind this word")),
         Some(found) => Ok(found),

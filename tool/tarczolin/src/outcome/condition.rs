@@ -1,4 +1,4 @@
-//! Questions about the end of an execution: `tail=2 & T2.r1=0`, `fails | !(consumer.item = 7)`.
+//! Questions about the end of an execution: `tail=2 & T2.r1=0`, `fails | !(consumer.item = ITEM)`.
 use super::end::Final;
 use crate::asm::constant;
 use crate::near::hint;
@@ -37,15 +37,27 @@ impl Value {
     }
 }
 
+/// What is wrong with a condition, and at which of its characters, from 0.
+#[derive(Clone, Debug, PartialEq, Eq)]
+pub struct Misread {
+    pub at: usize,
+    pub message: String,
+}
+
 impl Condition {
-    /// Reads a condition; names are those of the program.
+    /// Reads a condition; names are those of the program, its constants among them.
     pub fn of(text: &str, program: &Program) -> Result<Condition, String> {
-        let mut reader = Reader { tokens: tokens(text)?.into(), depth: 0, program };
-        let condition = reader.either()?;
-        match reader.tokens.front() {
+        Condition::read(text, program).map_err(|misread| misread.message)
+    }
+
+    /// The same; what is wrong with it has its place.
+    pub fn read(text: &str, program: &Program) -> Result<Condition, Misread> {
+        let mut reader = Reader { tokens: tokens(text)?.into(), end: text.chars().count(), depth: 0, program };
+        let read = reader.either().and_then(|condition| match reader.tokens.front() {
             None => Ok(condition),
-            Some(token) => Err(format!("the condition has ended; {token} is too much")),
-        }
+            Some((_, token)) => Err(format!("the condition has ended; {token} is too much")),
+        });
+        read.map_err(|message| Misread { at: reader.place(), message })
     }
 
     pub fn holds(&self, end: &Final) -> bool {
@@ -61,21 +73,21 @@ impl Condition {
     }
 }
 
-/// The words and signs of a condition.
-fn tokens(text: &str) -> Result<Vec<String>, String> {
-    let mut tokens: Vec<String> = Vec::new();
+/// The words and signs of a condition, each with its place among the characters, from 0.
+fn tokens(text: &str) -> Result<Vec<(usize, String)>, Misread> {
+    let mut tokens: Vec<(usize, String)> = Vec::new();
     let mut inside = false;
-    for c in text.chars() {
-        let word = c.is_ascii_alphanumeric() || "_.-".contains(c);
+    for (at, c) in text.chars().enumerate() {
+        let word = c.is_ascii_alphanumeric() || "_.-[]".contains(c);
+        let last = tokens.last().map_or("", |(_, last)| last);
+        // && and || are the same as & and |
+        let again = "&|".contains(c) && last == c.to_string();
+        let joins = (word && inside) || (c == '=' && ["=", "!"].contains(&last));
         match c {
-            _ if c.is_whitespace() => {}
-            _ if word && inside => tokens.last_mut().expect("begun").push(c),
-            // && and || are the same as & and |
-            '&' | '|' if tokens.last().is_some_and(|last| *last == c.to_string()) => {}
-            _ if word || "()&|".contains(c) => tokens.push(c.to_string()),
-            '=' if matches!(tokens.last().map(String::as_str), Some("=" | "!")) => tokens.last_mut().expect("one").push(c),
-            '=' | '!' => tokens.push(c.to_string()),
-            _ => return Err(format!("the character {c} has no meaning here")),
+            _ if c.is_whitespace() || again => {}
+            _ if joins => tokens.last_mut().expect("begun").1.push(c),
+            _ if word || "()&|=!".contains(c) => tokens.push((at, c.to_string())),
+            _ => return Err(Misread { at, message: format!("the character {c} has no meaning here") }),
         }
         inside = word;
     }
@@ -83,27 +95,45 @@ fn tokens(text: &str) -> Result<Vec<String>, String> {
 }
 
 struct Reader<'a> {
-    tokens: VecDeque<String>,
+    tokens: VecDeque<(usize, String)>,
+    /// The place behind the last character.
+    end: usize,
     /// So many brackets and `!` are open.
     depth: usize,
     program: &'a Program,
 }
 
 impl Reader<'_> {
+    /// Where it stands: at the next token, or at the end.
+    fn place(&self) -> usize {
+        self.tokens.front().map_or(self.end, |(at, _)| *at)
+    }
+
+    fn next_is(&self, signs: &[&str]) -> bool {
+        self.tokens.front().is_some_and(|(_, token)| signs.contains(&token.as_str()))
+    }
+
     fn take(&mut self, sign: &str) -> bool {
-        let found = self.tokens.front().is_some_and(|token| token == sign);
+        let found = self.next_is(&[sign]);
         if found {
             self.tokens.pop_front();
         }
         found
     }
 
-    fn word(&mut self) -> Result<String, String> {
-        match self.tokens.pop_front() {
-            Some(token) if token.starts_with(|c: char| c.is_ascii_alphanumeric() || "_-".contains(c)) => Ok(token),
-            Some(token) => Err(format!("a location, a register or a number is expected, not {token}")),
+    /// The next token, which is a word. It is taken only once its meaning is known, so that what is wrong with it has its place.
+    fn word(&self) -> Result<String, String> {
+        match self.tokens.front() {
+            Some((_, token)) if token.starts_with(|c: char| c.is_ascii_alphanumeric() || "_-".contains(c)) => Ok(token.clone()),
+            Some((_, token)) => Err(format!("a location, a register or a number is expected, not {token}")),
             None => Err("a location, a register or a number is missing".to_string()),
         }
+    }
+
+    fn next_value(&mut self) -> Result<Value, String> {
+        let value = self.value(&self.word()?)?;
+        self.tokens.pop_front();
+        Ok(value)
     }
 
     fn either(&mut self) -> Result<Condition, String> {
@@ -146,19 +176,19 @@ impl Reader<'_> {
 
     fn comparison(&mut self) -> Result<Condition, String> {
         let word = self.word()?;
-        let compared = self.tokens.front().is_some_and(|token| ["=", "==", "!="].contains(&token.as_str()));
+        let compared = self.tokens.get(1).is_some_and(|(_, token)| ["=", "==", "!="].contains(&token.as_str()));
         if !compared {
             if let Some(condition) = self.by_itself(&word)? {
+                self.tokens.pop_front();
                 return Ok(condition);
             }
         }
-        let left = self.value(&word)?;
+        let left = self.next_value()?;
         let differs = self.take("!=");
         if !differs && !self.take("=") && !self.take("==") {
             return Err(format!("= or != is expected behind {word}"));
         }
-        let right = self.word()?;
-        let equal = Condition::Equal(left, self.value(&right)?);
+        let equal = Condition::Equal(left, self.next_value()?);
         Ok(if differs { Condition::Not(Box::new(equal)) } else { equal })
     }
 
@@ -193,9 +223,16 @@ impl Reader<'_> {
             let known = || (0..REGISTERS).map(|r| names.register(t, r)).collect();
             return found.map(|r| Value::Register(t, r)).ok_or_else(|| self.unknown("register", register, known()));
         }
+        if let Some(value) = names.constants.get(word) {
+            return Ok(Value::Number(*value));
+        }
+        // a place of an array, its index a constant: next[LAST]
+        let index = word.strip_suffix(']').and_then(|word| word.split_once('['));
+        let place = index.and_then(|(array, index)| Some(format!("{array}[{}]", names.constants.get(index)?)));
+        let word = place.as_deref().unwrap_or(word);
         let called = |l: &u8| names.location(*l) == word || format!("x{l}") == word;
         let found = (0..LOCATIONS).find(called);
-        let known = || (0..LOCATIONS).map(|l| names.location(l)).collect();
+        let known = || (0..LOCATIONS).map(|l| names.location(l)).chain(names.constants.keys().cloned()).collect();
         found.map(Value::Location).ok_or_else(|| self.unknown("location", word, known()))
     }
 

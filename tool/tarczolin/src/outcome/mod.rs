@@ -3,6 +3,6 @@ mod condition;
 mod end;
 mod exchange;
 
-pub use condition::Condition;
+pub use condition::{Condition, Misread};
 pub use end::Final;
 pub use exchange::{exchanges, Exchange};

@@ -118,6 +118,11 @@ impl Instruction {
         }
     }
 
+    /// Can its thread fail at it?
+    pub fn is_assertion(&self) -> bool {
+        matches!(self, Assert { .. })
+    }
+
     /// The name of an access, or none for an instruction on registers only.
     pub fn access(&self) -> Option<&'static str> {
         match self {

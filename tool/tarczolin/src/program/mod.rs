@@ -11,7 +11,7 @@ use std::collections::BTreeSet;
 pub use frame::Frame;
 pub use instruction::{number, Comparison, Instruction, Operand};
 pub use limits::*;
-pub use names::{Called, Names, ThreadNames, FENCE};
+pub use names::{Called, Names, ThreadNames, Written, FENCE};
 pub use used::Used;
 
 /// The code of each thread, the threads that each `02` line declares alike, what each `03` line lets a location start with, and the names

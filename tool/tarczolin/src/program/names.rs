@@ -1,6 +1,7 @@
 //! Names that the text form gives to locations, threads and registers, and how things are called by them.
 use super::instruction::{number, Comparison, Instruction, Operand};
 use super::limits::{LOCATIONS, REGISTERS};
+use std::collections::BTreeMap;
 use Instruction::*;
 
 /// The statement of an instruction that is a fence.
@@ -14,6 +15,8 @@ pub type Called = [Option<String>; LOCATIONS as usize];
 pub struct Names {
     pub locations: Called,
     pub threads: Vec<ThreadNames>,
+    /// What the constants of a text are.
+    pub constants: BTreeMap<String, u32>,
 }
 
 /// The names of one thread.
@@ -23,6 +26,23 @@ pub struct ThreadNames {
     pub registers: [Option<String>; REGISTERS as usize],
     /// For each instruction the statement that it was made of, where that is another one.
     pub statements: Vec<Option<String>>,
+    /// For each instruction of a text the statement as it is written.
+    pub written: Vec<Written>,
+    /// The labels of a text, each in front of an instruction, by its place, or behind the last one.
+    pub labels: Vec<(usize, String)>,
+}
+
+/// A statement of a text as it is written, and its line, from 1.
+#[derive(Clone, Debug, PartialEq, Eq)]
+pub struct Written {
+    pub line: usize,
+    pub text: String,
+}
+
+impl std::fmt::Display for Written {
+    fn fmt(&self, f: &mut std::fmt::Formatter) -> std::fmt::Result {
+        write!(f, "{} | {}", self.line, self.text)
+    }
 }
 
 impl Names {
@@ -58,6 +78,11 @@ impl Names {
     /// The statement that a thread's instruction was made of, where that is another one.
     pub fn statement(&self, t: u8, at: usize) -> Option<&str> {
         self.threads.get(t as usize)?.statements.get(at)?.as_deref()
+    }
+
+    /// The statement of a text that a thread's instruction was made of, as it is written.
+    pub fn written(&self, t: u8, at: usize) -> Option<&Written> {
+        self.threads.get(t as usize)?.written.get(at)
     }
 
     /// Is a thread's instruction a fence? Then its register holds nothing that the program means, and its location is any.

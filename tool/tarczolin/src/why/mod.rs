@@ -8,6 +8,7 @@ use crate::graph::Graph;
 use crate::program::Program;
 
 pub use reason::{Edge, Why};
+pub use run::places;
 
 /// Why this graph cannot happen, or none where it can.
 pub fn why(program: &Program, graph: &Graph) -> Option<Why> {

@@ -24,6 +24,19 @@ pub fn run(program: &Program, graph: &Graph) -> Result<Events, Why> {
     Ok(done)
 }
 
+/// The place in its thread's code of each access that the run does, and of those that threads wait at.
+pub fn places(program: &Program, graph: &Graph) -> BTreeMap<Event, usize> {
+    let mut machine = Machine::new(program);
+    let mut done = Events::new();
+    while let Ok(Some((t, found))) = next(program, graph, &machine, &done) {
+        let step = machine.step_with(t, found);
+        done.insert(step.event, step);
+    }
+    let stands = machine.places();
+    let waiting = machine.going().filter_map(|t| Some((machine.next(t)?.0, stands[t as usize] as usize)));
+    done.iter().map(|(event, done)| (*event, done.at)).chain(waiting).collect()
+}
+
 /// A thread that can go on, and the value that its read finds; none where all have ended or wait for each other.
 fn next(program: &Program, graph: &Graph, machine: &Machine, done: &Events) -> Result<Option<(u8, u32)>, Why> {
     let names = &program.names;

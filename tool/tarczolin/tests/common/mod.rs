@@ -45,6 +45,16 @@ pub fn run(words: &[&str]) -> Ran {
     run_with(words, b"")
 }
 
+/// An execution in columns without the statements of its text, which stand at the end of lines as `9 | store x 1`.
+pub fn without_statements(text: &str) -> String {
+    let bare = |line: &str| {
+        let (front, _) = line.split_once(" | ").filter(|_| line.starts_with(['#', '!'])).unwrap_or((line, ""));
+        let is_line = front.len() < line.len();
+        format!("{}\n", if is_line { front.trim_end_matches(|c: char| c.is_ascii_digit()).trim_end() } else { line })
+    };
+    text.lines().map(bare).collect()
+}
+
 /// A folder for what a test file writes.
 pub fn folder(name: &str) -> PathBuf {
     let folder = PathBuf::from(env!("CARGO_TARGET_TMPDIR")).join(name);
