@@ -1,4 +1,4 @@
-//! Every program file that document 01 and docs/DECISIONS.md tell of, with its exact answer.
+//! Every program file that document 01 and docs/CONTRACT.md tell of, with its exact answer.
 use tarczolin_tests::calls::{check, Answer};
 use tarczolin_tests::files::{lines, path, read};
 use tarczolin_tests::oracle::decode::decode;

@@ -1,4 +1,4 @@
-//! `tarczolin_graph` on the inputs that document 01 and docs/DECISIONS.md tell of, with its exact answer; on every short
+//! `tarczolin_graph` on the inputs that document 01 and docs/CONTRACT.md tell of, with its exact answer; on every short
 //! schedule; and with outputs of every length.
 use tarczolin_tests::calls;
 use tarczolin_tests::files::{lines, read};

@@ -1,4 +1,4 @@
-//! `tarczolin_judge` on the graphs that document 01 and docs/DECISIONS.md tell of, with its exact answer; on a graph with
+//! `tarczolin_judge` on the graphs that document 01 and docs/CONTRACT.md tell of, with its exact answer; on a graph with
 //! each byte changed; and with outputs of every length.
 use tarczolin_tests::calls;
 use tarczolin_tests::files::{lines, read};

@@ -1,4 +1,4 @@
-//! Start, continue, count and violation on the programs that document 01, docs/DECISIONS.md and the papers tell of, with their exact
+//! Start, continue, count and violation on the programs that document 01, docs/CONTRACT.md and the papers tell of, with their exact
 //! answers.
 use tarczolin_tests::calls::{self, Answer};
 use tarczolin_tests::files::{lines, read};
