@@ -7,7 +7,8 @@ law its type, of a definition type and clauses, of a record all fields, of data 
 No proof is read.
 
 `check`: each definition reached stands in a crate whose name begins with `spec_`, in a file of belief.txt, or is a declared type;
-each definition in the specs of a `spec_` crate is reached; such a crate has no function; and the table in docs/CLAIMS.md, between
+each definition in the specs of a `spec_` crate is reached, but for files that belief.txt has under `opens`; a row, not a call
+for C, may also lead to what belief.txt has under `rows`; a `spec_` crate has no function; and the table in docs/CLAIMS.md, between
 its two marks, is that of today. While no crate begins with `spec_` only the table is compared. `write` writes the table.
 """
 import re
@@ -65,6 +66,7 @@ class Belief:
         self.files = files
         self.names = names.Names(files)
         self.promises = calls(files, exported(makefile))
+        self.of_calls = set(self.promises)
         self.promises.update(rows(claims_text, files))
         self.reached = {promise: self.lead(items) for promise, items in self.promises.items()}
 
@@ -109,7 +111,7 @@ class Belief:
                 folder, _, file = path.partition('.')
                 named = file.split('.')[0] if folder == 'specs' else path
                 beside = named in stated.get(crate, ())
-                if not promise.startswith('tarczolin_'):
+                if promise not in self.of_calls:
                     beside = beside or named in stated.get(f'rows {crate}', ())
                 if item.kind != 'type' and not crate.startswith(PREFIX) and not beside:
                     where = f'{self.files[place[:2]].path}:{item.first + 1}'
@@ -240,6 +242,17 @@ def sample(prefix):
     return belief, wrong(belief, '\n'.join(['a', BEGIN, *belief.table(), END, 'b']), {})
 
 
+def of_a_call(belief):
+    """What rows may lead to is told all the same where a call for C leads to it."""
+    belief.of_calls = set(belief.promises)
+    return list(belief.misplaced({'rows code': ['C']})) != []
+
+
+def unread(belief, stated_files):
+    """How many lines tell of what no promise leads to, or of functions."""
+    return len(list(belief.unreached(stated_files)))
+
+
 def wrong_sample():
     """Which part of the sample is read wrongly."""
     belief, (found, over) = sample(PREFIX)
@@ -248,6 +261,8 @@ def wrong_sample():
         'reached': {promise: sorted(place[2] for place in items) for promise, items in belief.reached.items()} == SAMPLE_REACHED,
         'places': found == SAMPLE_SAID and over == [],
         'a file beside': list(belief.misplaced({'code': ['C']})) == [],
+        'rows alone': list(belief.misplaced({'rows code': ['C']})) == [] and of_a_call(belief),
+        'opens': unread(belief, {}) == 3 and unread(belief, {'opens spec_a': ['B']}) == 1,
         'counts': belief.counts(belief.reached['sample_call']) == SAMPLE_COUNTS,
         'no spec_ crate': fewer == [] and len(passed_over) == 1 and renamed.table() == belief.table(),
         'another table': len(compared(f'{BEGIN}\n| a |\n{END}', belief.table())) == 1 and len(compared('', [])) == 1,
