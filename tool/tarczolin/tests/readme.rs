@@ -1,4 +1,4 @@
-//! What README.md, docs/JSON.md and docs/CLUSTER.md show of the command is what the command prints.
+//! What the documents show of the command is what the command prints, and their links lead somewhere.
 mod common;
 
 use common::tool;
@@ -8,14 +8,22 @@ use std::process::{Command, Stdio};
 use tarczolin::commands::all;
 use tarczolin_tests::files::{path, read};
 
-/// A command of the README, and the lines shown below it. A line of two dots stands for all that follows.
+/// The documents that show commands, in the order in which these are run.
+const DOCUMENTS: [&str; 5] = ["README.md", "docs/GUIDE.md", "docs/FORMAT.md", "docs/JSON.md", "docs/CLUSTER.md"];
+
+/// A command of a document, and the lines shown below it. A line of two dots stands for lines that are left out.
 struct Shown {
     command: String,
     lines: Vec<String>,
 }
 
-fn readme() -> String {
-    String::from_utf8(read("README.md")).unwrap()
+fn text(name: &str) -> String {
+    String::from_utf8(read(name)).unwrap()
+}
+
+/// The front of a line that ends in a backslash and goes on in the next.
+fn unended(line: &str) -> Option<&str> {
+    line.strip_suffix('\\')
 }
 
 /// The indented lines that begin with a dollar, each with those that follow it, over empty lines too.
@@ -24,13 +32,19 @@ fn shown(text: &str) -> Vec<Shown> {
     let (mut open, mut empty) = (false, 0);
     for line in text.lines() {
         match (line.strip_prefix("    "), all.last_mut()) {
+            (Some(code), Some(last)) if open && last.lines.is_empty() && unended(&last.command).is_some() => {
+                last.command += &format!("\n{code}");
+            }
             (Some(code), _) if code.starts_with("$ ") => {
                 all.push(Shown { command: code[2..].to_string(), lines: Vec::new() });
                 (open, empty) = (true, 0);
             }
             (Some(code), Some(last)) if open => {
                 last.lines.extend(vec![String::new(); empty]);
-                last.lines.push(code.to_string());
+                match last.lines.last().and_then(|line| unended(line)) {
+                    Some(front) => *last.lines.last_mut().unwrap() = format!("{front}{}", code.trim_start()),
+                    None => last.lines.push(code.to_string()),
+                }
                 empty = 0;
             }
             _ if line.is_empty() => empty += 1,
@@ -38,6 +52,27 @@ fn shown(text: &str) -> Vec<Shown> {
         }
     }
     all
+}
+
+/// Are these the lines that were printed?
+fn same(printed: &[&str], lines: &[String]) -> bool {
+    let Some(at) = lines.iter().position(|line| line == "..") else { return printed == lines };
+    let (front, back) = (&lines[..at], &lines[at + 1..]);
+    let inner = printed.len().checked_sub(front.len() + back.len());
+    inner.is_some() && printed[..front.len()] == *front && printed[printed.len() - back.len()..] == *back
+}
+
+/// Lines are read as they are meant: one that goes on, one that is left out, and no others are taken for these.
+#[test]
+fn shown_lines_are_read() {
+    let all = shown("    $ a \\\n      | b\n    one \\\n      more\n    ..\n\n    last\ntext\n    $ c\n\n    d\n");
+    let found: Vec<(&str, Vec<&str>)> =
+        all.iter().map(|one| (one.command.as_str(), one.lines.iter().map(String::as_str).collect())).collect();
+    assert_eq!(found, [("a \\\n  | b", vec!["one more", "..", "", "last"]), ("c", vec!["", "d"])]);
+    let lines = &all[0].lines;
+    assert!(same(&["one more", "x", "", "last"], lines) && same(&["one more", "", "last"], lines));
+    assert!(!same(&["one", "", "last"], lines) && !same(&["one more", "last"], lines) && !same(&["one more", ""], lines));
+    assert!(same(&["", "d"], &all[1].lines) && !same(&["", "d", ""], &all[1].lines));
 }
 
 /// A folder with what a reader has.
@@ -52,38 +87,35 @@ fn folder() -> String {
 
 #[test]
 fn commands_print_what_is_shown() {
-    let documents = ["docs/JSON.md", "docs/CLUSTER.md"].map(|name| String::from_utf8(read(name)).unwrap());
-    let (folder, all) = (folder(), shown(&[readme(), documents.join("\n\nnext\n\n")].join("\n\nnext\n\n")));
+    let (folder, all) = (folder(), DOCUMENTS.map(|name| shown(&text(name))));
     let tool = Path::new(env!("CARGO_BIN_EXE_tarczolin")).parent().unwrap().display().to_string();
-    for Shown { command, lines } in &all {
+    for Shown { command, lines } in all.iter().flatten() {
         let path = format!("{tool}:{}", std::env::var("PATH").unwrap());
-        let shell = format!("({command}) 2>&1");
+        let shell = format!("({command}\n) 2>&1");
         let output = Command::new("sh").args(["-c", &shell]).current_dir(&folder).env("PATH", path).output().unwrap();
         let text = String::from_utf8(output.stdout).unwrap();
         let printed: Vec<&str> = text.lines().collect();
-        match lines.split_last() {
-            Some((last, front)) if last == ".." => assert_eq!(printed[..front.len().min(printed.len())], *front, "{command}"),
-            _ => assert_eq!(printed, *lines, "{command}"),
-        }
+        assert!(same(&printed, lines), "{command}\nprints\n{text}\nand this is shown:\n{}", lines.join("\n"));
     }
-    assert!(all.len() >= 40, "{} commands", all.len());
+    let numbers = all.each_ref().map(Vec::len);
+    assert!(numbers.iter().all(|number| *number > 0) && numbers.iter().sum::<usize>() >= 84, "{numbers:?} commands");
 }
 
-/// Every command and every option stands in the README, and every command is shown with what it prints.
+/// Every command and every option stands in the guide, and every command is shown with what it prints there or in the formats.
 #[test]
 fn every_command_and_option_is_shown() {
-    let readme = readme();
-    let shown = shown(&readme);
+    let guide = text("docs/GUIDE.md");
+    let shown = ["docs/GUIDE.md", "docs/FORMAT.md"].map(|name| shown(&text(name)));
     for command in all() {
         let name = command.name;
         assert!(
-            readme.contains(&format!("tarczolin {name}")) || readme.contains(&format!("also man, {name}")) || name == "man",
+            guide.contains(&format!("tarczolin {name}")) || guide.contains(&format!("also man, {name}")) || name == "man",
             "{name}"
         );
         let by = |shown: &&Shown| shown.command.contains(&format!("tarczolin {name} ")) && !shown.lines.is_empty();
-        assert!(shown.iter().any(|one| by(&one)) || ["help", "man", "completions"].contains(&name), "{name} is shown");
+        assert!(shown.iter().flatten().any(|one| by(&one)) || ["help", "man", "completions"].contains(&name), "{name} is shown");
         for option in command.options {
-            assert!(readme.contains(option.name), "{name} {}", option.name);
+            assert!(guide.contains(option.name), "{name} {}", option.name);
         }
     }
 }
@@ -101,7 +133,7 @@ fn without_numbers(line: &str) -> String {
     text
 }
 
-/// The lines of progress and of Ctrl-C that the README shows are those of a run that is interrupted, but for the numbers.
+/// The lines of progress and of Ctrl-C that the guide shows are those of a run that is interrupted, but for the numbers.
 #[test]
 fn progress_and_interrupt_as_shown() {
     let mut command = tool(&["list", "examples/long.asm"]);
@@ -114,9 +146,37 @@ fn progress_and_interrupt_as_shown() {
     told.read_to_string(&mut err).unwrap();
     assert_eq!(child.wait().unwrap().code(), Some(2), "{err}");
     let printed: Vec<String> = err.lines().map(without_numbers).collect();
+    let guide = text("docs/GUIDE.md").replace("\\\n      ", "");
     for front in ["    tarczolin: 1171456 listed", "    tarczolin: interrupted: "] {
-        let readme = readme();
-        let line = readme.lines().find(|line| line.starts_with(front)).unwrap_or_else(|| panic!("{front}"));
+        let line = guide.lines().find(|line| line.starts_with(front)).unwrap_or_else(|| panic!("{front}"));
         assert!(printed.contains(&without_numbers(line.trim_start())), "{line} in {err}");
     }
+}
+
+/// A heading as links name it: small letters, spaces as dashes, and no other sign.
+fn anchor(heading: &str) -> String {
+    let kept = heading.trim_start_matches('#').trim().chars().filter(|c| c.is_alphanumeric() || " -_".contains(*c));
+    kept.map(|c| if c == ' ' { '-' } else { c.to_ascii_lowercase() }).collect()
+}
+
+/// What is wrong with the links of a document to files beside it and to headings.
+fn wrong_links(name: &str) -> Vec<String> {
+    let links = text(name).split("](").skip(1).map(|rest| rest.split(')').next().unwrap().to_string()).collect::<Vec<_>>();
+    let beside = Path::new(name).parent().unwrap();
+    let wrong = |link: &String| {
+        let (file, heading) = link.split_once('#').unwrap_or((link, ""));
+        let file = if file.is_empty() { name.to_string() } else { beside.join(file).display().to_string() };
+        let there = path(&file).exists();
+        let headed = || text(&file).lines().any(|line| line.starts_with('#') && anchor(line) == heading);
+        !link.starts_with("http") && !(there && (heading.is_empty() || headed()))
+    };
+    links.into_iter().filter(wrong).map(|link| format!("{name}: {link}")).collect()
+}
+
+#[test]
+fn links_lead_somewhere() {
+    let more = ["CONTRIBUTING.md", "CHANGELOG.md", "docs/ARCHITECTURE.md", "docs/CLAIMS.md", "docs/CONTRACT.md"];
+    let others = ["docs/DECISIONS.md", "docs/PERFORMANCE.md", "docs/PROVING.md"];
+    let wrong: Vec<String> = DOCUMENTS.into_iter().chain(more).chain(others).flat_map(wrong_links).collect();
+    assert_eq!(wrong, Vec::<String>::new());
 }
