@@ -1,7 +1,9 @@
-//! What the documents show of the command is what the command prints, and their links lead somewhere.
+//! What the documents show of the command is what the command prints, what they name is there, and their links lead somewhere.
 mod common;
 
+use common::json::{parse, Value};
 use common::tool;
+use std::collections::BTreeSet;
 use std::io::{BufRead, BufReader, Read};
 use std::path::Path;
 use std::process::{Command, Stdio};
@@ -179,4 +181,38 @@ fn links_lead_somewhere() {
     let others = ["docs/DECISIONS.md", "docs/PERFORMANCE.md", "docs/PROVING.md"];
     let wrong: Vec<String> = DOCUMENTS.into_iter().chain(more).chain(others).flat_map(wrong_links).collect();
     assert_eq!(wrong, Vec::<String>::new());
+}
+
+/// The properties and the words that a schema names.
+fn named_in(schema: &Value) -> BTreeSet<String> {
+    match schema {
+        Value::List(values) => values.iter().flat_map(named_in).collect(),
+        Value::Object(fields) => fields.iter().flat_map(|(name, value)| own_names(name, value)).collect(),
+        _ => BTreeSet::new(),
+    }
+}
+
+/// Those of a field: the names of its properties, or its words, and what stands in it.
+fn own_names(name: &str, value: &Value) -> BTreeSet<String> {
+    let mut names = named_in(value);
+    match (name, value) {
+        ("properties", Value::Object(properties)) => names.extend(properties.iter().map(|(name, _)| name.clone())),
+        ("enum", Value::List(words)) => names.extend(words.iter().filter_map(|word| match word {
+            Value::Text(word) => Some(word.clone()),
+            _ => None,
+        })),
+        _ => {}
+    }
+    names
+}
+
+/// docs/JSON.md names every property and every word that docs/schema.json names, and every command that answers so.
+#[test]
+fn every_property_is_explained() {
+    let (said, named) = (text("docs/JSON.md"), named_in(&parse(&text("docs/schema.json"))));
+    let left_out: Vec<&String> = named.iter().filter(|name| !said.contains(&format!("`{name}`"))).collect();
+    assert!(named.len() > 90 && left_out.is_empty(), "{} names, without these: {left_out:?}", named.len());
+    let answers = all().into_iter().filter(|command| command.options.iter().any(|option| option.name == "--json"));
+    let unnamed: Vec<&str> = answers.map(|command| command.name).filter(|name| !said.contains(&format!("`{name}`"))).collect();
+    assert_eq!(unnamed, Vec::<&str>::new());
 }
