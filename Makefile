@@ -8,7 +8,7 @@
 # make install PREFIX=P  the command, the libraries, the header, pkg-config, the manual page, completions, Python's package, below P
 # make uninstall         takes them away again: the same PREFIX and DESTDIR
 # make deb               a Debian package of them, with the documents and examples: target/tarczolin_VERSION_ARCHITECTURE.deb
-# make bench             times of the library beside plain Rust; draws docs/listing-time.svg
+# make bench             times of the library beside plain Rust; writes the table of docs/PERFORMANCE.md, draws docs/listing-time.svg
 # make walk              the list beside a walk over all schedules in plain Rust: equal byte for byte? both times; PROGRAMS='F ..': of these
 # make fuzz SECONDS=N    random bytes to every call, for so long
 # make valgrind          the Rust tests, few cases each, under valgrind
@@ -50,7 +50,7 @@ tool: $(LIBRARY)
 include package.mk
 
 bench: $(LIBRARY)
-	@$(CARGO) run $(QUIET) --bin bench
+	@python3 tests/performance.py
 
 walk: $(LIBRARY)
 	@$(CARGO) run $(QUIET) --bin walk -- $(PROGRAMS)

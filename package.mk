@@ -56,7 +56,7 @@ deb: tool $(SHARED)
 	@strip --strip-unneeded $(TO)/bin/tarczolin $(TO)/lib/libtarczolin.so.0
 	@gzip -9n $(TO)/share/man/man1/tarczolin.1
 	@install -d $(DEBROOT)/DEBIAN $(DOCS)
-	@cp -r --parents README.md CHANGELOG.md docs examples tests/litmus $(DOCS)
+	@cp -r --parents README.md CHANGELOG.md CONTRIBUTING.md docs examples tests/litmus $(DOCS)
 	@chmod -R u=rwX,go=rX $(DEBROOT)
 	@echo 'activate-noawait ldconfig' > $(DEBROOT)/DEBIAN/triggers
 	@echo 'libtarczolin 0 tarczolin' > $(DEBROOT)/DEBIAN/shlibs

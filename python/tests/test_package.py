@@ -1,4 +1,4 @@
-"""The package itself: what it exports, its types and sentences, the README's lines, the library's names."""
+"""The package itself: what it exports, its types and sentences, the guide's lines, the library's names."""
 import inspect
 import re
 import subprocess
@@ -45,14 +45,15 @@ class Package(unittest.TestCase):
         exported = {line.split()[-1] for line in said.stdout.decode().splitlines()}
         self.assertEqual(exported, declared)
 
-    def test_the_readme_s_lines(self):
-        shown = (ROOT / 'README.md').read_text(encoding='utf-8').split('```python\n')[1].split('```')[0]
+    def test_the_guide_s_lines(self):
+        guide = (ROOT / 'docs' / 'GUIDE.md').read_text(encoding='utf-8')
+        shown = guide.split('```python\n')[1].split('```')[0]
         example = (ROOT / 'examples' / 'first.py').read_text(encoding='utf-8')
         self.assertEqual(shown, example)
         self.assertLessEqual(len(shown.splitlines()), 10)
         done = subprocess.run([sys.executable, 'examples/first.py'], cwd=ROOT, capture_output=True, check=True,
                               env={'PYTHONPATH': 'python', 'PATH': '/usr/bin:/bin'}, text=True)
-        said = (ROOT / 'README.md').read_text(encoding='utf-8').split('```python\n')[1].split('```')[1]
+        said = guide.split('```python\n')[1].split('```')[1]
         told = [line[4:] for line in said.split('\n\n')[1].splitlines() if line.startswith('    ')]
         self.assertEqual(done.stdout.splitlines(), told[1:])
         self.assertEqual(told[0], '$ PYTHONPATH=python python3 examples/first.py')

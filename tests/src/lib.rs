@@ -8,4 +8,5 @@ pub mod papers;
 pub mod random;
 pub mod search;
 pub mod share;
+pub mod table;
 pub mod users;

@@ -5,6 +5,7 @@ use std::process::ExitCode;
 use tarczolin_tests::beside::{increments, Beside};
 use tarczolin_tests::files::lines;
 use tarczolin_tests::oracle::decode::decode;
+use tarczolin_tests::table::row_by;
 
 /// Prints one program's lines.
 fn report(name: &str, file: &[u8], rounds: usize) -> Beside {
@@ -41,15 +42,26 @@ fn asked(name: &str) -> bool {
     report(name, &file, 3).same()
 }
 
+/// Reports a known program, and prints its rows of the table: by rows, where that the walk takes longer is asked for, and by calls.
+fn is_right((name, file, rounds, asked): &(&str, Vec<u8>, usize, &str)) -> bool {
+    let both = report(name, file, *rounds);
+    let walked = both.walk.nanoseconds;
+    let listed = both.walk.given.listed();
+    println!("{}", row_by(&format!("rows, {name}: {listed} listed"), both.rows.nanoseconds, walked, "by the walk", asked));
+    println!("{}", row_by("the same by start and continue", both.calls.nanoseconds, walked, "by the walk", ""));
+    both.wrong().is_none()
+}
+
 fn known() -> bool {
     let two_groups = "01 110000 21000000000001 10000100000000 ".repeat(3) + &"01 110000 21000000000002 10000100000000 ".repeat(2);
     let programs = [
-        ("five threads declared alike, each load, add 1, store", increments(5, 1, 0, true), 10),
-        ("the same five, not declared alike", increments(5, 1, 0, false), 5),
-        ("three alike that add 1 and two alike that add 2", lines(&(two_groups + "02000102 020304")), 5),
-        ("six threads declared alike, each load, add 1, store", increments(6, 1, 0, true), 2),
+        ("five alike, load, add, store", increments(5, 1, 0, true), 10, "1 / 20"),
+        ("five not declared alike", increments(5, 1, 0, false), 5, "1"),
+        ("three alike and two alike", lines(&(two_groups + "02000102 020304")), 5, "1"),
+        ("six alike, load, add, store", increments(6, 1, 0, true), 2, "1"),
     ];
-    programs.iter().filter(|(name, file, rounds)| report(name, file, *rounds).wrong().is_some()).count() == 0
+    // every one is reported, also behind one that is wrong
+    programs.iter().filter(|program| !is_right(program)).count() == 0
 }
 
 fn main() -> ExitCode {

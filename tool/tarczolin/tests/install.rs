@@ -1,4 +1,4 @@
-//! The programs of README in C, C++ and Rust, compiled and run, and what `make install` puts where.
+//! The programs of the guide in C, C++ and Rust, compiled and run, and what `make install` puts where.
 mod common;
 
 use common::folder;
@@ -17,10 +17,10 @@ fn text(name: &str) -> String {
 }
 
 #[test]
-fn the_readme_shows_the_programs() {
-    let readme = text("README.md");
-    assert!(readme.contains(&format!("```c\n{}```", text("examples/first.c"))));
-    assert!(readme.contains(&format!("```rust\n{}```", text("tool/tarczolin-sys/examples/first.rs"))));
+fn the_guide_shows_the_programs() {
+    let guide = text("docs/GUIDE.md");
+    assert!(guide.contains(&format!("```c\n{}```", text("examples/first.c"))));
+    assert!(guide.contains(&format!("```rust\n{}```", text("tool/tarczolin-sys/examples/first.rs"))));
 }
 
 #[test]
@@ -45,17 +45,17 @@ fn c_and_cpp() {
     }
 }
 
-/// The README's own lines build and run: in a folder that has what the repository has, so that nothing is written beside it.
+/// The guide's own lines build and run: in a folder that has what the repository has, so that nothing is written beside it.
 #[test]
-fn the_build_lines_of_the_readme() {
+fn the_build_lines_of_the_guide() {
     let at = folder("build_lines");
     for name in ["include", "examples", "target", "tool", "tests", "Cargo.toml", "Cargo.lock"] {
         let _ = std::os::unix::fs::symlink(std::fs::canonicalize(path(name)).unwrap(), at.join(name));
     }
-    let readme = text("README.md").replace('\n', " ");
+    let guide = text("docs/GUIDE.md").replace('\n', " ");
     let line = |front: &str| {
-        let from = readme.find(&format!("`{front}")).unwrap_or_else(|| panic!("{front}")) + 1;
-        readme[from..].split('`').next().unwrap().to_string()
+        let from = guide.find(&format!("`{front}")).unwrap_or_else(|| panic!("{front}")) + 1;
+        guide[from..].split('`').next().unwrap().to_string()
     };
     let folder = at.display();
     for (build, said) in [

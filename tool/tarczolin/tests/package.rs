@@ -126,8 +126,9 @@ fn the_debian_package() {
     let installed: BTreeSet<String> = files(&root).into_iter().filter(|name| name.starts_with("usr/")).collect();
     let modules = modules().into_iter().map(|name| format!("usr/lib/python3/dist-packages/tarczolin/{name}"));
     let manual = |name: &str| format!("usr/{name}{}", if name.contains("/man1/") { ".gz" } else { "" });
-    let documents = ["README.md", "docs/CONTRACT.md", "docs/schema.json", "examples/queue-broken.asm", "examples/cluster/piece"];
-    let documents = documents.map(|name| format!("usr/share/doc/tarczolin/{name}"));
+    let documents = ["README.md", "docs/GUIDE.md", "docs/FORMAT.md", "docs/CONTRACT.md", "docs/schema.json"];
+    let examples = ["examples/queue-broken.asm", "examples/cluster/piece"];
+    let documents = documents.into_iter().chain(examples).map(|name| format!("usr/share/doc/tarczolin/{name}"));
     for name in FILES.iter().map(|name| manual(name)).chain(modules).chain(documents) {
         assert!(installed.contains(&name), "{name}");
     }

@@ -4,6 +4,7 @@ use std::hint::black_box;
 use tarczolin_tests::calls::check_word;
 use tarczolin_tests::files::text;
 use tarczolin_tests::oracle::decode::decode;
+use tarczolin_tests::table;
 
 /// The longest accepted file: six threads of equal code, each four compare and swaps and twelve skips; three 02 lines.
 fn longest() -> Vec<u8> {
@@ -29,16 +30,16 @@ fn full() -> Vec<u8> {
 }
 
 /// Prints the best times for one file.
-fn row(name: &str, file: &[u8]) {
+fn row(name: &str, file: &[u8], asked: &str) {
     let (library, plain) = best(|| check_word(black_box(file)), || decode(black_box(file)).is_ok());
-    println!("{name}: {} bytes, library {library:.0} ns, plain Rust {plain:.0} ns, ratio {:.2}", file.len(), library / plain);
+    println!("{}", table::row(&format!("decoding {name}"), library, plain, asked));
 }
 
 pub fn report() {
     println!(
         "tarczolin_check beside a plain Rust decoder (one pass, a list of instructions for each thread, no other allocation)"
     );
-    row("longest accepted file", &longest());
-    row("4,096 bytes, refused for the last", &full());
-    row("one empty thread", b"01\n");
+    row("the longest accepted file", &longest(), "3");
+    row("4,096 bytes that are refused for the last", &full(), "");
+    row("one empty thread", b"01\n", "");
 }

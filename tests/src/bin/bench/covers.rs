@@ -3,6 +3,7 @@ use std::hint::black_box;
 use std::time::Instant;
 use tarczolin_tests::calls::{self, Answer, Covers};
 use tarczolin_tests::files::lines;
+use tarczolin_tests::table;
 
 /// Stores of 1, 2, .. beside loads of the same location, of which some are kept at locations of their own.
 fn program(stores: usize, loads: usize, kept: &[usize]) -> Vec<u8> {
@@ -34,16 +35,17 @@ fn row(what: &str, first: &[u8], second: &[u8]) {
         answer = black_box(calls::covers(first, second, &mut [0; 24]));
         best[1] = best[1].min(began.elapsed().as_nanos() as f64);
     }
-    println!("{what}: {} and {} listed, {answer:?}", listed[0], listed[1]);
-    println!("  covers: {:.1} ms, {:.2} times a count of both (asked: at most 60)", best[1] / 1e6, best[1] / best[0]);
+    println!("{} and {} listed, {answer:?}", listed[0], listed[1]);
+    println!("{}", table::row_by(&format!("covers, {what}"), best[1], best[0], "for two counts", "60"));
 }
 
 pub fn report() {
+    println!("One program against another, beside the library's own counts of both (asked: at most 60 times these)");
     let few = program(10, 10, &[9]);
-    row("ten stores beside ten loads, the last one kept, against itself", &few, &few);
+    row("10 stores beside 10 loads, against itself", &few, &few);
     let many = program(8, 13, &[5, 12]);
-    row("eight stores beside thirteen loads, two of them kept, against itself", &many, &many);
-    row("the same against a program that keeps another load", &many, &program(8, 13, &[5, 11]));
+    row("8 stores beside 13 loads, against itself", &many, &many);
+    row("the same against one that keeps another load", &many, &program(8, 13, &[5, 11]));
     let far = lines(&(0..6).map(|t| format!("01 1200000000000001 10{:02x}0100000000 ", t + 1)).collect::<String>());
-    row("six threads, 720 outcomes, more than a batch holds, against itself", &far, &far);
+    row("six threads, 720 outcomes, against itself", &far, &far);
 }

@@ -5,6 +5,7 @@ use tarczolin_tests::calls;
 use tarczolin_tests::files::lines;
 use tarczolin_tests::oracle::decode::{decode, Program};
 use tarczolin_tests::oracle::machine::{opened, Thread};
+use tarczolin_tests::table;
 
 /// A machine of fixed size, copied for each step as the library's is.
 #[derive(Clone, Copy)]
@@ -51,13 +52,8 @@ fn row(name: &str, words: &str, set: u8, rounds: usize) {
     let hostile = matches!(calls::force(&file, set), calls::Answer::Answered(_));
     assert_eq!(hostile, plain(&file, set), "both agree");
     let (library, recursion) = best_of(rounds, 1, || calls::force(black_box(&file), set), || plain(black_box(&file), set));
-    println!(
-        "{name}: {}, library {:.1} us, plain Rust {:.1} us, ratio {:.3}",
-        if hostile { "hostile" } else { "friendly" },
-        library / 1e3,
-        recursion / 1e3,
-        library / recursion
-    );
+    let side = if hostile { "hostile" } else { "friendly" };
+    println!("{}", table::row(&format!("force, {side}: {name}"), library, recursion, ""));
 }
 
 /// A thread that stores three times at a location of its own, loads it, and asserts what it stored.
@@ -74,15 +70,10 @@ fn idle(loads: usize) -> String {
 pub fn report() {
     println!("Who can force the failure: tarczolin_force beside a plain recursion that decides nothing before a play has ended");
     let never: String = (0..6).map(own).collect();
-    row(
-        "six threads that assert what nobody else writes, three of them hostile: one schedule is listed, and none fails",
-        &never,
-        0b000111,
-        3,
-    );
+    row("six threads of which none can fail", &never, 0b000111, 3);
     let late = format!("01 110007 10000000000001 110007 {}{}01 110000 23000000000000 110007 ", idle(3), idle(3).repeat(2));
-    row("a load that is asserted, which the friendly side can make before the hostile store", &late, 0b00011, 20);
+    row("a load before the hostile store", &late, 0b00011, 20);
     let soon = format!("01 10000000000001 110007 {}01 110000 23000000000000 110007 ", idle(3).repeat(3));
-    row("a load that is asserted, behind the hostile store", &soon, 0b00011, 20);
+    row("a load behind the hostile store", &soon, 0b00011, 20);
     row("four threads of six loads, nothing asserted", &idle(6).repeat(4), 0b0011, 3);
 }

@@ -4,6 +4,7 @@ use std::hint::black_box;
 use tarczolin_tests::calls::{self, Answer};
 use tarczolin_tests::files::lines;
 use tarczolin_tests::oracle::calls::{graph, judge};
+use tarczolin_tests::table;
 
 /// Prints the best times for a graph text, which both judge alike.
 fn judged(name: &str, file: &[u8], text: &[u8]) {
@@ -17,7 +18,7 @@ fn judged(name: &str, file: &[u8], text: &[u8]) {
         || judge(black_box(file), black_box(text), 24).is_ok(),
     );
     let answer = if yes { "yes" } else { "no" };
-    println!("{name}, {answer}: library {library:.0} ns, plain Rust {plain:.0} ns, ratio {:.2}", library / plain);
+    println!("{}", table::row(&format!("judging, {answer}: {name}"), library, plain, "4"));
 }
 
 /// For the graph of a schedule.
@@ -41,7 +42,7 @@ fn graphs() {
     let around: Vec<u8> = (0..24).map(|k| k % 6).collect();
     let back: Vec<u8> = around.iter().rev().copied().collect();
     row("six fetch and adds", &format!("01 {ADD}").repeat(6), &around[..6]);
-    row("six threads of four accesses and two register instructions", &SUMS.repeat(6), &around);
+    row("six threads of four accesses", &SUMS.repeat(6), &around);
     row("six threads of four fetch and adds, the last first", &format!("01 {}", ADD.repeat(4)).repeat(6), &back);
     row("three compare and swaps", &format!("01 {SWAP}").repeat(3), &around[..3]);
     row("six threads of four compare and swaps", &format!("01 {}", SWAP.repeat(4)).repeat(6), &around);
@@ -64,7 +65,7 @@ fn others() {
     let reads: String =
         (0..24).map(|k| format!("40{:02x}{:02x}{:02x}{:02x} ", k / 4, k % 4, (k + 1) % 24 / 4, (k + 1) % 4)).collect();
     let order: String = (0..24).map(|k| format!("{:02x}{:02x}", k / 4, k % 4)).collect();
-    judged("24 fetch and adds, each reads from the next, in a circle", &lines(&around), &lines(&format!("{reads} 4100{order}")));
+    judged("24 fetch and adds in a circle", &lines(&around), &lines(&format!("{reads} 4100{order}")));
     let alone = lines(&format!("01 {ADD}"));
     judged("a fetch and add that reads from itself", &alone, b"4000000000\n41000000\n");
     judged("one store, and no line for it", &lines("01 10000000000001"), b"");

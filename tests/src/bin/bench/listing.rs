@@ -6,6 +6,7 @@ use tarczolin_tests::files::lines;
 use tarczolin_tests::oracle::decode::decode;
 use tarczolin_tests::search::walk::walk;
 use tarczolin_tests::search::Search;
+use tarczolin_tests::table;
 
 /// The best times of the library and of plain Rust over so many rounds, measured in turns, in nanoseconds, and what each gave.
 fn turns<T, U>(rounds: usize, mut library: impl FnMut() -> T, mut plain: impl FnMut() -> U) -> ((f64, T), (f64, U)) {
@@ -101,21 +102,15 @@ fn alike() {
 
 fn two() {
     let file = lines(&format!("01 {} 01 {}", "10000000000001 ".repeat(12), "110000 ".repeat(12)));
-    let ((counted, of_count), (searched, of_search)) = turns(2, || count(&file), || Search::new(&decode(&file).unwrap()).count());
-    assert_eq!(of_count, of_search, "both agree");
-    let listed = of_count.0 as f64;
-    println!("twelve stores beside twelve loads of one location: {listed} listed");
-    print!("  count, for each listed: library {:.0} ns, plain Rust's search {:.0} ns, ", counted / listed, searched / listed);
-    println!("ratio {:.2} (asked: at most 3)", counted / searched);
-    let (rowed, of_rows) = once(&mut || by_rows(&file, 1024));
-    assert_eq!(of_rows, of_count.0, "both agree");
-    print!("  the list by 1,024 rows a call, for each listed: library {:.0} ns, ", rowed / listed);
-    println!("beside the count of plain Rust's search ratio {:.2}", rowed / searched);
+    let ((rowed, of_rows), (searched, of_search)) =
+        turns(2, || by_rows(&file, 1024), || Search::new(&decode(&file).unwrap()).count());
+    assert_eq!(of_rows, of_search.0, "both agree");
+    println!("twelve stores beside twelve loads of one location: {of_rows} listed");
+    println!("{}", table::row_by("1,024 rows a call, 12 stores beside 12 loads", rowed, searched, "for a count", ""));
     let many = 2_000;
     let ((called, _), (next, _)) = turns(3, || by_calls(&file, many), || by_searches(&file, many));
     let each = many as f64;
-    print!("  start and continue, a call, which decodes the file and searches anew: library {:.0} ns, ", called / each);
-    println!("plain Rust {:.0} ns, ratio {:.2}", next / each, called / next);
+    println!("{}", table::row("a start or continue, 12 stores beside 12 loads", called / each, next / each, ""));
 }
 
 fn six() {
@@ -123,13 +118,8 @@ fn six() {
     let searched = || Search::new(&decode(&file).unwrap()).count();
     let ((counted, of_count), (searched, of_search)) = turns(30, || count(&file), searched);
     assert_eq!((of_count, of_search), ((1, 0), (1, 0)));
-    println!("six threads, each four stores to its own location, about 3 * 10^15 schedules: 1 listed");
-    let ratio = counted / searched;
-    println!(
-        "  count (asked: at once): library {:.1} us, plain Rust's search {:.1} us, ratio {ratio:.2}",
-        counted / 1e3,
-        searched / 1e3
-    );
+    println!("six threads, each four stores to its own location, about 3 * 10^15 schedules: 1 listed (asked: at once)");
+    println!("{}", table::row("a count, six threads of four private stores: 1 listed", counted, searched, ""));
 }
 
 pub fn report() {

@@ -1,4 +1,5 @@
-//! Times of the library beside plain Rust, both measured in one run: all parts, or those that are named. No time is asserted.
+//! Times of the library beside plain Rust, both measured in one run: all parts, or those that are named. No time is asserted. Lines of
+//! five cells between bars are rows of the table in docs/PERFORMANCE.md.
 mod chart;
 mod check;
 mod covers;
@@ -12,7 +13,7 @@ mod step;
 mod store_order;
 mod timing;
 
-const PARTS: [(&str, fn()); 8] = [
+const PARTS: [(&str, fn()); 10] = [
     ("check", check::report),
     ("graph", graph::report),
     ("step", step::report),
@@ -21,6 +22,8 @@ const PARTS: [(&str, fn()); 8] = [
     ("listing", listing::report),
     ("growth", growth::report),
     ("store_order", store_order::report),
+    ("covers", covers::report),
+    ("force", force::report),
 ];
 
 fn main() {
@@ -30,6 +33,4 @@ fn main() {
             report();
         }
     }
-    covers::report();
-    force::report();
 }

@@ -5,6 +5,7 @@ use tarczolin_tests::calls::{count, Answer};
 use tarczolin_tests::files::lines;
 use tarczolin_tests::oracle::decode::decode;
 use tarczolin_tests::search::Search;
+use tarczolin_tests::table;
 
 const LOAD: &str = "110000";
 const LOCK: &str = "13000000000000000000000001";
@@ -27,25 +28,18 @@ fn row(name: &str, words: &str, rounds: usize) {
         assert_eq!((listed, failing), counts, "both agree");
     };
     let (library, plain) = best_of(rounds, 1, counted, || Search::new(&decode(black_box(&file)).unwrap()).count());
-    println!(
-        "{name}: {} listed, {} prefixes, {} dead ends, library {:.2} ms, plain Rust {:.2} ms, ratio {:.2}",
-        counts.0,
-        search.prefixes,
-        search.dead_ends,
-        library / 1e6,
-        plain / 1e6,
-        library / plain
-    );
+    println!("{} prefixes, {} dead ends", search.prefixes, search.dead_ends);
+    println!("{}", table::row(&format!("a count, {name}: {} listed", table::grouped(counts.0)), library, plain, "2"));
 }
 
 pub fn report() {
     println!("A whole count beside plain Rust's search by the same rules, unproved, with one copy of the place a step (asked: at most 2)");
     row("12 stores beside 12 loads", &format!("01 {} 01 {}", "10000000000001 ".repeat(12), "110000 ".repeat(12)), 5);
     let twice = format!("01 {}{}", taken(8, 6), taken(3, 1));
-    row("four alike threads that take a lock twice", &format!("{} 0200010203", twice.repeat(4)), 5);
-    row("six threads that take a lock", &format!("01 {}", taken(3, 1)).repeat(6), 3);
+    row("four alike take a lock twice", &format!("{} 0200010203", twice.repeat(4)), 5);
+    row("six take a lock", &format!("01 {}", taken(3, 1)).repeat(6), 3);
     let increments = "01 110000 21000000000001 10000100000000 ".repeat(6);
-    row("six alike threads of load, add 1, store", &format!("{increments} 02000102030405"), 100);
-    row("six threads of two fetch and adds, at two locations", &"01 1200000000000001 1200010000000001 ".repeat(6), 10);
-    row("six threads that add zero to one location", &"01 1200000000000000 ".repeat(6), 100);
+    row("six alike, load, add, store", &format!("{increments} 02000102030405"), 100);
+    row("six threads of two fetch and adds", &"01 1200000000000001 1200010000000001 ".repeat(6), 10);
+    row("six threads that add zero", &"01 1200000000000000 ".repeat(6), 100);
 }

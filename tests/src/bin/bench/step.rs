@@ -6,6 +6,7 @@ use tarczolin_tests::files::lines;
 use tarczolin_tests::oracle::decode::{decode, Program};
 use tarczolin_tests::oracle::machine::{opened, Event, Thread, INITIAL};
 use tarczolin_tests::search::Search;
+use tarczolin_tests::table;
 
 /// A machine of fixed size: threads, memory, and the last write of each location.
 struct Machine {
@@ -72,7 +73,7 @@ fn row(name: &str, words: &str, schedule: &[u8]) {
     assert_eq!(schedule.len(), 24);
     let (stepped, none) = (times(&schedule[..23]), times(&[0xff]));
     let (library, plain) = ((stepped.0 - none.0) / 23.0, (stepped.1 - none.1) / 23.0);
-    println!("{name}: a step {library:.1} ns, plain Rust {plain:.1} ns, ratio {:.2}", library / plain);
+    println!("{}", table::row(&format!("a step of a replay, {name}"), library, plain, "2"));
 }
 
 /// Prints the best times of a step of the search through one program that declares no threads alike: a count's time over the steps that
@@ -91,11 +92,8 @@ fn searched(name: &str, words: &str) {
     let rounds = (2_000_000 / steps).clamp(3, 300) as usize;
     let (library, plain) = best_of(rounds, 1, counted, || Search::new(&decode(black_box(&file)).unwrap()).count());
     let (library, plain) = (library / steps as f64, plain / steps as f64);
-    println!(
-        "{name}: {steps} steps, {} listed, a step {library:.1} ns, plain Rust {plain:.1} ns, ratio {:.2}",
-        counts.0,
-        library / plain
-    );
+    println!("{steps} steps, {} listed", counts.0);
+    println!("{}", table::row(&format!("a step of the search, {name}"), library, plain, "2"));
 }
 
 /// A thread of four accesses and two register instructions, and one that loads, adds 1 and stores twice.
@@ -111,14 +109,14 @@ pub fn report() {
     println!("A step in the search, with all that its rules ask there: tarczolin_count beside plain Rust's search by the same rules, over the");
     println!("number of steps that the search takes (asked: at most 2)");
     searched("12 stores beside 12 loads", &twelve());
-    searched("three threads of four accesses and two register instructions", &SUMS.repeat(3));
-    searched("three threads that load, add 1 and store twice", &format!("01 {INCREMENT} {INCREMENT} ").repeat(3));
-    searched("six threads that load, add 1 and store", &format!("01 {INCREMENT} ").repeat(6));
+    searched("three threads of four accesses", &SUMS.repeat(3));
+    searched("three threads of load, add, store twice", &format!("01 {INCREMENT} {INCREMENT} ").repeat(3));
+    searched("six threads of load, add, store", &format!("01 {INCREMENT} ").repeat(6));
     println!("A step in a replay by tarczolin_graph beside plain Rust: 23 steps refused by 21, less none refused at the first byte, over 23.");
     println!("Both decode the file, store each step in one machine, keep what it read, from where, and whether it wrote, and write no text");
     let alternating: Vec<u8> = (0..24).map(|k| k % 2).collect();
     row("12 stores beside 12 loads", &twelve(), &alternating);
     let six: Vec<u8> = (0..24).map(|k| k % 6).collect();
-    row("six threads of four accesses and two register instructions", &SUMS.repeat(6), &six);
-    row("six threads that load, add 1 and store twice", &format!("01 {INCREMENT} {INCREMENT} ").repeat(6), &six);
+    row("six threads of four accesses", &SUMS.repeat(6), &six);
+    row("six threads of load, add, store twice", &format!("01 {INCREMENT} {INCREMENT} ").repeat(6), &six);
 }

@@ -5,6 +5,7 @@ use tarczolin_tests::calls::{tso, Answer};
 use tarczolin_tests::files::lines;
 use tarczolin_tests::oracle::decode::decode;
 use tarczolin_tests::search::store_order::Search;
+use tarczolin_tests::table;
 
 /// Prints one row: what is listed and walked, and a step's time in both.
 fn row(name: &str, words: &str) {
@@ -20,17 +21,9 @@ fn row(name: &str, words: &str) {
     };
     let rounds = (1_000_000 / steps).clamp(3, 300) as usize;
     let (library, plain) = best_of(rounds, 1, counted, || Search::new(&decode(black_box(&file)).unwrap()).count());
-    println!(
-        "{name}: {} listed, {} prefixes, {} dead ends, library {:.3} ms, plain Rust {:.3} ms, a step {:.1} ns and {:.1} ns, ratio {:.2}",
-        counts.0,
-        search.prefixes,
-        search.dead_ends,
-        library / 1e6,
-        plain / 1e6,
-        library / steps as f64,
-        plain / steps as f64,
-        library / plain
-    );
+    println!("{} listed, {} prefixes, {} dead ends", counts.0, search.prefixes, search.dead_ends);
+    let (library, plain) = (library / steps as f64, plain / steps as f64);
+    println!("{}", table::row(&format!("total store order, a step: {name}"), library, plain, "2.5"));
 }
 
 fn store(l: usize) -> String {
@@ -53,9 +46,9 @@ pub fn report() {
     row("8 stores beside 8 loads", &format!("01 {} 01 {}", store(0).repeat(8), load(0).repeat(8)));
     row("four threads of four private stores", &(0..4).map(|t| format!("01 {}", store(t).repeat(4))).collect::<String>());
     let increment = "01 110000 21000000000001 10000100000000 ";
-    row("five threads of load, add 1, store", &increment.repeat(5));
-    row("six alike threads of load, add 1, store", &format!("{} 02000102030405", increment.repeat(6)));
-    row("six alike threads of two stores", &format!("{} 02000102030405", format!("01 {}", store(0).repeat(2)).repeat(6)));
+    row("five threads of load, add, store", &increment.repeat(5));
+    row("six alike, load, add, store", &format!("{} 02000102030405", increment.repeat(6)));
+    row("six alike, two stores", &format!("{} 02000102030405", format!("01 {}", store(0).repeat(2)).repeat(6)));
     let across: String = (0..3).map(|t| format!("01 {}", format!("{}{}", store(t), load((t + 1) % 3)).repeat(2))).collect();
-    row("three threads that store and load twice, in a ring", &across);
+    row("three threads that store and load, a ring", &across);
 }
