@@ -11,9 +11,11 @@
 # make bench             times of the library beside plain Rust; writes the table of docs/PERFORMANCE.md, draws docs/listing-time.svg
 # make walk              the list beside a walk over all schedules in plain Rust: equal byte for byte? both times; PROGRAMS='F ..': of these
 # make fuzz SECONDS=N    random bytes to every call, for so long
+# make soak MINUTES=N    every call on two cores with random and damaged input, held to the oracle; SEED=S: of these seeds, S and S + 1
 # make valgrind          the Rust tests, few cases each, under valgrind
 FILE ?= examples/whole.hex
 SECONDS ?= 600
+MINUTES ?= 10
 CARGO = cargo
 QUIET = --quiet --release --offline --locked
 LIBRARY = target/staticlib/libtarczolin.a
@@ -25,7 +27,7 @@ SOURCES = crates.txt $(shell find crates -name '*.rt' -o -name '*.antt')
 VALGRIND = valgrind --quiet --error-exitcode=9 --leak-check=full --show-leak-kinds=definite --errors-for-leak-kinds=definite \
   --trace-children=yes --log-file=$(CURDIR)/target/valgrind/%p.log
 
-.PHONY: help test check list explorer tool library bench walk fuzz valgrind
+.PHONY: help test check list explorer tool library bench walk fuzz soak valgrind
 
 help:
 	@sed -n 's/^# make/make/p' Makefile
@@ -57,6 +59,9 @@ walk: $(LIBRARY)
 
 fuzz: $(LIBRARY)
 	@FUZZ_SECONDS=$(SECONDS) FUZZ_SEED=$$(date +%s) $(CARGO) test $(QUIET) --package tarczolin-tests --test fuzz -- --nocapture
+
+soak: $(LIBRARY)
+	@$(CARGO) run $(QUIET) --bin soak -- $(MINUTES) $(SEED)
 
 # cargo hands each test program to valgrind; a hundredth of the cases, since valgrind is slow; a report is an error
 valgrind: $(LIBRARY)

@@ -9,7 +9,19 @@
  *                   or a refusal's place. All of them fit these bits: of rows where the output is shorter than 26 * 2^48 bytes,
  *                   of a graph text's refusal where the text is shorter than 2^48 bytes
  *
- * A call reads only the bytes that it is lent and keeps nothing for the next.
+ * A call reads only the bytes that it is lent and keeps nothing for the next. It takes no memory but stack. So many bytes of stack are
+ * enough for it, whatever it is lent: the most that it was seen to need on painted stacks, with programs at the limits, and a fourth on top.
+ *
+ *    12288   tarczolin_check
+ *    20480   tarczolin_graph, tarczolin_class, tarczolin_tso_graph, tarczolin_tso_class
+ *    24576   tarczolin_judge, tarczolin_open, tarczolin_ask, tarczolin_close
+ *    36864   tarczolin_set, tarczolin_return, tarczolin_forget
+ *    40960   tarczolin_start, tarczolin_continue, tarczolin_violation, tarczolin_count, tarczolin_rows, tarczolin_rows_after
+ *    65536   tarczolin_tso_start, tarczolin_tso_continue, tarczolin_tso_violation, tarczolin_tso_count, tarczolin_tso_rows,
+ *    65536   tarczolin_tso_rows_after
+ *    73728   tarczolin_force
+ *    98304   tarczolin_serve
+ *   135168   tarczolin_covers
  *
  * Program files and graph texts are lines of hexadecimal, each ended by 0a; A to F are read as a to f, and what is written is
  * lower case. A line that begins with # is a remark: it may hold any byte but 0a, says nothing, and counts as a line in every

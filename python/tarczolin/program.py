@@ -12,7 +12,7 @@ from ._library import ANSWERED, GRAPH, REFUSED, SCHEDULE, SECOND_REFUSED, TSO_SC
 from ._matching import matched
 from .errors import Refused, Unfit, line_at
 from .execution import Execution
-from .text import Note, is_file, translated
+from .text import Note, imported, is_file, translated
 
 Schedule = Union[bytes, str]
 PAGE = 1024
@@ -101,11 +101,18 @@ class Program:
 
     @classmethod
     def read(cls, path: Union[str, 'os.PathLike[str]'], model: str = 'sc') -> 'Program':
-        """The program of a file: a program file, or a text where its name ends in `.asm` or it has other lines than digits."""
+        """The program of a file, by its name's end and its content.
+
+        A name in `.litmus` is a litmus test for x86; one in `.asm` is a text, and so is what has other lines than digits; all else is a
+        program file. What a text or a test expects is not looked at.
+        """
         with open(path, 'rb') as file:
             # of a program file no more is read than shows that it is too long, of a text what the command reads
             source = file.read((1 << 20) + 1)
-        is_text = os.fspath(path).endswith('.asm') or not is_file(source)
+        name = os.fspath(path)
+        if name.endswith('.litmus'):
+            return cls(imported(source.decode('utf-8', 'replace')), model)
+        is_text = name.endswith('.asm') or not is_file(source)
         return cls(source.decode('utf-8', 'replace') if is_text else source, model)
 
     def __repr__(self) -> str:

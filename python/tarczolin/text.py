@@ -1,4 +1,4 @@
-"""The text form, translated by the command `tarczolin asm`: there is one translation, and it is the command's."""
+"""The text form and litmus tests, translated by the command `tarczolin`: there is one translation, and it is the command's."""
 from __future__ import annotations
 
 import json
@@ -45,19 +45,31 @@ def command_path() -> str:
 
 def translated(text: str, model: str) -> Tuple[bytes, Tuple[Note, ...]]:
     """The program file of a text for a memory model, with its names, and what has to be known of it."""
-    words = [command_path(), 'asm', '--json', '--remarks', '--model', model, '-']
+    made, notes = _made(text, 'asm', '--remarks', '--model', model)
+    return made.encode('utf-8'), notes
+
+
+def imported(test: str) -> str:
+    """The text form of a litmus test for x86."""
+    return _made(test, 'import-litmus')[0]
+
+
+def _made(text: str, *words: str) -> Tuple[str, Tuple[Note, ...]]:
+    """What the command makes of a text, and what has to be known of it."""
+    command = command_path()
     try:
-        done = subprocess.run(words, input=text.encode('utf-8'), capture_output=True, check=False)
+        done = subprocess.run([command, *words, '--json', '-'], input=text.encode('utf-8'), capture_output=True, check=False)
     except OSError as error:
-        raise CommandMissing(f'{words[0]} cannot be run: {error}') from error
+        raise CommandMissing(f'{command} cannot be run: {error}') from error
     objects: List[Dict[str, Any]] = [json.loads(line) for line in done.stdout.splitlines()]
     notes = tuple(Note(**note) for one in objects for note in one.get('notes', ()))
     for one in objects:
         if 'error' in one:
             raise _error(one['error'], text)
     if not objects or 'text' not in objects[-1]:
-        raise Error(f'{words[0]} asm answers with status {done.returncode}: {done.stderr.decode("utf-8", "replace").strip()}')
-    return objects[-1]['text'].encode('utf-8'), notes
+        message = done.stderr.decode('utf-8', 'replace').strip()
+        raise Error(f'{command} {words[0]} answers with status {done.returncode}: {message}')
+    return objects[-1]['text'], notes
 
 
 def _error(error: Dict[str, Any], text: str) -> Error:

@@ -1,6 +1,8 @@
 """What a program answers, beside the command's answers and the oracle's known ones."""
 import itertools
 import unittest
+from pathlib import Path
+from tempfile import TemporaryDirectory
 
 from here import EXAMPLES, ROOT, answers, file, programs
 from tarczolin import Count, Execution, Force, Program, Refused, TextError, Unfit
@@ -82,6 +84,18 @@ class Asked(unittest.TestCase):
                 self.assertEqual([(one.memory, one.registers) for one in found],
                                  [(one['memory'], one['registers']) for one in told if 'outcome' in one], path.name)
                 self.assertIn('expectation', told[-1])
+
+    def test_litmus_tests_are_read(self):
+        for path in sorted((ROOT / 'tests' / 'litmus').glob('*.litmus')):
+            for model in ('sc', 'tso'):
+                with self.subTest(path=path.name, model=model):
+                    told = answers('count', str(path), '--model', model)[0]
+                    self.assertEqual(Program.read(path, model).count(), (told['listed'], told['failing']))
+        with TemporaryDirectory() as folder, self.assertRaises(TextError) as caught:
+            wrong = Path(folder) / 'wrong.litmus'
+            wrong.write_text('X86 A\n{ }\n P0 ;\n XCHG [x],EAX ;\nexists (x=1)\n')
+            Program.read(wrong)
+        self.assertEqual((caught.exception.place, caught.exception.line), (4, ' XCHG [x],EAX ;'))
 
     def test_a_text_that_writes_itself(self):
         made = Program('def put(k) {\n  store x k\n}\nthread w * 2 alike\n  repeat 2 {\n    put(1)\n  }\nforbid x = 2\n')

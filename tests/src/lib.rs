@@ -4,6 +4,7 @@ pub mod beside;
 pub mod files;
 pub mod lent;
 pub mod oracle;
+pub mod painted;
 pub mod papers;
 pub mod random;
 pub mod search;

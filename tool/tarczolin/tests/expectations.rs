@@ -114,6 +114,12 @@ fn broken_ones_are_errors() {
         ("forbid (x = 1", 14, ") is missing"),
         ("forbid T7.n = 1", 8, "there is no thread T7"),
         ("forbid x = 1 y", 14, "the condition has ended; y is too much"),
+        ("forbid x = 1 and y = 1", 14, "the condition has ended; and is too much; && joins two conditions"),
+        (
+            "forbid x = 1 OR y = 1",
+            14,
+            "the condition has ended; OR is too much; || stands between two conditions of which one is enough",
+        ),
         ("forall x % 1", 10, "the character % has no meaning here"),
         ("forall x = 1 under", 19, "sc or tso is missing behind under"),
         ("forall x = 1 under arm", 20, "sc or tso is expected behind under, not arm"),

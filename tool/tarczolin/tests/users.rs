@@ -74,6 +74,26 @@ fn refusals_and_errors() {
     assert_eq!(run_with(&["users", "file"], b"").status, 2);
 }
 
+/// What a file expects is passed over, and that is said; a statement that cannot be read is an error as it is everywhere.
+#[test]
+fn expectations() {
+    let folder = folder("users_expect");
+    let opened = |name: &str, text: &str, json: &[&str]| {
+        let path = folder.join(name).display().to_string();
+        std::fs::write(&path, text).unwrap();
+        run_with(&[&["users"], json].concat(), format!("open 0 {path}\n").as_bytes())
+    };
+    let program = "thread\n  store x 1\n";
+    let one = opened("one.asm", &format!("{program}forbid x = 2\n"), &[]);
+    assert_eq!((one.status, one.out.as_str()), (0, "ok\n"));
+    assert!(one.err.contains("1 expectation is not looked at here; check and test decide it"), "{}", one.err);
+    let two = opened("two.hex", "# exists x0 = 1\n# expect none\n01\n10000000000001\n", &["--json"]);
+    assert!(two.out.contains("2 expectations are not looked at here"), "{}", two.out);
+    let wrong = opened("wrong.asm", &format!("{program}forbid x = 2 and x = 3\n"), &[]);
+    assert_eq!(wrong.status, 2);
+    assert!(wrong.out.starts_with("error: ") && wrong.out.contains("&& joins two conditions"), "{}", wrong.out);
+}
+
 /// Damaged records count as closed and empty, and a last caller above 3 is read as 3.
 #[test]
 fn raw_bytes() {

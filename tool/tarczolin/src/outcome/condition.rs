@@ -55,7 +55,7 @@ impl Condition {
         let mut reader = Reader { tokens: tokens(text)?.into(), end: text.chars().count(), depth: 0, program };
         let read = reader.either().and_then(|condition| match reader.tokens.front() {
             None => Ok(condition),
-            Some((_, token)) => Err(format!("the condition has ended; {token} is too much")),
+            Some((_, token)) => Err(format!("the condition has ended; {token} is too much{}", joint(token))),
         });
         read.map_err(|message| Misread { at: reader.place(), message })
     }
@@ -92,6 +92,15 @@ fn tokens(text: &str) -> Result<Vec<(usize, String)>, Misread> {
         inside = word;
     }
     Ok(tokens)
+}
+
+/// What to write instead of a word that other languages join conditions by.
+fn joint(token: &str) -> &'static str {
+    match token.to_ascii_lowercase().as_str() {
+        "and" => "; && joins two conditions",
+        "or" => "; || stands between two conditions of which one is enough",
+        _ => "",
+    }
 }
 
 struct Reader<'a> {

@@ -4,11 +4,11 @@ use super::field::{number, put, Field};
 use super::said::Said;
 use crate::ask::Refusal;
 use crate::error::Error;
-use crate::input;
 use crate::model::Model;
 use crate::note::Note;
-use crate::output;
+use crate::program::Program;
 use crate::schedule::Schedule;
+use crate::{ask, expect, input, output};
 use std::ffi::OsStr;
 use tarczolin_sys::users::{self, Shared};
 use tarczolin_sys::{Answer, Caller, Served, SCHEDULE};
@@ -31,6 +31,16 @@ fn done(answer: Answer) -> Said {
     match answer {
         Answer::Refused(number, place) => Said::Refused(Refusal { number, place }),
         _ => Said::Ok,
+    }
+}
+
+/// That so many expectations of an opened file are passed over.
+fn not_looked_at(expectations: usize) -> Option<Note> {
+    let one = "1 expectation is not looked at here; check and test decide it".to_string();
+    match expectations {
+        0 => None,
+        1 => Some(Note::Note(one)),
+        many => Some(Note::Note(format!("{many} expectations are not looked at here; check and test decide them"))),
     }
 }
 
@@ -60,7 +70,15 @@ impl Host {
     }
 
     fn open(&mut self, caller: usize, name: &str) -> Result<Said, Error> {
-        let source = input::program(OsStr::new(name), Some(Model::Sc))?;
+        let mut source = input::program(OsStr::new(name), Some(Model::Sc))?;
+        if ask::check(&source.file).is_ok() {
+            let program = Program::of_accepted(&source.file).named(&source.names);
+            let marks = expect::wrong_statements(&source.said, &program);
+            if !marks.is_empty() {
+                return Err(Error::Text { name: source.name, marks });
+            }
+            source.notes.extend(not_looked_at(source.said.len()));
+        }
         source.notes.iter().for_each(|note| output::tell(&note.told(&source.name)));
         self.notes = source.notes;
         Ok(done(users::open(self.lent(), caller, &source.file)))

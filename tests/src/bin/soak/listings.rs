@@ -1,0 +1,197 @@
+//! Both listings, the judge, class, covers and force on one file, each call held to the oracle.
+use crate::files::is_quick;
+use crate::tally::Tally;
+use tarczolin_tests::calls::{self, tso, Answer, GRAPH, ROW, SCHEDULE};
+use tarczolin_tests::lent::{held, held_by, held_covers, shown_rows};
+use tarczolin_tests::oracle::calls::{self as oracle, Found};
+use tarczolin_tests::oracle::decode::{decode, Program};
+use tarczolin_tests::oracle::force::{self, Forced};
+use tarczolin_tests::oracle::listing::{self, Listed};
+use tarczolin_tests::oracle::machine::run_full;
+use tarczolin_tests::oracle::tso as oracle_tso;
+use tarczolin_tests::oracle::{covers, refused, Refusal};
+use tarczolin_tests::random::{graph, schedule, tso as random_tso, Random};
+
+/// So many schedules and so many graph texts of each program.
+const SCHEDULES: usize = 6;
+const TEXTS: usize = 4;
+/// Lists under total store order that take more steps to walk are passed over.
+const STEPS: u64 = 2_000;
+
+/// One file, by every call that can be asked about it in a moment; `other` is a second one, for covers.
+pub fn ask(random: &mut Random, tally: &Tally, file: &[u8], other: &[u8]) {
+    let program = decode(file);
+    let accepted = program.as_ref().map(|_| 0).map_err(|refusal| *refusal);
+    tally.call("check");
+    assert_eq!(calls::check(file), number(accepted), "{}", file.escape_ascii());
+    let list = match &program {
+        Ok(program) if !is_quick(program) => None,
+        Ok(program) => Some(Ok(listing::list(program))),
+        Err(refusal) => Some(Err(*refusal)),
+    };
+    if let Some(list) = &list {
+        ask_list(random, tally, file, list);
+        ask_both(random, tally, file, other);
+        for set in [0, 0xff].map(|bits| bits & random.byte()) {
+            tally.call("force");
+            let answer = match force::force(file, set) {
+                Ok(Forced::Hostile(step)) => Answer::Answered(step.map_or(0, |t| t as u64 + 1)),
+                Ok(Forced::Friendly) => Answer::None,
+                Err(r) => Answer::Refused(r.number, r.place),
+            };
+            assert_eq!(calls::force(file, set), answer, "{} by {set:02x}", file.escape_ascii());
+        }
+    }
+    for _ in 0..SCHEDULES {
+        let given = schedule_of(random, program.as_ref().ok(), schedule::schedule);
+        ask_schedule(random, tally, file, &given, list.as_ref());
+    }
+    for _ in 0..TEXTS {
+        let text = match &program {
+            Ok(program) => {
+                let change = random.pick(&graph::ALL);
+                graph::text(random, program, change).1
+            }
+            Err(_) => (0..random.below(60)).map(|_| random.byte()).collect(),
+        };
+        let output = output(random, SCHEDULE);
+        tally.call("judge");
+        held(random, [file, &text], output, &oracle::judge(file, &text, output), |[f, g], out| calls::judge(f, g, out));
+    }
+    ask_in_store_order(random, tally, file);
+}
+
+/// What a call that gives a number answers.
+fn number(found: Result<u64, Refusal>) -> Answer {
+    found.map_or_else(|refusal| Answer::Refused(refusal.number, refusal.place), Answer::Answered)
+}
+
+/// The length of an output: most often around what is needed.
+fn output(random: &mut Random, needed: usize) -> usize {
+    match random.below(4) {
+        0 => random.below(needed + 40),
+        1 => needed - 1,
+        _ => needed + random.below(3),
+    }
+}
+
+/// What the list says where the output is long enough.
+fn found(list: &Result<Vec<Listed>, Refusal>, output: usize, needed: usize, of: impl Fn(&[Listed]) -> Option<Vec<u8>>) -> Found {
+    let list = list.as_ref().map_err(|refusal| *refusal)?;
+    if output < needed {
+        return refused(22, 0);
+    }
+    Ok(of(list))
+}
+
+/// A damaged schedule of a program, or any bytes where there is none.
+fn schedule_of(
+    random: &mut Random,
+    program: Option<&Program>,
+    make: fn(&mut Random, &Program, schedule::Kind) -> Vec<u8>,
+) -> Vec<u8> {
+    let Some(program) = program else { return (0..random.below(30)).map(|_| random.byte()).collect() };
+    let kind = if random.one_in(2) { schedule::Kind::Full } else { random.pick(&schedule::ALL) };
+    make(random, program, kind)
+}
+
+/// Count changes its two words when it answers, and neither when it refuses.
+fn held_count(
+    random: &mut Random,
+    file: &[u8],
+    found: Result<(u64, u64), Refusal>,
+    call: fn(&[u8], &mut u64, &mut u64) -> Answer,
+) {
+    let before = (random.word(), random.word());
+    let (mut listed, mut failing) = before;
+    let answer = call(file, &mut listed, &mut failing);
+    let wanted = (number(found.map(|_| 0)), found.unwrap_or(before));
+    assert_eq!((answer, (listed, failing)), wanted, "{}", file.escape_ascii());
+}
+
+fn ask_list(random: &mut Random, tally: &Tally, file: &[u8], list: &Result<Vec<Listed>, Refusal>) {
+    let out = output(random, SCHEDULE);
+    tally.call("start");
+    held(random, [file], out, &found(list, out, SCHEDULE, listing::start), |[f], out| calls::start(f, out));
+    tally.call("violation");
+    held(random, [file], out, &found(list, out, SCHEDULE, listing::violation), |[f], out| calls::violation(f, out));
+    tally.call("count");
+    let counts = list.as_ref().map(|list| listing::count(list)).map_err(|refusal| *refusal);
+    held_count(random, file, counts, calls::count);
+    let out = random.below(40 * ROW);
+    let rows = list.as_ref().map(|list| listing::rows(list, None, out)).map_err(|refusal| *refusal);
+    tally.call("rows");
+    held_by(random, [file], out, shown_rows(&rows, ROW), |[f], out| calls::rows(f, out));
+}
+
+/// One file against another, and against itself.
+fn ask_both(random: &mut Random, tally: &Tally, file: &[u8], other: &[u8]) {
+    for files in [[file, other], [other, file]] {
+        let output = output(random, SCHEDULE);
+        tally.call("covers");
+        held_covers(random, files, output, &covers::call(files[0], files[1], output));
+    }
+}
+
+fn ask_schedule(random: &mut Random, tally: &Tally, file: &[u8], given: &[u8], list: Option<&Result<Vec<Listed>, Refusal>>) {
+    let out = output(random, GRAPH);
+    let text = oracle::graph(file, given, out).map(Some);
+    tally.call("graph");
+    held(random, [file, given], out, &text, |[f, s], out| calls::graph(f, s, out));
+    tally.call("class");
+    assert_eq!(calls::class(file, given), number(oracle::class(file, given)), "{} {given:02x?}", file.escape_ascii());
+    let Some(list) = list else { return };
+    let out = output(random, SCHEDULE);
+    let next = found(list, out, SCHEDULE, |list| listing::after(list, given)).and_then(|next| {
+        run_full(&decode(file)?, given)?;
+        Ok(next)
+    });
+    tally.call("continue");
+    held(random, [file, given], out, &next, |[f, s], out| calls::continue_from(f, s, out));
+    let out = random.below(6 * ROW);
+    let rows = list.as_ref().map(|list| listing::rows(list, Some(given), out)).map_err(|refusal| *refusal);
+    tally.call("rows_after");
+    held_by(random, [file, given], out, shown_rows(&rows, ROW), |[f, s], out| calls::rows_after(f, s, out));
+}
+
+fn ask_in_store_order(random: &mut Random, tally: &Tally, file: &[u8]) {
+    let program = oracle_tso::calls::accepted(file);
+    let list = match &program {
+        Ok(program) => oracle_tso::listing::list_within(program, STEPS).map(Ok),
+        Err(refusal) => Some(Err(*refusal)),
+    };
+    for _ in 0..SCHEDULES {
+        let given = schedule_of(random, program.as_ref().ok(), random_tso::schedule);
+        let out = output(random, GRAPH);
+        tally.call("tso_graph");
+        held(random, [file, &given], out, &oracle_tso::calls::graph(file, &given, out), |[f, s], out| tso::graph(f, s, out));
+        tally.call("tso_class");
+        let class = number(oracle_tso::calls::class(file, &given));
+        assert_eq!(tso::class(file, &given), class, "{} {given:02x?}", file.escape_ascii());
+        let Some(list) = &list else { continue };
+        let out = output(random, tso::SCHEDULE);
+        let next = found(list, out, tso::SCHEDULE, |list| listing::after(list, &given)).and_then(|next| {
+            oracle_tso::machine::run_full(&decode(file)?, &given)?;
+            Ok(next)
+        });
+        tally.call("tso_continue");
+        held(random, [file, &given], out, &next, |[f, s], out| tso::continue_from(f, s, out));
+        let out = random.below(6 * tso::ROW);
+        let rows = list.as_ref().map(|list| oracle_tso::listing::rows(list, Some(&given), out)).map_err(|refusal| *refusal);
+        tally.call("tso_rows_after");
+        held_by(random, [file, &given], out, shown_rows(&rows, tso::ROW), |[f, s], out| tso::rows_after(f, s, out));
+    }
+    let Some(list) = &list else { return };
+    let out = output(random, tso::SCHEDULE);
+    tally.call("tso_start");
+    held(random, [file], out, &found(list, out, tso::SCHEDULE, listing::start), |[f], out| tso::start(f, out));
+    tally.call("tso_violation");
+    held(random, [file], out, &found(list, out, tso::SCHEDULE, listing::violation), |[f], out| tso::violation(f, out));
+    tally.call("tso_count");
+    let counts = list.as_ref().map(|list| listing::count(list)).map_err(|refusal| *refusal);
+    held_count(random, file, counts, tso::count);
+    let out = random.below(40 * tso::ROW);
+    let rows = list.as_ref().map(|list| oracle_tso::listing::rows(list, None, out)).map_err(|refusal| *refusal);
+    tally.call("tso_rows");
+    held_by(random, [file], out, shown_rows(&rows, tso::ROW), |[f], out| tso::rows(f, out));
+}
