@@ -4,7 +4,7 @@ use Rattle.covers.specs.declared.covers_call.CoversAnswer.{CoversAnswer}
 use Rattle.covers.specs.declared.covers_call.CoversAnswer.the-variants.{Covered, Lacking, RefusedFirst, RefusedSecond, RefusedOutput}
 use Rattle.spec_calls.specs.Word as word
 
--- by the answer as the code gives it
+-- what the covers call says, by the answer as the code gives it
 unfoldable pub againstReply : CoversAnswer → word.Reply
 againstReply Covered = word.nothing
 againstReply (Lacking n) = word.answered n

@@ -3,9 +3,9 @@ use Prim.Native.Nat.{ℕ}
 use native.Mathlib.Omega.{arith}
 use mathlib.Core.Path.{_≡_, ap}
 use lib.ListN.{length}
-use Rattle.machine_replay.specs.declared.graph_call.GraphAnswer.the-variants.{Written, Refused}
-use Rattle.spec_sc.specs.GraphCall.{GraphResult, texted, refusing}
-use Rattle.machine_replay.specs.GraphWord.{graphAnswerOf}
+use Rattle.graph_call.specs.declared.calling.GraphAnswer.the-variants.{Written, Refused}
+use Rattle.spec_model.specs.GraphCall.{GraphResult, texted, refusing}
+use Rattle.graph_call.specs.GraphWord.{graphAnswerOf}
 use Rattle.spec_calls.specs.Word as word
 use Rattle.spec_calls.specs.Graphed.{graphReply}
 

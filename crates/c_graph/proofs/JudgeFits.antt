@@ -13,7 +13,7 @@ use Rattle.spec_calls.specs.Judged.{judged}
 use Rattle.spec_calls.proofs.Words.{kinded-one}
 use Rattle.spec_calls.proofs.JudgeFits.{JudgeWithin, judge-within, judge-kinded}
 
--- its word of kind 1 tells how many bytes in front of the output are the schedule, whatever the text
+-- the judge call's word of kind 1 tells how many bytes in front of the output are the schedule, whatever the text
 pub judge-in-output : (file text out : List ℕ) (a : Answer) → Judgement file text (length out) a → kindIn (wordOf (judged a)) ≡ 1 →
     (s : Schedule) × (a ≡ consistent s) × (length s ≡ restIn (wordOf (judged a))) × InFront s out (outputAfter a out)
 unfolding judged outputAfter

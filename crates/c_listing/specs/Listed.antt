@@ -4,7 +4,7 @@ use Rattle.listing.specs.declared.calling.ListAnswer.{ListAnswer}
 use Rattle.listing.specs.declared.calling.ListAnswer.the-variants.{Found, NoMore, Refused}
 use Rattle.spec_calls.specs.Word as word
 
--- by the answer as the code gives it
+-- what a call says, by the answer as the code gives it
 unfoldable pub replyOf : ListAnswer → word.Reply
 replyOf (Found n) = word.answered n
 replyOf NoMore = word.nothing

@@ -31,7 +31,7 @@ pub extern "C" fn tarczolin_start(file: &[u8], out: &mut [u8]) -> u64
     word_of(listing::start(Model::Sequential, file, out))
 }
 
-// The same for the least listed schedule after a full one; kind 2 where there is no more.
+// The least listed schedule after a full one, by a word like that of `tarczolin_start`; kind 2 where there is no more.
 #[no_mangle]
 pub extern "C" fn tarczolin_continue(file: &[u8], schedule: &[u8], out: &mut [u8]) -> u64
     ensures answer { λ w. ⌜ w ≡ wordOf (listed (continueFile sc (now (file .entry)) (now (schedule .entry)) (now (out .entry)) .0)) ⌝ }
@@ -40,7 +40,7 @@ pub extern "C" fn tarczolin_continue(file: &[u8], schedule: &[u8], out: &mut [u8
     word_of(listing::continue_from(Model::Sequential, file, schedule, out))
 }
 
-// The same for the first listed schedule that fails; kind 2 where none does.
+// The first listed schedule that fails, by a word like that of `tarczolin_start`; kind 2 where none does.
 #[no_mangle]
 pub extern "C" fn tarczolin_violation(file: &[u8], out: &mut [u8]) -> u64
     ensures answer { λ w. ⌜ w ≡ wordOf (violationReply (violationFile sc (now (file .entry)) (now (out .entry)) .0)) ⌝ }

@@ -2,6 +2,7 @@
 use c_word::answered;
 use c_word::refused;
 use class_size::ClassAnswer;
+use listing_model::Model;
 ghost use mathlib.Core.Path.{_≡_};
 ghost use Rattle.spec_model.specs.ClassSize.{classFile};
 ghost use Rattle.spec_tso.specs.TotalStoreOrder.{tso};
@@ -14,7 +15,7 @@ ghost use Rattle.spec_calls.specs.Classed.{classReply};
 pub extern "C" fn tarczolin_tso_class(file: &[u8], schedule: &[u8]) -> u64
     ensures { λ w. ⌜ w ≡ wordOf (classReply (classFile tso (now (file .entry)) (now (schedule .entry)))) ⌝ }
 {
-    let a = tso_class::class_size(file, schedule);
+    let a = class_size::class_size(Model::TotalStoreOrder, file, schedule);
     match a {
         ClassAnswer::Sized(n) => answered(n),
         ClassAnswer::Refused(number, place) => refused(number, place),

@@ -16,7 +16,7 @@ pub extern "C" fn tarczolin_tso_start(file: &[u8], out: &mut [u8]) -> u64
     word_of(listing::start(Model::TotalStoreOrder, file, out))
 }
 
-// The same for the least listed schedule after a full one; kind 2 where there is no more.
+// The least listed schedule after a full one, by a word like that of `tarczolin_tso_start`; kind 2 where there is no more.
 #[no_mangle]
 pub extern "C" fn tarczolin_tso_continue(file: &[u8], schedule: &[u8], out: &mut [u8]) -> u64
     ensures answer { λ w. ⌜ w ≡ wordOf (listed (continueFile tso (now (file .entry)) (now (schedule .entry)) (now (out .entry)) .0)) ⌝ }
@@ -25,7 +25,7 @@ pub extern "C" fn tarczolin_tso_continue(file: &[u8], schedule: &[u8], out: &mut
     word_of(listing::continue_from(Model::TotalStoreOrder, file, schedule, out))
 }
 
-// The same for the first listed schedule that fails; kind 2 where none does.
+// The first listed schedule that fails, by a word like that of `tarczolin_tso_start`; kind 2 where none does.
 #[no_mangle]
 pub extern "C" fn tarczolin_tso_violation(file: &[u8], out: &mut [u8]) -> u64
     ensures answer { λ w. ⌜ w ≡ wordOf (violationReply (violationFile tso (now (file .entry)) (now (out .entry)) .0)) ⌝ }

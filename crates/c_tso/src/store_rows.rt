@@ -18,7 +18,7 @@ pub extern "C" fn tarczolin_tso_rows(file: &[u8], out: &mut [u8]) -> u64
     rows_word(listing::first_rows(Model::TotalStoreOrder, file, out))
 }
 
-// The same for the listed schedules after a given one, which need not be listed nor full.
+// The listed schedules after a given one, which need not be listed nor full, by rows and a word like those of `tarczolin_tso_rows`.
 #[no_mangle]
 pub extern "C" fn tarczolin_tso_rows_after(file: &[u8], schedule: &[u8], out: &mut [u8]) -> u64
     ensures answer { λ w. ⌜ w ≡ wordOf (rowsReply (rowsFile tso (now (file .entry)) (some (now (schedule .entry)))

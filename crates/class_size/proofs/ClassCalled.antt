@@ -1,38 +1,28 @@
 -- What the class call answers, by what carrying out the schedule left.
-use Prim.Native.Nat.{ℕ, _/_, _%_, _<_, _≤_}
-use native.Mathlib.Omega.{arith}
-use mathlib.Core.Path.{_≡_, sym, ap, subst, _∙_}
+use Prim.Native.Nat.{ℕ, _/_, _%_, _<_}
+use mathlib.Core.Path.{_≡_, sym, ap, _∙_}
 use mathlib.Core.Bool.{Bool, false, _&&_}
 use mathlib.Core.List.{List}
-use lib.ListN.{length, getD, take}
+use lib.ListN.{length, getD}
 use Rattle.spec_file.specs.Program.{Program}
-use Rattle.spec_file.specs.Decode.{Decoded, decode}
-use Rattle.spec_file.specs.WellFormed.{WellFormed}
-use Rattle.file_decoder.specs.declared.file.Answer.{Answer}
-use Rattle.file_decoder.specs.declared.file.Verdict.the-variants as File
-use Rattle.file_decoder.specs.Compiled.{programOf, answerOf}
-use Rattle.file_decoder.proofs.Decoded.{decoded-refused, decoded-accepted}
+use Rattle.spec_file.specs.Decode.{Decoded, accepted, refused, decode}
 use Rattle.spec_schedules.specs.Lists.{filter}
 use Rattle.spec_schedules.specs.Order.{Schedule}
-use Rattle.spec_schedules.specs.System.{run}
 use Rattle.spec_schedules.specs.Permutations.{permutations}
+use Rattle.spec_model.specs.Model as Memory
+use Rattle.spec_model.specs.Laws.{Admitted}
+use Rattle.spec_model.specs.OnFile.{admit}
 use Rattle.spec_model.specs.ClassSize.{sized, refused-class, classBy, classOf, classOn, classFile}
-use Rattle.spec_sc.specs.State.{SC, start}
-use Rattle.spec_sc.specs.Graph.{Full}
-use Rattle.spec_sc.specs.Replay.{Replayed, whole, refused, replay}
-use Rattle.spec_sc.proofs.Replay.{replay-whole}
-use Rattle.spec_sc.specs.Sequential.{sc}
-use Rattle.spec_sc.proofs.Admits.{sc-admits}
-use Rattle.spec_sc.proofs.Refused.{refusalOf, refuses-replayed}
-use Rattle.graph_writer.specs.Notes.{Note, notes, Noted}
+use Rattle.spec_model.proofs.Refusing.{goes-full}
+use Rattle.graph_writer.specs.Notes.{Note}
 use Rattle.graph_writer.specs.NoteText.{notesAt}
-use Rattle.graph_writer.proofs.NoteGraph.{notes-length}
-use Rattle.graph_writer.proofs.NotesHeld.{notes-held}
-use Rattle.machine_replay.specs.declared.replaying.Run.{Run}
+use Rattle.machine_replay.specs.declared.replaying.Verdict.{Verdict}
 use Rattle.machine_replay.specs.declared.replaying.Verdict.the-variants.{Whole, Refused}
-use Rattle.machine_replay.specs.Carried.{HoldsRun}
-use Rattle.machine_replay.proofs.Verdicts.{verdict-whole, verdict-refused}
-use Rattle.machine_replay.proofs.GraphCalled.{graph-24, graph-steps}
+use Rattle.machine_replay.specs.Carried.{refusalOf}
+use Rattle.listing_model.specs.declared.memory.Model.{Model}
+use Rattle.listing_model.specs.ModelOf.{modelOf}
+use Rattle.listing_replay.specs.declared.replaying.Replay.{Replay}
+use Rattle.listing_replay.specs.Replays.{Replays}
 use Rattle.class_size.specs.Moves.{unmovedIn, mayGo, goesBy, goesWhere, quotient}
 use Rattle.class_size.proofs.Goes.{filter-agree, goes-where}
 use Rattle.class_size.proofs.Divided.{divided-size}
@@ -55,43 +45,29 @@ module _ (groups : List (List ℕ)) (ns : List Note) (may left : List Bool) (a :
       ap (λ (x : ℕ). x / m) (e ∙ counted-where may (mayGo groups) a)
       ∙ ap (λ (x : ℕ). length (filter (goesWhere (mayGo groups)) permutations) / x) (f ∙ leave-counted)
 
--- ---- of a program
-module _ (code lengths : List ℕ) (p : Program) (s : Schedule) (r : Run) (held : HoldsRun code lengths p s r) where
-  by-replay : (d : Replayed) → replay p s ≡ d → classOf sc p s ≡ classBy sc p s (refusalOf d)
+-- ---- of a listed program
+module _ (m : Model) (p : Program) (s : Schedule) (r : Replay) (held : Replays m p s r) where
+  answered : classOf (modelOf m) p s ≡ classBy (modelOf m) p s (refusalOf (r .verdict))
   unfolding classOf
-  by-replay d e = ap (classBy sc p s) (refuses-replayed p s ∙ ap refusalOf e)
+  answered = ap (classBy (modelOf m) p s) (sym (held .answer))
 
-  pub class-refused : (n k : ℕ) → r .verdict ≡ Refused n k → classOf sc p s ≡ refused-class n k
+  pub class-refused : (n k : ℕ) → r .verdict ≡ Refused n k → classOf (modelOf m) p s ≡ refused-class n k
   unfolding classBy refusalOf
-  class-refused n k e = by-replay (refused n k) (verdict-refused code lengths p s r held n k e)
+  class-refused n k e = answered ∙ ap (λ (v : Verdict). classBy (modelOf m) p s (refusalOf v)) e
 
-  module _ (all : r .verdict ≡ Whole) where
-    pub class-24 : r .steps ≤ 24
-    class-24 = graph-24 code lengths p s r held 512 (omega arith) all
-
-    full : Full p s
-    full = replay-whole p s _ .0 (verdict-whole code lengths p s r held all) .0
-
-    noted : Noted (r .log) (notes (start p) s)
-    noted = subst (λ (z : Schedule). Noted (r .log) (notes (start p) z)) (held .all all) (held .noted)
-
-    notes-are : notesAt (r .log) (r .steps) ≡ notes (start p) s
-    notes-are =
-        ap (notesAt (r .log)) (sym (graph-steps code lengths p s r held 512 (omega arith) all) ∙ sym (notes-length s (start p)))
-        ∙ notes-held (r .log) (notes (start p) s) noted
-
-    pub class-sized : WellFormed p → classOf sc p s ≡ sized (quotient (p .groups) (notesAt (r .log) (r .steps)))
-    unfolding classBy refusalOf
-    class-sized w =
-        by-replay (whole (run SC (start p) (take (r .steps) s))) (verdict-whole code lengths p s r held all)
-        ∙ ap sized (sym (ap (quotient (p .groups)) notes-are ∙ divided-size p w s full))
+  pub class-sized : Admitted (modelOf m) p → r .verdict ≡ Whole → classOf (modelOf m) p s ≡ sized (quotient (p .groups) (notesAt (r .log) (r .notes)))
+  unfolding classBy refusalOf
+  class-sized a e =
+      let full = goes-full (modelOf m .system) s 0 (modelOf m .start p) (sym (held .answer) ∙ ap refusalOf e) in
+      answered ∙ ap (λ (v : Verdict). classBy (modelOf m) p s (refusalOf v)) e
+      ∙ ap sized (sym (divided-size m p a s full (notesAt (r .log) (r .notes)) (held .graph e)))
 
 -- ---- of a program file
-module _ (a : Answer) (file : List ℕ) (s : Schedule) (e : answerOf a ≡ decode file) where
-  pub file-refused : (n k : ℕ) → a .verdict ≡ File.Refused n k → classFile sc file s ≡ refused-class n k
+module _ (M : Memory.Model) (file : List ℕ) (s : Schedule) where
+  pub file-refused : (n k : ℕ) → admit M (decode file) ≡ refused n k → classFile M file s ≡ refused-class n k
   unfolding classOn
-  file-refused n k v = ap (λ (d : Decoded). classOn sc d s) (sc-admits (decode file) ∙ decoded-refused a file e n k v)
+  file-refused n k e = ap (λ (d : Decoded). classOn M d s) e
 
-  pub file-sized : a .verdict ≡ File.Accepted → classFile sc file s ≡ classOf sc (programOf (a .program)) s
+  pub file-sized : (p : Program) → admit M (decode file) ≡ accepted p → classFile M file s ≡ classOf M p s
   unfolding classOn
-  file-sized v = ap (λ (d : Decoded). classOn sc d s) (sc-admits (decode file) ∙ decoded-accepted a file e v)
+  file-sized p e = ap (λ (d : Decoded). classOn M d s) e

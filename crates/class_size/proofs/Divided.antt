@@ -24,11 +24,13 @@ use Rattle.spec_schedules.proofs.Lists.{in-range, of-range, any-yes, any-of, al
 use Rattle.spec_schedules.proofs.Runs.{full-allowed}
 use Rattle.spec_schedules.proofs.Group.{identity-member, identity-moved}
 use Rattle.spec_model.specs.Exchange.{Together, Exchange, permits, permitted}
+use Rattle.spec_model.specs.Model.{Full}
+use Rattle.spec_model.specs.Laws.{Admitted}
 use Rattle.spec_model.specs.ClassSize.{classSize, leaving}
 use Rattle.spec_model.proofs.Permitted.{or-left, permitted-exchange}
 use Rattle.spec_model.proofs.ClassSize.{class-times}
 use Rattle.spec_sc.specs.State.{SC, start}
-use Rattle.spec_sc.specs.Graph.{Graph, graph, endOf, Full}
+use Rattle.spec_sc.specs.Graph.{Graph, graph, endOf}
 use Rattle.spec_sc.specs.Exchange.{Renames}
 use Rattle.spec_sc.proofs.Rows.{row-at, order-at}
 use Rattle.spec_sc.proofs.Regular.{regular-start, regular-run}
@@ -43,10 +45,19 @@ use Rattle.spec_file.specs.Lists.{sameList}
 use Rattle.spec_sc.proofs.Same.{both-and, same-read-is, same-read}
 use Rattle.spec_file.proofs.Lists.{same-list-is, same-list}
 use Rattle.spec_judge.proofs.Readable.{reverse-in}
-use Rattle.graph_writer.specs.Notes.{Note, notes}
+use Rattle.graph_writer.specs.Notes.{Note}
 use Rattle.graph_writer.specs.NoteText.{readsIn, writesIn}
-use Rattle.graph_writer.proofs.NoteGraph.{write-stated, stated-write, thread-notes, cell-notes}
+use Rattle.graph_writer.proofs.NoteGraph.{write-stated, stated-write}
 use Rattle.class_size.specs.Moves.{writeBy, wroteIn, unmovedIn, mayGo, goesWhere, quotient}
+use Rattle.spec_tso.specs.Graph as Stores
+use Rattle.spec_tso.proofs.Seen as StoreRows
+use Rattle.spec_tso.proofs.OwnSources.{full-sourced}
+use Rattle.spec_tso.specs.TotalStoreOrder.{tso}
+use Rattle.spec_tso.proofs.Laws.{tso-laws}
+use Rattle.listing_model.specs.declared.memory.Model.{Model}
+use Rattle.listing_model.specs.declared.memory.Model.the-variants.{Sequential, TotalStoreOrder}
+use Rattle.listing_model.specs.ModelOf.{modelOf}
+use Rattle.listing_replay.specs.Replays.{graphIn, NotesOf}
 use Rattle.class_size.proofs.Goes.{filter-agree}
 
 -- one test behind another
@@ -178,7 +189,7 @@ module _ (p : Program) (w : WellFormed p) (g : Graph) (ns : List Note) (note-wri
           stays x r t (yes h) = fixed-unmoved (moved π) (x .0) g graph-sourced r t (omega (arith, h, rows))
           stays x r t (no h) = inl (missing-stays π x t (omega (arith, h)))
 
-  -- those that leave the graph the same
+  -- the permitted permutations that leave the graph the same
   pub leaving-graph : filter (goesWhere Both) permutations ≡ filter (λ π. renames (moved π) g g) (permitted p)
   unfolding permitted
   leaving-graph = filter-agree (goesWhere Both) (λ π. permits (p .groups) π && Leaves π) permutations leaves-is ∙ filter-twice (permits (p .groups)) Leaves permutations
@@ -191,21 +202,19 @@ module _ (p : Program) (w : WellFormed p) (g : Graph) (ns : List Note) (note-wri
       ap₂ (λ (a b : List (List ℕ)). length a / length b) permitted-is leaving-graph
       ∙ div-eq-of-eq-mul-left some (sym e)
 
--- ---- under sequential consistency
-module _ (p : Program) (w : WellFormed p) (s : Schedule) (f : Full p s) where
-  allowed : Allowed SC (start p) s
-  allowed = full-allowed SC (start p) s f .0
+-- ---- in each memory model
+-- under sequential consistency each read's source is initial or a write
+sequences-sourced : (p : Program) → WellFormed p → (s : Schedule) → Allowed SC (start p) s → Sourced (graph p s)
+sequences-sourced p w s a t r m =
+    let k = regular-run s (start p) (regular-start p w) a .sourced t r (subst (List·Memᴰ r) (row-at (endOf p s) t) m) in
+    ⊎-elim (λ i. inl i) (λ j. inr (j .0, subst (List·Memᴰ (r .1)) (sym (order-at (endOf p s) (j .0))) (j .1))) k
 
-  -- each read's source is initial or a write
-  run-sourced : Sourced (graph p s)
-  run-sourced t r m =
-      let k = regular-run s (start p) (regular-start p w) allowed .sourced t r (subst (List·Memᴰ r) (row-at (endOf p s) t) m) in
-      ⊎-elim (λ i. inl i) (λ j. inr (j .0, subst (List·Memᴰ (r .1)) (sym (order-at (endOf p s) (j .0))) (j .1))) k
-
-  pub divided-size : quotient (p .groups) (notes (start p) s) ≡ classSize sc p s
-  unfolding leaving
-  divided-size =
-      divided-graph p w (graph p s) (notes (start p) s)
-      (λ l. sym (cell-notes p w s allowed l) ∙ ap reverse (sym (order-at (endOf p s) l)))
-      (λ t. sym (thread-notes p s allowed t) ∙ ap reverse (sym (row-at (endOf p s) t)))
-      run-sourced (graph-rows p s) (classSize sc p s) (class-times sc sc-laws p (w, refl) s f)
+-- THE SIZE OF A CLASS IS THE QUOTIENT
+pub divided-size : (m : Model) (p : Program) → Admitted (modelOf m) p → (s : Schedule) → Full (modelOf m) p s → (ns : List Note) → NotesOf (graphIn m p s) ns →
+    quotient (p .groups) ns ≡ classSize (modelOf m) p s
+unfolding leaving
+divided-size Sequential p a s f ns h =
+    divided-graph p (a .0) (graph p s) ns (h .writes) (h .reads) (sequences-sourced p (a .0) s (full-allowed SC (start p) s f .0)) (graph-rows p s) (classSize sc p s)
+    (class-times sc sc-laws p a s f)
+divided-size TotalStoreOrder p a s f ns h =
+    divided-graph p (a .0) (Stores.graph p s) ns (h .writes) (h .reads) (full-sourced p (a .0) s f) (StoreRows.graph-rows p s) (classSize tso p s) (class-times tso tso-laws p a s f)

@@ -67,14 +67,14 @@ module _ (table : List ℕ) (tabled : map unpacked table ≡ permutations) where
   unfolding permutationOf
   row-in k h = let e : k % 720 ≡ k = omega arith in subst (λ (π : List ℕ). List·Memᴰ π permutations) (ap (λ (j : ℕ). getD permutations j []) e ∙ row-is k h) (numbered-member k)
 
-  -- its digits are below six
+  -- the digits of a row are below six
   pub row-below : (k : ℕ) → k < 720 → (t : ℕ) → t < 6 → getD (unpacked (getD table k 0)) t 0 < 6
   row-below k h t i =
       let π = unpacked (getD table k 0) in
       let m = row-in k h in
       subst (λ (x : ℕ). x < 6) (getD-any π t t 0 (omega (arith, member-permutation π m .six))) (moved-below π m t i)
 
-  -- those from row k on
+  -- the permutations from row k on
   pub rows-next : (k : ℕ) → k < 720 → drop k permutations ≡ unpacked (getD table k 0) ∷ drop (k + 1) permutations
   rows-next k h =
       let s : suc k ≡ k + 1 = omega arith in

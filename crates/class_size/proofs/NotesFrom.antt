@@ -65,7 +65,7 @@ module _ (log : List ℕ) (steps : ℕ) where
     pub reads-last : steps ≤ k → readsIn t (notesFrom log k steps) ≡ []
     reads-last h = ap (readsIn t) (from-last k h) ∙ reads-nil t
 
-    -- and whether it states a write
+    -- whether note k states a write of thread t
     abbrev pub writesAt : Bool
     writesAt = eqb (getD log (k * 8) 0) t && eqb (getD log (k * 8 + 6) 0) 1
 

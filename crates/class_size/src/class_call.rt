@@ -1,24 +1,26 @@
-// How large the class of a full schedule is.
+// How large the class of a full schedule is, in either memory model.
 use crate::by_number::permutation_table;
 use crate::counting::count;
 use crate::moving::leaving_moves;
 use crate::moving::permitted_moves;
 use file_decoder::Compiled;
+use listing_model::Model;
+use listing_replay::admitted;
+use listing_replay::replayed;
 use machine_replay::Verdict;
-use machine_replay::replayed;
 ghost use mathlib.Core.Path.{_≡_};
 ghost use Prim.Native.Nat.{_≤_};
-ghost use Rattle.spec_file.specs.WellFormed.{WellFormed};
 ghost use Rattle.file_decoder.specs.Compiled.{programOf};
 ghost use Rattle.graph_writer.specs.NoteText.{notesAt};
 ghost use Rattle.search_place.specs.ClassGroups.{groupsOf};
+ghost use Rattle.spec_model.specs.Laws.{Admitted};
 ghost use Rattle.spec_model.specs.ClassSize.{classOf, classFile};
-ghost use Rattle.spec_sc.specs.Sequential.{sc};
+ghost use Rattle.listing_model.specs.ModelOf.{modelOf};
 ghost use Rattle.class_size.specs.Moves.{quotient};
 ghost use Rattle.class_size.specs.ClassWord.{classAnswerOf};
 
 pub enum ClassAnswer {
-    // So many graphs.
+    // The number of graphs in the class.
     Sized(usize),
     // The refusal's number and place.
     Refused(u8, usize),
@@ -35,37 +37,35 @@ pub fn quotient_of(class: [usize; 6], groups: usize, log: [u8; 192], steps: usiz
     count(may, &table) / count(left, &table)
 }
 
-// Of an accepted program.
-fn class_of(p: Compiled, schedule: &[u8]) -> ClassAnswer
-    requires { ⌜ WellFormed (programOf p) ⌝ }
-    ensures { λ r. ⌜ r ≡ classAnswerOf (classOf sc (programOf p) (now (schedule .entry))) ⌝ }
+// The class of a schedule of a listed program.
+fn class_of(model: Model, program: Compiled, schedule: &[u8]) -> ClassAnswer
+    requires { ⌜ Admitted (modelOf model) (programOf program) ⌝ }
+    ensures { λ r. ⌜ r ≡ classAnswerOf (classOf (modelOf model) (programOf program) (now (schedule .entry))) ⌝ }
 {
-    let code = p.code;
-    let lengths = p.lengths;
-    let starting = p.starting;
-    let r = replayed(&code, &lengths, p.threads, starting, schedule);
+    let r = replayed(model, program, schedule);
     let v = r.verdict;
     match v {
         Verdict::Refused(n, k) => ClassAnswer::Refused(n, k),
         Verdict::Whole => {
-            let class = p.class;
+            let class = program.class;
             let log = r.log;
-            ClassAnswer::Sized(quotient_of(class, p.groups, log, r.steps))
+            ClassAnswer::Sized(quotient_of(class, program.groups, log, r.notes))
         }
     }
 }
 
-// Of a program file: its refusals come first, then 20 and 21 of the schedule, which need not be listed.
-pub fn class_size(file: &[u8], schedule: &[u8]) -> ClassAnswer
-    ensures { λ r. ⌜ r ≡ classAnswerOf (classFile sc (now (file .entry)) (now (schedule .entry))) ⌝ }
+// The class call on a program file: its refusals come first, then 41 under total store order, then 20 and 21 of the schedule, which need
+// not be listed.
+pub fn class_size(model: Model, file: &[u8], schedule: &[u8]) -> ClassAnswer
+    ensures { λ r. ⌜ r ≡ classAnswerOf (classFile (modelOf model) (now (file .entry)) (now (schedule .entry))) ⌝ }
 {
-    let a = file_decoder::decode(file);
+    let a = admitted(model, file);
     let v = a.verdict;
     match v {
         file_decoder::Verdict::Refused(n, k) => ClassAnswer::Refused(n, k),
         file_decoder::Verdict::Accepted => {
             let p = a.program;
-            class_of(p, schedule)
+            class_of(model, p, schedule)
         }
     }
 }

@@ -26,7 +26,7 @@ fn goes(may: [bool; 36], row: [u8; 6]) -> bool
     true
 }
 
-// In how many permutations of the table each does.
+// In how many permutations of the table each thread goes where it may.
 pub(crate) fn count(may: [bool; 36], table: &[u32; 720]) -> usize
     requires { ⌜ map Six.unpacked (now table) ≡ permutations ⌝ }
     ensures { λ r. ⌜ (r ≤ 720) × (r ≡ length (filter (goesBy may) permutations)) ⌝ }

@@ -63,7 +63,7 @@ fn is_allowed(class: [usize; 6], groups: usize, t: usize, u: usize) -> bool
     class[u] == g
 }
 
-// Where each may go.
+// Where each thread may go by the `02` lines.
 pub(crate) fn permitted_moves(class: [usize; 6], groups: usize) -> [bool; 36]
     ensures { λ r. ⌜ ((k : ℕ) → k < 36 → getD r k false ≡ mayGo (groupsOf class groups) (k / 6) (k % 6)) ⌝ }
 {
@@ -77,7 +77,7 @@ pub(crate) fn permitted_moves(class: [usize; 6], groups: usize) -> [bool; 36]
     may
 }
 
-// Where each may go so that the graph is the same.
+// Where each thread may go so that the graph is the same.
 pub(crate) fn leaving_moves(may: [bool; 36], log: &[u8; 192], steps: usize) -> [bool; 36]
     requires { ⌜ steps ≤ 24 ⌝ }
     ensures { λ r. ⌜ ((k : ℕ) → k < 36 → getD r k false

@@ -58,7 +58,7 @@ module _ (p : Program) (rows : List ℕ) (n : ℕ) (a b : Batch) (k : ℕ) (g : 
 
   module _ (f : Found) (entry : (ss : List Schedule) → Rows p ss rows n → Entry p (getD ss k []) f) (known : Bool)
       (tells : (p : Program) (ss : List Schedule) → Held p ss b → known ≡ any (comesTo p (f .outcome)) ss) where
-    -- its outcome is there already
+    -- the schedule's outcome is there already
     pub gathering-known : known ≡ true → (b' : Batch) → b' ≡ b → Gathering p rows n a b' (k + 1)
     gathering-known e b' same = subst (λ (x : Batch). Gathering p rows n a x (k + 1)) (sym same) (record {
       within = omega (arith, h);
@@ -71,7 +71,7 @@ module _ (p : Program) (rows : List ℕ) (n : ℕ) (a b : Batch) (k : ℕ) (g : 
           (x .0, x .1, firsts-trans p (es ++ take (k + 1) ss) (x .0 ++ (getD ss k [] ∷ [])) (x .0) (next-firsts ss r es (x .0) (x .2)) (firsts-known p (x .0) (getD ss k []) i));
     })
 
-    -- it is added
+    -- the schedule's outcome is added
     pub gathering-more : b .size < 128 → (b' : Batch) → b' ≡ record { table = set (b .table) (b .size) f; size = b .size + 1 }
         → length (b' .table) ≡ 128 → Gathering p rows n a b' (k + 1)
     gathering-more room b' e l = record {

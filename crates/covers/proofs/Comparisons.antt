@@ -100,7 +100,7 @@ module _ (first second : List ℕ) (room : ℕ) where
   unfolding answerOn answerAgainst
   found-answer p q a = rw (a .one, a .other)
 
-  -- and every right answer is that one
+  -- every right answer is the one worked out
   comparison-is : {a : Answer} → C a → answerOn (decode first) (decode second) room ≡ a
   unfolding answerOn answerAgainst answerOf answerBy
   comparison-is (by-first n k e) = ap (λ (d : Decoded). answerOn d (decode second) room) e

@@ -26,7 +26,7 @@ module _ (f : Schedule → Bool) where
       go true q ih = find-yes f x (es ++ (s ∷ rest)) q ∙ sym (find-yes f x (es ++ rest) q)
       go false q ih = find-no f x (es ++ (s ∷ rest)) q ∙ ih ∙ sym (find-no f x (es ++ rest) q)
 
-  -- so may one that passes exactly if an earlier one does
+  -- one that passes exactly if an earlier one does may be left out
   pub find-known : (es rest : List Schedule) (e s : Schedule) → List·Memᴰ e es → f e ≡ f s → find f (es ++ (s ∷ rest)) ≡ find f (es ++ rest)
   find-known [] rest e s m q = absurd (List·Memᴰ·not-nil m)
   find-known (x ∷ es) rest e s m q = go (f x) refl (List·Memᴰ·cases-cons m) (λ k. find-known es rest e s k q)

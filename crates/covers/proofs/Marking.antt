@@ -45,7 +45,7 @@ or-assoc false b c = refl
 abbrev pub met : Program → Program → List Schedule → List Schedule → ℕ → Bool
 met p q ss rs i = any (comesTo p (outcomeOf q (getD ss i []))) rs
 
--- the first k are compared
+-- the first k schedules are compared
 pub record Marking (wanted others : Batch) (before behind : List Bool) (k : ℕ) : Type 0 where
   pub within : k ≤ wanted .size
   pub size : length behind ≡ 128

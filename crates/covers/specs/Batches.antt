@@ -36,7 +36,7 @@ pub record Held (p : Program) (ss : List Schedule) (b : Batch) : Type 0 where
   pub size : b .size ≡ length ss
   pub entries : (k : ℕ) → k < length ss → Entry p (getD ss k []) (getD (b .table) k nothing)
 
--- so many rows of these listed schedules stand in front of the buffer
+-- n rows of the listed schedules ss stand in front of the buffer
 pub record Rows (p : Program) (ss : List Schedule) (rows : List ℕ) (n : ℕ) : Type 0 where
   pub held : List ℕ
   pub shown : Shown sc p ss held rows n
@@ -65,7 +65,7 @@ pub record Collects (p : Program) (c : Cursor) (r : Collected) : Type 0 where
   pub firsts : (f : Schedule → Bool) → ByOutcome p f → find f (remaining sc p false c) ≡ find f (schedules ++ remaining sc p false (r .cursor))
   pub onward : isEnd (c .position) ≡ false → pages sc p false (r .cursor) < pages sc p false c
 
--- of q's schedules, so many, those are marked that were marked, and those whose outcome one of these schedules of p has
+-- of q's first n schedules ss those are marked that were marked, and those whose outcome one of p's schedules rs has
 abbrev pub Marks : Program → Program → List Schedule → List Schedule → ℕ → List Bool → List Bool → Type 0
 Marks p q ss rs n before behind =
     (k : ℕ) → k < n → getD behind k false ≡ (getD before k false || any (comesTo p (outcomeOf q (getD ss k []))) rs)

@@ -26,13 +26,13 @@ pub struct Found {
     pub steps: usize,
 }
 
-// So many of them.
+// The schedules found so far with their outcomes: the first `size` of the table count.
 pub struct Batch {
     pub table: [Found; 128],
     pub size: usize,
 }
 
-// None.
+// A batch with no schedule in it.
 pub(crate) fn empty() -> Batch
     ensures { λ r. ⌜ (r .size ≡ 0) × (length (r .table) ≡ 128) ⌝ }
 {
@@ -67,7 +67,7 @@ pub(crate) fn is_in(batch: Batch, o: Outcome) -> bool
     false
 }
 
-// At most 24 steps, with zeros behind them.
+// The bytes of at most 24 steps, with zeros behind them.
 fn bytes_of(steps: &[u8]) -> [u8; STEPS]
     requires { ⌜ length (now steps) ≤ 24 ⌝ }
     ensures { λ r. ⌜ take (length (now (steps .entry))) r ≡ now (steps .entry) ⌝ }
@@ -95,7 +95,7 @@ fn entry(program: Compiled, steps: &[u8]) -> Found
     }
 }
 
-// Adds the outcomes of so many rows that are not among them yet.
+// The batch with the outcomes of n rows that are not among its own yet.
 pub(crate) fn gathered(program: Compiled, rows: &[u8], n: usize, batch: Batch) -> Batch
     requires { ⌜ WellFormed (programOf program) × (n ≤ 64) × (batch .size + n ≤ 128) × (length (batch .table) ≡ 128)
         × ((ss : List Schedule) × Rows (programOf program) ss (now rows) n) ⌝ }

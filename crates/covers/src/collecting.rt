@@ -11,6 +11,9 @@ ghost use Rattle.spec_file.specs.WellFormed.{WellFormed};
 ghost use Rattle.file_decoder.specs.Compiled.{programOf};
 ghost use Rattle.covers.specs.Batches.{Collects};
 
+// The bytes of a page: 64 rows of 26 bytes.
+const PAGE_BYTES: usize = 1664;
+
 // Different outcomes, and the cursor behind the schedules that have them.
 pub struct Collected {
     pub batch: Batch,
@@ -22,7 +25,7 @@ pub(crate) fn collect(program: Compiled, cursor: Cursor) -> Collected
     requires { ⌜ WellFormed (programOf program) ⌝ }
     ensures { λ r. ⌜ Collects (programOf program) cursor r ⌝ }
 {
-    let mut rows = [0u8; 1664];
+    let mut rows = [0u8; PAGE_BYTES];
     let mut batch = empty();
     let mut at = cursor;
     while !is_end(at) {

@@ -2,6 +2,7 @@
 use crate::collecting::collect;
 use crate::lacking::first_lacking;
 use file_decoder::Compiled;
+use file_rows::put_front;
 use listing_cursor::beginning;
 use listing_cursor::is_end;
 use spec_file::STEPS;
@@ -23,9 +24,9 @@ pub enum CoversAnswer {
     Lacking(usize),
     // The first file's refusal: number and place.
     RefusedFirst(u8, usize),
-    // The second file's.
+    // The second file's refusal: number and place.
     RefusedSecond(u8, usize),
-    // The output's.
+    // The output's refusal: number and place.
     RefusedOutput(u8, usize),
 }
 
@@ -34,14 +35,10 @@ fn put_steps(out: &mut [u8], schedule: [u8; STEPS], n: usize)
     requires { ⌜ (n ≤ 24) × (24 ≤ length (now out)) ⌝ }
     ensures { λ r. ⌜ now (out .exit) ≡ over (take n schedule) (now (out .entry)) ⌝ }
 {
-    let mut k = 0;
-    while k < n {
-        out[k] = schedule[k];
-        k += 1;
-    }
+    put_front(out, &schedule, n);
 }
 
-// Two accepted programs: the second's list is walked once, the first's once for each batch of the second's outcomes.
+// The answer to two accepted programs: the second's list is walked once, the first's once for each batch of the second's outcomes.
 fn compared(first: Compiled, second: Compiled, out: &mut [u8]) -> CoversAnswer
     requires { ⌜ WellFormed (programOf first) × WellFormed (programOf second) ⌝ }
     ensures { λ r. ⌜ ((file other : List ℕ) → decode file ≡ accepted (programOf first) → decode other ≡ accepted (programOf second)
@@ -87,7 +84,7 @@ fn against(first: Compiled, second: &[u8], out: &mut [u8]) -> CoversAnswer
     }
 }
 
-// Of two program files: the first's refusals come first, then the second's, then 22 for an output shorter than 24 bytes.
+// The covers call on two program files: the first's refusals come first, then the second's, then 22 for an output shorter than 24 bytes.
 pub fn covers(first: &[u8], second: &[u8], out: &mut [u8]) -> CoversAnswer
     ensures { λ r. ⌜ ((a : Answer) × Comparison (now (first .entry)) (now (second .entry)) (length (now (out .entry))) a
         × (r ≡ coversAnswerOf a) × (now (out .exit) ≡ outputAfter a (now (out .entry)))) ⌝ }

@@ -36,7 +36,7 @@ fn marked(wanted: Batch, others: Batch, marks: [bool; 128]) -> [bool; 128]
     all
 }
 
-// The first of so many that is not marked, or their number.
+// The first of n marks that is not set, or n.
 fn first_unmarked(marks: [bool; 128], n: usize) -> usize
     requires { ⌜ n ≤ 128 ⌝ }
     ensures { λ r. ⌜ (r ≤ n) × ((k : ℕ) → k < r → getD marks k false ≡ true) × (r < n → getD marks r false ≡ false) ⌝ }

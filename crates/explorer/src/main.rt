@@ -4,6 +4,7 @@
 // come next in it, none only behind the last. So the pieces one after the other are `printed file`, also where the file is longer than the
 // 4,097 bytes that are read of it (proofs/Handed.antt). No contract of the kit can say which bytes a call of the system reads or writes:
 // that `print` writes each piece once and in order, and that `main` hands it what was read, is to be seen in the lines below.
+use explorer_lines::MOST_BYTES;
 use explorer_lines::begin;
 use explorer_lines::next;
 use libc::STDERR_FILENO;
@@ -13,7 +14,7 @@ ghost use Rattle.explorer.specs.Reading.{Within};
 
 // What came of reading.
 enum Input {
-    // So many bytes.
+    // The number of bytes that were read.
     Bytes(usize),
     Failed,
 }
@@ -40,7 +41,7 @@ fn read_input(file: &mut [u8]) -> Input
 // Prints the list of this file, or its refusal.
 fn print(file: &[u8]) {
     let mut listing = begin(file);
-    let mut out = [0u8; 13_603];
+    let mut out = [0u8; MOST_BYTES];
     loop {
         let piece = next(listing, &mut out);
         let n = piece.length;

@@ -41,6 +41,6 @@ module _ (file : List ℕ) (ts : List (List ℕ)) (s s' : Listing) (b : Begun (t
   pub printed-so-far : joined ts ++ rest s' ≡ printed file
   printed-so-far = handed-rest ts s s' h ∙ b .whole ∙ front-printed file
 
-  -- THEY ARE ALL OF IT once a piece has no bytes
+  -- THE PIECES ARE ALL THAT IS PRINTED once a piece has no bytes
   pub printed-whole : (s'' : Listing) → Next s' [] s'' → joined ts ≡ printed file
   printed-whole s'' n = sym (append-nil (joined ts)) ∙ ap (λ (l : List ℕ). joined ts ++ l) (sym (n .ends refl)) ∙ printed-so-far

@@ -106,7 +106,7 @@ module _ (s : Listing) (r : Ready s) (held rows : List ℕ) (page : Page) (size 
   unfolding left
   shown-left = subst (λ (k : ℕ). Shown sc p (take k (remaining sc p false (s .cursor))) held rows n) most (paged .shown)
 
-  -- and then what the next cursor has yet to come
+  -- what is left is the next 256 schedules, and then what the next cursor has yet to come
   split-left : left s ≡ next256 ++ remaining sc p false (page .cursor)
   unfolding left
   split-left =
@@ -153,7 +153,7 @@ module _ (s : Listing) (r : Ready s) (held rows : List ℕ) (page : Page) (size 
             (f .1 ∙ ap (λ (l : List Schedule). textOf (map (scheduleFrame p) l ++ (countFrame (counts s) ∷ []))) a ∙ sym (rest-walking g)),
       )
 
-  -- otherwise the rest is what the next cursor has yet to come
+  -- where the next cursor is not at the end, the rest is what it has yet to come
   module _ (more : isEnd (page .cursor .position) ≡ false) where
     all-256 : length next256 ≡ 256
     all-256 =

@@ -19,7 +19,7 @@ use Rattle.explorer_lines.specs.declared.pieces.Stage.{Stage}
 use Rattle.explorer_lines.specs.declared.pieces.Stage.the-variants.{Refused, Walking, Ended}
 use Rattle.explorer_lines.specs.declared.pieces.Listing.{Listing}
 
--- each has at most 24 steps
+-- each schedule has at most 24 steps
 abbrev pub Short : List Schedule → Type 0
 Short ss = Everywhere (λ s. length s ≤ 24) ss
 
@@ -37,7 +37,7 @@ framesLeft (Refused n k) s = printedFrames (refused n k)
 framesLeft Walking s = map (scheduleFrame (programOf (s .program))) (left s) ++ (countFrame (counts s) ∷ [])
 framesLeft Ended s = []
 
--- their text
+-- the text that is left to print
 unfoldable pub rest : Listing → List ℕ
 rest s = textOf (framesLeft (s .stage) s)
 
@@ -55,7 +55,7 @@ pub record Begun (file : List ℕ) (s : Listing) : Type 0 where
   pub sound : Sound s
   pub whole : rest s ≡ printed file
 
--- these bytes come next, and then what is left behind them; there are none only where nothing was left
+-- the bytes come next, and then what s' has left; there are no bytes only where s had nothing left
 pub record Next (s : Listing) (bytes : List ℕ) (s' : Listing) : Type 0 where
   pub sound : Sound s'
   pub text : rest s ≡ bytes ++ rest s'
@@ -66,7 +66,7 @@ unfoldable pub Handed : Listing → List (List ℕ) → Listing → Type 0
 Handed s [] s' = s' ≡ s
 Handed s (t ∷ ts) s' = (u : Listing) × Next s t u × Handed u ts s'
 
--- their bytes
+-- the bytes of all pieces, one behind the other
 unfoldable pub joined : List (List ℕ) → List ℕ
 joined [] = []
 joined (t ∷ ts) = t ++ joined ts

@@ -20,6 +20,9 @@ ghost use Rattle.spec_calls.specs.Rows.{rowBytes};
 ghost use Rattle.spec_calls.specs.Printed.{scheduleFrame, countFrame, printedFrames};
 ghost use Rattle.explorer_lines.specs.Pieces.{Short};
 
+// The bytes of a page: 256 rows of 26 bytes.
+pub(crate) const PAGE_BYTES: usize = 6656;
+
 // How many bytes some lines have, and how many of their schedules fail.
 pub struct Lines {
     pub length: usize,
@@ -27,7 +30,7 @@ pub struct Lines {
 }
 
 // Row k of these rows of 26 bytes.
-fn row_at(rows: &[u8; 6656], k: usize) -> [u8; ROW]
+fn row_at(rows: &[u8; PAGE_BYTES], k: usize) -> [u8; ROW]
     requires { ⌜ (k < 256) × (length (now rows) ≡ 6656) ⌝ }
     ensures { λ r. ⌜ r ≡ take 26 (drop (k * 26) (now (rows .entry))) ⌝ }
 {
@@ -63,7 +66,7 @@ fn schedule_line(out: &mut [u8], row: [u8; ROW]) -> usize
 }
 
 // The lines of the schedules in the first n rows.
-pub(crate) fn schedule_lines(out: &mut [u8], rows: &[u8; 6656], n: usize) -> Lines
+pub(crate) fn schedule_lines(out: &mut [u8], rows: &[u8; PAGE_BYTES], n: usize) -> Lines
     requires { ⌜ (n ≤ 256) × (length (now rows) ≡ 6656) ⌝ }
     ensures { λ r. ⌜ ((p : Program) (ss : List Schedule) (held : List ℕ) → Shown sc p ss held (now (rows .entry)) n → Short ss →
         Wrote (map (scheduleFrame p) ss) (now (out .entry)) (now (out .exit)) (r .length)

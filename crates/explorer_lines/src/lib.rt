@@ -6,6 +6,7 @@ mod frames;
 mod pieces;
 
 pub use pieces::Listing;
+pub use pieces::MOST_BYTES;
 pub use pieces::Piece;
 pub use pieces::Stage;
 pub use pieces::begin;

@@ -1,4 +1,5 @@
 // What the program prints, piece by piece.
+use crate::frames::PAGE_BYTES;
 use crate::frames::count_line;
 use crate::frames::refusal_line;
 use crate::frames::schedule_lines;
@@ -18,6 +19,9 @@ ghost use Rattle.listing_cursor.specs.Cursor.{from};
 ghost use Rattle.explorer_lines.specs.declared.pieces.Stage.the-variants.{Walking, Ended};
 ghost use Rattle.explorer_lines.specs.Pieces.{Ready, Sound, Begun, Next};
 
+// The most bytes that a piece has: 256 lines of a schedule, 53 bytes each, and the line of the counts, 35 bytes.
+pub const MOST_BYTES: usize = 13603;
+
 pub enum Stage {
     // The file is refused, by this number at this place.
     Refused(u8, usize),
@@ -36,13 +40,13 @@ pub struct Listing {
     pub failed: u64,
 }
 
-// So many bytes come next, and what comes behind them.
+// A piece of what is printed: how many bytes come next, and where the printing stands behind them.
 pub struct Piece {
     pub length: usize,
     pub listing: Listing,
 }
 
-// Before anything is printed.
+// Where the printing stands before anything is printed.
 fn unprinted(stage: Stage, program: Compiled) -> Listing
     ensures { λ r. ⌜ (r .stage ≡ stage) × (r .program ≡ program) × (r .listed ≡ 0) × (r .failed ≡ 0)
         × ((l : List Schedule) → from (r .cursor) l ≡ l) ⌝ }
@@ -56,7 +60,7 @@ fn unprinted(stage: Stage, program: Compiled) -> Listing
     }
 }
 
-// All that is printed of this file is still to come.
+// Where the printing of a file begins: all of it is still to come.
 pub fn begin(file: &[u8]) -> Listing
     ensures { λ r. ⌜ Begun (now (file .entry)) r ⌝ }
 {
@@ -69,7 +73,7 @@ pub fn begin(file: &[u8]) -> Listing
     }
 }
 
-// Nothing comes behind these bytes.
+// The last piece: nothing comes behind its bytes.
 fn last_piece(s: Listing, length: usize) -> Piece
     ensures { λ r. ⌜ (r .length ≡ length) × (r .listing .stage ≡ Ended) ⌝ }
 {
@@ -86,7 +90,7 @@ fn walk_on(s: Listing, out: &mut [u8]) -> Piece
     ensures { λ r. ⌜ (r .length ≤ length (now (out .exit))) × Next s (take (r .length) (now (out .exit))) (r .listing) ⌝ }
 {
     let program = s.program;
-    let mut rows = [0u8; 6656];
+    let mut rows = [0u8; PAGE_BYTES];
     let page = next_page(Model::Sequential, program, s.cursor, false, &mut rows);
     let n = page.rows;
     let cursor = page.cursor;

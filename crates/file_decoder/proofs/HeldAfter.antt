@@ -66,7 +66,7 @@ pub first-starts : (f : Frame) → byte f 0 ≡ 0x03 → (opens f ≡ false) × 
 unfolding opens declares starts
 first-starts f e = (ne-eqb (byte f 0) 0x01 (λ h. omega arith), ne-eqb (byte f 0) 0x02 (λ h. omega arith), eq-eqb (byte f 0) 0x03 e)
 
--- neither of the three
+-- the frame begins with neither 01, 02 nor 03
 abbrev pub Plain : Frame → Type 0
 Plain f = (byte f 0 ≡ 0x01 → ⊥) × (byte f 0 ≡ 0x02 → ⊥) × (byte f 0 ≡ 0x03 → ⊥)
 

@@ -19,7 +19,7 @@ use Rattle.spec_file.proofs.Sound.{passes}
 use Rattle.spec_file.proofs.StartLines.{start-location}
 use Rattle.file_decoder.proofs.HeldAfter.{first-starts}
 
--- such a line that passes is for one of the eight locations
+-- a `03` line that passes is for one of the eight locations
 pub passes-started : (f : Frame) (r : Reading) → frameRefusal r f ≡ 0 → byte f 0 ≡ 0x03 → byte f 1 < 8
 passes-started f r e b = start-location f b (passes r f e .in-range)
 

@@ -94,12 +94,12 @@ module _ (file code rows : List ℕ) (s : Counts) (at number : ℕ) (small : len
     here : decode file ≡ readLines number (whole line ∷ split (drop (end + 1) file)) (p .read)
     here = p .rest ∙ ap (λ (ls : List TextLine). readLines number ls (p .read)) (split-at file at end e inside)
 
-    -- it is neither a frame nor a remark
+    -- the line is neither a frame nor a remark
     pub read-broken : lineOf line ≡ Broken → decode file ≡ refused 2 number
     unfolding readLines meaning
     read-broken z = here ∙ rw (spelt-as-broken line z, readLines)
 
-    -- it is a remark: it is passed over, and counted
+    -- the line is a remark: it is passed over, and counted
     pub read-remark : lineOf line ≡ Remark → Progress file code rows s (end + 1) (number + 1)
     unfolding readLines meaning
     read-remark z = record {
@@ -114,16 +114,16 @@ module _ (file code rows : List ℕ) (s : Counts) (at number : ℕ) (small : len
     }
 
     module _ (n : ℕ) (z : lineOf line ≡ Frame n) where
-      -- its frame's length
+      -- the length of the line's frame
       pub read-size : n ≡ length (pairs line)
       read-size = sym (spelt-as-frame line n z .1)
 
-      -- it is refused
+      -- the line's frame is refused
       pub read-refused : (k : ℕ) → k ≡ frameRefusal (p .read) (pairs line) → (k ≡ 0 → ⊥) → decode file ≡ refused k number
       unfolding readLines meaning
       read-refused k q r = here ∙ rw (spelt-as-frame line n z .0, readLines, ← q, ne-eqb k 0 r)
 
-      -- it passes
+      -- the line's frame passes
       pub read-more : (k : ℕ) (code' rows' : List ℕ) (s' : Counts) → k ≡ frameRefusal (p .read) (pairs line) → k ≡ 0 → 1 ≤ number
           → Taken line number code rows s code' rows' s' → Progress file code' rows' s' (end + 1) (number + 1)
       unfolding readLines meaning

@@ -43,7 +43,7 @@ module _ (code rows : List ℕ) (t : ℕ) (xs : List Placed) (held : HeldThread 
   pub far-found : (i : ℕ) → i < length xs → length xs - i - 1 < skipOf (rowAt code (t * 16 + i)) → farSkip (drop i xs) ≡ getD rows (t * 16 + i) 0
   far-found i h k = step i h ∙ rw (lt-ltb (length xs - i - 1) (skipOf (rowAt code (t * 16 + i))) k)
 
-  -- one that does not
+  -- a skip that does not go too far
   pub far-next : (i : ℕ) → i < length xs → skipOf (rowAt code (t * 16 + i)) ≤ length xs - i - 1 → farSkip (drop i xs) ≡ farSkip (drop (i + 1) xs)
   far-next i h k = step i h ∙ rw (le-ltb (length xs - i - 1) (skipOf (rowAt code (t * 16 + i))) k)
 

@@ -1,7 +1,7 @@
 -- The laws, in the order in which they rest on each other.
 -- what the decoder's answer says, by its verdict
 pub mod Said
--- and of the file
+-- what the decoder's answer says of the file
 pub mod Decoded
 -- before the first line, and with a thread more
 pub mod HeldAfter

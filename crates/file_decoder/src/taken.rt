@@ -14,7 +14,7 @@ ghost use Rattle.spec_file.specs.Frame.{pairs};
 ghost use Rattle.file_refusals.specs.Held.{Bounded};
 ghost use Rattle.file_decoder.specs.Held.{marked, openedCounts, groupedCounts, startedCounts, extendedCounts, Passes, Taken};
 
-// With one thread more.
+// The counts with one thread more.
 fn opened(s: Counts) -> Counts
     requires { ⌜ s .threads < 6 ⌝ }
     ensures { λ r. ⌜ r ≡ openedCounts s ⌝ }
@@ -49,7 +49,7 @@ fn mark(line: &[u8], n: usize, class: [usize; 6], g: usize) -> [usize; 6]
     c
 }
 
-// With one group more.
+// The counts with one group more.
 fn grouped(line: &[u8], n: usize, s: Counts) -> Counts
     requires { ⌜ (n ≡ length (pairs (now line))) × (s .groups ≤ 4096) ⌝ }
     ensures { λ r. ⌜ r ≡ groupedCounts (drop 1 (pairs (now (line .entry)))) s ⌝ }
@@ -68,7 +68,7 @@ fn grouped(line: &[u8], n: usize, s: Counts) -> Counts
     }
 }
 
-// With one starting value more, v at location l.
+// The counts with one starting value more, v at location l.
 fn started(l: usize, v: u32, s: Counts) -> Counts
     requires { ⌜ l < 8 ⌝ }
     ensures { λ r. ⌜ r ≡ startedCounts l v s ⌝ }
@@ -93,7 +93,7 @@ fn started(l: usize, v: u32, s: Counts) -> Counts
     }
 }
 
-// With one instruction more, of the first byte b, in the thread last opened.
+// The counts with one instruction more, of the first byte b, in the thread last opened.
 fn extended(b: usize, s: Counts) -> Counts
     requires { ⌜ Bounded s × (1 ≤ s .threads) ⌝ }
     ensures { λ r. ⌜ r ≡ extendedCounts b s ⌝ }
@@ -118,7 +118,7 @@ fn extended(b: usize, s: Counts) -> Counts
     }
 }
 
-// With the frame of n bytes on line `number`, which is not refused.
+// The counts with the frame of n bytes on line `number`, which is not refused.
 pub(crate) fn taken(
     line: &[u8],
     n: usize,

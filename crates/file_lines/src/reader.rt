@@ -12,7 +12,7 @@ pub enum Line {
     Frame(usize),
     // A remark: it begins with 23 (`#`), and holds any bytes behind it.
     Remark,
-    // Neither: empty, odd, or with a character that is no digit.
+    // Neither a frame nor a remark: empty, odd, or with a character that is no digit.
     Broken,
 }
 

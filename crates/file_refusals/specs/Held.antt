@@ -12,7 +12,7 @@ use Rattle.spec_file.specs.Frames.{Frame, byte, known, declares}
 use Rattle.file_rows.specs.Bytes.{agree}
 use Rattle.spec_file.specs.Decode.{Placed, Start, Reading, threadAt, allAccessesIn, isGiven, valueAt, among}
 
--- before the first line
+-- the counts before the first line
 abbrev pub nothing : Counts
 nothing = record {
   threads = 0;

@@ -25,7 +25,7 @@ pub fn is_access(b: usize) -> bool
     b <= 0x13
 }
 
-// For a frame that opens a thread.
+// The refusal of a frame that opens a thread.
 fn opening(s: Counts) -> u8
     ensures { λ r. ⌜ r ≡ openingRefusal s ⌝ }
 {
@@ -38,7 +38,7 @@ fn opening(s: Counts) -> u8
     6
 }
 
-// For a frame that lets location l start with a value.
+// The refusal of a frame that lets location l start with a value.
 fn starting(l: usize, s: Counts) -> u8
     requires { ⌜ l < 8 ⌝ }
     ensures { λ r. ⌜ r ≡ startingRefusal l s ⌝ }
@@ -56,7 +56,7 @@ fn starting(l: usize, s: Counts) -> u8
     0
 }
 
-// For an instruction with the first byte b.
+// The refusal of an instruction with the first byte b.
 fn instruction(b: usize, s: Counts) -> u8
     requires { ⌜ s .threads ≤ 6 ⌝ }
     ensures { λ r. ⌜ r ≡ instructionRefusal b s ⌝ }
@@ -80,7 +80,7 @@ fn instruction(b: usize, s: Counts) -> u8
     0
 }
 
-// For the frame of n bytes on this line, after what has been read.
+// The refusal of the frame of n bytes on a line, after what has been read.
 pub fn refusal(line: &[u8], n: usize, code: &Code, s: Counts) -> u8
     requires { ⌜ Bounded s × (n ≡ length (pairs (now line))) ⌝ }
     ensures { λ k. ⌜ ((r : Reading) → Holds (now (code .entry)) s r → k ≡ frameRefusal r (pairs (now (line .entry)))) ⌝ }

@@ -23,7 +23,7 @@ pub struct Counts {
     pub starting: Starting,
 }
 
-// Before the first line.
+// The counts before the first line.
 pub fn none_yet() -> Counts
     ensures { λ r. ⌜ r ≡ nothing ⌝ }
 {

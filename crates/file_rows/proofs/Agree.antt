@@ -41,7 +41,7 @@ pub agree-none : (code : List ℕ) (a b n : ℕ) → n ≡ 0 → agree code a b 
 unfolding agree
 agree-none code a b n e = rw e
 
--- what it means
+-- what `agree` means
 pub agree-true : (code : List ℕ) (a b n : ℕ) → agree code a b n ≡ true → (k : ℕ) → k < n → getD code (a + k) 0 ≡ getD code (b + k) 0
 unfolding agree
 agree-true code a b zero e k h = absurd (omega arith)

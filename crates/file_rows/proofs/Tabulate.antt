@@ -45,7 +45,7 @@ module _ {A : Type 0} where
   take-tabulate f zero (suc k) h = absurd (omega arith)
   take-tabulate f (suc n) (suc k) h = ap (λ (l : List A). f 0 ∷ l) (take-tabulate (λ i. f (suc i)) n k (omega arith))
 
-  -- its members are the values below n
+  -- the members of a tabulation are the values below n
   pub in-tabulate : (f : ℕ → A) (n k : ℕ) → k < n → List·Memᴰ (f k) (tabulate f n)
   unfolding tabulate
   in-tabulate f zero k h = absurd (omega arith)

@@ -6,7 +6,10 @@ mod kinds;
 mod fields;
 // The instructions that a program keeps, a row of sixteen bytes each.
 mod row;
+// Bytes copied to the front of a buffer.
+mod copying;
 
+pub use copying::put_front;
 pub use fields::in_range;
 pub use fields::word_at;
 pub use kinds::kind_of;

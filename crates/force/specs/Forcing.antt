@@ -17,7 +17,7 @@ use Rattle.spec_force.specs.Forced.{gameOf, CanForce, Answer, Forced}
 pub record Forcing (file : List ℕ) (set : ℕ) (p : Program) : Type 0 where
   -- EXACTLY ONE side can force its end
   pub exactly-one : ExactlyOne (gameOf set) hostile (start p)
-  -- IF THE HOSTILE SIDE CAN, the violation call, with an output that is not too short, reports a schedule
+  -- IF THE HOSTILE SIDE CAN FORCE ITS END, the violation call, with an output that is not too short, reports a schedule
   pub violation : CanForce hostile set p → (out : List ℕ) → 24 ≤ length out
       → (s : Schedule) × (violationFile sc file out ≡ (fails-first s, over s out))
   -- ONLY ONE ANSWER is right: what the call's contract equates its answer with

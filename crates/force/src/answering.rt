@@ -42,7 +42,7 @@ fn missing(set: u8, threads: usize) -> u8
     8
 }
 
-// Of an accepted program: at most 24 steps and 25 passes, of which the first step or pass is the hostile side's.
+// The game of an accepted program: at most 24 steps and 25 passes, of which the first step or pass is the hostile side's.
 fn decided(program: Compiled, set: u8) -> ForceAnswer
     requires { ⌜ WellFormed (programOf program) ⌝ }
     ensures { λ r. ⌜ ((a : Answer) × ForcedIn set (programOf program) a × (r ≡ answerOf a)) ⌝ }

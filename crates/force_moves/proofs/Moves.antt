@@ -34,7 +34,7 @@ use Rattle.force_moves.proofs.TailLaws.{silent-here}
 abbrev pub keeps : ℕ → ℕ → Side → State → ℕ → Bool
 keeps set left x σ t = keepsBy (gameOf set) (λ τ. value (gameOf set) (left - 1) (other x) τ) x σ t
 
--- none of the first t does
+-- none of the first t threads has a step behind which x wins
 abbrev pub Lost : (code lengths tails : List ℕ) (set left : ℕ) (x : Side) (m : Machine) (t : ℕ) → Type 0
 Lost code lengths tails set left x m t =
     (threads : ℕ) (p : Program) (v : Schedule) → Standing code lengths tails threads m p v → (u : ℕ) → u < t → keeps set left x (endOf p v) u ≡ false
@@ -89,7 +89,7 @@ module _ (code lengths tails : List ℕ) (threads : ℕ) (m : Machine) (p : Prog
               absurd (true≢false (sym (r .2) ∙ h (r .0) (omega (arith, of-range 0 6 (r .0) (r .1) .1))))
           none false q = q
 
-      -- its step t wins
+      -- the step t of the side whose turn it is wins
       pub move-won : (t : ℕ) → keeps set left x σ t ≡ true → true ≡ won
       move-won t k = sym (by-best ∙ ap (λ (y : Side). same y x) (best-some (gameOf set) ahead x σ
           (any-of (keeps set left x σ) (SC .names) t (lawful .named σ t (mine-enabled (gameOf set) x σ t (keeps-mine (gameOf set) ahead x σ t k))) k)) ∙ same-self x)

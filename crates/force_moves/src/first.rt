@@ -9,7 +9,7 @@ ghost use Prim.Native.Nat.{ℕ};
 ghost use Rattle.spec_file.specs.Program.{Program};
 ghost use Rattle.force_moves.specs.Standing.{Standing, FirstKeeping};
 
-// Its least step from the start behind which it wins; 6 where there is none.
+// The hostile side's least step from the start behind which it wins; 6 where there is none.
 pub fn least_winning(
     code: &Code,
     lengths: &[usize; 6],

@@ -16,7 +16,7 @@ ghost use Rattle.spec_force.proofs.Value.{value};
 ghost use Rattle.spec_force.specs.Forced.{gameOf};
 ghost use Rattle.force_moves.specs.Standing.{Standing};
 
-// It is the hostile side's turn: whether it wins. A failed assertion decides at once, and so does a state behind all assertions.
+// Whether the hostile side wins where it is its turn. A failed assertion decides at once, and so does a state behind all assertions.
 pub(crate) fn hostile_move(
     code: &Code,
     lengths: &[usize; 6],
@@ -56,7 +56,7 @@ pub(crate) fn hostile_move(
     false
 }
 
-// It is the friendly side's turn: whether it wins.
+// Whether the friendly side wins where it is its turn.
 pub fn friendly_move(
     code: &Code,
     lengths: &[usize; 6],

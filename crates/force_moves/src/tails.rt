@@ -57,7 +57,7 @@ fn tail(code: &Code, t: usize, n: usize) -> usize
     0
 }
 
-// That number for each thread; 0 for one that does not exist.
+// For each thread the number of the instruction behind its last one that could fail; 0 for a thread that does not exist.
 pub fn tails_of(code: &Code, lengths: &[usize; 6], threads: usize) -> [usize; 6]
     requires { ⌜ ((p : Program) × Loaded (now code) (now lengths) threads p) ⌝ }
     ensures { λ r. ⌜ Tails (now (code .entry)) (now (lengths .entry)) threads r ⌝ }

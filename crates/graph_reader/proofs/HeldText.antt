@@ -55,11 +55,11 @@ module _ (n : ℕ) (text : List ℕ) (s : Table) (at number : ℕ) (p : Progress
       inside : end < length text
       inside = before-end text at end h e ne
 
-      -- it is neither a frame nor a remark
+      -- the line is neither a frame nor a remark
       pub read-broken : lineOf line ≡ Broken → ReadAs (Refused 30 number) s (readGraph n text)
       read-broken q = p .rest ∙ line-broken n number text at (p .read) end e inside (spelt-as-broken line q)
 
-      -- it is a remark: it is passed over, and counted
+      -- the line is a remark: it is passed over, and counted
       pub read-remark : lineOf line ≡ Remark → Progress n text s (end + 1) (number + 1)
       read-remark q = record {
         within = let i = inside in omega arith;
@@ -77,12 +77,12 @@ module _ (n : ℕ) (text : List ℕ) (s : Table) (at number : ℕ) (p : Progress
         read-size = sym (spelt-as-frame line size z .1)
 
         module _ (k : ℕ) (r : k ≡ refusal n (p .read) (pairs line)) where
-          -- it is refused
+          -- the line's frame is refused
           pub read-refused : (k ≡ 0 → ⊥) → ReadAs (Refused k number) s (readGraph n text)
           read-refused q = p .rest ∙ line-refused n number text at (p .read) end e inside (pairs line) its-frame k (sym r) q
 
           module _ (q : k ≡ 0) where
-            -- it passes
+            -- the line's frame passes
             pub read-passes : n ≤ 6 → Passes n line size
             read-passes few = let t = passed n (p .read) (pairs line) (sym r ∙ q) in record { few = few; size = read-size; known = t .0; in-range = t .1 }
 

@@ -25,13 +25,13 @@ module _ (f : Frame) (k t i : ℕ) (inside : k + 1 < length f) (first : t ≡ by
   here : eventsIn (drop k f) ≡ (t, i) ∷ rest
   here = event-here f k inside ∙ ap₂ (λ (x y : ℕ). let z : Event = (x, y) in z ∷ rest) (sym first) (sym second)
 
-  -- it is in range, and so are those behind it
+  -- the event at the turn is in range, and so are those behind it
   pub iteration-named : all (isEvent 6) (eventsIn (drop k f)) ≡ true → Named 6 (t, i) × (all (isEvent 6) rest ≡ true)
   iteration-named h =
       let r = both (isEvent 6 (t, i)) (all (isEvent 6) rest) (sym (all-cons (isEvent 6) (t, i) rest) ∙ ap (all (isEvent 6)) (sym here) ∙ h) in
       (event-is 6 (t, i) (r .0), r .1)
 
-  -- it is marked
+  -- the event at the turn is marked
   pub iteration-marked : (s : List ℕ) → markedBy s (eventsIn (drop k f)) ≡ markedBy (set s (t * 16 + i) 1) rest
   unfolding markedBy
   iteration-marked s = ap (markedBy s) here
@@ -42,10 +42,10 @@ module _ (f : Frame) (k t i : ℕ) (inside : k + 1 < length f) (first : t ≡ by
         ap (allNew rows) here ∙ new-first (t, i) rows rest
         ∙ ap (λ (b : Bool). b && allNew (((t, i) ∷ []) ∷ rows) rest) (sym (S t i (n .0) (omega (arith, n .1))))
 
-    -- it has a mark
+    -- the event at the turn has a mark: some event comes twice
     pub iteration-found : (getD s (t * 16 + i) 0 ≡ 0 → ⊥) → allNew rows (eventsIn (drop k f)) ≡ false
     iteration-found h = tested ∙ rw (ne-eqb (getD s (t * 16 + i) 0) 0 h)
 
-    -- it has none: what is left decides
+    -- the event at the turn has no mark: the events behind it decide
     pub iteration-next : getD s (t * 16 + i) 0 ≡ 0 → allNew rows (eventsIn (drop k f)) ≡ allNew (((t, i) ∷ []) ∷ rows) rest
     iteration-next h = tested ∙ rw (eq-eqb (getD s (t * 16 + i) 0) 0 h)

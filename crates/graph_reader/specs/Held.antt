@@ -61,7 +61,7 @@ pub record Holds (n : ℕ) (s : Table) (r : Reading) : Type 0 where
   -- locations whose line would come later have none yet
   pub later : (l : ℕ) → s .last < l + 97 → orderOf (r .graph) l ≡ []
 
--- before the first line
+-- the table before the first line
 abbrev pub emptyTable : Table
 emptyTable = record { pairs = replicate 576 254; counts = replicate 8 0; seen = replicate 96 0; last = 0 }
 

@@ -125,7 +125,7 @@ pub(crate) fn rank(line: &[u8]) -> usize
     x + 97
 }
 
-// For the frame of so many bytes on this line, of a text of n threads, after what has been read.
+// The refusal of the frame of `size` bytes on a line, of a text of n threads, after what has been read.
 pub(crate) fn refusal(line: &[u8], size: usize, n: usize, s: Table) -> u8
     requires { ⌜ (size ≡ length (pairs (now line))) × (n ≤ 6) ⌝ }
     ensures { λ k. ⌜ ((r : Reading) → Holds n s r → k ≡ refusal n r (pairs (now (line .entry)))) ⌝ }

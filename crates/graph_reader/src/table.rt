@@ -15,7 +15,7 @@ pub struct Table {
     pub last: usize,
 }
 
-// Before the first line.
+// The table before the first line.
 pub(crate) fn empty() -> Table
     ensures { λ r. ⌜ r ≡ emptyTable ⌝ }
 {

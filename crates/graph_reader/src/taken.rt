@@ -12,7 +12,7 @@ ghost use Rattle.spec_schedules.specs.Lists.{all};
 ghost use Rattle.spec_judge.specs.Reading.{byteAt, writesIn, isEvent};
 ghost use Rattle.graph_reader.specs.Held.{readTable, markedBy, byteOr, Ordered, Passes, Taken};
 
-// With the source that a `40` line gives.
+// The table with the source that a `40` line gives.
 fn with_read(line: &[u8], s: Table) -> Table
     requires { ⌜ (byteAt (pairs (now line)) 1 < 6) × (byteAt (pairs (now line)) 2 < 16) ⌝ }
     ensures { λ r. ⌜ r ≡ readTable (pairs (now (line .entry))) s ⌝ }
@@ -78,7 +78,7 @@ fn ordered(line: &[u8], size: usize, old: [u8; 576], l: usize) -> [u8; 576]
     p
 }
 
-// With the frame of so many bytes on this line, which is not refused.
+// The table with the frame of `size` bytes on a line, which is not refused.
 pub(crate) fn taken(line: &[u8], size: usize, n: usize, s: Table) -> Table
     requires { ⌜ Passes n (now line) size ⌝ }
     ensures { λ q. ⌜ Taken n (now (line .entry)) s q ⌝ }

@@ -71,7 +71,7 @@ noted-more old new k b h w ns n noted e q = record {
         ap (λ (x : ℕ). getD new (x * 8 + j) 0) (s ∙ sym e) ∙ w .inside j hj ∙ ap (λ (x : List ℕ). getD x j 0) q
         ∙ ap (λ (x : Note). getD (noteBytes x) j 0) (sym (ap (λ (x : ℕ). getD (ns ++ (n ∷ [])) x noNote) s ∙ getD-last ns n noNote))
 
--- so a note behind those that are there is one more
+-- a note written behind those that are there is one more
 pub note-put : {old new b : List ℕ} {k : ℕ} → new ≡ putNote old k b → k < 24 → (ns : List Note) (n : Note) → Noted old ns → k ≡ length ns → b ≡ noteBytes n → Noted new (ns ++ (n ∷ []))
 unfolding noteBytes
 note-put {old} {new} {b} {k} e h ns n noted q s =
@@ -86,6 +86,6 @@ noted-fewer log ns ms noted = record {
   bytes = λ i j hi hj. noted .bytes i j (omega (arith, length-append ns ms)) hj ∙ ap (λ (x : Note). getD (noteBytes x) j 0) (List·getD-append ns ms noNote i hi);
 }
 
--- none yet
+-- before the first note there is none
 pub noted-none : (log : List ℕ) → length log ≡ 192 → Noted log []
 noted-none log e = record { size = e; most = omega arith; bytes = λ i j hi hj. absurd (omega arith) }

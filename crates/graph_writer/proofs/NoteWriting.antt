@@ -55,7 +55,7 @@ pub record Filled (log : List ℕ) (l k : ℕ) (before frame : List ℕ) (n : �
   pub content : frame ≡ over (order log l k) before
   pub few : n ≤ 2 + 2 * k
 
--- its first two bytes stand there before the first note
+-- the first two bytes of a `41` frame stand there before the first note
 abbrev pub headed : ℕ → List ℕ → List ℕ
 headed l frame = set (set frame 0 0x41) 1 l
 

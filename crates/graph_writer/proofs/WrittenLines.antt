@@ -31,7 +31,7 @@ written-append (f ∷ fs) gs room =
     ∙ sym (append-assoc w (writtenLines fs r) (writtenLines gs (r - length (writtenLines fs r))))
     ∙ ap (λ (k : ℕ). (w ++ writtenLines fs r) ++ writtenLines gs k) e
 
--- all of them where the whole text fits
+-- all lines, where the whole text fits
 pub written-whole : (fs : List (List ℕ)) (room : ℕ) → length (textOf fs) ≤ room → writtenLines fs room ≡ textOf fs
 unfolding writtenLines textOf
 written-whole [] room h = refl

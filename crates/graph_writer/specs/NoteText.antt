@@ -61,7 +61,7 @@ noteAt log k = record {
   wrote = eqb (getD log (k * 8 + 6) 0) 1;
 }
 
--- the first n of them
+-- the first n notes of the array
 unfoldable pub notesAt : List ℕ → ℕ → List Note
 notesAt log n = map (noteAt log) (range 0 n)
 

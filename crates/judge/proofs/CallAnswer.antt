@@ -1,14 +1,13 @@
 -- The call's answer, way by way.
-use Prim.Native.Nat.{ℕ, suc, _+_, _<_, _≤_}
+use Prim.Native.Nat.{ℕ, _+_, _<_, _≤_}
 use mathlib.Core.Path.{_≡_, refl, sym, ap, subst, _∙_}
 use mathlib.Core.Bool.{Bool, true, false, true≢false}
 use mathlib.Core.List.{List}
 use native.Mathlib.Omega.{arith}
 use native.Mathlib.Decide.{ℕ-discrete}
-use lib.ListN.{length, getD, set, take}
-use lib.Seq.{ext-getD, take-suc, length-take-le}
+use lib.ListN.{length, getD, take}
+use lib.Seq.{ext-getD, length-take-le}
 use Rattle.spec_file.specs.Over.{over}
-use Rattle.spec_file.proofs.Over.{over-snoc}
 use Rattle.file_decoder.specs.declared.file.Answer as program-answer
 use Rattle.file_decoder.specs.declared.file.Verdict.the-variants as program-verdict
 use Rattle.spec_file.specs.Program.{Program}
@@ -47,12 +46,6 @@ differ a b k n = ((λ z. absurd (true≢false (sym z))), λ z e. n (ap (λ (l : 
 pub agree : (a b : List ℕ) (n k : ℕ) → length a ≡ n → length b ≡ n → n ≤ k → ((j : ℕ) → j < k → getD a j 0 ≡ getD b j 0)
     → (_≡_ {A = Bool} true true → a ≡ b) × (_≡_ {A = Bool} true false → a ≡ b → ⊥)
 agree a b n k p q h before = ((λ z. ext-getD 0 a b (p ∙ sym q) (λ i j. before i (omega arith))), λ z e. absurd (true≢false z))
-
--- the schedule's bytes, one more
-pub put-more : (out old bytes : List ℕ) (k : ℕ) → length bytes ≡ 24 → k < 24 → 24 ≤ length old → out ≡ over (take k bytes) old → set out k (getD bytes k 0) ≡ over (take (k + 1) bytes) old
-put-more out old bytes k size h room e =
-    ap (λ (l : List ℕ). set l k (getD bytes k 0)) e ∙ over-snoc (take k bytes) old k (getD bytes k 0) (length-take-le k bytes (omega arith)) (omega arith)
-    ∙ ap (λ (l : List ℕ). over l old) (sym (take-suc bytes k 0 (omega arith)) ∙ ap (λ (j : ℕ). take j bytes) (let z : suc k ≡ k + 1 = omega arith in z))
 
 -- what the call says: the one right answer, and the output behind it
 abbrev Says : List ℕ → List ℕ → List ℕ → Outcome → List ℕ → Type 0

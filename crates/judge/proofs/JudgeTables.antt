@@ -96,7 +96,7 @@ module _ (code lengths : List ℕ) (n : ℕ) (pairs counts : List ℕ) (p : Prog
     pub answer-counts : length (w .counts) ≡ 8 → length counts ≡ 8 → (w .counts ≡ counts → ⊥) → judge p g ≡ none
     answer-counts a b ne = another (λ q. ne (one-count (w .pairs) pairs (w .counts) counts g (subst (Tabled (w .pairs) (w .counts)) (same-graph-is (graphOf σ) g q) (W .made)) T a b))
 
-    -- they do not
+    -- the two tables do not differ
     pub answer-yes : length (w .schedule) ≡ 24 → w .pairs ≡ pairs → w .counts ≡ counts → JudgedAs true (w .schedule) (w .steps) (judge p g)
     answer-yes a x y = (judge-by p g true (rw (e, subst (λ (k : Graph). sameGraph k g ≡ true) (sym same) (is-same-graph g))) .0 refl ∙ ap some (sym walked), W .most)
       where

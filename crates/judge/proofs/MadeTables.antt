@@ -110,7 +110,7 @@ module _ (pairs counts : List ℕ) (σ : State) (t : ℕ) (T : Tabled pairs coun
           go (kept z) = z
           go (wrote z v o w y) = absurd (let k : _≡_ {A = Option ℕ} none (some v) = sym q ∙ o in let n : _≡_ {A = ℕ} 0 1 = cc in omega arith)
 
-  -- its event is written
+  -- the step's event is written
   made-wrote : (v : ℕ) → puts (threadOf σ t .local) (cellOf σ l₀ .value) ≡ some v
       → Tabled (put read (96 + (l₀ * 24 + getD counts l₀ 0)) t d) (set counts l₀ (getD counts l₀ 0 + 1)) (graphOf (step σ t))
   made-wrote v q = record {

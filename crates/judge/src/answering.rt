@@ -1,5 +1,6 @@
 // The call `judge`: a program file, a graph text and an output.
 use crate::judging::judged;
+use file_rows::put_front;
 use graph_reader::Verdict;
 use graph_reader::read_graph;
 use spec_file::STEPS;
@@ -18,16 +19,12 @@ pub enum Outcome {
     Refused(u8, usize),
 }
 
-// The first bytes of the schedule, so many, into the front of the output.
+// Copies the first steps of the schedule to the front of the output.
 fn put(out: &mut [u8], schedule: [u8; STEPS], steps: usize)
     requires { ⌜ (steps ≤ 24) × (24 ≤ length (now out)) ⌝ }
     ensures { λ r. ⌜ now (out .exit) ≡ over (take steps schedule) (now (out .entry)) ⌝ }
 {
-    let mut k = 0;
-    while k < steps {
-        out[k] = schedule[k];
-        k += 1;
-    }
+    put_front(out, &schedule, steps);
 }
 
 // Judges a graph text: yes with the least schedule that makes the graph, or no, or a refusal. Only a yes changes the output.

@@ -18,14 +18,14 @@ ghost use Rattle.spec_judge.specs.Reading.{parsed, readGraph};
 ghost use Rattle.graph_reader.specs.Held.{Tabled};
 ghost use Rattle.judge.specs.HeldYes.{JudgedAs};
 
-// Whether the answer is yes, and then the schedule in the first bytes, so many.
+// Whether the answer is yes, and then the schedule in the first `steps` bytes.
 pub struct Finding {
     pub yes: bool,
     pub schedule: [u8; STEPS],
     pub steps: usize,
 }
 
-// No.
+// The answer no, without a schedule.
 fn denied() -> Finding
     ensures { λ r. ⌜ r .yes ≡ false ⌝ }
 {

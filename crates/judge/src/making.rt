@@ -7,13 +7,13 @@ ghost use lib.ListN.{getD};
 ghost use Rattle.judge_next.specs.HeldWalk.{Ranged};
 ghost use Rattle.judge.specs.MadeTable.{sourceAdded, eventAdded, countAdded};
 
-// As in the table of a text: sources and writes, and how many writes each location has.
+// What a walk has made so far, as in the table of a text: sources and writes, and how many writes each location has.
 pub struct Made {
     pub pairs: [u8; 576],
     pub counts: [usize; 8],
 }
 
-// With the source of the step with this note, if it reads.
+// The table with the source of the step with this note, if it reads.
 pub(crate) fn with_source(pairs: [u8; 576], note: [u8; 8]) -> [u8; 576]
     requires { ⌜ Ranged note ⌝ }
     ensures { λ r. ⌜ r ≡ sourceAdded pairs note ⌝ }
@@ -28,7 +28,7 @@ pub(crate) fn with_source(pairs: [u8; 576], note: [u8; 8]) -> [u8; 576]
     p
 }
 
-// With its event, if it writes.
+// The table with the event of the step with this note, if it writes.
 pub(crate) fn with_event(pairs: [u8; 576], counts: [usize; 8], note: [u8; 8]) -> Made
     requires { ⌜ Ranged note × ((l : ℕ) → getD counts l 0 < 24) ⌝ }
     ensures { λ r. ⌜ (r .pairs ≡ eventAdded pairs counts note) × (r .counts ≡ countAdded counts note) ⌝ }

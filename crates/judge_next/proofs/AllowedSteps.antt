@@ -87,7 +87,7 @@ module _ (pairs places : List ℕ) (n : ℕ) (m : Machine) (made : List ℕ) (g 
       go none q = rw (q, writeFits, given)
       go (some v) q = rw (q, writeFits, given) (ap (λ (x : Bool). x && noneWaits g pl σ (place σ t) (latest (c .writes)) e) (order-part six near room))
 
--- both, by the note's bytes
+-- whether a step fits as a read and as a write, by the note's bytes
 pub fits-by : (pairs places : List ℕ) (n : ℕ) (m : Machine) (made : List ℕ) (g : Graph) (pl : Values) (σ : State) (t : ℕ) (b : List ℕ) → Drawn pairs places n m g pl σ → Ordering pairs made g σ
     → enabled σ t ≡ true → t < n → NoteOf b σ t → Ranged b → ((l : ℕ) → getD made l 0 < 24) → (getD b 4 0 ≡ 254 → ⊥)
     → fits g pl σ t ≡ (readAllowed pairs places b && cond (eqb (getD b 6 0) 0) true (writeAllowed pairs made b && noneWaits g pl σ (getD b 2 0) (getD b 4 0, getD b 5 0) (getD b 0 0, getD b 1 0)))

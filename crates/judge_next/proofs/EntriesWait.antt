@@ -43,7 +43,7 @@ module _ (pairs places : List ℕ) (n : ℕ) (m : Machine) (g : Graph) (place : 
       rw (e .0, e .1, D .places v i a b, q, r, sym (D .done v a))
       (arranged (eqb (lineIn (rowOf g v) i .0) u) (eqb (lineIn (rowOf g v) i .1) j) (eqb (place (v, i)) l) (not (ltb i (threadOf σ v .history .done))) (not (eqb v t && eqb i d)))
 
-  -- one waits
+  -- some read waits
   pub one-waits : (k : ℕ) → k < 16 * n → (u ≡ 254 → ⊥) → waitsAt pairs places m k l u j t d ≡ true → noneWaits g place σ l (u, j) (t, d) ≡ false
   unfolding noneWaits noLine
   one-waits k h mark w = go (noneWaits g place σ l (u, j) (t, d)) refl
@@ -68,7 +68,7 @@ module _ (pairs places : List ℕ) (n : ℕ) (m : Machine) (g : Graph) (place : 
           (of-line (rowOf g (k / 16)) (k % 16) (λ z. mark (sym source ∙ ap (λ (x : Event). x .0) z))) in
           absurd (true≢false (sym waiting ∙ not-true _ b))
 
-  -- none does
+  -- no read waits
   pub no-one-waits : ((k : ℕ) → k < 16 * n → waitsAt pairs places m k l u j t d ≡ false) → noneWaits g place σ l (u, j) (t, d) ≡ true
   unfolding noneWaits
   no-one-waits none = all-of (λ v. all (λ r. not (waits place σ l (u, j) (t, d) v r)) (rowOf g v)) (range 0 (length (g .reads)))

@@ -42,7 +42,7 @@ fn is_allowed(
     allowed(pairs, places, threads, m, counts, note)
 }
 
-// That thread, or 6 if there is none.
+// The least thread whose next access the graph allows, or 6 if there is none.
 pub fn chosen(
     code: &Code,
     lengths: &[usize; 6],

@@ -71,7 +71,7 @@ module _ (code lengths : List ℕ) (m : Machine) (σ : State) (x : ℕ) (H : Hol
   faced-eight = refl
 
   module _ (t : ℕ) (thread : ThreadState) (here : threadAt m t ≡ thread) (h : t < 6) where
-    -- it has ended
+    -- the thread has ended
     pub met-ended : getD lengths t 0 ≤ thread .at → MetAlone code lengths σ t x (record { thread = thread; place = 0; left = 0 })
     unfolding next placeOf puts orZero firstNext firstPlace firstPuts
     met-ended e =
@@ -89,7 +89,7 @@ module _ (code lengths : List ℕ) (m : Machine) (σ : State) (x : ℕ) (H : Hol
         over : drop (threadAt m t .at) (threadCode code t (getD lengths t 0)) ≡ []
         over = code-end code t (getD lengths t 0) (threadAt m t .at) (let q = ap (λ (k : ThreadState). k .at) here in omega (arith, q, e))
 
-    -- it has an access, and a machine with x everywhere makes it
+    -- the thread has an access, and a machine with x everywhere makes it
     module _ (near : place σ t < 8) (left : thread .at < getD lengths t 0) where
       ok : enabled τ t ≡ true
       ok = held-enabled code lengths (facedMachine m x) τ faced-held t h (let q = ap (λ (k : ThreadState). k .at) here in omega (arith, q, left))
@@ -127,7 +127,7 @@ module _ (code lengths : List ℕ) (m : Machine) (σ : State) (x : ℕ) (H : Hol
           left = e;
         }
 
-        -- it writes nothing
+        -- the access writes nothing
         pub met-still : s .wrote ≡ false → MetAlone code lengths σ t x (record { thread = s .thread; place = s .location; left = 0 })
         unfolding given orZero
         met-still e = made 0 (go (puts own x) (sym (moved .wrote ∙ writes-is) ∙ e))
@@ -136,7 +136,7 @@ module _ (code lengths : List ℕ) (m : Machine) (σ : State) (x : ℕ) (H : Hol
             go none q = refl
             go (some v) q = absurd (true≢false q)
 
-        -- it writes
+        -- the access writes
         pub met-writes : (l : ℕ) → l ≡ s .location % 8 → s .wrote ≡ true
             → MetAlone code lengths σ t x (record { thread = s .thread; place = s .location; left = getD (s .memory) l 0 })
         unfolding given orZero met

@@ -70,7 +70,7 @@ module _ (code lengths : List ℕ) (threads : ℕ) (p : Program) (loaded : Loade
   near-held m σ H t h = place-below (threadOf σ t .local) (subst (Everywhere InRange) (sym (H .threads t (omega (arith, six-held)) .rest ∙ ap (drop (threadAt m t .at)) (sym (code-held code lengths threads p loaded t h))))
       (everywhere-drop InRange (threadAt m t .at) (codeOf p t) (everywhere-getD (Everywhere InRange) (p .threads) t [] (loaded .wellFormed .ranges) tt)))
 
-  -- it has done no more accesses than it passed instructions
+  -- a thread has done no more accesses than it passed instructions
   pub standing-bounded : {v : Values} {n : ThreadState} {i : ℕ} (t : ℕ) → t < threads → Standing code lengths p v n t i → n .done ≤ n .at
   standing-bounded {v} {n} {i} t h S = subst (λ (k : ThreadState). k .done ≤ k .at) (S .here) (S .holds .threads t (omega (arith, six-held)) .bounded)
 
@@ -157,7 +157,7 @@ module _ (code lengths : List ℕ) (threads : ℕ) (p : Program) (loaded : Loade
       unfolding puts firstPuts orZero
       nothing j b = ap (λ (is : List Instruction). orZero (firstPuts (alone p (valuesIn vs) t j .registers) is (valuesIn vs (t, j)))) (stays j b)
 
-    -- so they need not be met
+    -- where a thread has ended the rest of its accesses need not be met
     iterations-over : k % 16 ≢ 0 → k < 96 → getD lengths (k / 16) 0 ≤ thread .at → (n : ℕ) → n ≡ k / 16 * 16 + 16 → Progress code lengths p vs thread n places left
     iterations-over q h e n z = record {
       machine = G .machine;

@@ -16,7 +16,7 @@ use Rattle.judge_values.specs.declared.by_itself.Lone.{Lone}
 use Rattle.spec_judge.specs.Consistent.{Values, locationOf, outOf}
 use Rattle.spec_judge.proofs.RoundValues.{orZero}
 
--- these are the threads of some machine before the first step
+-- `threads` are those of some machine before the first step
 pub record Opened (code lengths : List ℕ) (p : Program) (threads : List ThreadState) : Type 0 where
   pub machine : Machine
   pub all : machine .threads ≡ threads

@@ -20,7 +20,7 @@ ghost use Rattle.spec_judge.specs.Reading.{parsed, readGraph};
 ghost use Rattle.graph_reader.specs.Held.{Tabled};
 ghost use Rattle.judge_values.specs.HeldRounds.{Opened, RoundHeld, sourced};
 
-// Of each access, sixteen a thread: where it goes and what it leaves there.
+// A round: of each access, sixteen a thread, where it goes and what it leaves there.
 pub struct Round {
     pub places: [u8; 96],
     pub left: [u32; 96],

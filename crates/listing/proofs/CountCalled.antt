@@ -67,12 +67,12 @@ wrapped-over M p c rows listed failed w e =
 
 -- ---- on a file
 module _ (M : Model) (file : List ℕ) where
-  -- it is refused
+  -- the file is refused, or its program turned away
   pub count-refused : (n k : ℕ) → admit M (decode file) ≡ refused n k → Refused n k ≡ countAnswerOf (countFile M file)
   unfolding countOn countAnswerOf
   count-refused n k e = ap (λ (d : Decoded). countAnswerOf (countOn M d)) (sym e)
 
-  -- it is listed
+  -- the program of the file is listed
   pub count-answered : (p : Program) → admit M (decode file) ≡ accepted p → (listed failed : ℕ) → (listed ≡ countOf M p .listed) × (failed ≡ countOf M p .failed)
       → Counted listed failed ≡ countAnswerOf (countFile M file)
   unfolding countOn countAnswerOf

@@ -5,10 +5,8 @@ pub mod Standing
 pub mod Dialogue
 -- demand 3 holds
 pub mod Demand3
--- and what is promised of sequential consistency beside it
+-- what is promised of sequential consistency beside demand 3 holds
 pub mod Sequential
--- the program that the model lists, or what refuses the file
-pub mod ListedProgram
 -- the calls that give a schedule, way by way
 pub mod FileCalls
 -- what count says of a program file

@@ -10,6 +10,8 @@ use Rattle.spec_file.proofs.PlainFiles.{same-program, same-decoded}
 use Rattle.spec_model.specs.Model.{Model}
 use Rattle.spec_model.specs.Alike.{listOf}
 use Rattle.spec_model.specs.OnFile.{admit, startOn, continueOn, countOn, violationOn}
+use Rattle.spec_model.specs.GraphCall.{graphOn}
+use Rattle.spec_model.specs.ClassSize.{classOn}
 use Rattle.spec_calls.specs.RowsCall.{rowsOn, leftOn}
 use Rattle.listing.specs.SameCalls.{SameCalls}
 
@@ -29,4 +31,6 @@ module _ (M : Model) (f g : List ℕ) (p q : Program) (e : plain f ≡ plain g) 
     violations = λ out. ap (λ (d : Decoded). violationOn M d out) same;
     rows = λ o out. ap (λ (d : Decoded). rowsOn M d o out) same;
     rows-left = λ o out. ap (λ (d : Decoded). leftOn M d o out) same;
+    graphs = λ s room. ap (λ (d : Decoded). graphOn M d s room) same;
+    classes = λ s. ap (λ (d : Decoded). classOn M d s) same;
   }

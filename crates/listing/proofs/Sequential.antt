@@ -57,7 +57,7 @@ module _ (file : List ℕ) (p : Program) (e : decode file ≡ accepted p) where
       go true h = absurd (list-exact sc sc-laws p s .0 m .1 (r, f, h, alike-graph sc sc-laws p w r s q))
       go false h = h
 
-  -- so the judge answers it, and nothing else
+  -- to the text of a listed schedule's graph the judge answers that schedule, and nothing else
   answers-it : (s : Schedule) → InList sc p s → (room : ℕ) → 24 ≤ room → (a : Answer) → Judgement file (textFor p s) room a → a ≡ consistent s
   answers-it s m room h a j =
       let d = demand-2 file p e in

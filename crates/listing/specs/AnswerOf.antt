@@ -6,13 +6,13 @@ use Rattle.listing.specs.declared.calling.ListAnswer.{ListAnswer}
 use Rattle.listing.specs.declared.calling.ListAnswer.the-variants.{Found, NoMore, Refused}
 use Rattle.spec_model.specs.Answers.{Violation, fails-first, none-fails, refused-by}
 
--- of start and continue
+-- the answer of start and continue
 unfoldable pub listAnswerOf : Answer → ListAnswer
 listAnswerOf (found s) = Found (length s)
 listAnswerOf nomore = NoMore
 listAnswerOf (refused n k) = Refused n k
 
--- of violation
+-- the answer of violation
 unfoldable pub violationAnswerOf : Violation → ListAnswer
 violationAnswerOf (fails-first s) = Found (length s)
 violationAnswerOf none-fails = NoMore

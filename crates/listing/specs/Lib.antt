@@ -1,7 +1,7 @@
 -- What a reader of this crate must believe, in reading order. The four calls on a program file stand in `model` (`OnFile`).
--- the promise as a whole, in any memory model
+-- demand 3 as a whole, in any memory model
 pub mod Demand3
--- and what is promised of sequential consistency beside it
+-- what is promised of sequential consistency beside demand 3
 pub mod Sequential
 -- the answers as the code gives them
 pub mod AnswerOf

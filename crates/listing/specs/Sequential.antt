@@ -33,11 +33,13 @@ abbrev pub UpToExchange : Program → Schedule → Graph → Type 0
 UpToExchange p s g = (π : ℕ → ℕ) × Exchange p π × Renames π (graph p s) g
 
 pub record Sequential (file : List ℕ) (p : Program) : Type 0 where
-  -- 24 BYTES: 22 exactly when an output is shorter, and each member has at most so many steps
+  -- 24 BYTES are enough: violation answers 22 exactly when its output is shorter
   pub bytes : (out : List ℕ) → (violationFile sc file out ≡ (refused-by 22 0, out)) ↔ (length out < 24)
+  -- each listed schedule has at most 24 steps
   pub within : (s : Schedule) → InList sc p s → length s ≤ 24
   -- COUNTS ARE EXACT: the list's length fits 64 bits
   pub fits : length (listOf sc p) < 2 ^ 63
+  -- the count call answers the length of the list and the number of its members that fail, without a remainder
   pub counts : countFile sc file ≡ counted (record { listed = length (listOf sc p); failed = length (filter (failing sc p) (listOf sc p)) })
   -- WITHOUT THREADS the empty schedule alone is listed
   pub none-list : p .threads ≡ [] → listOf sc p ≡ [] ∷ []

@@ -1,5 +1,4 @@
 // The calls that give a schedule: start, continue, violation.
-use crate::admitting::admitted;
 use file_decoder::Compiled;
 use file_lines::wide;
 use listing_cursor::Cursor;
@@ -9,6 +8,8 @@ use listing_cursor::put_schedule;
 use listing_model::Model;
 use listing_model::width;
 use listing_pages::next_page;
+use listing_replay::admitted;
+use listing_replay::replayed;
 use machine_replay::Verdict;
 ghost use Prim.Native.Nat.{_≤_};
 ghost use mathlib.Core.Path.{_≡_};
@@ -29,7 +30,7 @@ ghost use Rattle.listing.specs.AnswerOf.{listAnswerOf, violationAnswerOf
 pub enum ListAnswer {
     // A schedule of so many steps stands in front of the output.
     Found(usize),
-    // There is none, or no more.
+    // No listed schedule is left to answer.
     NoMore,
     // The refusal's number and place.
     Refused(u8, usize),
@@ -87,19 +88,8 @@ fn refusal(model: Model, program: Compiled, schedule: &[u8]) -> Verdict
     ensures { λ r. ⌜ refusalOf r
         ≡ refusesFrom (modelOf model .system) 0 (modelOf model .start (programOf program)) (now (schedule .entry)) ⌝ }
 {
-    let code = program.code;
-    let lengths = program.lengths;
-    let starting = program.starting;
-    match model {
-        Model::Sequential => {
-            let r = machine_replay::replayed(&code, &lengths, program.threads, starting, schedule);
-            r.verdict
-        }
-        Model::TotalStoreOrder => {
-            let r = tso_replay::replayed(&code, &lengths, program.threads, starting, schedule);
-            r.verdict
-        }
-    }
+    let r = replayed(model, program, schedule);
+    r.verdict
 }
 
 // The least listed schedule of a listed program after a given one.

@@ -1,5 +1,4 @@
 // How many schedules are listed, and how many of these fail, modulo 2^64.
-use crate::admitting::admitted;
 use file_decoder::Compiled;
 use listing_cursor::beginning;
 use listing_cursor::failing_in;
@@ -7,6 +6,7 @@ use listing_cursor::is_end;
 use listing_model::Model;
 use listing_model::width;
 use listing_pages::next_page;
+use listing_replay::admitted;
 use std::num::wrapping_add_usize;
 ghost use Prim.Native.Nat.{_*_};
 ghost use mathlib.Core.Path.{_≡_};
@@ -31,7 +31,7 @@ pub enum CountAnswer {
     Refused(u8, usize),
 }
 
-// Of a listed program: 64 rows at a time, in a lent buffer of so many.
+// The counts of a listed program, by pages of 64 rows in a lent buffer.
 fn counted(model: Model, program: Compiled, rows: &mut [u8]) -> Tally
     requires { ⌜ Admitted (modelOf model) (programOf program) × (length (now rows) ≡ 64 * rowSize (modelOf model .need)) ⌝ }
     ensures { λ r. ⌜ (r .listed ≡ countOf (modelOf model) (programOf program) .listed)
@@ -54,18 +54,21 @@ fn counted(model: Model, program: Compiled, rows: &mut [u8]) -> Tally
     }
 }
 
-// Of a listed program.
+// The bytes of a page: 64 rows of 50 bytes, the longer ones of the two models.
+const PAGE_BYTES: usize = 3200;
+
+// The counts of a listed program.
 fn counts(model: Model, program: Compiled) -> Tally
     requires { ⌜ Admitted (modelOf model) (programOf program) ⌝ }
     ensures { λ r. ⌜ (r .listed ≡ countOf (modelOf model) (programOf program) .listed)
         × (r .failing ≡ countOf (modelOf model) (programOf program) .failed) ⌝ }
 {
-    let mut rows = [0u8; 3200];
+    let mut rows = [0u8; PAGE_BYTES];
     let n = 64 * (width(model) + 2);
     counted(model, program, &mut rows[..n])
 }
 
-// Of a program file, which may be refused.
+// The counts of a program file, which may be refused.
 pub fn count(model: Model, file: &[u8]) -> CountAnswer
     ensures { λ r. ⌜ r ≡ countAnswerOf (countFile (modelOf model) (now (file .entry))) ⌝ }
 {

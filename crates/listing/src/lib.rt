@@ -1,7 +1,5 @@
 // The calls that walk the list, in both memory models: start, continue, count, violation, rows; and demand 3.
 
-// The program that the model lists, or what refuses the file.
-mod admitting;
 // The calls that give a schedule.
 mod calling;
 // How many are listed, and how many of these fail.

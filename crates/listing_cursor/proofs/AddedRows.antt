@@ -73,7 +73,7 @@ module _ (w : ℕ) (fails : Schedule → Bool) where
       shown = λ ss held r h s. shown-same ss (take room (ss ++ found)) held out n (sym (take-at ss found room (omega (arith, h, s .counted, e)))) s;
     }
 
-    -- some, and then others
+    -- some rows, and then others
     pub adds-more : (found rest : List Schedule) (out out' out'' : List ℕ) (n n' n'' : ℕ) → Adds w fails room found out n out' n' → Adds w fails room rest out' n' out'' n''
         → Adds w fails room (found ++ rest) out n out'' n''
     adds-more found rest out out' out'' n n' n'' a b = record {
@@ -87,7 +87,7 @@ module _ (w : ℕ) (fails : Schedule → Bool) where
     pub adds-same : (found rest : List Schedule) (out out' : List ℕ) (n n' : ℕ) → found ≡ rest → Adds w fails room rest out n out' n' → Adds w fails room found out n out' n'
     adds-same found rest out out' n n' e a = subst (λ (l : List Schedule). Adds w fails room l out n out' n') (sym e) a
 
-    -- one, into the part of the output behind the rows
+    -- one row, into the part of the output behind the rows
     pub adds-one : (found : List Schedule) (v : Schedule) (out ys : List ℕ) (n : ℕ) → found ≡ v ∷ [] → n < room
         → ys ≡ over (rowOf w fails v) (midOf (n * rowSize w) (length out - n * rowSize w) out)
         → Adds w fails room found out n (putMid (n * rowSize w) (length out - n * rowSize w) out ys) (n + 1)

@@ -30,7 +30,7 @@ place-small w k n h m l =
     let q = rows-within k 64 (rowSize w) r in
     le-trans q (omega (arith, h))
 
--- and its bytes lie within the rows
+-- the first two bytes of a row lie within the rows
 pub place-within : (w k n : ℕ) (rows : List ℕ) → n * rowSize w ≤ length rows → k < n → k * rowSize w + 1 < length rows
 place-within w k n rows h l = next (k * rowSize w) (n * rowSize w) (length rows) h (row-within k n (rowSize w) l)
   where
@@ -69,7 +69,7 @@ module _ (w : ℕ) (fails : Schedule → Bool) (ss : List Schedule) (held rows :
       let y = ap length (filter-yes fails (getD ss k []) [] (shown-fails k h e)) in
       omega (arith, q, one-more k h, y, filter-length fails [])
 
-  -- one that does not
+  -- one row more that does not fail
   pub fails-same : (k f : ℕ) → k < n → getD rows (k * rowSize w + 1) 0 ≢ 1 → f ≡ length (filter fails (take k ss)) → f ≡ length (filter fails (take (k + 1) ss))
   fails-same k f h e q =
       let y = ap length (filter-no fails (getD ss k []) [] (shown-holds k h e)) in

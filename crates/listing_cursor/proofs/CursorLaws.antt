@@ -25,7 +25,7 @@ bytes-more schedule bytes k b h l e v =
     ap (λ (i : ℕ). take i (set bytes k b)) (sym j) ∙ take-suc-set bytes k b h ∙ ap₂ (λ (x : List ℕ) (y : ℕ). x ++ (y ∷ [])) e v
     ∙ sym (take-suc schedule k 0 l) ∙ ap (λ (i : ℕ). take i schedule) j
 
--- so many of a list that is no longer
+-- of a list of at most n the first m are the first of m and n, whichever is less
 pub take-least : (n m : ℕ) (l : List ℕ) → length l ≤ n → take (min n m) l ≡ take m l
 take-least n m [] h = take-nil (min n m) ∙ sym (take-nil m)
 take-least zero m (x ∷ l) h = absurd (omega arith)
@@ -56,7 +56,7 @@ module _ (l : List Schedule) (c : Cursor) where
       go Behind q = absurd (false≢true q)
       go End q = refl
 
-  -- its members are of the list
+  -- what is yet to come at a cursor is of the list
   pub of-from : (s : Schedule) → List·Memᴰ s (from c l) → List·Memᴰ s l
   unfolding from fromAt
   of-from s m = go (c .position) m

@@ -67,7 +67,7 @@ module _ (w : ℕ) (fails : Schedule → Bool) (held row : List ℕ) (n : ℕ) (
     pub first-of : List·Memᴰ first l
     first-of = subst (λ (k : List Schedule). List·Memᴰ (here .schedule) k) (sym (here .is)) (List·Memᴰ·head refl)
 
-    -- its length stands in front, and its steps behind two bytes
+    -- the first schedule's length stands in front of its row, and its steps behind two bytes
     pub first-length : (k : ℕ) → k ≡ getD row 0 0 → k ≡ length first
     unfolding rowOf
     first-length k e = e ∙ ap (λ (b : List ℕ). getD b 0 0) (here .bytes) ∙ row-steps-count w (here .schedule) (fails (here .schedule))

@@ -25,7 +25,7 @@ module _ (M : Model) (L : Laws M) (p : Program) (a : Admitted M p) (failures : B
   pub sought-fits : (s : Schedule) → List·Memᴰ s (sought M failures p) → length s ≤ M .need
   sought-fits s m = list-room M L p a s (of-sought M p failures s m)
 
-  -- so a cursor keeps all of it
+  -- a cursor has room for every schedule that is sought
   pub sought-48 : M .need ≤ 48 → (s : Schedule) → List·Memᴰ s (sought M failures p) → length s ≤ 48
   sought-48 h s m = omega (arith, h, sought-fits s m)
 

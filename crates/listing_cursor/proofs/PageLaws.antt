@@ -24,7 +24,7 @@ use Rattle.listing_cursor.proofs.AddedRows.{rows-length, rows-fit, rows
 use Rattle.listing_cursor.proofs.RowsRead.{shown-length, shown-steps}
 use Rattle.listing_cursor.proofs.CursorLaws.{from-end, from-tight}
 
--- so many as the first so many are
+-- dropping as many as the first n are drops n
 drop-taken : {A : Type 0} (n : ℕ) (l : List A) → drop (length (take n l)) l ≡ drop n l
 drop-taken zero l = refl
 drop-taken (suc n) [] = refl
@@ -144,14 +144,14 @@ module _ (w : ℕ) (fails : Schedule → Bool) where
       in-rows : getD (take room rest) (rows - 1) [] ≡ last
       in-rows = getD-take room rest (rows - 1) [] (omega (arith, counted, length-take room rest, nonzero))
 
-      -- its row says how many steps it has
+      -- the row of the last schedule says how many steps it has
       last-length : (n : ℕ) → n ≡ getD out ((rows - 1) * rowSize w) 0 → n ≡ length last
       last-length n e = e ∙ shown-length w fails (take room rest) held out rows found (rows - 1) (omega (arith, nonzero)) ∙ ap length in-rows
 
       pub last-few : (n : ℕ) → n ≡ getD out ((rows - 1) * rowSize w) 0 → n ≤ w
       last-few n e = omega (arith, last-length n e, last-most)
 
-      -- and lies within the buffer
+      -- the last row lies within the buffer
       pub last-within : (rows * rowSize w ≤ length held) × (length out ≡ length held)
       last-within = (le-trans (rows-within rows room (rowSize w) (omega (arith, counted, taken-most room rest))) (rows-fit (length held) (rowSize w)), size)
 

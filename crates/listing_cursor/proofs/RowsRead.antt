@@ -52,7 +52,7 @@ module _ (w : ℕ) (fails : Schedule → Bool) where
         ∙ part-over (rowsOf w fails ss) held (k * rowSize w) (rowSize w) (le-trans (row-within k (length ss) (rowSize w) c) (le-of-eq (sym (rows-length w fails ss))))
         ∙ rows-at ss k c
 
-    -- its bytes
+    -- the bytes of a row that is shown
     pub shown-at : (k j : ℕ) → k < n → j < rowSize w → getD rows (k * rowSize w + j) 0 ≡ getD (rowOf w fails (getD ss k [])) j 0
     shown-at k j h l =
         sym (getD-take (rowSize w) (drop (k * rowSize w) rows) j 0 l ∙ getD-drop (k * rowSize w) rows j 0) ∙ ap (λ (r : List ℕ). getD r j 0) (row-shown k h)

@@ -20,11 +20,11 @@ fromAt Beginning s l = l
 fromAt Behind s l = after (some s) l
 fromAt End s l = []
 
--- and at a cursor
+-- what of a list is yet to come at a cursor
 unfoldable pub from : Cursor → List Schedule → List Schedule
 from c l = fromAt (c .position) (take (c .steps) (c .schedule)) l
 
--- before the first, or behind a schedule
+-- the position before the first listed schedule, or behind a schedule
 abbrev pub positionAt : Bool → Position
 positionAt true = Behind
 positionAt false = Beginning
@@ -35,14 +35,14 @@ isEnd Beginning = false
 isEnd Behind = false
 isEnd End = true
 
--- the pages to come are at most so many
+-- the most pages that are to come
 abbrev pub pages : Cursor → List Schedule → ℕ
 pages c l = length (from c l) + cond (isEnd (c .position)) 0 1
 
 pub record Paged (w : ℕ) (fails : Schedule → Bool) (l : List Schedule) (c : Cursor) (held out : List ℕ) (r : Page) : Type 0 where
   -- the rows of what is yet to come, as many as there is room for, stand over the front of what the buffer held
   pub shown : Shown w fails (take (length held / rowSize w) (from c l)) held out (r .rows)
-  -- behind the page what was to come is still to come, but for these
+  -- behind the page what was to come is still to come, but for the schedules of its rows
   pub rest : from (r .cursor) l ≡ drop (r .rows) (from c l)
-  -- where there was room for more the end is reached
+  -- where the buffer had room for more rows the cursor behind the page is at the end
   pub ends : r .rows < length held / rowSize w → isEnd (r .cursor .position) ≡ true

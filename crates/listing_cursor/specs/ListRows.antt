@@ -12,7 +12,7 @@ use Rattle.listing_cursor.specs.Rows as Rows
 use Rattle.listing_cursor.specs.Cursor as Cursors
 
 module _ (M : Model) (p : Program) where
-  -- so many, they stand over the front of what the buffer held
+  -- the rows of listed schedules ss stand over the front of what the buffer held
   abbrev pub Shown : List Schedule → List ℕ → List ℕ → ℕ → Type 0
   Shown ss held out rows = Rows.Shown (M .need) (failing M p) ss held out rows
 
@@ -20,10 +20,10 @@ module _ (M : Model) (p : Program) where
   abbrev pub remaining : Bool → Cursor → List Schedule
   remaining failures c = Cursors.from c (sought M failures p)
 
-  -- the pages to come are at most so many
+  -- the most pages that are to come
   abbrev pub pages : Bool → Cursor → ℕ
   pages failures c = Cursors.pages c (sought M failures p)
 
-  -- a page of it
+  -- a page of what is yet to come at a cursor
   abbrev pub Paged : Bool → Cursor → List ℕ → List ℕ → Page → Type 0
   Paged failures c held out r = Cursors.Paged (M .need) (failing M p) (sought M failures p) c held out r

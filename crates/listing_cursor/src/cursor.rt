@@ -10,22 +10,22 @@ ghost use Rattle.listing_cursor.specs.declared.cursor.Position.the-varia
 ghost use Rattle.listing_cursor.specs.Cursor.{from, isEnd};
 
 pub enum Position {
-    // Before the first.
+    // Before the first listed schedule.
     Beginning,
     // Behind the cursor's schedule.
     Behind,
-    // Behind the last.
+    // Behind the last listed schedule.
     End,
 }
 
-// Where it stands; the schedule behind which it stands has so many steps.
+// Where a walk of the list stands; of the schedule behind which it stands the first `steps` bytes count.
 pub struct Cursor {
     pub position: Position,
     pub schedule: [u8; 48],
     pub steps: usize,
 }
 
-// So many rows, and the cursor behind them.
+// A page: the number of its rows, and the cursor behind them.
 pub struct Page {
     pub rows: usize,
     pub cursor: Cursor,
@@ -65,7 +65,7 @@ pub fn is_end(cursor: Cursor) -> bool
     }
 }
 
-// So many, but no more than a cursor has room for.
+// The number n of bytes, but no more than a cursor has room for.
 pub fn bytes_kept(n: usize) -> usize
     ensures { λ r. ⌜ r ≡ min n 48 ⌝ }
 {

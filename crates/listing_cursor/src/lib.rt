@@ -1,7 +1,5 @@
 // Pages of rows, and where they go on.
 
-// Two schedules compared.
-mod comparison;
 // What a search is asked for.
 mod aim;
 // The bound of a search.
@@ -17,7 +15,6 @@ pub use aim::Aim;
 pub use aim::is_meant;
 pub use bounds::first_byte;
 pub use bounds::stays_tight;
-pub use comparison::less;
 pub use cursor::Cursor;
 pub use cursor::Page;
 pub use cursor::Position;

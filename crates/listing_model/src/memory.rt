@@ -9,7 +9,7 @@ pub enum Model {
     TotalStoreOrder,
 }
 
-// An output that is shorter is refused, and a row has room for so many steps.
+// The steps that a row has room for; an output of fewer bytes is refused.
 pub fn width(model: Model) -> usize
     ensures { λ r. ⌜ r ≡ modelOf model .need ⌝ }
 {

@@ -12,10 +12,11 @@ use Rattle.spec_schedules.specs.Lists.{range}
 use Rattle.spec_schedules.specs.System.{ended}
 use Rattle.spec_schedules.proofs.Lists.{any-of, any-yes, all-of, all-at, in-range, of-range}
 use Rattle.spec_schedules.proofs.Runs.{ended-of, ended-none}
+use Rattle.machine_access.specs.declared.thread.ThreadState.{ThreadState}
 use Rattle.machine.specs.declared.state.Machine.{Machine}
 use Rattle.spec_sc.specs.State.{State, noThread, threadOf, enabled, SC, failedOf, fails}
-use Rattle.machine.specs.Held.{threadAt, Holds, Ready}
-use Rattle.machine.specs.Asked.{enabledBy, endedBy, failsBy}
+use Rattle.machine.specs.Held.{idle, threadAt, Holds, Ready}
+use Rattle.machine.specs.Asked.{enabledBy, endedBy, someFailed, failsBy}
 use Rattle.spec_sc.proofs.Access.{nothing-pending}
 use Rattle.spec_sc.proofs.Steps.{enabled-of, enabled-small, enabled-pending, missing}
 use Rattle.spec_sc.proofs.Lawful.{lawful}
@@ -47,7 +48,7 @@ module _ (code lengths : List ℕ) (m : Machine) (σ : State) (held : Holds code
       go true e = absurd (true≢false (sym (enabled-pending σ t e) ∙ nothing-pending (threadOf σ t .local) (held .threads t h .rest ∙ code-end code t (getD lengths t 0) (threadAt m t .at) l)))
       go false e = e
 
-  -- so the counter tells
+  -- a thread's counter tells whether it may step
   pub enabled-held : (t : ℕ) → t < 6 → ltb (threadAt m t .at) (getD lengths t 0) ≡ enabled σ t
   enabled-held t h = go (decLt (threadAt m t .at) (getD lengths t 0))
     where
@@ -86,17 +87,23 @@ module _ (lengths : List ℕ) (m : Machine) where
       let b = of-range 0 6 t k .1 in
       ap not (sym (enabled-named t t refl b) ∙ le-ltb (threadAt m t .at) (getD lengths t 0) (h t b)))
 
-pub fails-yes : (m : Machine) (t : ℕ) → t < 6 → threadAt m t .failed ≡ true → failsBy m ≡ true
-fails-yes m t h e = any-of (λ u. threadAt m u .failed) (range 0 6) t (in-range 0 6 t (omega arith) h) e
+pub some-yes : (threads : List ThreadState) (t : ℕ) → t < 6 → getD threads t idle .failed ≡ true → someFailed threads ≡ true
+some-yes threads t h e = any-of (λ u. getD threads u idle .failed) (range 0 6) t (in-range 0 6 t (omega arith) h) e
 
-pub fails-not : (m : Machine) → ((t : ℕ) → t < 6 → threadAt m t .failed ≡ false) → failsBy m ≡ false
-fails-not m h = go (failsBy m) refl
+pub some-not : (threads : List ThreadState) → ((t : ℕ) → t < 6 → getD threads t idle .failed ≡ false) → someFailed threads ≡ false
+some-not threads h = go (someFailed threads) refl
   where
-    go : (b : Bool) → failsBy m ≡ b → failsBy m ≡ false
+    go : (b : Bool) → someFailed threads ≡ b → someFailed threads ≡ false
     go true e =
-        let r = any-yes (λ u. threadAt m u .failed) (range 0 6) e in
+        let r = any-yes (λ u. getD threads u idle .failed) (range 0 6) e in
         absurd (true≢false (sym (r .2) ∙ h (r .0) (of-range 0 6 (r .0) (r .1) .1)))
     go false e = e
+
+pub fails-yes : (m : Machine) (t : ℕ) → t < 6 → threadAt m t .failed ≡ true → failsBy m ≡ true
+fails-yes m t h e = some-yes (m .threads) t h e
+
+pub fails-not : (m : Machine) → ((t : ℕ) → t < 6 → threadAt m t .failed ≡ false) → failsBy m ≡ false
+fails-not m h = some-not (m .threads) h
 
 -- ---- of a machine that holds a state, that is what may be asked of the state
 module _ {code lengths : List ℕ} {m : Machine} {σ : State} (held : Holds code lengths m σ) where

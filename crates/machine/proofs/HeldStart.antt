@@ -75,7 +75,7 @@ module _ (code lengths : List ℕ) (threads : ℕ) (p : Program) (loaded : Loade
         λ b. ap (λ (l : Local). l .registers) local,
       )
 
-  -- one that does not
+  -- a thread that does not exist
   pub missing-held : (t : ℕ) (rs : List ℕ) → threads ≤ t → HoldsAt code lengths (record { registers = rs; at = getD lengths t 0; done = 0; failed = false }) (start p) t
   unfolding noThread
   missing-held t rs h =

@@ -84,8 +84,8 @@ pub record HoldsStep (code lengths : List ℕ) (σ : State) (t : ℕ) (r : Stepp
   pub holds : Holds code lengths (r .machine) (step σ t)
   pub noted : r .note ≡ noteBytes (note σ t)
 
--- what it leaves to one who keeps no last writes of the machine m: the next state with some last writes, the step's location, and whether
--- it wrote
+-- what a step of thread t leaves to a caller that keeps no last writes of the machine m: the next state with some last writes, the step's
+-- location, and whether it wrote
 pub record HoldsMoved (code lengths : List ℕ) (m : Machine) (σ : State) (t : ℕ) (a : Moved) : Type 0 where
   pub last : List LastWrite
   pub holds : Holds code lengths (record { threads = set (m .threads) t (a .thread); memory = a .memory; last = last }) (step σ t)

@@ -1,7 +1,8 @@
 // What may be asked of a machine: whether a thread may step, whether all have ended, whether an assertion failed.
 use crate::state::Machine;
+use machine_access::ThreadState;
 ghost use mathlib.Core.Path.{_≡_};
-ghost use Rattle.machine.specs.Asked.{enabledBy, endedBy, failsBy};
+ghost use Rattle.machine.specs.Asked.{enabledBy, endedBy, someFailed, failsBy};
 
 // Whether t names a thread that has not ended. Each thread is named by a constant, so that a caller's machine is read where it lies.
 pub fn enabled(lengths: &[usize; 6], m: Machine, t: u8) -> bool
@@ -49,17 +50,25 @@ pub fn ended_all(lengths: &[usize; 6], m: Machine) -> bool
     true
 }
 
-// Whether some assertion failed.
-pub fn fails(m: Machine) -> bool
-    ensures { λ r. ⌜ r ≡ failsBy m ⌝ }
+// Whether an assertion of one of these threads failed.
+pub fn some_failed(threads: [ThreadState; 6]) -> bool
+    ensures { λ r. ⌜ r ≡ someFailed threads ⌝ }
 {
     let mut t = 0;
     while t < 6 {
-        let thread = m.threads[t];
+        let thread = threads[t];
         if thread.failed {
             return true;
         }
         t += 1;
     }
     false
+}
+
+// Whether an assertion of the machine's threads failed.
+pub fn fails(m: Machine) -> bool
+    ensures { λ r. ⌜ r ≡ failsBy m ⌝ }
+{
+    let threads = m.threads;
+    some_failed(threads)
 }

@@ -12,6 +12,7 @@ mod asking;
 pub use asking::enabled;
 pub use asking::ended_all;
 pub use asking::fails;
+pub use asking::some_failed;
 pub use starting::started;
 pub use state::LastWrite;
 pub use state::Machine;

@@ -131,7 +131,7 @@ pub fn after_step(
     }
 }
 
-// The same for one who keeps no last writes and no note.
+// A step of thread t for a caller that keeps no last writes and no note.
 pub fn lean_step(
     code: &Code,
     lengths: &[usize; 6],

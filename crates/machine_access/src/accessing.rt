@@ -9,7 +9,7 @@ ghost use lib.ListN.{getD};
 ghost use Rattle.spec_sc.specs.Local.{sum32};
 ghost use Rattle.machine_access.specs.CarriedOut.{accessing, reading};
 
-// Its location, whether it reads (1 or 0), the registers behind it, whether it writes (1 or 0) and what.
+// An access carried out: its location, whether it reads (1 or 0), the registers behind it, whether it writes (1 or 0) and what.
 pub struct Access {
     pub location: u8,
     pub reads: u8,

@@ -57,8 +57,8 @@ pub fn settle(
     }
 }
 
-// The same, quick where an access or the end comes at once. The registers are taken one by one, so that none of the ways keeps them in
-// memory.
+// A thread carried to its next access, quick where an access or the end comes at once. The registers are taken one by one, so that none of
+// the ways keeps them in memory.
 pub fn settled(
     code: &Code,
     t: usize,

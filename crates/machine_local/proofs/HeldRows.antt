@@ -38,7 +38,7 @@ module _ (code : List ℕ) (k : ℕ) (h : k < 96) where
   access-compare-swap e = rw (row-compare-swap code k h e)
 
   module _ (n10 : getD code (k * 16) 0 ≡ 0x10 → ⊥) (n11 : getD code (k * 16) 0 ≡ 0x11 → ⊥) (n12 : getD code (k * 16) 0 ≡ 0x12 → ⊥) (n13 : getD code (k * 16) 0 ≡ 0x13 → ⊥) where
-    -- none of them
+    -- a row that begins with none of the four first bytes is no access
     pub no-access : beginsWithAccess (instructionAt code k ∷ []) ≡ false
     unfolding beginsWithAccess
     no-access = row-no-access code k h (λ i. beginsWithAccess (i ∷ []) ≡ false) n10 n11 n12 n13 (λ o. refl)

@@ -56,7 +56,7 @@ pub struct Carried {
     pub skip: u8,
 }
 
-// With these registers behind it, and so many instructions skipped.
+// An instruction carried out: the registers behind it, and how many instructions it skips.
 pub(crate) fn passed(registers: [u32; 4], skip: u8) -> Carried
     ensures { λ r. ⌜ r ≡ going registers skip ⌝ }
 {

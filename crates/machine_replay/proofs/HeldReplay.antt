@@ -58,7 +58,7 @@ module _ (code lengths : List ℕ) (threads : ℕ) (p : Program) (loaded : Loade
     next : take (k + 1) s ≡ take k s ++ (t ∷ [])
     next = ap (λ (j : ℕ). take j s) (let z : k + 1 ≡ suc k = omega arith in z) ∙ take-suc s k 0 h
 
-    -- it may not step
+    -- the next byte may not step
     pub replay-stops : enabled σ t ≡ false → HoldsRun code lengths p s (record { verdict = Refused 20 k; machine = m; log = log; schedule = made; steps = k })
     unfolding verdictOf
     replay-stops e = record {
@@ -90,7 +90,7 @@ module _ (code lengths : List ℕ) (threads : ℕ) (p : Program) (loaded : Loade
       same-length : k ≡ length (notes (start p) (take k s))
       same-length = sym (notes-length (take k s) (start p) ∙ length-take-le k s (done .within))
 
-      -- it stands behind those that were made
+      -- the step stands behind those that were made
       one-more : take (k + 1) (set made k t) ≡ take (k + 1) s
       one-more =
           ap (λ (j : ℕ). take j (set made k t)) (let z : k + 1 ≡ suc k = omega arith in z)

@@ -3,5 +3,3 @@
 pub mod HeldReplay
 -- what its verdict says of its replay
 pub mod Verdicts
--- what the graph call answers
-pub mod GraphCalled

@@ -72,7 +72,7 @@ together-known class n u t known h i some = go (eqb (getD class u 0) (getD class
     go true e = let q = eqb-true (getD class u 0) (getD class t 0) e in e ∙ sym (class-together class n u t h i (omega (arith, q, some)) (known u h) (sym q))
     go false e = e ∙ sym (not-together class n u t (λ k. eqb-false (getD class u 0) (getD class t 0) e (sym (together-class class n u t k .3))))
 
--- one without a class stands in no line
+-- a thread without a class stands in no line
 pub alone-known : (class : List ℕ) (n u t : ℕ) → getD class t 0 ≡ 0 → together (groupsOf class n) u t ≡ false
 alone-known class n u t e = not-together class n u t (λ k. let r = together-class class n u t k in omega (arith, r .1, r .3, e))
 

@@ -44,7 +44,7 @@ module _ (code lengths : List ℕ) (m : Machine) (σ : State) (held : Holds code
   unfolding lateNow
   late-own e = let q = eq-eqb (a .thread) u e in sym (rw q (and-false (enabled σ u)))
 
-  -- one that has ended
+  -- a thread that has ended is not late
   pub late-ended : (k : ThreadState) → threadAt m u ≡ k → getD lengths u 0 ≤ k .at → false ≡ lateNow σ s a u
   unfolding lateNow
   late-ended k e l =
@@ -52,7 +52,7 @@ module _ (code lengths : List ℕ) (m : Machine) (σ : State) (held : Holds code
       let q = held-ended code lengths m σ held u h (omega (arith, i, l)) in
       sym (rw q refl)
 
-  -- one that is greater and was not late
+  -- a thread that is greater and was not late is not late now
   pub late-behind : (ltb u (a .thread) || has s u) ≡ false → false ≡ lateNow σ s a u
   unfolding lateNow
   late-behind e = sym (rw e (ap (λ (b : Bool). enabled σ u && b) (and-false (not (eqb (a .thread) u))) ∙ and-false (enabled σ u)))

@@ -138,7 +138,7 @@ module _ (code lengths class : List ℕ) (threads groups : ℕ) (x : Place) (p :
     pub reached-ready : ReadyThread lengths (getD (x .threads) t idle) t
     reached-ready = ready-held code lengths own σ (at .holds) t (reached-short t (enabled-small σ t ok) (held-left code lengths own σ t (at .holds) ok)) ok
 
-    -- its bit is in the set
+    -- the bit of a thread that may step is in the set
     pub reached-bit : 2 ^ t ≤ x .live
     reached-bit = omega (arith, at .live, set-at-least (enabled σ) 6 t (enabled-small σ t ok) ok)
 
@@ -151,7 +151,7 @@ module _ (code lengths class : List ℕ) (threads groups : ℕ) (x : Place) (p :
         let n = allowed-length SC lawful (start p) (v ++ (t ∷ [])) more-allowed in
         omega (arith, n, length-append v (t ∷ []), at .counted, start-24 p (at .loaded .wellFormed))
 
-    -- its step, as the code asks for it by the number u
+    -- thread t's step, as the code asks for it by the number u
     pub moved-by : (u : ℕ) → u ≡ t → (a : Moved)
         → ((m : Machine) (τ : State) → threadAt m t ≡ getD (x .threads) u idle → m .memory ≡ x .memory → Holds code lengths m τ → enabled τ t ≡ true → place τ t < 8 → HoldsMoved code lengths m τ t a)
         → HoldsMoved code lengths (machineOf x (at .last)) (endOf p v) t a

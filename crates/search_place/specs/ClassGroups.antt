@@ -11,7 +11,7 @@ use Rattle.spec_file.specs.Tabulate.{tabulate}
 unfoldable pub groupsOf : List ℕ → ℕ → List (List ℕ)
 groupsOf class n = tabulate (λ k. membersOf class (k + 1)) n
 
--- these are the classes of the program's threads, and each names one of its groups or none
+-- `class` has the class of each of the program's threads, the number of one of its groups or 0 for none
 pub record Lined (class : List ℕ) (groups : ℕ) (p : Program) : Type 0 where
   pub same : p .groups ≡ groupsOf class groups
   pub known : (t : ℕ) → t < 6 → getD class t 0 ≤ groups

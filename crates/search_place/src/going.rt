@@ -28,7 +28,7 @@ ghost use Rattle.theory_sc.specs.ReadWords.{wordBehind};
 ghost use Rattle.search_place.specs.ClassGroups.{Lined};
 ghost use Rattle.search_place.specs.Reached.{Reached};
 
-// Before the first step of the program in these rows, with these starting values.
+// The place before the first step of the program in these rows, with these starting values.
 pub fn begun(code: &Code, lengths: &[usize; 6], threads: usize, starting: [u32; 8]) -> Place
     requires { ⌜ ((p : Program) × Loaded (now code) (now lengths) threads p) ⌝ }
     ensures { λ r. ⌜ ((class : List ℕ) (groups : ℕ) (p : Program) → Loaded (now (code .entry)) (now (lengths .entry)) threads p

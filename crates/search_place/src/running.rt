@@ -12,7 +12,7 @@ ghost use Rattle.machine.specs.Held.{Holds};
 ghost use Rattle.machine.specs.declared.state.Machine.{Machine};
 ghost use Rattle.theory_sc.specs.Sets.{setOf};
 
-// Those of these threads.
+// The threads that have not ended, by where each stands.
 pub(crate) fn live_set(lengths: &[usize; 6], threads: [ThreadState; 6]) -> u8
     ensures { λ r. ⌜ ((code : List ℕ) (m : Machine) (σ : State) → m .threads ≡ threads → Holds code (now (lengths .entry)) m σ
         → r ≡ setOf (enabled σ) 6) ⌝ }
@@ -28,7 +28,7 @@ pub(crate) fn live_set(lengths: &[usize; 6], threads: [ThreadState; 6]) -> u8
     live
 }
 
-// Those behind a step of thread t, one of them, which goes on behind it or not.
+// The threads that have not ended behind a step of thread t, which is one of them and goes on behind its step or not.
 pub fn live_behind(live: u8, t: u8, on: bool) -> u8
     requires { ⌜ (t < 6) × (2 ^ t ≤ live) ⌝ }
     ensures { λ r. ⌜ r ≡ cond on live (live - 2 ^ t) ⌝ }

@@ -30,7 +30,7 @@ none-below f n none = go (any f (range 0 n)) refl
     go false e = e
 
 module _ (class words : List ℕ) (groups : ℕ) (p : Program) (lines : Lined class groups p) (t : ℕ) (h : t < 6) (end : ℕ) (le : end ≤ t) where
-  -- one without a class is in no line
+  -- a thread without a class is in no line
   pub alone-held : getD class t 0 ≡ 0 → any (twinByWord p words t) (range 0 end) ≡ false
   alone-held e = none-below (twinByWord p words t) end (λ u i. let q = ap (λ (g : List (List ℕ)). together g u t) (lines .same) ∙ alone-known class groups u t e in rw q)
 

@@ -3,5 +3,5 @@
 pub mod HeldTwins
 -- R3 read off the sets of what is left
 pub mod WhatIsLeft
--- and behind a prefix, round by round
+-- R3 behind a prefix, round by round
 pub mod Rounds

@@ -29,7 +29,7 @@ pub struct Awaited {
     pub writer: bool,
 }
 
-// That of thread t; of one that has ended, location 0 and no write.
+// The access that thread t stands at; of a thread that has ended, location 0 and no write.
 fn access_of(code: &Code, lengths: &[usize; 6], at: &[usize; 6], t: usize) -> Awaited
     requires { ⌜ (t < 6) × ShortAt (now lengths) (now at) ⌝ }
     ensures { λ r. ⌜ ((σ : State) → Rests (now (code .entry)) (now (lengths .entry)) (now (at .entry)) σ

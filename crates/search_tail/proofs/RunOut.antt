@@ -86,7 +86,7 @@ module _ (code lengths class : List ℕ) (threads groups : ℕ) (x : Place) (p :
     pub running-most : r .steps ≤ 24
     running-most = omega (arith, run .held .steps, reached-most code lengths class threads groups y p w (run .reached))
 
-    -- its steps are the prefix
+    -- the runner's steps are the prefix
     pub running-row : take (r .steps) (r .schedule) ≡ run .prefix
     running-row = ap₂ (λ (n : ℕ) (l : List ℕ). take n l) (sym (run .held .steps)) (sym (run .held .schedule)) ∙ run .reached .schedule
 
@@ -101,7 +101,7 @@ module _ (code lengths class : List ℕ) (threads groups : ℕ) (x : Place) (p :
       pub running-room : r .steps < 24
       running-room = omega (arith, run .held .steps, reached-room code lengths class threads groups y p w (run .reached) t ok)
 
-      -- its step
+      -- the step of the runner's thread
       module _ (size : length (r .schedule) ≡ 24) (a : Moved) (moves : Moves code lengths (r .thread) (r .memory) t a) where
         moved : HoldsMoved code lengths (machineOf (run .at) (run .reached .last)) (endOf p (run .prefix)) t a
         moved =
@@ -188,7 +188,7 @@ module _ (code lengths class : List ℕ) (threads groups : ℕ) (x : Place) (p :
                   absurd (true≢false (sym (s .1 .live)
                   ∙ held-ended code lengths (machineOf y (run .reached .last)) (endOf p w) (run .reached .holds) t six (subst (λ (k : ThreadState). getD lengths t 0 ≤ k .at) (sym (run .held .thread)) over)))
 
-          -- it is found, unless only failing ones are wanted and it does not fail
+          -- the full schedule is found, unless only failing ones are wanted and it does not fail
           pub run-found : (failures : Bool) → (not failures || f) ≡ true → foundBehind failures p (x .steps) none v ≡ run .prefix ∷ []
           run-found failures m = run .found failures settled ∙ behind-end failures p (y .steps) w f run-over run-failing m
 

@@ -36,7 +36,7 @@ pub struct Runner {
     pub failed: bool,
 }
 
-// These.
+// A runner made of its five parts.
 pub fn runner_at(
     thread: ThreadState,
     memory: [u32; 8],

@@ -2,7 +2,7 @@
 use listing_cursor::Aim;
 use listing_cursor::is_meant;
 use listing_cursor::put_row;
-use machine_access::ThreadState;
+use machine::some_failed;
 use search_place::Place;
 use spec_file::STEPS;
 ghost use mathlib.Core.Path.{_≡_};
@@ -14,10 +14,8 @@ ghost use lib.ListN.{length};
 ghost use Rattle.spec_file.specs.Program.{Program};
 ghost use Rattle.spec_schedules.specs.Order.{Schedule};
 ghost use Rattle.spec_schedules.specs.System.{ended};
-ghost use Rattle.spec_sc.specs.State.{State, SC, fails};
+ghost use Rattle.spec_sc.specs.State.{SC};
 ghost use Rattle.spec_sc.specs.Graph.{endOf};
-ghost use Rattle.machine.specs.Held.{Holds};
-ghost use Rattle.machine.specs.declared.state.Machine.{Machine};
 ghost use Rattle.theory_sc.specs.Search.{foundBehind};
 ghost use Rattle.search_place.specs.Reached.{Reached};
 ghost use Rattle.search_tail.specs.Walked.{Adds};
@@ -25,22 +23,7 @@ ghost use Rattle.search_tail.specs.Walked.{Adds};
 // The bytes of a listed schedule's row.
 pub const ROW: usize = 26;
 
-// Whether an assertion of one of these threads failed.
-pub fn some_failed(threads: [ThreadState; 6]) -> bool
-    ensures { λ r. ⌜ ((code lengths : List ℕ) (m : Machine) (σ : State) → m .threads ≡ threads → Holds code lengths m σ → r ≡ fails σ) ⌝ }
-{
-    let mut t = 0;
-    while t < 6 {
-        let thread = threads[t];
-        if thread.failed {
-            return true;
-        }
-        t += 1;
-    }
-    false
-}
-
-// Adds its row, if it is looked for and there is room; answers how many rows there are.
+// Adds the row of the full schedule, if it is looked for and there is room; answers how many rows there are.
 pub fn at_end(x: Place, a: Aim, out: &mut [u8]) -> usize
     requires { ⌜ (x .steps ≤ 24) × (a .rows ≤ a .room) × (a .room * 26 ≤ length (now out)) ⌝ }
     ensures within { λ r. ⌜ r ≤ a .room ⌝ }

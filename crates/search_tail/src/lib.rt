@@ -11,4 +11,3 @@ pub use alone::run_out;
 pub use alone::runner_at;
 pub use full::ROW;
 pub use full::at_end;
-pub use full::some_failed;

@@ -42,7 +42,7 @@ module _ (code lengths class : List ℕ) (threads groups : ℕ) (x : Place) (p :
     ok : enabled (endOf p v) t ≡ true
     ok = tried-enabled p v t is
 
-    -- it leaves some asleep
+    -- the step leaves some thread asleep
     pub visit-asleep : not (eqb (sleepers (endOf p (v ++ (t ∷ []))) (lateSet p (v ++ (t ∷ [])))) 0) ≡ true → foundWith failures p (x .steps) o v t ≡ []
     visit-asleep e = with-given-up failures p (x .steps) o v t ok (up-asleep p v t (eqb-false _ 0 (not-true _ e)))
 
@@ -133,7 +133,7 @@ module _ (code lengths class : List ℕ) (failures : Bool) (x : Place) (o : Opti
       Loop.iteration-tried 24 (Cases code lengths class x) (λ k. failing sc (k .2)) 6 room each whole out₀ rows out out' behind n n' k t h same rest fits long
       (λ k. adds (k .0) (k .1) (k .2) (k .3) (k .4)) eo en
 
-  -- one that is not tried
+  -- a turn with a thread that is not tried
   pub iteration-skipped : (out behind : List ℕ) (n k t : ℕ) → t < 6 → n ≤ room → length out ≡ length out₀ → Still out n t
       → ((threads groups : ℕ) (p : Program) (v : Schedule) → Reached code lengths class threads groups x p v → tried p v t ≡ false)
       → behind ≡ out → k ≡ n → (k ≤ room) × (length behind ≡ length out₀) × Still behind k (t + 1)

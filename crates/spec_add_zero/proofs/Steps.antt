@@ -52,7 +52,7 @@ unfolding valueOf written leftBy
 written-value e none c = refl
 written-value e (some v) c = refl
 
--- these threads and this memory
+-- the values of threads hs and a memory m
 abbrev pub made : List Local → List ℕ → Values
 made hs m = record { threads = hs; memory = m }
 

@@ -23,13 +23,13 @@ accessLeaves rs (Load r l) x = x
 accessLeaves rs (FetchAdd r l p) x = sum32 x (eval rs p)
 accessLeaves rs (CompareSwap r l e v) x = cond (eqb x (eval rs e)) (eval rs v) x
 
--- behind the first access of this code
+-- what a location holds behind the first access of this code, which found x
 unfoldable pub firstLeaves : List ℕ → List Instruction → ℕ → ℕ
 firstLeaves rs [] x = x
 firstLeaves rs (Memory a ∷ is) x = accessLeaves rs a x
 firstLeaves rs (Alone o ∷ is) x = x
 
--- behind the thread's next access
+-- what a location holds behind the thread's next access, which found x
 unfoldable pub leaves : Local → ℕ → ℕ
 leaves h x = firstLeaves (h .registers) (h .rest) x
 

@@ -5,7 +5,7 @@ use mathlib.Core.List.{List}
 use native.Mathlib.Omega.{arith}
 use lib.ListN.{length}
 use Rattle.spec_file.specs.Decode.{Decoded, accepted, refused, decode}
-use Rattle.spec_sc.specs.GraphCall.{GraphResult, texted, refusing}
+use Rattle.spec_model.specs.GraphCall.{GraphResult, texted, refusing}
 use Rattle.spec_calls.specs.Word.{Fits}
 use Rattle.spec_calls.proofs.Refusals.{refusal-fits}
 use Rattle.spec_calls.specs.Check.{checkReply}

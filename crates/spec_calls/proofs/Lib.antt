@@ -8,7 +8,6 @@ pub mod Refusals
 -- What each call says fits its word; the judge's by itself.
 pub mod Fitting
 pub mod JudgeFits
-pub mod ClassFits
 -- What the call over two files says, and that it fits.
 pub mod Coverings
 -- what the force call says fits its word

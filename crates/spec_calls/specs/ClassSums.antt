@@ -13,7 +13,7 @@ use Rattle.spec_model.specs.Alike.{listOf}
 use Rattle.spec_model.specs.Model.{failing}
 use Rattle.spec_model.specs.OnFile.{counted, countFile}
 
--- of a file that is read as p
+-- what the class call and the count call say together of a file that is read as p
 pub record ClassSums (file : List ℕ) (p : Program) : Type 0 where
   pub sums : countFile sc (withoutAlike file) ≡ counted (record {
     listed = total (classSize sc p) (listOf sc p);

@@ -23,11 +23,11 @@ pub mod Tallied
 pub mod ByRows
 -- what the class call says
 pub mod Classed
--- and what it and the count call say together
+-- what the class call and the count call say together
 pub mod ClassSums
--- what the call over two files says
+-- what the covers call says
 pub mod Against
--- who can force the failure
+-- what the force call says
 pub mod Forced
 -- what the calls of four callers say, and leave
 pub mod Users

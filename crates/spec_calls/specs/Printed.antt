@@ -12,7 +12,7 @@ use Rattle.spec_model.specs.Model.{failing}
 use Rattle.spec_model.specs.Answers.{Counts, countOf}
 use Rattle.spec_sc.specs.Sequential.{sc}
 
--- so many bytes of a number, most significant first
+-- the lowest bytes of a number, as many as the first argument says, most significant first
 unfoldable pub bytesOf : ℕ → ℕ → List ℕ
 bytesOf zero n = []
 bytesOf (suc k) n = n / 256 ^ k % 256 ∷ bytesOf k n

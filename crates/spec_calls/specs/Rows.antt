@@ -11,7 +11,7 @@ use Rattle.spec_schedules.specs.Order.{Schedule}
 unfoldable pub rowBytes : ℕ → Schedule → Bool → List ℕ
 rowBytes w s f = length s ∷ cond f 1 0 ∷ tabulate (λ k. getD s k 0) w
 
--- its bytes are so many
+-- the number of bytes of a row with room for w steps
 abbrev pub rowSize : ℕ → ℕ
 rowSize w = w + 2
 

@@ -22,12 +22,12 @@ module _ (M : Model) where
   unfoldable pub fitting : Program → Option Schedule → List ℕ → List Schedule
   fitting p o out = take (length out / rowSize (M .need)) (after o (listOf M p))
 
-  -- so many rows, or the refusal
+  -- the number of rows written, or the refusal
   unfoldable pub rowsOn : Decoded → Option Schedule → List ℕ → RowsAnswer
   rowsOn (accepted p) o out = Written (length (fitting p o out))
   rowsOn (refused n k) o out = Refused n k
 
-  -- the output behind that
+  -- the output behind the call
   unfoldable pub leftOn : Decoded → Option Schedule → List ℕ → List ℕ
   leftOn (accepted p) o out = over (rowsOf M p (fitting p o out)) out
   leftOn (refused n k) o out = out

@@ -17,11 +17,11 @@ userWord (Ended k) = 2 * 2 ^ 56 + (k % 256) * 2 ^ 40
 userWord Idle = 5 * 2 ^ 56
 userWord (Refused n p) = wordOf (refused n p)
 
--- a call says this and leaves this
+-- the call c says the word w and leaves the records and the last caller σ′
 abbrev pub Says : Call → Shared → ℕ → Shared → Type 0
 Says c σ w σ′ = (w ≡ userWord (replyOf (answerTo c σ))) × (σ′ ≡ after c σ)
 
--- so does a serve, and it leaves this in its output
+-- a serve says the word w, leaves the records and the last caller σ′, and leaves out′ in its output
 abbrev pub ServeSays : List ℕ → Shared → ℕ → Shared → List ℕ → Type 0
 ServeSays out σ w σ′ out′ =
     (w ≡ userWord (replyOf (answerTo (serve out) σ))) × (σ′ ≡ after (serve out) σ)

@@ -6,8 +6,8 @@ use Prim.Native.Nat.{ℕ, _+_, _*_, _/_, _%_, _^_, _<_}
 use mathlib.Core.Bool.{cond}
 use lib.Dec.{eqb}
 
--- kind 1: answered, with so many bytes; kind 2: no more, none, no or covered; kind 3: refused by a number at a place; kind 4: of two files
--- the second is, by a number at a place
+-- kind 1: answered, with a length in bytes; kind 2: no more, none, no or covered; kind 3: refused by a number at a place; kind 4: of two
+-- files the second refused, by a number at a place
 pub data Reply : Type 0 where
   answered : ℕ → Reply
   nothing : Reply
@@ -20,7 +20,7 @@ wordOf nothing = 2 * 2 ^ 56
 wordOf (refused k n) = 3 * 2 ^ 56 + k * 2 ^ 48 + n % 2 ^ 48
 wordOf (second-refused k n) = 4 * 2 ^ 56 + k * 2 ^ 48 + n % 2 ^ 48
 
--- it fits: a length and a place have 48 bits, a number has eight
+-- a reply fits a word: a length and a place have 48 bits, a number has eight
 abbrev pub Fits : Reply → Type 0
 Fits (answered n) = n < 2 ^ 48
 Fits nothing = Unit {0}

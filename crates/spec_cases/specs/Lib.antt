@@ -3,7 +3,7 @@
 pub mod Rows
 -- graph texts and what the judge answers
 pub mod Graphs
--- all of them as one table, and its one test
+-- all known cases as one table, and the one test of that table
 pub mod Table
 -- the store and load pair under total store order
 pub mod TotalStoreOrder

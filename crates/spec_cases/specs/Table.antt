@@ -57,7 +57,7 @@ cases =
 unfoldable pub judged : Graph → Answer
 judged g = answerFile (textOf (g .file)) (textOf (g .text)) 24
 
--- one yes with one schedule, or no both times; no row is a refusal
+-- both answers are yes with one schedule, or both are no; no row is a refusal
 unfoldable pub sameAnswer : Answer → Answer → Bool
 sameAnswer (consistent r) (consistent s) = sameList eqb r s
 sameAnswer (consistent r) inconsistent = false

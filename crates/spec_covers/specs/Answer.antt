@@ -29,14 +29,14 @@ pub record Accepted (first second : List ℕ) (p q : Program) : Type 0 where
 pub data Comparison (first second : List ℕ) (room : ℕ) : Answer → Type 0 where
   -- the first file's refusal comes first
   by-first : (n k : ℕ) → decode first ≡ refused n k → Comparison first second room (first-refused n k)
-  -- then the second file's
+  -- the second file's refusal comes behind the first file's
   by-second : (p : Program) (n k : ℕ) → decode first ≡ accepted p → decode second ≡ refused n k
       → Comparison first second room (second-refused n k)
-  -- then 22
+  -- 22 comes behind the refusals of both files
   by-output : (p q : Program) → Accepted first second p q → room < 24 → Comparison first second room (output-refused 22 0)
   -- the first covers the second
   covering : (p q : Program) → Accepted first second p q → 24 ≤ room → Covers p q → Comparison first second room covered
-  -- it does not: this is the first listed schedule of the second with an outcome that the first lacks
+  -- the first does not cover the second: s is the first listed schedule of the second with an outcome that the first lacks
   exceeding : (p q : Program) (s : Schedule) → Accepted first second p q → 24 ≤ room → FirstLacking p q s
       → Comparison first second room (lacking s)
 

@@ -14,7 +14,7 @@ use Rattle.spec_covers.specs.declared.outcome.Outcome.{Outcome}
 unfoldable pub outcomeOf : Program → Schedule → Outcome
 outcomeOf p s = record { memory = memoryOf (endOf p s); fails = failing sc p s }
 
--- it is the outcome of some full schedule of p
+-- o is the outcome of some full schedule of p
 abbrev pub Attains : Program → Outcome → Type 0
 Attains p o = (s : Schedule) × Full p s × (outcomeOf p s ≡ o)
 

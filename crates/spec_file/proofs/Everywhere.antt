@@ -6,7 +6,7 @@ use lib.ListN.{getD, set}
 use Rattle.spec_file.specs.WellFormed.{Everywhere}
 
 module _ {A : Type 0} (P : A → Type 0) where
-  -- it holds of each member, and of every list it is enough to show it of each member
+  -- what holds everywhere holds of each member, and it is enough to show it of each member
   pub everywhere-at : {x : A} {l : List A} → List·Memᴰ x l → Everywhere P l → P x
   everywhere-at (List·Memᴰ·head e) h = subst P (sym e) (h .0)
   everywhere-at (List·Memᴰ·tail m) h = everywhere-at m (h .1)

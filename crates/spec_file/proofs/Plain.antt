@@ -50,7 +50,7 @@ split-joined ls no-line = refl
 split-joined ls (last-line l h n) = ap split (append-nil l) ∙ split-only l n h
 split-joined ls (one-more l ms h k) = split-line l (joined ms) h ∙ ap (λ (r : List TextLine). whole l ∷ r) (split-joined ms k)
 
--- and a text is what its lines make: `withoutRemarks` takes out nothing but remark lines
+-- a text is what its lines make: `withoutRemarks` takes out nothing but remark lines
 joined-before : (c : ℕ) (ls : List TextLine) → joined (before c ls) ≡ c ∷ joined ls
 unfolding joined before prepend
 joined-before c ls = go ls (eqb c 10) refl

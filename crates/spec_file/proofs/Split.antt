@@ -65,7 +65,7 @@ pub line-ended : (t : List ℕ) (a : ℕ) → a + lineLength (drop a t) < length
 line-ended t a h =
     sym (getD-drop a t (lineLength (drop a t)) 0) ∙ lineLength-stop (drop a t) (omega (arith, length-drop a t))
 
--- it has no 0a in it
+-- a line has no 0a in it
 pub line-clear : (t : List ℕ) (a k : ℕ) → k < lineLength (drop a t) → getD t (a + k) 0 ≡ 10 → ⊥
 line-clear t a k h e = lineLength-clear (drop a t) k h (getD-drop a t k 0 ∙ e)
 

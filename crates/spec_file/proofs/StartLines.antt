@@ -42,7 +42,7 @@ only-starts r f e = go (known f) (inRange f) (inPlace r f) (withinLimits r f) (s
     go true true true true false t false e = absurd (omega arith)
     go true true true true false t true e = absurd (omega arith)
 
--- its location is one of the eight, where it is in range
+-- the location of a `03` in range is one of the eight
 pub start-location : (f : Frame) → byte f 0 ≡ 0x03 → inRange f ≡ true → byte f 1 < 8
 unfolding inRange registerFits locationFits operandFits skipFits kind kindOf lookup kinds
 start-location f e h = ltb-true (byte f 1) 8 (Tests.both (ltb (byte f 1) 8) true (rw e at h) .0)
@@ -100,7 +100,7 @@ refusals =
     -- a second one for its location, with the same value and with another
     row (given 3 ++ (given 4 ++ given 3)) 40 3 ∷
     row (zeroed 0 ++ given 0) 40 2 ∷
-    -- its length is 3, its range 4, and both come first
+    -- a `03` of another length is refused by 3, one out of range by 4, and both come first
     row (thread ++ text (0x03 ∷ 0 ∷ 1 ∷ 2 ∷ 3 ∷ [])) 3 2 ∷
     row (thread ++ text (0x03 ∷ 0 ∷ 1 ∷ 2 ∷ 3 ∷ 4 ∷ 5 ∷ [])) 3 2 ∷
     row (thread ++ zeroed 8) 4 2 ∷

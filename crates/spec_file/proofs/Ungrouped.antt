@@ -43,7 +43,7 @@ pub split-without : (file : List ℕ) → split (withoutAlike file) ≡ undeclar
 unfolding withoutAlike
 split-without file = split-joined (undeclared (split file)) (lines-undeclared (split file) (split-lines file))
 
--- it is no longer
+-- a file without its `02` lines is no longer than it was
 shorter : (ls : List TextLine) → length (joined (undeclared ls)) ≤ length (joined ls)
 unfolding undeclared joined
 shorter [] = omega arith
@@ -88,7 +88,7 @@ declared-groups n f r e = go (opens f) refl
     go true q = absurd (true≢false (sym e ∙ opens-declares f q))
     go false q = rw (q, e)
 
--- and what any other adds is no group
+-- a frame that is no `02` adds no group
 other-groups : (n : ℕ) (f : Frame) (r : Reading) → declares f ≡ false → after n f r .groups ≡ r .groups
 unfolding after
 other-groups n f r e = rw e (go (opens f) (starts f))
@@ -104,7 +104,7 @@ other-groups n f r e = rw e (go (opens f) (starts f))
     go false true = refl
     go false false = refl
 
--- and stands before every `02`: a `03` by 40, all else by 5
+-- a frame that passes and is no `02` stands before every `02`: a `03` by 40, all else by 5
 none-before : (r : Reading) (f : Frame) → Passes r f → declares f ≡ false → r .groups ≡ []
 unfolding startFits
 none-before r f p d = go (starts f) refl
@@ -167,7 +167,7 @@ without-alike file p e =
     let short : ltb 4096 (length (withoutAlike file)) ≡ false = le-ltb 4096 (length (withoutAlike file)) (omega (arith, small, without-shorter file)) in
     rw (short, split-without file) (read-undeclared 1 1 (split file) fresh p (λ q. refl) (k .1))
 
--- and the program without groups is as well formed
+-- a well formed program is so without its groups
 pub ungrouped-well-formed : (p : Program) → WellFormed p → WellFormed (ungrouped p)
 unfolding ungrouped
 ungrouped-well-formed p w = record { six = w .six; sixteen = w .sixteen; access-24 = w .access-24; ranges = w .ranges; skips = w .skips; groups = tt; apart = tt; eight = w .eight; words = w .words }

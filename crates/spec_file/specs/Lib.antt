@@ -25,7 +25,7 @@ pub mod Kinds
 pub mod Frames
 -- program files, line by line, with refusals 1 to 8 and 40
 pub mod Decode
--- the same program without groups, the same file with its `02` lines taken out
+-- a program without its groups, a file with its `02` lines taken out
 pub mod Ungrouped
 -- answers that differ at most in the place of a refusal
 pub mod SameButPlace

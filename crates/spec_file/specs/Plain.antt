@@ -28,6 +28,6 @@ withoutRemarks text = joined (kept (split text))
 unfoldable pub lowered : List ℕ → List ℕ
 lowered text = map lower text
 
--- both
+-- the text without remarks, with A to F as a to f
 unfoldable pub plain : List ℕ → List ℕ
 plain text = lowered (withoutRemarks text)

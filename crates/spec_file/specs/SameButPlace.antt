@@ -2,7 +2,7 @@
 use mathlib.Core.Path.{_≡_}
 use Rattle.spec_file.specs.Decode.{Decoded, accepted, refused}
 
--- the same program, or refusals by the same number
+-- two files are read as the same program, or refused by the same number
 abbrev pub SameButPlace : Decoded → Decoded → Type 0
 SameButPlace (accepted p) (accepted q) = p ≡ q
 SameButPlace (accepted p) (refused m j) = ⊥

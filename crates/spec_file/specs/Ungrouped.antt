@@ -1,5 +1,5 @@
--- The same program without groups, and the same file with its `02` lines taken out. A `02` line is one that spells a frame whose first byte
--- is 02; capitals make no difference, and what begins with `#`, is broken or lacks its 0a is none.
+-- A program without its groups, and a file with its `02` lines taken out. A `02` line is one that spells a frame whose first byte is 02;
+-- capitals make no difference, and what begins with `#`, is broken or lacks its 0a is none.
 use Prim.Native.Nat.{ℕ}
 use mathlib.Core.Bool.{Bool, false, cond}
 use mathlib.Core.List.{List, [], _∷_}

@@ -1,4 +1,4 @@
 // Limits of a program.
 
-// A program has at most so many accesses, so that a schedule has at most so many steps.
+// The most accesses of a program, and so the most steps of a schedule.
 pub const STEPS: usize = 24;

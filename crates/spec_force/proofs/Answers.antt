@@ -39,7 +39,7 @@ hostile-play set p f =
     let r = forced-play (gameOf set) lawful hostile hostile (start p) f in
     (r .0, full-play (gameOf set) (r .0) hostile (start p) (r .1), hostile-fails (gameOf set) (endOf p (r .0)) (r .2))
 
--- so where none does the friendly side can
+-- where no full schedule fails the friendly side can force its end
 pub none-fails-friendly : (set : ℕ) (p : Program) → ((s : Schedule) → Full p s → fails (endOf p s) ≡ false) → CanForce friendly set p
 none-fails-friendly set p h = go (one-can-force set p .one)
   where

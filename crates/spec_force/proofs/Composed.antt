@@ -8,7 +8,7 @@ use Rattle.spec_schedules.specs.System.{Lawful, run, ended}
 use Rattle.spec_force.specs.Game.{Side, other, Game, Strategy, mine, mover, winner, FullPlay, stepper, IsStrategy, Follows, Forces}
 use Rattle.spec_force.proofs.Against.{turnBehind, follows-head, follows-tail}
 
--- this first step, and behind a first step u what its strategy says
+-- the strategy with first step t, and behind a first step u what the strategy for u says
 unfoldable pub composed : ℕ → (ℕ → Strategy) → Strategy
 composed t h [] = t
 composed t h (u ∷ v) = h u v

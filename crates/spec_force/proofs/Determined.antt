@@ -129,7 +129,7 @@ module _ (G : Game) where
             composed-forces G m x σ (Good m) (behind m) (r .0) going (λ i. keeps-mine ahead m σ (r .0) (r .2))
             (λ t q k. ap (λ (u : ℕ). ahead (G .system .step σ u)) (k refl) ∙ keeps-wins ahead m σ (r .0) (r .2))
 
-        -- it has none
+        -- the side has no step that keeps the win
         other-forces : any (keepsBy G ahead m σ) (G .system .names) ≡ false → Forces G (other m) x σ
         other-forces e =
             composed-forces G (other m) x σ (Good (other m)) (behind (other m)) 0 going (λ i. absurd (differ m i))
@@ -164,7 +164,7 @@ module _ (G : Game) where
     pub value-forces : (k : ℕ) (x : Side) (σ : S) → 2 * G .system .size σ + 1 ≤ k → Forces G (value G k x σ) x σ
     value-forces k x σ h = forces-within (G .system .size σ) k x σ (le-refl (G .system .size σ)) h
 
-    -- and nobody else
+    -- WHO CAN FORCE WINS BY THE RECURSION
     pub forces-value : (k : ℕ) (x : Side) (σ : S) (y : Side) → 2 * G .system .size σ + 1 ≤ k → Forces G y x σ → value G k x σ ≡ y
     forces-value k x σ y h f = go y f (value G k x σ) (value-forces k x σ h)
       where

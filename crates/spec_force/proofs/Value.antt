@@ -13,7 +13,7 @@ module _ (G : Game) where
   unfoldable pub best : (G .system .State → Side) → Side → G .system .State → Side
   best f y σ = elim (any (keepsBy f y σ) (G .system .names)) [ true ↦ y | false ↦ other y ]
 
-  -- it is x's turn
+  -- who wins where it is x's turn
   unfoldable pub value : ℕ → Side → G .system .State → Side
   value zero x σ = winner G σ
   value (suc k) x σ = elim (able G x σ) [ true ↦ best (λ τ. value k (other x) τ) x σ | false ↦ value k (other x) σ ]

@@ -18,11 +18,11 @@ use Rattle.spec_force.specs.Game.{Side, hostile, friendly, Game, able, F
 unfoldable pub ownerIn : ℕ → ℕ → Side
 ownerIn set t = elim (has set t) [ true ↦ hostile | false ↦ friendly ]
 
--- under sequential consistency
+-- the game on the steps of sequential consistency
 abbrev pub gameOf : ℕ → Game
 gameOf set = record { system = SC; owner = ownerIn set; fails = fails }
 
--- the hostile side has the first turn
+-- the side y can force its end where the hostile side has the first turn
 abbrev pub CanForce : Side → ℕ → Program → Type 0
 CanForce y set p = Forces (gameOf set) y hostile (start p)
 
@@ -30,7 +30,7 @@ CanForce y set p = Forces (gameOf set) y hostile (start p)
 abbrev pub HasStep : ℕ → Program → Type 0
 HasStep set p = able (gameOf set) hostile (start p) ≡ true
 
--- its least first step that keeps the win
+-- t is the hostile side's least first step that keeps the win
 pub record LeastFirst (set : ℕ) (p : Program) (t : ℕ) : Type 0 where
   pub keeps : Keeps (gameOf set) (start p) t
   pub least : (u : ℕ) → Keeps (gameOf set) (start p) u → t ≤ u
@@ -39,7 +39,7 @@ pub record LeastFirst (set : ℕ) (p : Program) (t : ℕ) : Type 0 where
 abbrev pub Names : ℕ → Program → Type 0
 Names set p = (k : ℕ) → k < 8 → has set k ≡ true → k < length (p .threads)
 
--- the lowest that names none
+-- k is the lowest number in the set that names no thread
 pub record LowestMissing (set : ℕ) (p : Program) (k : ℕ) : Type 0 where
   pub eight : k < 8
   pub named : has set k ≡ true
@@ -51,7 +51,7 @@ pub data Answer : Type 0 where
   hostile-can : Option ℕ → Answer
   -- the friendly side can
   friendly-can : Answer
-  -- number and place
+  -- a refusal, with its number and place
   refusing : ℕ → ℕ → Answer
 
 -- the file is the accepted program p, and the set names threads of it only

@@ -17,14 +17,14 @@ use Rattle.spec_file.specs.WellFormed.{WellFormed}
 use Rattle.spec_file.specs.Decode.{Decoded, accepted, refused, decode}
 use Rattle.spec_file.proofs.AcceptedWellFormed.{accepted-well-formed}
 use Rattle.spec_schedules.specs.Order.{Schedule, less}
-use Rattle.spec_sc.specs.Graph.{Graph, graphOf, graph, endOf, Full}
-use Rattle.spec_sc.specs.State.{State}
-use Rattle.spec_sc.specs.Text.{graphText}
-use Rattle.spec_sc.specs.Replay.{Replayed, whole, replay}
-use Rattle.spec_sc.specs.Replay as Replay
-use Rattle.spec_sc.specs.GraphCall.{GraphResult, texted, texting, graphAnswer, graphOn, graphFile, graphOutput}
+use Rattle.spec_model.specs.Answers.{refusesFrom}
+use Rattle.spec_model.specs.GraphCall.{GraphResult, texted, graphBy, graphAnswer, graphOn, graphFile, graphOutput}
+use Rattle.spec_model.proofs.Refusing.{full-goes, goes-full}
+use Rattle.spec_sc.specs.Graph.{Graph, graph, Full}
+use Rattle.spec_sc.specs.State.{SC, start}
+use Rattle.spec_sc.specs.Sequential.{sc}
+use Rattle.spec_sc.proofs.Admits.{sc-admits}
 use Rattle.spec_sc.proofs.Lawful.{at-most-24}
-use Rattle.spec_sc.proofs.Replay.{replay-whole}
 use Rattle.spec_judge.specs.Consistent.{Consistent}
 use Rattle.spec_judge.specs.Least.{MadeBy, LeastFor}
 use Rattle.spec_judge.specs.Reading.{Parsed, parsed, refusedAt, readGraph}
@@ -63,24 +63,24 @@ module _ (file : List ℕ) (p : Program) (ok : decode file ≡ accepted p) where
   wf = accepted-well-formed file p ok
 
   -- ---- the graph call
-  call-is : (s : Schedule) (room : ℕ) → 512 ≤ room → graphFile file s room ≡ texting (replay p s)
-  unfolding graphFile graphOn graphAnswer
-  call-is s room h = ap (λ (d : Decoded). graphOn d s room) ok ∙ rw (le-ltb room 512 h)
+  call-is : (s : Schedule) (room : ℕ) → 512 ≤ room → graphFile sc file s room ≡ graphBy sc p s (refusesFrom SC 0 (start p) s)
+  unfolding graphOn graphAnswer
+  call-is s room h = ap (λ (d : Decoded). graphOn sc d s room) (sc-admits (decode file) ∙ ok) ∙ rw (le-ltb room 512 h)
 
-  has-text : (s : Schedule) (room : ℕ) → 512 ≤ room → (t : List ℕ) → (graphFile file s room ≡ texted t) ↔ (Full p s × (t ≡ textFor p s))
-  unfolding texting
-  has-text s room h t = ((λ e. go (replay p s) refl (sym (call-is s room h) ∙ e)), λ k. call-is s room h ∙ ap texting (replay-whole p s (endOf p s) .1 (k .0, refl)) ∙ ap texted (sym (k .1)))
+  has-text : (s : Schedule) (room : ℕ) → 512 ≤ room → (t : List ℕ) → (graphFile sc file s room ≡ texted t) ↔ (Full p s × (t ≡ textFor p s))
+  unfolding graphBy
+  has-text s room h t = (
+    (λ e. go (refusesFrom SC 0 (start p) s) refl (sym (call-is s room h) ∙ e)),
+    λ k. call-is s room h ∙ ap (graphBy sc p s) (full-goes SC s 0 (start p) (k .0)) ∙ ap texted (sym (k .1)),
+  )
     where
-      go : (x : Replayed) → replay p s ≡ x → texting x ≡ texted t → Full p s × (t ≡ textFor p s)
-      go (whole σ) q e =
-          let r = replay-whole p s σ .0 q in
-          let i : graphText (graphOf σ) ≡ t = cc in
-          (r .0, sym i ∙ ap (λ (τ : State). graphText (graphOf τ)) (r .1))
-      go (Replay.refused n k) q e = absurd (let z : _≡_ {A = ℕ} 0 1 = cc in omega arith)
+      go : (x : Option (ℕ × ℕ)) → refusesFrom SC 0 (start p) s ≡ x → graphBy sc p s x ≡ texted t → Full p s × (t ≡ textFor p s)
+      go none q e = (goes-full SC s 0 (start p) q, cc)
+      go (some r) q e = absurd (let z : _≡_ {A = ℕ} 0 1 = cc in omega arith)
 
   text-in-front : (s : Schedule) → Full p s → (out : List ℕ) → 512 ≤ length out →
-      (take (length (textFor p s)) (graphOutput (graphFile file s (length out)) out) ≡ textFor p s)
-      × (drop (length (textFor p s)) (graphOutput (graphFile file s (length out)) out) ≡ drop (length (textFor p s)) out)
+      (take (length (textFor p s)) (graphOutput (graphFile sc file s (length out)) out) ≡ textFor p s)
+      × (drop (length (textFor p s)) (graphOutput (graphFile sc file s (length out)) out) ≡ drop (length (textFor p s)) out)
   unfolding graphOutput
   text-in-front s f out h =
       let t = textFor p s in

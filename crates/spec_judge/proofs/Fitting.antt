@@ -24,7 +24,7 @@ use Rattle.spec_judge.proofs.Walk.{waits, noneWaits, nextWrite, readFit
 use Rattle.spec_sc.proofs.Same.{both-and, not-of, same-event-is, is-same-event, differs, is-different, same-read-is, same-read}
 
 module _ (g : Graph) (place : Event → ℕ) where
-  -- it is the event's turn at its location, and every other read of the last write there is done
+  -- the event e is next to write its location, and every other read of the last write there is done
   abbrev pub IsNext : Event → ℕ → Cell → (Event → Type 0) → Type 0
   IsNext e l c D = (nextWrite (orderOf g l) (length (c .writes)) ≡ e) × ((x s : Event) → ReadsFrom g x s → s ≡ latest (c .writes) → place x ≡ l → x ≢ e → D x)
 

@@ -78,7 +78,7 @@ module _ (file text : List ℕ) (room : ℕ) where
       let r = judge-consistent p wf g c in
       r .1 ∙ ap (λ (x : Schedule). some x) (least-one p g (r .0) s (judge-yes p wf g (r .0) (r .1) .0) l)
 
-  -- and every right answer is the walk's
+  -- every right answer is the walk's
   judgement-is : {a : Answer} → J a → answerFile file text room ≡ a
   unfolding answerFile answerOn answerText answerTo answerOf
   judgement-is (program-refused n k e) = ap (λ (d : Decoded). answerOn d text room) e

@@ -80,7 +80,7 @@ module _ (p : Program) (wf : WellFormed p) (g : Graph) (C : Canonical p g) (N : 
       now (inr q) = subst (λ (x : Event). locationOf p (values p g n) x ≡ locationOf p v x) (sym q)
           (location p (values p g n) σ (o .known n (omega (arith, o .enough, h)) .agrees) t ∙ sym (location p v σ (records σ (t ∷ z) o .agrees) t))
 
-  -- so the graph is made on these values
+  -- the graph is made on the values of the run
   pub on-makes : (σ : State) → On σ [] → Makes p g v
   unfolding run
   on-makes σ o = record {

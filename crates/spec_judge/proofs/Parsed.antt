@@ -204,6 +204,6 @@ module _ (n : ℕ) where
   unfolding readGraph
   read-readable text g e = so-far-lines (split text) 1 (fresh n) g so-far-fresh e
 
--- so it is canonical: `Consistent` asks nothing more of a text's graph by it
+-- a text's graph is canonical: `Consistent` asks nothing more of it by that
 pub read-canonical : (p : Program) (text : List ℕ) (g : Graph) → readGraph (length (p .threads)) text ≡ parsed g → Canonical p g
 read-canonical p text g e = readable-canonical p g (read-readable (length (p .threads)) text g e)

@@ -64,7 +64,7 @@ module _ (p : Program) (wf : WellFormed p) (g : Graph) (C : Canonical p g) (N : 
         let r = order-suffix p wf g (step σ t) z (on-step p wf g C N σ t z o .ends) (place σ t) in
         (r .0, r .1 ∙ ap (λ (l : List Event). r .0 ++ l) (wrote-own σ t (place σ t) x (place-in σ (o .ends .regular) t) refl q .0))
 
-    -- it comes later than the last write before it
+    -- a write comes later than the last write before it
     later-latest : (front : List Event) → orderOf g (place σ t) ≡ front ++ (e ∷ w) → Later (coherenceOf g (place σ t)) e (latest w)
     later-latest front q =
         let i : coherenceOf g (place σ t) ≡ front ++ (e ∷ (w ++ (initialWrite ∷ []))) = ap (λ (l : List Event). l ++ (initialWrite ∷ [])) q ∙

@@ -32,9 +32,9 @@ pub record TextRead (file text : List ℕ) (room : ℕ) (p : Program) (r : Parse
 pub data Judgement (file text : List ℕ) (room : ℕ) : Answer → Type 0 where
   -- the program's refusal comes first
   program-refused : (n k : ℕ) → decode file ≡ refused n k → Judgement file text room (refusing n k)
-  -- then 22
+  -- 22 comes behind the refusal of the program
   output-refused : (p : Program) → decode file ≡ accepted p → room < 24 → Judgement file text room (refusing 22 0)
-  -- then 30 to 33
+  -- 30 to 33 come behind 22
   text-refused : (p : Program) (n k : ℕ) → TextRead file text room p (refusedAt n k) → Judgement file text room (refusing n k)
   -- yes: the graph is consistent, and this is the least full schedule that has it
   judged-yes : (p : Program) (g : Graph) (s : Schedule) → TextRead file text room p (parsed g) → Consistent p g → LeastFor p g s →

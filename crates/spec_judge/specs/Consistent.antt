@@ -54,11 +54,11 @@ localAt p v e = alone p v (e .0) (e .1)
 abbrev pub Reads : Program → Values → Event → Type 0
 Reads p v e = takes (localAt p v e) ≡ true
 
--- the location it goes to
+-- the location of the event
 abbrev pub locationOf : Program → Values → Event → ℕ
 locationOf p v e = placeOf (localAt p v e)
 
--- what it writes, if it writes
+-- what the event writes, if it writes
 abbrev pub outOf : Program → Values → Event → Option ℕ
 outOf p v e = puts (localAt p v e) (v e)
 

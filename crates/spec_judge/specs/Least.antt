@@ -9,6 +9,6 @@ use Rattle.spec_sc.specs.Graph.{Graph, graph, Full}
 abbrev pub MadeBy : Program → Graph → Schedule → Type 0
 MadeBy p g s = Full p s × (graph p s ≡ g)
 
--- and no smaller one does
+-- the schedule is full and has this graph, and no smaller one is and does
 abbrev pub LeastFor : Program → Graph → Schedule → Type 0
 LeastFor p g s = MadeBy p g s × ((r : Schedule) → MadeBy p g r → less r s ≡ false)

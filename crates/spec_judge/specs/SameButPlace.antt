@@ -3,7 +3,7 @@ use mathlib.Core.Path.{_≡_}
 use Rattle.spec_judge.specs.Reading.{Parsed, parsed, refusedAt}
 use Rattle.spec_judge.specs.Answer.{Answer, consistent, inconsistent, refusing}
 
--- the same graph, or refusals by the same number
+-- two texts give the same graph, or are refused by the same number
 abbrev pub ReadSame : Parsed → Parsed → Type 0
 ReadSame (parsed g) (parsed h) = g ≡ h
 ReadSame (parsed g) (refusedAt m j) = ⊥

@@ -30,7 +30,7 @@ module _ (M : Model) (L : Laws M) (p : Program) (w : Admitted M p) where
   pub alike-graph : (a b : Schedule) → graph M p a ≡ graph M p b → Alike M p a b
   alike-graph a b e = subst (λ (g : M .Graph). (π : ℕ → ℕ) × Exchange p π × M .Renames π (graph M p a) g) e (alike-refl a)
 
-  -- so are those with one end
+  -- schedules with one end are alike
   pub alike-end : (a b : Schedule) → endOf M p a ≡ endOf M p b → Alike M p a b
   alike-end a b e = alike-graph a b (ap (M .graphOf) e)
 

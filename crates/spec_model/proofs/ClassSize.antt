@@ -117,7 +117,7 @@ module _ (M : Model) (L : Laws M) (p : Program) (w : Admitted M p) where
     unfolding classGraphs images
     image-in-class π m = of-different (sameGraph M) Own own-reflexive own-exact (images M p s) images-own (image π) (Memᴰ·map image m)
 
-    -- and exactly the graphs alike
+    -- the graphs of a class are exactly those alike
     pub in-class : (r : Schedule) → Alike M p s r → List·Memᴰ (graph M p r) (classGraphs M p s)
     in-class r l =
         let k = exchange-permitted p (l .0) (l .1) in

@@ -38,7 +38,7 @@ module _ (M : Model) (L : Laws M) (U : GroupsUnseen M) (p : Program) (w : Admitt
   pub admitted-too : Admitted M (ungrouped p)
   admitted-too = (ungrouped-well-formed p (w .0), U .away p ∙ w .1)
 
-  -- its schedules run as before
+  -- the schedules of the program without groups run as before
   full-here : (s : Schedule) → Full M (ungrouped p) s → Full M p s
   full-here s f = subst (λ (σ : M .system .State). FullFrom (M .system) σ s) (U .start p) f
 
@@ -128,6 +128,6 @@ module _ (M : Model) (L : Laws M) (U : GroupsUnseen M) (p : Program) (w : Admitt
         ∙ total-of (λ y. count (λ r. alike M p r y) here) 1 there one-here
         ∙ omega arith
 
-  -- all of the list
+  -- the sizes of the classes over the whole list
   pub class-sum : total (classSize M p) (listOf M p) ≡ length (listOf M (ungrouped p))
   class-sum = ap (total (classSize M p)) (sym (keeps-all (listOf M p))) ∙ class-sum-of (λ s. true) (λ r s f g l. refl) ∙ ap length (keeps-all (listOf M (ungrouped p)))

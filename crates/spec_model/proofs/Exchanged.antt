@@ -20,7 +20,7 @@ module _ (M : Model) (L : Laws M) (π : ℕ → ℕ) (q : Permutation π) where
       let r = moves-full s (M .system .step σ b) (M .system .step τ (M .movedByte π b)) (x .step b (f .0)) (f .1) in
       ((x .enabled b (f .0), r .0), r .1)
 
-  -- its steps are the exchanged steps
+  -- an exchanged schedule's actions are the exchanged actions
   pub moves-actions : (s : Schedule) (σ τ : M .system .State) → M .Moves π σ τ → FullFrom (M .system) σ s →
       trace (M .system) (M .act) τ (movedSchedule M π s) ≡ map (M .movedAction π) (trace (M .system) (M .act) σ s)
   unfolding trace

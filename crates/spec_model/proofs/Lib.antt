@@ -3,7 +3,7 @@
 pub mod Exchanges
 -- exchanging two threads of one `02` line
 pub mod Swapped
--- and the list of them is exact
+-- the list of permitted permutations is exact
 pub mod Permitted
 -- own steps reordered; one graph, one end
 pub mod Orders
@@ -23,6 +23,8 @@ pub mod Traces
 pub mod Twins
 -- the programs that the model lists
 pub mod Admitted
+-- what refuses a schedule: it stops, or is short
+pub mod Refusing
 -- start and continue on a file
 pub mod Calls
 -- violation

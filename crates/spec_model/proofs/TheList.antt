@@ -21,12 +21,12 @@ use Rattle.spec_model.proofs.AlikeTerms.{alike}
 use Rattle.spec_model.proofs.Alike.{alike-refl, alike-sym, alike-trans, alike-exact}
 
 module _ (M : Model) (L : Laws M) (p : Program) where
-  -- it is the list of the step system, with alike tested
+  -- the list is that of the step system, with alike tested
   pub list-is : listOf M p ≡ Schedules-2.listOf (M .system) (M .start p) (alike M p)
   unfolding listOf alike
   list-is = refl
 
-  -- IT ASCENDS
+  -- THE LIST ASCENDS
   pub list-ascends : Ascends less (listOf M p)
   list-ascends = rw list-is (listed-ascend (M .system) (L .steps .lawful) (L .steps .ascend) (M .start p) (alike M p))
 
@@ -37,7 +37,7 @@ module _ (M : Model) (L : Laws M) (p : Program) where
   pub test-of : (s : Schedule) → Smaller M p s → Schedules.Smaller (M .system) (M .start p) (alike M p) s
   test-of s b = (b .0, b .1, b .2, alike-exact M L p (b .0) s .1 (b .3))
 
-  -- IT HAS EXACTLY THE LISTED ONES
+  -- THE LIST HAS EXACTLY THE LISTED SCHEDULES
   pub list-exact : (s : Schedule) → List·Memᴰ s (listOf M p) ↔ Listed M p s
   list-exact s = (
     (λ m. let r = exact .0 (subst (List·Memᴰ s) list-is m) in (r .0, λ b. true≢false (sym (alike-exact M L p (b .0) s .1 (b .3)) ∙ r .1 (b .0) (b .1) (b .2)))),
@@ -52,13 +52,13 @@ module _ (M : Model) (L : Laws M) (p : Program) where
       apart h r f e false q = q
 
   module _ (a : Admitted M p) where
-    -- IT IS FINITE
+    -- THE LIST IS FINITE
     pub list-length : length (listOf M p) ≤ length (M .system .names) ^ (M .steps)
     list-length =
         rw list-is
         (listed-length (M .system) (L .steps .lawful) (L .steps .ascend) (M .start p) (alike M p) (length (M .system .names)) (M .steps) (omega arith) (L .steps .named) (L .program p a .bound))
 
-    -- its members fit an output
+    -- the members of the list fit an output
     pub list-room : (s : Schedule) → List·Memᴰ s (listOf M p) → length s ≤ M .need
     list-room s m = omega (arith, full-length (M .system) (L .steps .lawful) (M .start p) s (list-exact s .0 m .0), L .program p a .bound, L .program p a .room)
 
@@ -83,7 +83,7 @@ module _ (M : Model) (L : Laws M) (p : Program) where
               (subst (List·Memᴰ q) list-is m) (c .1) (alike-exact M L p q s .1 l) (c .2),
         )
 
-    -- it is never empty
+    -- the list is never empty
     pub some-member : (s : Schedule) × List·Memᴰ s (listOf M p)
     some-member =
         let r = some-full (M .system) (L .steps .lawful) (M .steps) (M .start p) (L .program p a .bound) in

@@ -52,7 +52,7 @@ pub data Violation : Type 0 where
   none-fails : Violation
   refused-by : ℕ → ℕ → Violation
 
--- by whether the output is too short, and the first that fails
+-- violation's answer by whether the output is too short, and the first listed schedule that fails
 unfoldable pub violationBy : Bool → Option Schedule → Violation
 violationBy true o = refused-by 22 0
 violationBy false none = none-fails

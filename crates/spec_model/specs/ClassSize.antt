@@ -50,7 +50,7 @@ pub data Class : Type 0 where
   refused-class : ℕ → ℕ → Class
 
 module _ (M : Model) where
-  -- by what refuses the schedule: 20 and 21 as of continue
+  -- the class call's answer by what refuses the schedule: 20 and 21 as of continue
   unfoldable pub classBy : Program → Schedule → Option (ℕ × ℕ) → Class
   classBy p s none = sized (classSize M p s)
   classBy p s (some r) = refused-class (r .0) (r .1)
@@ -62,6 +62,6 @@ module _ (M : Model) where
   classOn (accepted p) s = classOf p s
   classOn (File.refused n k) s = refused-class n k
 
-  -- of a program file; no output is lent
+  -- the class call's answer to a program file; no output is lent
   abbrev pub classFile : List ℕ → Schedule → Class
   classFile file s = classOn (admit M (decode file)) s

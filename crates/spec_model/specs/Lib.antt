@@ -3,7 +3,7 @@
 pub mod Exchange
 -- what a memory model is
 pub mod Model
--- what it shows of itself
+-- what a memory model shows of itself
 pub mod Laws
 -- alike, listed, and the list, executable
 pub mod Alike
@@ -13,7 +13,11 @@ pub mod Search
 pub mod Answers
 -- the four calls on a file
 pub mod OnFile
+-- what refuses a schedule, exactly
+pub mod Refusing
+-- what the graph call says of a program file, a schedule and an output
+pub mod GraphCall
 -- how large a class is, and the call that says it
 pub mod ClassSize
--- and what is promised of it
+-- what is promised of the sizes of classes
 pub mod Classes

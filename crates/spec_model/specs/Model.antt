@@ -17,13 +17,15 @@ pub record Model : Type 1 where
   -- THE ACTION of a step: all that is needed to say which steps must keep their order
   pub Action : Type 0
   pub act : system .State → ℕ → Action
-  -- its byte
+  -- the byte of an action
   pub who : Action → ℕ
   -- the first action, which comes earlier and is of another byte, must stay before the second; this need not be symmetric
   pub dependent : Action → Action → Bool
   -- THE GRAPH that led to a state
   pub Graph : Type 0
   pub graphOf : system .State → Graph
+  -- the text of a graph, as the graph call writes it
+  pub text : Graph → List ℕ
   -- EXCHANGE OF THREADS by a permutation of their numbers: of a byte, of an action; the second state, the second graph is the first one
   -- exchanged
   pub movedByte : (ℕ → ℕ) → ℕ → ℕ
@@ -58,7 +60,7 @@ module _ (M : Model) (p : Program) where
   abbrev pub graph : Schedule → M .Graph
   graph s = M .graphOf (endOf s)
 
-  -- some assertion failed
+  -- an assertion has failed by the end of the schedule
   abbrev pub failing : Schedule → Bool
   failing s = M .fails (endOf s)
 

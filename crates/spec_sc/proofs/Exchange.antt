@@ -139,7 +139,7 @@ unfolding valueOf movedCell
 values-moved π [] = refl
 values-moved π (c ∷ cs) = ap (λ (k : List ℕ). c .value ∷ k) (values-moved π cs)
 
--- and the same memory
+-- exchanged states have the same memory
 pub moves-memory : (π : ℕ → ℕ) (σ τ : State) → Moves π σ τ → memoryOf τ ≡ memoryOf σ
 unfolding memoryOf
 moves-memory π σ τ m = ap (map valueOf) (m .cells) ∙ values-moved π (σ .cells)

@@ -26,7 +26,7 @@ pub record Grown (σ : State) (z : Schedule) (l : ℕ) : Type 0 where
   -- no new write: the cell is as it was
   pub none-new : new ≡ [] → cellOf (run SC σ z) l ≡ cellOf σ l
   pub fresh : (x : Event) → List·Memᴰ x new → Fresh σ x
-  -- it was added by a step of this run
+  -- each new write was added by a step of this run
   pub of : (x : Event) → List·Memᴰ x new → List·Memᴰ (x .0) z
 
 pub append-none : {A : Type 0} (a : List A) (x : A) → a ++ (x ∷ []) ≡ [] → ⊥

@@ -66,7 +66,7 @@ module _ (p : Program) (w : WellFormed p) where
   rows-of : (s : Schedule) → length (graphOf (endOf p s) .reads) ≡ length (p .threads)
   rows-of s = graph-rows p s
 
-  -- so rows of reads move to rows of reads
+  -- rows of reads move to rows of reads
   rows : (π : ℕ → ℕ) → Exchange p π → (a b : Schedule) (t : ℕ) → t < length (graphOf (endOf p a) .reads) → π t < length (graphOf (endOf p b) .reads)
   rows π x a b t h = let i = rows-of a in let j = rows-of b in let k = within π x t (omega arith) in omega arith
 

@@ -63,8 +63,6 @@ pub mod Fixed
 pub mod ExchangedActions
 pub mod FixedState
 pub mod FreeSteps
--- files that differ only in remarks and capitals
-pub mod PlainFiles
 -- the graph of a state
 pub mod GraphTerms
 -- the actions of a run

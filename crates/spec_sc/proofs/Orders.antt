@@ -46,7 +46,7 @@ action-who σ t = refl
 pub commute : (σ : State) (a t : ℕ) → a ≢ t → Independent σ a t → enabled σ a ≡ true → enabled (step σ a) t ≡ true → Commute SC σ a t
 commute σ a t ne i m n = (sym (enabled-other σ a t (Ne·symm ne)) ∙ n, enabled-other σ t a ne ∙ m, swap σ a t ne i)
 
--- so can steps that do not conflict, and both do what they did
+-- steps that do not conflict can be turned round, and both do what they did
 pub steps-commute : (σ : State) (a t : ℕ) → a ≢ t → enabled σ a ≡ true → enabled (step σ a) t ≡ true → conflict (action σ a) (action (step σ a) t) ≡ false →
     Commute SC σ a t × (action (step σ a) t ≡ action σ t) × (action (step σ t) a ≡ action σ a)
 steps-commute σ a t ne m n c =
@@ -56,7 +56,7 @@ steps-commute σ a t ne m n c =
       action-after σ t a ne (independent-sym σ a t i),
     )
 
--- these steps, taken in this order, keep their dependences
+-- the actions ds, taken in the order s, keep their dependences
 abbrev pub Reorders : List Action → Schedule → Type 0
 Reorders ds s = OrderOf who conflict (SC .names) ds s
 

@@ -56,6 +56,6 @@ module _ (p : Program) (w : WellFormed p) (s : Schedule) (f : Full p s) where
     writes = λ l e m. write-byte l e (subst (List·Memᴰ e) (order-at (endOf p s) l) m);
   }
 
--- so the graphs of a program's full schedules have different texts if they differ
+-- the graphs of a program's full schedules have different texts if they differ
 pub graph-text-injective : (p : Program) → WellFormed p → (v w : Schedule) → Full p v → Full p w → graphText (graph p v) ≡ graphText (graph p w) → graph p v ≡ graph p w
 graph-text-injective p wf v w fv fw e = text-injective (length (p .threads)) (graph p v) (graph p w) (printable p wf v fv) (printable p wf w fw) e

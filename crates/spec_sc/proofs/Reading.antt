@@ -82,7 +82,7 @@ source-at τ b y v e =
           (ap (λ (x : Thread). x .history .reads) (thread-own τ b (enabled-range τ b (v .0))) ∙ noted-reads (takes (threadOf τ b .local)) (source τ b) h ∙ ap (λ (x : List (ℕ × Event)). x ++ h .reads) (added-true (takes (threadOf τ b .local)) (h .done) (source τ b) e)),
     )
 
--- so where two runs come to one thread's state, and end with the same reads of it, its next access has the same source in both
+-- where two runs come to one thread's state, and end with the same reads of it, its next access has the same source in both
 pub same-source : (τ ρ : State) (b : ℕ) (y x : Schedule) → Allowed SC τ (b ∷ y) → Allowed SC ρ (b ∷ x) → threadOf τ b ≡ threadOf ρ b → takes (threadOf ρ b .local) ≡ true →
     threadOf (run SC τ (b ∷ y)) b .history .reads ≡ threadOf (run SC ρ (b ∷ x)) b .history .reads → source τ b ≡ source ρ b
 same-source τ ρ b y x v w q e r =

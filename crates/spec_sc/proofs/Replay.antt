@@ -64,7 +64,7 @@ outcome (t ∷ s) k σ = go (enabled σ t) refl (outcome s (suc k) (step σ t))
     go true e (stops u h q) = stops (t ∷ u) (h .0, h .1, ap {B = List ℕ} (λ z. t ∷ z) (h .2), (e, h .3), h .4) (cons-goes k σ t s e ∙ q ∙ ap (refused 20) (more (length u)))
     go true e (short a d q) = short (e, a) d (cons-goes k σ t s e ∙ q ∙ ap (refused 21) (more (length s)))
 
--- and the other way: what is full, stops or is short is replayed so
+-- a schedule that is full, stops or is short is replayed so
 pub full-replayed : (s : Schedule) (k : ℕ) (σ : State) → FullFrom SC σ s → replayFrom k σ s ≡ whole (run SC σ s)
 unfolding run
 full-replayed [] k σ f = nil-full k σ f

@@ -82,7 +82,7 @@ registers-at h [] x i w y = w
 registers-at h (Memory a ∷ is) x i w y = settle-words is 0 (accessSets (h .registers) a x) (i .1) (access-words a (h .registers) x w y)
 registers-at h (Alone o ∷ is) x i w y = w
 
--- so it is behind an access that found such a value
+-- registers behind an access that found a value of 32 bits have 32 bits
 pub next-words : (h : Local) (x : ℕ) → Words h → Word x → Words (next h x)
 unfolding next
 next-words h x w y = (go (pending h) refl, registers-at h (h .rest) x (w .0) (w .1) y)
@@ -112,7 +112,7 @@ puts-at rs [] x y i w e = absurd (Option·none-ne-some y e)
 puts-at rs (Memory a ∷ is) x y i w e = access-puts-word a rs x y (i .0) w e
 puts-at rs (Alone o ∷ is) x y i w e = absurd (Option·none-ne-some y e)
 
--- and what it writes is such a value
+-- an access writes a value of 32 bits
 pub puts-word : (h : Local) (x y : ℕ) → Words h → puts h x ≡ some y → Word y
 unfolding puts
 puts-word h x y w e = puts-at (h .registers) (h .rest) x y (w .0) (w .1) e

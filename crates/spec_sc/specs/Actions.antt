@@ -28,6 +28,6 @@ action σ t = record { thread = t; location = place σ t; wrote = writes σ t }
 unfoldable pub who : Action → ℕ
 who a = a .thread
 
--- one location, and one of the two writes
+-- two actions conflict where they have one location and one of them writes
 unfoldable pub conflict : Action → Action → Bool
 conflict a b = elim (eqb (a .location) (b .location)) [ true ↦ elim (a .wrote) [ true ↦ true | false ↦ b .wrote ] | false ↦ false ]

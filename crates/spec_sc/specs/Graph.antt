@@ -32,7 +32,7 @@ endOf p s = run SC (start p) s
 abbrev pub Full : Program → Schedule → Type 0
 Full p s = FullFrom SC (start p) s
 
--- some assertion failed
+-- an assertion has failed by the end of the schedule
 abbrev pub Fails : Program → Schedule → Type 0
 Fails p s = fails (endOf p s) ≡ true
 

@@ -13,8 +13,6 @@ pub mod Replay
 pub mod Text
 -- what the steps of a run did, which of them conflict, and the least order of them
 pub mod Actions
--- what the graph call says of a program file, a schedule and an output
-pub mod GraphCall
 -- exchanging threads: permitted permutations, and states and graphs turned into others
 pub mod Exchange
 -- events, reads and lists compared; whether a graph is another with its threads exchanged

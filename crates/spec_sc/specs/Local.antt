@@ -43,21 +43,21 @@ accessPlace (Load r l) = l
 accessPlace (FetchAdd r l p) = l
 accessPlace (CompareSwap r l e v) = l
 
--- whether it reads
+-- whether an access reads
 unfoldable pub accessTakes : Access → Bool
 accessTakes (Store l p) = false
 accessTakes (Load r l) = true
 accessTakes (FetchAdd r l p) = true
 accessTakes (CompareSwap r l e v) = true
 
--- what it writes on finding x: nothing for a load, for a fetch and add of zero and for a compare and swap that fails
+-- what an access writes on finding x: nothing for a load, for a fetch and add of zero and for a compare and swap that fails
 unfoldable pub accessPuts : List ℕ → Access → ℕ → Option ℕ
 accessPuts rs (Store l p) x = some (eval rs p)
 accessPuts rs (Load r l) x = none
 accessPuts rs (FetchAdd r l p) x = cond (eqb (eval rs p) 0) none (some (sum32 x (eval rs p)))
 accessPuts rs (CompareSwap r l e v) x = cond (eqb x (eval rs e)) (some (eval rs v)) none
 
--- the registers behind it: a read's holds x
+-- the registers behind an access: a read's holds x
 unfoldable pub accessSets : List ℕ → Access → ℕ → List ℕ
 accessSets rs (Store l p) x = rs
 accessSets rs (Load r l) x = set rs r x
@@ -108,19 +108,19 @@ firstPlace [] = 0
 firstPlace (Memory a ∷ is) = accessPlace a
 firstPlace (Alone o ∷ is) = 0
 
--- whether it reads
+-- whether this code's first access reads
 unfoldable pub firstTakes : List Instruction → Bool
 firstTakes [] = false
 firstTakes (Memory a ∷ is) = accessTakes a
 firstTakes (Alone o ∷ is) = false
 
--- what it writes on finding x
+-- what this code's first access writes on finding x
 unfoldable pub firstPuts : List ℕ → List Instruction → ℕ → Option ℕ
 firstPuts rs [] x = none
 firstPuts rs (Memory a ∷ is) x = accessPuts rs a x
 firstPuts rs (Alone o ∷ is) x = none
 
--- the thread behind it, settled again
+-- the thread behind its code's first access, settled again
 unfoldable pub firstNext : Local → List Instruction → ℕ → Local
 firstNext h [] x = h
 firstNext h (Memory a ∷ is) x = settle 0 (accessSets (h .registers) a x) is
@@ -130,11 +130,11 @@ firstNext h (Alone o ∷ is) x = h
 unfoldable pub pending : Local → Bool
 pending h = beginsWithAccess (h .rest)
 
--- where its next access goes
+-- the location of a thread's next access
 unfoldable pub placeOf : Local → ℕ
 placeOf h = firstPlace (h .rest)
 
--- whether its next access reads
+-- whether a thread's next access reads
 unfoldable pub takes : Local → Bool
 takes h = firstTakes (h .rest)
 

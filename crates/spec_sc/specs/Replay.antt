@@ -12,7 +12,7 @@ pub data Replayed : Type 0 where
   whole : State → Replayed
   refused : ℕ → ℕ → Replayed
 
--- behind k steps that led to this state
+-- what carrying out a schedule comes to, behind k steps that led to this state
 unfoldable pub replayFrom : ℕ → State → Schedule → Replayed
 replayFrom k σ [] = elim (ended SC σ) [ true ↦ whole σ | false ↦ refused 21 k ]
 replayFrom k σ (t ∷ s) = elim (enabled σ t) [ true ↦ replayFrom (suc k) (step σ t) s | false ↦ refused 20 k ]

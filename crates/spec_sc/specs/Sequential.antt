@@ -5,6 +5,7 @@ use Rattle.spec_model.specs.Model.{Model}
 use Rattle.spec_sc.specs.State.{SC, start, fails, memoryOf}
 use Rattle.spec_sc.specs.Actions.{Action, action, who, conflict}
 use Rattle.spec_sc.specs.Graph.{Graph, graphOf}
+use Rattle.spec_sc.specs.Text.{graphText}
 use Rattle.spec_sc.specs.Exchange.{Moves, Renames}
 use Rattle.spec_sc.specs.ExchangedActions.{movedAction}
 use Rattle.spec_sc.specs.Renamed.{renames}
@@ -19,6 +20,7 @@ sc = record {
   dependent = conflict;
   Graph = Graph;
   graphOf = graphOf;
+  text = graphText;
   movedByte = λ π b. π b;
   movedAction = movedAction;
   Moves = Moves;

@@ -53,7 +53,7 @@ threadOf σ t = getD (σ .threads) t noThread
 unfoldable pub cellOf : State → ℕ → Cell
 cellOf σ l = getD (σ .cells) l (freshCell 0)
 
--- where thread t's next access goes
+-- the location of thread t's next access
 unfoldable pub place : State → ℕ → ℕ
 place σ t = placeOf (threadOf σ t .local)
 
@@ -62,7 +62,7 @@ unfoldable pub latest : List Event → Event
 latest [] = initialWrite
 latest (e ∷ es) = e
 
--- one access more, which reads from e if it reads
+-- a history with one access more, which reads from e if it reads
 unfoldable pub noted : Bool → Event → History → History
 noted true e h = record { done = suc (h .done); reads = (h .done, e) ∷ h .reads }
 noted false e h = record { done = suc (h .done); reads = h .reads }

@@ -39,7 +39,7 @@ writeFrames l (ws ∷ rows) = writeFrame l ws ++ writeFrames (suc l) rows
 unfoldable pub frames : Graph → List (List ℕ)
 frames g = readFrames 0 (g .reads) ++ writeFrames 0 (g .writes)
 
--- these frames, a line each
+-- the text of frames, a line each
 unfoldable pub textOf : List (List ℕ) → List ℕ
 textOf [] = []
 textOf (f ∷ fs) = text f ++ textOf fs

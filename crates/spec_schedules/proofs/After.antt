@@ -20,7 +20,7 @@ pub after-none : (l : List Schedule) → after none l ≡ l
 unfolding after
 after-none l = refl
 
--- its members are of the list
+-- what is after a schedule in a list is of the list
 pub of-after : (o : Option Schedule) (l : List Schedule) (s : Schedule) → List·Memᴰ s (after o l) → List·Memᴰ s l
 unfolding after
 of-after none l s m = m
@@ -31,13 +31,13 @@ pub head-nil : {A : Type 0} → headOf {A = A} [] ≡ none
 unfolding headOf
 head-nil = refl
 
--- the first of it is what a call offers
+-- the first of what is after a schedule is what a call offers
 pub offer-after : (o : Option Schedule) (l : List Schedule) → headOf (after o l) ≡ offer l o
 unfolding after offer
 offer-after none l = refl
 offer-after (some b) l = head-filter (less b) l ∙ sym (next-find b l)
 
--- it ascends where the list does
+-- what is after a schedule ascends where the list does
 pub after-ascends : (o : Option Schedule) (l : List Schedule) → Ascends less l → Ascends less (after o l)
 unfolding after
 after-ascends none l a = a

@@ -34,7 +34,7 @@ module _ (like : Schedule → Schedule → Bool) where
   abbrev pub Unmatched : List Schedule → Schedule → Type 0
   Unmatched l x = (y : Schedule) → List·Memᴰ y l → less y x ≡ true → like y x ≡ false
 
-  -- none of those passed is
+  -- none of the members passed is alike to x
   abbrev Apart : List Schedule → Schedule → Type 0
   Apart ps x = (p : Schedule) → List·Memᴰ p ps → like p x ≡ false
 
@@ -88,7 +88,7 @@ module _ (like : Schedule → Schedule → Bool) where
       go true e ih = rw (e, firstsFrom) ih
       go false e ih = rw (e, firstsFrom) ((λ y m. a .0 y (of-firstsFrom (r ∷ ps) l (a .1) y m .0)), ih)
 
-  -- they are not more than the members
+  -- the firsts of a list are not more than its members
   firstsFrom-length : (ps l : List Schedule) → length (firstsFrom like ps l) ≤ length l
   unfolding firstsFrom
   firstsFrom-length ps [] = omega arith
@@ -112,7 +112,7 @@ module _ (like : Schedule → Schedule → Bool) where
     unfolding firsts
     in-firsts x m h = in-firstsFrom [] l asc x (m, (λ p k. absurd (List·Memᴰ·not-nil k)), h)
 
-    -- they ascend
+    -- the firsts of an ascending list ascend
     pub firsts-ascend : Ascends less (firsts like l)
     unfolding firsts
     firsts-ascend = firstsFrom-ascend [] l asc
@@ -158,7 +158,7 @@ module _ (like : Schedule → Schedule → Bool) where
         apart z y n k e f true q = absurd (true≢false (sym (transitive z y x n k m q e) ∙ f))
         apart z y n k e f false q = q
 
-    -- and, where alike is symmetric too, to one only
+    -- where alike is symmetric too, a member is alike to one of the firsts only
     pub covered-once : ((x y : Schedule) → List·Memᴰ x l → List·Memᴰ y l → like x y ≡ true → like y x ≡ true) →
         (x y z : Schedule) → List·Memᴰ x l → List·Memᴰ y (firsts like l) → List·Memᴰ z (firsts like l) → like y x ≡ true → like z x ≡ true → y ≡ z
     covered-once symmetric x y z k m n e f = go (members-compared l asc y z (p .0) (q .0))

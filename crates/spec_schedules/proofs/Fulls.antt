@@ -184,7 +184,7 @@ module _ (M : System) where
     fulls-length σ n k h p b = le-trans (fulls-length-from n h p (M .size σ) σ) (pow-le-pow-right p b)
 
     module _ (asc : Ascends ltb (M .names)) where
-      -- it ascends
+      -- the list of full schedules ascends
       pub fulls-ascend : (σ : M .State) → Ascends less (fulls M σ)
       unfolding fulls
       fulls-ascend σ = fulls-ascend-from asc (M .size σ) σ

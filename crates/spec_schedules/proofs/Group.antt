@@ -60,7 +60,7 @@ getD-member [] i d h = absurd (not-suc-le-zero h)
 getD-member (x ∷ xs) zero d h = List·Memᴰ·head refl
 getD-member (x ∷ xs) (suc i) d h = List·Memᴰ·tail (getD-member xs i d (le-of-suc-le-suc h))
 
--- and each member can be read
+-- each member of a list can be read at some number
 member-at : {A : Type 0} (l : List A) (x d : A) → List·Memᴰ x l → (i : ℕ) × (i < length l) × (getD l i d ≡ x)
 member-at [] x d m = absurd (List·Memᴰ·not-nil m)
 member-at (y ∷ ys) x d m = ⊎-elim (λ (e : x ≡ y). (zero, omega arith, sym e)) (λ (k : List·Memᴰ x ys). let r = member-at ys x d k in (suc (r .0), omega (arith, r .1), r .2)) (List·Memᴰ·cases-cons m)
@@ -127,7 +127,7 @@ module _ (π : List ℕ) (m : List·Memᴰ π permutations) where
   pub moved-injective : (x y : ℕ) → moved π x ≡ moved π y → x ≡ y
   moved-injective x y e = sym (inverse-left x) ∙ ap (moved (inverse π)) e ∙ inverse-left y
 
-  -- it moves numbers below six among themselves, and no other
+  -- a permutation moves numbers below six among themselves, and no other
   pub moved-below : (x : ℕ) → x < 6 → moved π x < 6
   moved-below x h = member-permutation .below (moved π x) (getD-member π x x (omega (arith, member-permutation .six)))
 

@@ -91,7 +91,7 @@ module _ {A : Type 0} where
       go [] e ih = ap (λ (l : List A). l ++ flatMap f ts) e ∙ ih ∙ sym (ap (flatMap f) (filter-no (λ u. there (f u)) t ts (ap there e)))
       go (x ∷ l) e ih = ap (λ (l : List A). f t ++ l) ih ∙ sym (ap (flatMap f) (filter-yes (λ u. there (f u)) t ts (ap there e)))
 
-  -- so two ascending lists that both have every number with a member give the same
+  -- two ascending lists that both have every number with a member give the same
   pub flat-two : (f : ℕ → List A) (ts us : List ℕ) → Ascends ltb ts → Ascends ltb us → ((t : ℕ) → (f t ≡ [] → ⊥) → List·Memᴰ t ts × List·Memᴰ t us) → flatMap f ts ≡ flatMap f us
   flat-two f ts us a b h = flat-filter f ts ∙ ap (flatMap f) same ∙ sym (flat-filter f us)
     where

@@ -47,8 +47,6 @@ pub mod Group
 pub mod Packed
 -- the definitions as a loop in code meets them, one turn at a time
 pub mod Loops
--- comparing two schedules place by place, as the code does
-pub mod Comparing
 -- the listed schedules of a step system: of each class the least
 pub mod ListedTerms
 -- a dialogue: each call did what it must after the answers before it

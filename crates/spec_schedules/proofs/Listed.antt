@@ -33,12 +33,12 @@ module _ (M : System) (L : Lawful M) (asc : Ascends ltb (M .names)) (ρ : M .Sta
     λ h. in-firsts like (fulls M ρ) all-full s (member s (h .0)) (λ z m e. h .1 z (fulls-exact M L ρ z .0 m) e),
   )
 
-  -- it ascends
+  -- the list ascends
   pub listed-ascend : Ascends less (listOf M ρ like)
   unfolding listOf
   listed-ascend = firsts-ascend like (fulls M ρ) all-full
 
-  -- it is finite: at most n ^ k members, for at most n names and k steps
+  -- the list is finite: at most n ^ k members, for at most n names and k steps
   pub listed-length : (n k : ℕ) → length (M .names) ≤ n → 0 < n → M .size ρ ≤ k → length (listOf M ρ like) ≤ n ^ k
   unfolding listOf
   listed-length n k h p b = le-trans (firsts-length like (fulls M ρ)) (fulls-length M L ρ n k h p b)
@@ -53,7 +53,7 @@ module _ (M : System) (L : Lawful M) (asc : Ascends ltb (M .names)) (ρ : M .Sta
     unfolding listOf
     some-listed s f = covered like (fulls M ρ) all-full (λ x m. reflexive x (full x m)) (λ x y z m n k. transitive x y z (full x m) (full y n) (full z k)) s (member s f)
 
-    -- and, where it is symmetric, to no other
+    -- where alike is symmetric, a full schedule is alike to one listed schedule only
     pub one-listed : ((a b : Schedule) → FullFrom M ρ a → FullFrom M ρ b → like a b ≡ true → like b a ≡ true) →
         (s a b : Schedule) → FullFrom M ρ s → List·Memᴰ a (listOf M ρ like) → List·Memᴰ b (listOf M ρ like) → like a s ≡ true → like b s ≡ true → a ≡ b
     unfolding listOf

@@ -215,7 +215,7 @@ module _ {A : Type 0} (less : A → A → Bool) where
             (omega (arith, r .0), λ h. ap₂ {C = List A} (λ z zs. z ∷ zs) e (r .1 (omega arith)))
         go (inr m) both-rest rest = let r = rest (λ z k. behind z (later m z k) (f z k)) in (omega (arith, r .0), λ h. absurd (omega (arith, r .0, h)))
 
--- so many numbers
+-- a range has as many numbers as it says
 pub range-length : (a n : ℕ) → length (range a n) ≡ n
 unfolding range
 range-length a zero = refl

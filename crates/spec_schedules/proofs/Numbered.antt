@@ -10,7 +10,7 @@ use Rattle.spec_schedules.specs.Fulls.{fronts}
 use Rattle.spec_schedules.specs.Permutations.{without, each, permsOf, permutations, permutationOf}
 use Rattle.spec_schedules.proofs.PermutationTerms.{placeIn, inverse, compose}
 
--- so many
+-- there are 720 permutations of six
 pub permutations-length : length permutations ≡ 720
 unfolding range fronts without each permsOf permutations
 permutations-length = refl

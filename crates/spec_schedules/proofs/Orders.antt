@@ -70,7 +70,7 @@ module _ (M : System) (L : Lawful M) (asc : Ascends ltb (M .names)) {D : Type 0}
       let r = order-full v (p .0) (M .step σ t) (p .1 .1) (subst (λ (ds : List D). OrderOf who dependent (M .names) ds v) (sym (p .3)) (o .1)) in
       ((p .1 .0, r .0), r .1 ∙ p .2)
 
-  -- its own order is one
+  -- a run's own order is an order of its actions
   pub own-order : (w : Schedule) (σ : M .State) → OrderOf who dependent (M .names) (trace M act σ w) w
   unfolding trace
   own-order [] σ = refl

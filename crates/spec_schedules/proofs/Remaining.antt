@@ -52,7 +52,7 @@ module _ {D : Type 0} (who : D → ℕ) (dependent : D → D → Bool) where
   unfolding nextOf
   next-other d ds t q = rw (ne-eqb (who d) t q, nextOf)
 
-  -- it is one of that byte
+  -- the next action of a byte is one of that byte
   pub next-who : (ds : List D) (t : ℕ) (d : D) → nextOf who dependent ds t ≡ some d → who d ≡ t
   next-who [] t d e = absurd (Option·none-ne-some d (sym (next-nil t) ∙ e))
   next-who (c ∷ ds) t d e = go (ℕ-discrete (who c) t) (next-who ds t d)

@@ -51,7 +51,7 @@ Result = Answer × List ℕ
 abbrev pub result : Answer → List ℕ → Result
 result a out = (a, content a out)
 
--- one call, with this output, after this schedule was answered last (none: a start)
+-- what one call answers and leaves in its output, after the schedule o was answered last (none: a start)
 abbrev pub called : ℕ → List Schedule → Option Schedule → List ℕ → Result
 called need l o out = result (answerTo (short need out) (offer l o)) out
 

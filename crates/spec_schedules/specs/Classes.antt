@@ -3,7 +3,7 @@ use mathlib.Core.Bool.{Bool, true, false}
 use mathlib.Core.List.{List, [], _∷_}
 use Rattle.spec_schedules.specs.Lists.{any}
 
--- those of the list to which neither one passed before nor an earlier one is alike
+-- the members of the list to which neither a member of `passed` nor an earlier member of the list is alike
 unfoldable pub firstsFrom : {A : Type 0} → (A → A → Bool) → List A → List A → List A
 firstsFrom like passed [] = []
 firstsFrom like passed (x ∷ xs) = elim (any (λ p. like p x) passed) [

@@ -45,6 +45,6 @@ module _ {D : Type 0} (who : D → ℕ) (dependent : D → D → Bool) where
   abbrev pub Remaining : List ℕ → System
   Remaining names = record { State = List D; enabled = ready; step = takeOut; names = names; size = length }
 
-  -- these bytes are an order of the actions in which dependent ones keep theirs
+  -- the bytes s are an order of the actions ds in which dependent ones keep theirs
   abbrev pub OrderOf : List ℕ → List D → Schedule → Type 0
   OrderOf names ds s = Fitting (Remaining names) ready (λ es. es ≡ []) ds s

@@ -13,7 +13,7 @@ unfoldable pub without : ℕ → List ℕ → List ℕ
 without x [] = []
 without x (y ∷ ys) = elim (eqb x y) [ true ↦ ys | false ↦ y ∷ without x ys ]
 
--- each of these numbers in front of what f gives for the rest
+-- each number y of the second list in front of what f gives for the first list without y
 unfoldable pub each : (List ℕ → List (List ℕ)) → List ℕ → List ℕ → List (List ℕ)
 each f xs [] = []
 each f xs (y ∷ ys) = fronts y (f (without y xs)) ++ each f xs ys
@@ -35,6 +35,6 @@ permutationOf k = getD permutations (k % 720) []
 unfoldable pub unpacked : ℕ → List ℕ
 unpacked r = r / 1048576 % 16 ∷ r / 65536 % 16 ∷ r / 4096 % 16 ∷ r / 256 % 16 ∷ r / 16 % 16 ∷ r % 16 ∷ []
 
--- where a number goes; six and above stay
+-- where the permutation takes a number; six and above stay
 abbrev pub moved : List ℕ → ℕ → ℕ
 moved π x = getD π x x

@@ -24,7 +24,7 @@ unfoldable pub run : (M : System) → M .State → Schedule → M .State
 run M σ [] = σ
 run M σ (t ∷ s) = run M (M .step σ t) s
 
--- none of these bytes may step
+-- none of the bytes in a list may step
 unfoldable pub none-enabled : (M : System) → M .State → List ℕ → Bool
 none-enabled M σ [] = true
 none-enabled M σ (t ∷ ts) = elim (M .enabled σ t) [ true ↦ false | false ↦ none-enabled M σ ts ]

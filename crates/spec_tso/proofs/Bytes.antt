@@ -66,7 +66,7 @@ pub owner-move : (t : ℕ) → owner (byteFor move t) ≡ t
 unfolding byteFor
 owner-move t = let e = owner-high (t + 16) (omega arith) in omega arith
 
--- and a byte is the byte for its kind and its thread
+-- a byte is the byte for its kind and its thread
 pub for-owner : (b : ℕ) → byteFor (kindOf b) (owner b) ≡ b
 unfolding byteFor
 for-owner b = go (byte-case b)
@@ -75,7 +75,7 @@ for-owner b = go (byte-case b)
     go (of-access h k o) = ap₂ byteFor k o
     go (of-move h k o) = ap₂ byteFor k o ∙ (omega arith)
 
--- so two bytes of one kind and one thread are one
+-- two bytes of one kind and one thread are one
 pub byte-of : (a b : ℕ) → kindOf a ≡ kindOf b → owner a ≡ owner b → a ≡ b
 byte-of a b k o = sym (for-owner a) ∙ ap₂ byteFor k o ∙ for-owner b
 

@@ -54,11 +54,11 @@ module _ (e d : Action) where
   because-depends (source-first l p q m) = read-first l p q (or-right (sameEvent (e .source) initialWrite) _
       (any-of (sameEvent (e .source)) (d .before) (e .source) m (is-same-event (e .source) (e .source) refl)))
 
-  -- so there is none where the second does not depend on the first
+  -- there is no reason where the second does not depend on the first
   pub no-reason : dependent e d ≡ false → Because e d → ⊥
   no-reason f b = true≢false (sym (because-depends b) ∙ f)
 
-  -- and there are no others
+  -- where the second depends on the first there is a reason
   from-makes : makes e d ≡ true → Because e d
   unfolding makes
   from-makes q =

@@ -171,7 +171,7 @@ module _ (σ : State) (reg : Regular σ) (v w : Schedule) (fv : FullFrom TSO σ 
     where-same : place τ access t ≡ place ρ access t
     where-same = same-place τ ρ t (m .core)
 
-    -- it finds the same, so it does the same in both
+    -- the access finds the same in both runs, so it does the same
     alike : Core (threadBehind access t (threadOf τ t) (cellOf τ (place τ access t))) (threadBehind access t (threadOf ρ t) (cellOf ρ (place ρ access t))) × (writing τ t ≡ writing ρ t)
     alike = same-finding t (threadOf τ t) (threadOf ρ t) (cellOf τ (place τ access t)) (cellOf ρ (place ρ access t)) (m .core) (able-pending (threadOf ρ t) (length (ρ .cells)) live)
         (λ k. let src = m .from k in (finds-value (known .0) τ (known .2 (m .front) (t ∷ m .rest) (m .split)) t ∙ ap₂ (known .0) where-same src ∙ sym (finds-value (known .0) ρ (s .agrees) t), src))

@@ -32,7 +32,7 @@ use Rattle.spec_tso.proofs.Reading.{moves-cons, pending-goes-on}
 abbrev pub Ended : State → ℕ → Type 0
 Ended σ t = (threadOf σ t .local .rest ≡ []) ⊎ (threadOf σ t .local .failed ≡ true)
 
--- its queue is empty
+-- thread t's queue is empty
 abbrev pub Empty : State → ℕ → Type 0
 Empty σ t = threadOf σ t .queue ≡ []
 
@@ -59,7 +59,7 @@ pub locked-memory : (t : ℕ) (h : Thread) (c : Cell) (n : ℕ) → able access 
 locked-memory t h c n m e = finds-memory t h c (free-empty (h .queue) (subst (λ (b : Bool). free b (h .queue) ≡ true) e (able-free h n m)))
 
 module _ (σ : State) (r : Regular σ) (t : ℕ) where
-  -- that a thread has ended is one thing: nothing is left of its code
+  -- of a thread that has ended nothing is left of its code
   spent : Ended σ t → threadOf σ t .local .rest ≡ []
   spent e = ⊎-elim (λ (q : threadOf σ t .local .rest ≡ []). q) (r .halts t) e
 

@@ -183,7 +183,7 @@ module _ (σ : State) (reg : Regular σ) (b : ℕ) (v w : Schedule) (fv : FullFr
   oldest : kindOf b ≡ move → Oldest (threadOf σ t) (threadOf ρ t) (length (σ .cells))
   oldest q = run-oldest z σ b (length (σ .cells)) q (cut .0) (place-w .3) (able-movable (threadOf σ t) (length (σ .cells)) (subst (λ (j : Kind). able j (threadOf σ t) (length (σ .cells)) ≡ true) q live))
 
-  -- so b's step is the same in both
+  -- b's step has the same number in both states
   number-at : (j : Kind) → kindOf b ≡ j → numberOf j (threadOf ρ t) ≡ numberOf j (threadOf σ t)
   number-at access q = number-core (threadOf ρ t) (threadOf σ t) (core-t q)
   number-at move q = oldest q .number
@@ -227,7 +227,7 @@ module _ (σ : State) (reg : Regular σ) (b : ℕ) (v w : Schedule) (fv : FullFr
       (λ i. put-new ρ k t (regρ .stores t) liveρ l (subst (λ (e : Event). List·Memᴰ e (cellOf ρ l .writes)) (sym event-ρ) (subst (List·Memᴰ eX) (sym (g .whole)) (Memᴰ·append-left (cellOf σ l .writes) i))))
       (gv .new) (gw .new) (cellOf σ l .writes) whole)
 
-  -- nor where it reads what is not its own: it would read something else
+  -- no write comes between where b reads what is not its own: it would read something else
   read-waits : kindOf b ≡ access → takes (threadOf ρ t .local) ≡ true → (source ρ t .0 ≡ t → ⊥) → cellOf ρ (place σ access t) ≡ cellOf σ (place σ access t)
   read-waits q e ne =
       let g = grown z σ reg (cut .0) (place σ access t) in

@@ -69,7 +69,7 @@ module _ (p : Program) (w : WellFormed p) where
   pub within : (π : ℕ → ℕ) → Exchange p π → (t : ℕ) → t < length (p .threads) → π t < length (p .threads)
   within π x t h = let a = start-threads p in let b = moves-start p w π (x .1) .within t (omega arith) in omega arith
 
-  -- so rows of reads move to rows of reads
+  -- rows of reads move to rows of reads
   rows : (π : ℕ → ℕ) → Exchange p π → (a b : Schedule) (t : ℕ) → t < length (graph p a .reads) → π t < length (graph p b .reads)
   rows π x a b t h = let i = graph-rows p a in let j = graph-rows p b in let k = within π x t (omega arith) in omega arith
 

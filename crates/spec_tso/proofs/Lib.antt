@@ -6,7 +6,7 @@ pub mod Bytes
 pub mod Steps
 -- what is seen of a state, without its queues
 pub mod Seen
--- it is a lawful step system; T0: at most 32 steps
+-- total store order is a lawful step system; T0: at most 32 steps
 pub mod Lawful
 -- queues: a thread finds the same before and after its oldest pending store moves
 pub mod Queues

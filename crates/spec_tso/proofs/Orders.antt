@@ -54,7 +54,7 @@ swap σ a b ne m n d =
     let r = swap-any σ a (kindOf a) (owner a) b (kindOf b) (owner b) (λ k o. ne (byte-of a b k o)) (enabled-able σ a m, enabled-able (step σ a) b n, d) in
     ((enabled-of σ (step σ a) b n (r .second-first), enabled-of (step σ b) σ a m (r .first-second), r .same-state), r .second-does, r .first-does)
 
--- these steps, taken in this order, keep their dependences
+-- the actions ds, taken in the order s, keep their dependences
 abbrev pub Reorders : List Action → Schedule → Type 0
 Reorders ds s = OrderOf who dependent (TSO .names) ds s
 

@@ -131,7 +131,7 @@ module _ (σ : State) (t : ℕ) (m : able move (threadOf σ t) (length (σ .cell
       ∙ ap₂ (λ (cs : List Cell) (c : Cell). set cs (place σ move t) c) (still σ access t quiet) (oldest-left t h (cellOf σ (place σ access t)) (length (σ .cells)) some-pending (cellOf σ (place σ move t)))
       ∙ sym (still F access t quiet-F)
 
-  -- they commute
+  -- a thread's access and its move commute
   pub one-thread : stepOf A move t ≡ stepOf F access t
   one-thread = ap₂ both one-threads one-cells
 

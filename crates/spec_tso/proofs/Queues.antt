@@ -53,7 +53,7 @@ module _ (q w : List Entry) (n : ℕ) (m : movable q n ≡ true) where
       go [] e = absurd (false≢true e)
       go (x ∷ q) e = e
 
--- its location exists
+-- the location of an oldest entry that can be moved exists
 pub movable-place : (q : List Entry) (n : ℕ) → movable q n ≡ true → oldestPlace q < n
 unfolding movable oldestPlace
 movable-place [] n e = absurd (false≢true e)
@@ -90,7 +90,7 @@ look-here t (x ∷ q) n l c m e = go (newest q l) refl
     go none i = rw (i, newest, eq-eqb (x .location) l e)
     go (some f) i = rw (i, newest)
 
--- and elsewhere: it was not found there
+-- a move to another location changes nothing that is found here
 pub look-away : (t : ℕ) (q : List Entry) (l : ℕ) (c : Cell) → oldestPlace q ≢ l → foundIn t (newest (newer q) l) c ≡ foundIn t (newest q l) c
 unfolding oldestPlace newer newest foundIn
 look-away t [] l c e = refl

@@ -140,7 +140,7 @@ source-at τ t y h v e =
           (ap (λ (x : State). threadOf x t .history .reads) s ∙ ap (λ (x : Thread). x .history .reads) (thread-own τ access t (able-range τ access t (length (τ .cells)) m)) ∙ own-read t (threadOf τ t) (cellOf τ (place τ access t)) e),
     )
 
--- so where two runs come to one thread's state, and end with the same reads of it, its next access has the same source in both
+-- where two runs come to one thread's state, and end with the same reads of it, its next access has the same source in both
 pub same-source : (τ ρ : State) (t : ℕ) (y x : Schedule) → t < 6 → Allowed TSO τ (t ∷ y) → Allowed TSO ρ (t ∷ x) → Core (threadOf τ t) (threadOf ρ t) → takes (threadOf ρ t .local) ≡ true →
     threadOf (run TSO τ (t ∷ y)) t .history .reads ≡ threadOf (run TSO ρ (t ∷ x)) t .history .reads → source τ t ≡ source ρ t
 same-source τ ρ t y x h v w q e r =

@@ -38,7 +38,7 @@ same-access t h c d n i p s q = record {
   action = λ b. rw (s, p, q);
 }
 
--- one that reads from its own queue
+-- an access that reads from its own queue
 finds-own : (t : ℕ) (h : Thread) (c d : Cell) (e : Entry) → newest (h .queue) (placeOf (h .local)) ≡ some e → finds t h d ≡ finds t h c
 unfolding finds foundIn
 finds-own t h c d e q = rw q
@@ -50,7 +50,7 @@ same-own t h c d e q z = same-access t h c d (ap (λ (f : Found). next (h .local
     f : finds t h d ≡ finds t h c
     f = finds-own t h c d e q
 
--- one that does not read: a store
+-- an access that does not read: a store
 pub noted-blind : (b : Bool) (e f : Event) (h : History) → b ≡ false → noted b e h ≡ noted b f h
 unfolding noted
 noted-blind b e f h q = rw q

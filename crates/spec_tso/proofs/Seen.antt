@@ -32,7 +32,7 @@ pub seen-cell : (σ : State) (l : ℕ) → SC.cellOf (withoutQueues σ) l ≡ ce
 unfolding SC.cellOf withoutQueues cellOf
 seen-cell σ l = refl
 
--- and with empty queues
+-- threads of a state with empty queues
 pub drained-thread : (σ : SC.State) (t : ℕ) → threadOf (drained σ) t ≡ idle (SC.threadOf σ t)
 unfolding threadOf drained SC.threadOf noThread
 drained-thread σ t = List·getD-map idle (σ .threads) t SC.noThread
@@ -106,7 +106,7 @@ seen-moves π σ τ m = record {
   within = λ t h. let a = seen-count σ in let b = seen-count τ in let c = m .within t (omega arith) in omega arith;
 }
 
--- so their graphs are exchanged, and they fail alike and have the same memory
+-- exchanged states have exchanged graphs, fail alike and have the same memory
 pub moves-graph : (π : ℕ → ℕ) (σ τ : State) → Moves π σ τ → Renames π (graphOf σ) (graphOf τ)
 unfolding graphOf
 moves-graph π σ τ m = SCMoves.moves-graph π (withoutQueues σ) (withoutQueues τ) (seen-moves π σ τ m)

@@ -50,6 +50,6 @@ pub stays : (σ : State) (a b : ℕ) → a ≢ b → enabled σ a ≡ true → e
 unfolding step
 stays σ a b ne m n = enabled-of (step σ a) σ b n (stepOf-keeps σ (kindOf a) (owner a) (kindOf b) (owner b) (λ k o. ne (byte-of a b k o)) (enabled-able σ a m) (enabled-able σ b n))
 
--- and so stands in every full schedule
+-- a byte that may step stands in every full schedule
 pub occurs : (σ : State) (b : ℕ) (s : Schedule) → enabled σ b ≡ true → FullFrom TSO σ s → List·Memᴰ b s
 occurs σ b s m f = stays-occurs TSO lawful stays σ b s m f

@@ -18,15 +18,17 @@ pub record Action : Type 0 where
   -- thread and access number; a move has those of the store that it moves
   pub event : Event
   pub location : ℕ
-  -- it is a move, not an access
+  -- whether the step is a move of a pending store, not an access
   pub moves : Bool
-  -- it is a fetch and add or a compare and swap
+  -- whether the step is a fetch and add or a compare and swap
   pub locks : Bool
-  -- it reads, and from which write; the initial one where it reads nothing
+  -- whether the step reads
   pub reads : Bool
+  -- the write that the step reads from; the initial one where it reads nothing
   pub source : Event
-  -- it puts, and its location's writes before that; none where it puts nothing
+  -- whether the step writes memory
   pub puts : Bool
+  -- the writes of the location before the step, where it writes memory; else none
   pub before : List Event
 
 unfoldable pub moving : Kind → Bool

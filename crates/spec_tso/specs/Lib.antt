@@ -11,5 +11,3 @@ pub mod Actions
 pub mod Exchange
 -- total store order as a memory model, and what it turns away
 pub mod TotalStoreOrder
--- what the graph call says of a program file, a schedule and an output
-pub mod GraphCall

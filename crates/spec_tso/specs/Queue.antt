@@ -34,7 +34,7 @@ queued locks i l none = []
 queued true i l (some v) = []
 queued false i l (some v) = record { number = i; location = l; value = v } ∷ []
 
--- what it writes to memory at once: a locked access all that it writes, a store nothing
+-- what an access writes to memory at once: a locked one all that it writes, a store nothing
 unfoldable pub atOnce : Bool → Option ℕ → Option ℕ
 atOnce true o = o
 atOnce false o = none
@@ -65,7 +65,7 @@ unfoldable pub newer : List Entry → List Entry
 newer [] = []
 newer (e ∷ q) = q
 
--- there is an oldest one, and its location is one of the first n. Of a program's run the second always holds.
+-- a queue has an oldest entry, and its location is one of the first n. In a program's run the second always holds.
 unfoldable pub movable : List Entry → ℕ → Bool
 movable [] n = false
 movable (e ∷ q) n = ltb (e .location) n

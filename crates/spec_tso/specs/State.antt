@@ -83,27 +83,27 @@ finds t h c = foundIn t (newest (h .queue) (placeOf (h .local))) c
 
 -- the two kinds of steps of a thread
 pub data Kind : Type 0 where
-  -- its next access
+  -- the thread's next access
   access : Kind
-  -- its oldest pending store goes to memory
+  -- the flush of the thread's oldest pending store to memory
   move : Kind
 
--- where such a step goes
+-- the location of a thread's step of this kind
 unfoldable pub target : Kind → Thread → ℕ
 target access h = placeOf (h .local)
 target move h = oldestPlace (h .queue)
 
--- the number of its event; a move has that of its store
+-- the access number of a step's event; a move has that of its store
 unfoldable pub numberOf : Kind → Thread → ℕ
 numberOf access h = h .history .done
 numberOf move h = oldestNumber (h .queue)
 
--- what it writes to memory, if anything
+-- what a step writes to memory, if anything
 unfoldable pub reaches : Kind → ℕ → Thread → Cell → Option ℕ
 reaches access t h c = atOnce (locked (h .local)) (puts (h .local) (finds t h c .value))
 reaches move t h c = oldestValue (h .queue)
 
--- thread t behind it, where its location's cell was c
+-- thread t behind its step, where the cell of the step's location was c
 unfoldable pub threadBehind : Kind → ℕ → Thread → Cell → Thread
 threadBehind access t h c = record {
   local = next (h .local) (finds t h c .value);
@@ -112,14 +112,14 @@ threadBehind access t h c = record {
 }
 threadBehind move t h c = record { local = h .local; history = h .history; queue = newer (h .queue) }
 
--- and its location's cell
+-- the cell of the step's location behind the step
 unfoldable pub cellBehind : Kind → ℕ → Thread → Cell → Cell
 cellBehind k t h c = written (t, numberOf k h) (reaches k t h c) c
 
 unfoldable pub place : State → Kind → ℕ → ℕ
 place σ k t = target k (threadOf σ t)
 
--- such a step of thread t
+-- the state behind a step of this kind by thread t
 unfoldable pub stepOf : State → Kind → ℕ → State
 stepOf σ k t =
     let h = threadOf σ t in
@@ -150,11 +150,11 @@ byteFor move t = t + 16
 unfoldable pub step : State → ℕ → State
 step σ b = stepOf σ (kindOf b) (owner b)
 
--- there are at most six threads
+-- a byte may step where its thread, one of at most six, can do a step of the byte's kind
 unfoldable pub enabled : State → ℕ → Bool
 enabled σ b = ltb (owner b) 6 && able (kindOf b) (threadOf σ (owner b)) (length (σ .cells))
 
--- two for each access left in the code, and one for each pending store
+-- the steps that a thread has left at most: two for each access left in its code, and one for each pending store
 unfoldable pub weight : Thread → ℕ
 weight h = accesses (h .local .rest) + accesses (h .local .rest) + length (h .queue)
 

@@ -9,6 +9,7 @@ use Rattle.spec_file.specs.Program.{Program}
 use Rattle.spec_file.specs.WellFormed.{allAccesses}
 use Rattle.spec_model.specs.Model.{Model}
 use Rattle.spec_sc.specs.Graph.{Graph}
+use Rattle.spec_sc.specs.Text.{graphText}
 use Rattle.spec_sc.specs.Exchange.{Renames}
 use Rattle.spec_sc.specs.Renamed.{renames}
 use Rattle.spec_tso.specs.State.{TSO, start, fails, memoryOf}
@@ -30,6 +31,7 @@ tso = record {
   dependent = dependent;
   Graph = Graph;
   graphOf = graphOf;
+  text = graphText;
   movedByte = movedByte;
   movedAction = movedAction;
   Moves = Moves;

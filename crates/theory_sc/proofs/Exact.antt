@@ -125,7 +125,7 @@ module _ (p : Program) (wf : WellFormed p) where
     unfolding permitted
     in-permutations = of-filter (permits (p .groups)) permutations π mem .0
 
-    -- so each thread ends as the one in whose place it comes, and none that moves writes
+    -- each thread ends as the one in whose place it comes, and none that moves writes
     tied-moved : (a : ℕ) → Tied (moved π a) (moved π (moved π a))
     tied-moved = ties π in-permutations (Line p) (λ a b. Tied (moved π a) (moved π b)) (λ a. inl refl) (line-sym p) (line-trans p wf) line-moved
         (λ a. inl refl) (λ a b. tied-sym (moved π a) (moved π b)) (λ a b c. tied-trans (moved π a) (moved π b) (moved π c)) tied-inverted
@@ -174,7 +174,7 @@ module _ (p : Program) (wf : WellFormed p) where
       go m l a (inl e) = subst (Listed sc p) (sym e) l
       go m l a (inr e) = absurd (l .1 (w, f, e, alike-sym sc sc-laws p (wf, refl) m w a))
 
-  -- and sound: a listed schedule survives
+  -- SOUND: a listed schedule survives
   pub listed-survives : (w : Schedule) → Listed sc p w → Survives p w
   listed-survives w l v t z e = (go (late (taken p v) (action (endOf p v) t)) refl, at (any (twin p (endOf p v) t) (range 0 t)) refl)
     where

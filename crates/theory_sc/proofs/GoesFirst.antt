@@ -79,7 +79,7 @@ module _ (σ : State) (reg : Regular σ) (s : Schedule) (f : FullFrom SC σ s) (
     not-twin : (u r : Schedule) → s ≡ u ++ (z ∷ r) → count (run SC σ u) y ≡ count (run SC σ u) z → count (run SC σ u) y ≤ i → ⊥
     not-twin u r e n h = never u r e (g .same u (z ∷ r) u (z ∷ r) e e n h) (quiet-at y i (g .quiet-first) u (z ∷ r) e h) (quiet-at z i (g .quiet-second) u (z ∷ r) e (omega (arith, n, h)))
 
-    -- so z has never done more than y, until y has done its access i
+    -- z has never done more than y, until y has done its access i
     abbrev Behind : Schedule → Type 0
     Behind u = (count (run SC σ u) z ≤ count (run SC σ u) y) ⊎ (i < count (run SC σ u) y)
 

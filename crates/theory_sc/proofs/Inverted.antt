@@ -56,7 +56,7 @@ module _ (σ : State) (reg : Regular σ) (v w : Schedule) (fv : FullFrom SC σ v
         ap (λ (τ : State). threadOf τ a) (same-graph-end v w σ reg fv fw same ∙ ap (run SC σ) e ∙ run-append SC σ u r) ∙ ended-stays r (run SC σ u) a (full-allowed SC (run SC σ u) r (k .1) .0) m,
       )
 
-  -- so what two threads agree on in v they agree on in w
+  -- what two threads agree on in v they agree on in w
   pub agree-across : (y z i : ℕ) → Agree σ v y z i → Agree σ w y z i
   agree-across y z i g = record {
     same = λ a b c d e k n h.
@@ -244,7 +244,7 @@ module _ (σ : State) (reg : Regular σ) (v w : Schedule) (fv : FullFrom SC σ v
       wrote-nothing (run SC σ a) (regular-run a σ reg (p .0)) t b (full-allowed SC (run SC σ a) (t ∷ b) (p .1) .0) s l
       (subst (λ (x : ℕ). List·Memᴰ (t, x) (cellOf (run SC (run SC σ a) (t ∷ b)) l .writes)) (q ∙ sym n) (subst (λ (τ : State). List·Memᴰ (t, j) (cellOf τ l .writes)) way m))
 
-  -- so its thread has no write with this number, if it does this access and has none with a smaller one
+  -- a thread that does access i without writing, and has no write with a smaller number, has none up to i
   quiet-more : (t i : ℕ) → ((l j : ℕ) → List·Memᴰ (t, j) (cellOf (run SC σ w) l .writes) → i ≤ j) →
       (i < count (run SC σ w) t → (a : Schedule) × (b : Schedule) × (w ≡ a ++ (t ∷ b)) × (count (run SC σ a) t ≡ i) × (writes (run SC σ a) t ≡ false)) →
       (l j : ℕ) → List·Memᴰ (t, j) (cellOf (run SC σ w) l .writes) → suc i ≤ j

@@ -135,7 +135,7 @@ module _ (p : Program) (w : WellFormed p) (v : Schedule) (a : Allowed SC (start 
   pub last-goes-on : sleepers (endOf p v) (lateSet p v) ≡ 0 → givenUp p v (endOf p v) t ≡ false
   last-goes-on z = up-not p v t (on-time z) no-twin none-asleep
 
-  -- and nothing else is tried
+  -- behind a prefix with one running thread nothing but its step is tried
   pub last-alone : (failures : Bool) (steps : ℕ) (o : Option Schedule) → steps < 24 → low o ≤ t → sleepers (endOf p v) (lateSet p v) ≡ 0 →
       foundBehind failures p steps o v ≡ foundBehind failures p (steps + 1) (past o t) (v ++ (t ∷ []))
   last-alone failures steps o h l z =

@@ -49,7 +49,7 @@ module _ (p : Program) (w : WellFormed p) where
   pub late-smaller : (v : Schedule) (t : ℕ) (z : Schedule) → late (taken p v) (action (endOf p v) t) ≡ true → Full p (v ++ (t ∷ z)) → Smaller sc p (v ++ (t ∷ z))
   late-smaller v t z e f = Model.late-smaller sc sc-laws p (w, refl) v t z e f
 
-  -- it stays late behind steps that it is free of
+  -- a late step stays late behind steps that it is free of
   pub late-still-smaller : (v f : Schedule) (t : ℕ) (z : Schedule) → late (taken p v) (action (endOf p v) t) ≡ true → Free SC Independent (endOf p v) f t → Full p (v ++ (f ++ (t ∷ z))) → Smaller sc p (v ++ (f ++ (t ∷ z)))
   late-still-smaller v f t z e free full =
       let same : action (endOf p v) t ≡ action (endOf p (v ++ f)) t = sym (free-action f (endOf p v) t free) ∙ ap (λ (τ : State). action τ t) (sym (run-append SC _ v f)) in

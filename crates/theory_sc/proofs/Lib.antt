@@ -24,7 +24,7 @@ pub mod WhatIsLeft
 pub mod Sleepers
 -- THE SEARCH FINDS THE LIST
 pub mod Search
--- and goes on with the last running thread without branching
+-- the search goes on with the last running thread without branching
 pub mod LastThread
 -- digits tell what they are of
 pub mod ThreadWords

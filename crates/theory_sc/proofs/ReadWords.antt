@@ -41,7 +41,7 @@ pub record Reads (ρ σ : State) (code : Event → ℕ) (val : ℕ → Event →
   pub small : word < 2 ^ 60
   pub local : threadOf σ t .local ≡ led val (threadOf ρ t .local) (threadOf σ t .history .reads)
 
--- it wrote, or did more accesses than two threads can
+-- the thread wrote, or did more accesses than two threads can
 pub record Lone (σ : State) (word t : ℕ) : Type 0 where
   pub is : word ≡ lone t
   pub why : (Quiet σ t → ⊥) ⊎ (12 < threadOf σ t .history .done)

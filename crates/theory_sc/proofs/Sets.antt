@@ -130,7 +130,7 @@ set-grown f n s r k b es eb ek er = ap₂ (λ (i j : ℕ). i + j) es (er ∙ ap 
 pub bound-grown : (n s r k : ℕ) → s < 2 ^ n → r ≤ k → k ≡ 2 ^ n → s + r < 2 ^ (n + 1)
 bound-grown n s r k h i e = let q : 2 ^ (n + 1) ≡ 2 ^ suc n = ap (λ (j : ℕ). 2 ^ j) (omega arith) in omega (arith, q, two-pow-succ n)
 
--- those from n on that pass no test change nothing
+-- numbers from n on that pass no test change no set
 pub set-cut : (f : ℕ → Bool) (n k : ℕ) → n ≤ k → ((u : ℕ) → n ≤ u → u < k → f u ≡ false) → setOf f n ≡ setOf f k
 unfolding addend
 set-cut f n zero h e = ap (setOf f) (omega (arith, h))

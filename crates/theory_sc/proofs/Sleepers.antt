@@ -44,7 +44,7 @@ module _ (σ : State) where
   unfolding unwoken
   unwoken-has s t h = set-has (sleepsIn σ s) 6 t h
 
-  -- those that are left were there, and no thread outside could wake them
+  -- threads that sleep in a set are of the set, and no thread outside could wake them
   sleeps-there : (s t : ℕ) → sleepsIn σ s t ≡ true → has s t ≡ true
   unfolding sleepsIn
   sleeps-there s t e = both (has s t) _ e .0

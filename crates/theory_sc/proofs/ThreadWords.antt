@@ -32,7 +32,7 @@ module _ (base : ℕ) (some : 0 < base) where
     pub digits-fit : (xs : List A) (n : ℕ) → length xs ≤ n → ((x : A) → List·Memᴰ x xs → digit x < base) → digits base digit xs < base ^ n
     digits-fit xs n l h = let p = pow-le-pow-right {n = base} some {i = length xs} {j = n} l in omega (arith, p, digits-below xs h)
 
-    -- more positive ones a greater
+    -- more digits that are positive make a greater number
     pub digits-above : (x : A) (xs : List A) → ((y : A) → 0 < digit y) → base ^ length xs ≤ digits base digit (x ∷ xs)
     unfolding digits
     digits-above x [] h = omega (arith, pow-zero base, h x)
@@ -65,7 +65,7 @@ module _ (base : ℕ) (some : 0 < base) {A B : Type 0} (f : A → ℕ) (g : B �
       let s = digit-last base some (digits base f xs) (digits base g ys) (f x) (g y) (h x (List·Memᴰ·head refl) .1) (k y (List·Memᴰ·head refl) .1) e in
       (r x y (List·Memᴰ·head refl) (List·Memᴰ·head refl) (s .1), digits-paired xs ys (λ z m. h z (List·Memᴰ·tail m)) (λ z m. k z (List·Memᴰ·tail m)) (λ z w m l. r z w (List·Memᴰ·tail m) (List·Memᴰ·tail l)) (s .0))
 
-  -- and back
+  -- pairs have equal digits
   pub paired-digits : (xs : List A) (ys : List B) → ((x : A) (y : B) → R x y → f x ≡ g y) → Paired R xs ys → digits base f xs ≡ digits base g ys
   unfolding digits
   paired-digits [] [] r p = refl

@@ -88,7 +88,7 @@ module _ (p : Program) (w : WellFormed p) (v : Schedule) (a : Allowed SC (start 
   abbrev word : ℕ → ℕ
   word x = getD (wordsOf p v .words) x 0
 
-  -- the same word: the same state, and nothing written
+  -- threads with the same word have the same state, and wrote nothing
   same-word : Together p u t → getD (wordsOf p v .words) u 0 ≡ getD (wordsOf p v .words) t 0 → (threadOf (endOf p v) u ≡ threadOf (endOf p v) t) × Quiet (endOf p v) u × Quiet (endOf p v) t
   unfolding lone
   same-word line e = go (C .worded u hu) (C .worded t ht)
@@ -111,7 +111,7 @@ module _ (p : Program) (w : WellFormed p) (v : Schedule) (a : Allowed SC (start 
             y .quiet,
           )
 
-  -- and back
+  -- equal histories have equal words
   word-same : threadOf (endOf p v) u .history .done ≡ threadOf (endOf p v) t .history .done → threadOf (endOf p v) u .history .reads ≡ threadOf (endOf p v) t .history .reads →
       Quiet (endOf p v) u → Quiet (endOf p v) t → getD (wordsOf p v .words) u 0 ≡ getD (wordsOf p v .words) t 0
   word-same d e qu qt = go (C .worded u hu) (C .worded t ht)
@@ -154,7 +154,7 @@ any-same f g l e = equal-tests (any f l) (any g l)
     (λ q. let r = any-yes f l q in any-of g l (r .0) (r .1) (sym (e (r .0) (r .1)) ∙ r .2))
     (λ q. let r = any-yes g l q in any-of f l (r .0) (r .1) (e (r .0) (r .1) ∙ r .2))
 
--- so none below t is its twin by one test where none is by the other
+-- no thread below t is its twin by words exactly where none is by states
 pub twins-by-word : (p : Program) → WellFormed p → (v : Schedule) → Allowed SC (start p) v → (t : ℕ) → t < 6 →
     any (twinByWord p (wordsOf p v .words) t) (range 0 t) ≡ any (twin p (endOf p v) t) (range 0 t)
 twins-by-word p w v a t h = any-same (twinByWord p (wordsOf p v .words) t) (twin p (endOf p v) t) (range 0 t)

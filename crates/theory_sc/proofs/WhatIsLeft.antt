@@ -55,7 +55,7 @@ pub left-exact : (l : ℕ) → l < 8 → (w : Bool) (h : Local) → couldMeet l 
 unfolding couldMeet meets
 left-exact l s w h = left-law l s w (h .rest)
 
--- and bytes
+-- the sets of locations left to read and to write are bytes
 left-below : (b : Bool) (k s : ℕ) → s < 256 → cond b (joined k s) s < 256
 left-below true k s h = joined-below k s
 left-below false k s h = h
@@ -72,7 +72,7 @@ writes-below [] = omega arith
 writes-below (Memory a ∷ is) = left-below (accessMayWrite a) (accessPlace a) (writesLeft is) (writes-below is)
 writes-below (Alone o ∷ is) = writes-below is
 
--- so is who could wake whom
+-- who could wake whom is read off what is left
 pub wakes-exact : (σ : State) (t u : ℕ) → place σ t < 8 → wakes σ t u ≡ couldMeet (place σ t) (mayWrite (threadOf σ t .local)) (threadOf σ u .local)
 unfolding wakes
 wakes-exact σ t u h = sym (left-exact (place σ t) h (mayWrite (threadOf σ t .local)) (threadOf σ u .local))

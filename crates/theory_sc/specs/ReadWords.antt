@@ -24,7 +24,7 @@ unfoldable pub stampsBehind : List ℕ → ℕ → ℕ → Bool → List ℕ
 stampsBehind stamps l n true = set stamps l n
 stampsBehind stamps l n false = stamps
 
--- both behind step number n, from 1, of thread t
+-- stamps and words behind step number n, from 1, of thread t
 unfoldable pub wordsBehind : State → ℕ → Words → ℕ → Words
 wordsBehind σ n m t =
     let stamp = getD (m .stamps) (place σ t) 0 in
@@ -33,15 +33,15 @@ wordsBehind σ n m t =
       words = set (m .words) t (wordBehind t (getD (m .words) t 0) stamp (writes σ t));
     }
 
--- both behind these steps, with n steps before
+-- stamps and words behind the steps of a schedule, with n steps before
 unfoldable pub wordsAfter : State → ℕ → Words → Schedule → Words
 wordsAfter σ n m [] = m
 wordsAfter σ n m (t ∷ v) = wordsAfter (step σ t) (n + 1) (wordsBehind σ (n + 1) m t) v
 
--- before the first step
+-- stamps and words before the first step
 unfoldable pub noWords : Words
 noWords = record { stamps = 0 ∷ 0 ∷ 0 ∷ 0 ∷ 0 ∷ 0 ∷ 0 ∷ 0 ∷ []; words = 0 ∷ 0 ∷ 0 ∷ 0 ∷ 0 ∷ 0 ∷ [] }
 
--- both behind a program's prefix
+-- stamps and words behind a program's prefix
 unfoldable pub wordsOf : Program → Schedule → Words
 wordsOf p v = wordsAfter (start p) 0 noWords v

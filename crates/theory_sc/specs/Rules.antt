@@ -25,7 +25,7 @@ late = Late.late who conflict
 abbrev pub taken : Program → Schedule → List Action
 taken = LateSet.taken sc
 
--- as many accesses done, and the same reads
+-- two histories have as many accesses done, and the same reads
 unfoldable pub sameHistory : History → History → Bool
 sameHistory h k = eqb (h .done) (k .done) && sameList sameRead (h .reads) (k .reads)
 

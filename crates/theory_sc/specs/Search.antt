@@ -24,7 +24,7 @@ givenUp p v σ t = has (lateSet p v) t || (any (twin p σ t) (range 0 t) || not 
 abbrev pub foundBehind : Bool → Program → ℕ → Option Schedule → Schedule → List Schedule
 foundBehind = Model.foundBehind sc givenUp
 
--- that with t as the next step
+-- all that is found behind the prefix v with t as the next step
 abbrev pub foundWith : Bool → Program → ℕ → Option Schedule → Schedule → ℕ → List Schedule
 foundWith = Model.foundWith sc givenUp
 

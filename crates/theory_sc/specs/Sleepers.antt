@@ -20,7 +20,7 @@ readsLeft [] = 0
 readsLeft (Memory a ∷ is) = cond (accessTakes a) (joined (accessPlace a) (readsLeft is)) (readsLeft is)
 readsLeft (Alone o ∷ is) = readsLeft is
 
--- those that it may still write
+-- the locations that this code may still write
 unfoldable pub writesLeft : List Instruction → ℕ
 writesLeft [] = 0
 writesLeft (Memory a ∷ is) = cond (accessMayWrite a) (joined (accessPlace a) (writesLeft is)) (writesLeft is)

@@ -48,7 +48,7 @@ module _ {D : Type 0} (who : D → ℕ) (dependent : D → D → Bool) (starts :
   back-never (e ∷ before) d n =
       back-next e before d ∙ ap₂ (λ (x y : Bool). not (eqb (who e) (who d)) && ((x || y) && not (dependent e d))) (n e) (back-never before d n) ∙ and-false (not (eqb (who e) (who d)))
 
-  -- it starts at a step that it passes, and goes on over one
+  -- the walk back starts at a step that it passes, and goes on over one
   pub back-here : (e : D) (before : List D) (d : D) → starts e (who d) ≡ true → who e ≢ who d → dependent e d ≡ false → back who dependent starts (e ∷ before) d ≡ true
   back-here e before d o n i = back-next e before d ∙ (let q = ne-eqb (who e) (who d) n in rw (q, o, i))
 
@@ -95,7 +95,7 @@ module _ {D : Type 0} (who : D → ℕ) (dependent : D → D → Bool) (starts :
   pub back-reaches : (acts : List D) (d : D) → back who dependent starts (reverse acts) d ≡ true → Reaches acts d
   back-reaches acts d e = subst (λ (v : List D). Reaches v d) (append-nil (reverse (reverse acts)) ∙ reverse-reverse acts) (reaches-back (reverse acts) [] d tt e)
 
-  -- and a place that is passed is reached
+  -- a place that is passed is reached
   reached-over : (rest : List D) (past : List D) (d : D) → Passed who dependent rest d → back who dependent starts past d ≡ true → back who dependent starts (reverse rest ++ past) d ≡ true
   reached-over [] past d p e = e
   reached-over (x ∷ rest) past d p e =

@@ -17,7 +17,7 @@ pub mod LeastOrder
 pub mod Example
 -- the least schedule with a graph, by the least order of a run's actions
 pub mod ModelOrders
--- and the walk back over them
+-- the walk back over the actions of a run
 pub mod Back
 -- where none comes late the order is the least
 pub mod Timely
@@ -31,7 +31,7 @@ pub mod LateSet
 pub mod Representative
 -- THE SEARCH FINDS THE LIST, by every sound rule that leaves listed schedules only
 pub mod ModelSearch
--- and as code meets it
+-- the search as code meets it
 pub mod Searching
 -- two runs and their least orders, computed
 pub mod Examples

@@ -15,12 +15,12 @@ concatRange f zero d = []
 concatRange f (suc j) d = f d ++ concatRange f j (d + 1)
 
 module _ (M : System) (top : ℕ) (cut : Schedule → M .State → ℕ → Bool) (listed : Schedule → Bool) where
-  -- at a full schedule: itself, if it is above the bound and listed
+  -- what is found at a full schedule: itself, if it is above the bound and listed
   unfoldable pub foundAt : Option Schedule → Schedule → List Schedule
   foundAt none v = elim (listed v) [ true ↦ v ∷ [] | false ↦ [] ]
   foundAt (some b) v = []
 
-  -- behind the prefix v, with the step t: what f finds there, if t may step and is not cut
+  -- what is found behind the prefix v with the step t: what f finds there, if t may step and is not cut
   unfoldable pub foundBy : (Option Schedule → Schedule → M .State → List Schedule) → Option Schedule → Schedule → M .State → ℕ
       → List Schedule
   foundBy f o v σ t = elim (M .enabled σ t) [
@@ -28,7 +28,7 @@ module _ (M : System) (top : ℕ) (cut : Schedule → M .State → ℕ → Bool)
     | false ↦ []
   ]
 
-  -- of at most so many steps, above the bound o, behind the prefix v that leads to σ
+  -- what is found above the bound o behind the prefix v that leads to σ, within as many steps as the first argument says
   unfoldable pub foundFrom : ℕ → Option Schedule → Schedule → M .State → List Schedule
   foundFrom zero o v σ = elim (ended M σ) [ true ↦ foundAt o v | false ↦ [] ]
   foundFrom (suc k) o v σ = elim (ended M σ) [

@@ -44,7 +44,7 @@ module _ (M : Model) where
     abbrev pub foundBehind : ℕ → Option Schedule → Schedule → List Schedule
     foundBehind steps o v = foundFrom (M .system) (M .top) (rule p) (lookedFor failures p) (M .steps - steps) o v (endOf M p v)
 
-    -- that with b as the next step
+    -- all that is found behind the prefix v with b as the next step
     abbrev pub foundWith : ℕ → Option Schedule → Schedule → ℕ → List Schedule
     foundWith steps o v b =
         foundBy (M .system) (M .top) (rule p) (lookedFor failures p)

@@ -12,7 +12,7 @@ unfoldable pub sameFlag : Bool → Bool → Bool
 sameFlag true b = b
 sameFlag false b = not b
 
--- as much code left, the same registers, and the same outcome so far
+-- two local states have as much code left, the same registers, and the same outcome so far
 unfoldable pub sameLocal : Local → Local → Bool
 sameLocal h k = eqb (length (h .rest)) (length (k .rest))
     && (sameList eqb (h .registers) (k .registers) && sameFlag (h .failed) (k .failed))

@@ -111,7 +111,7 @@ no-put w l move t h c n x m e q r =
     let y = oldest-at (h .queue) x r in
     true≢false (sym (eq-eqb (y .0 .location) l (y .2 ∙ q)) ∙ any-no (λ (e : Entry). eqb (e .location) l) (h .queue) (y .0) (wakes-some w l h e .0) (y .1))
 
--- nor, where reads are feared, reads there
+-- a thread that wakes nothing at l, where reads are feared, does not read there
 no-read : (l : ℕ) (h : Thread) → pending (h .local) ≡ true → wakes (some true) l h ≡ false → placeOf (h .local) ≡ l → ⊥
 no-read l h m e q = ⊎-elim (λ (i : placeOf (h .local) ≢ l). i q) (λ (i : (true ≡ false) × ((y : ℕ) → puts (h .local) y ≡ none)). true≢false (i .0)) (elsewhere l true (h .local) m (wakes-some true l h e .1))
 

@@ -107,7 +107,7 @@ module _ (p : Program) (a : Admitted tso p) where
     unfolding run
     side-v = listed-side p a perm mem v fv listed-back v [] refl
 
-    -- so to the end
+    -- threads exchanged with each other are twinned at the end
     twinned : Twinned p (a .0) perm mem (endOf p w)
     twinned = to-the-end p (a .0) perm mem (length w) (start p) w v (omega arith) (regular-start p (a .0)) fw fv (sym same) side-w side-v begin
 
@@ -156,7 +156,7 @@ module _ (p : Program) (a : Admitted tso p) where
       go m l k (inl e) = subst (Listed tso p) (sym e) l
       go m l k (inr e) = absurd (l .1 (w, f, e, alike-sym tso tso-laws p a m w k))
 
-  -- and sound: a listed schedule survives
+  -- SOUND: a listed schedule survives
   pub listed-survives : (w : Schedule) → Listed tso p w → Survives p w
   listed-survives w l v b z e = (on-time (late (taken p v) (action (endOf p v) b)) refl, no-twin (any (twin p (endOf p v) (owner b)) (range 0 (owner b))) refl, not-far (far p v (endOf p v) b) refl)
     where

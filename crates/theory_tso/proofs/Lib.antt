@@ -17,15 +17,15 @@ pub mod TwinTest
 pub mod Far
 -- the next accesses of twinned threads
 pub mod NextAccess
--- so they are twinned behind the accesses of a phase
+-- twinned threads are twinned behind the accesses of a phase
 pub mod OnePhase
 -- what cycles of a permutation have
 pub mod Cycles
--- so they are twinned to the end
+-- twinned threads are twinned to the end
 pub mod Pairs
 -- what the rules say of a survivor at each of its places
 pub mod SurvivorSide
--- and what being listed says
+-- what being listed says of a schedule at each of its places
 pub mod ListedSide
 -- threads that are twinned at the end
 pub mod Tied

@@ -72,7 +72,7 @@ module _ (p : Program) (a : Admitted tso p) (π : ℕ → ℕ) (x : Exchange p �
           ∙ less-heads (movedByte π y) (movedByte π b) (movedSchedule tso π r) (movedSchedule tso π s) h in
           absurd (listed .1 (movedSchedule tso π (u ++ (y ∷ r)), exchanged tso tso-laws p a π x (u ++ (y ∷ r)) f .0, low, back))
 
-  -- so with the same end
+  -- no smaller byte leads to the same end
   pub listed-first : (u : Schedule) (b : ℕ) (s : Schedule) → v ≡ u ++ (b ∷ s) → (y : ℕ) (r : Schedule) → FullFrom TSO (endOf p u) (y ∷ r) → run TSO (endOf p u) (y ∷ r) ≡ run TSO (endOf p u) (b ∷ s) →
       movedByte π b ≤ movedByte π y
   listed-first u b s e y r f q =
@@ -80,7 +80,7 @@ module _ (p : Program) (a : Admitted tso p) (π : ℕ → ℕ) (x : Exchange p �
       listed-least u b s e y r (full-join TSO (start p) u (y ∷ r) (k .0) f)
       (alike-end tso tso-laws p a (u ++ (y ∷ r)) v (run-append TSO (start p) u (y ∷ r) ∙ q ∙ sym (run-append TSO (start p) u (b ∷ s)) ∙ ap (endOf p) (sym e)))
 
-  -- nor with twinned threads exchanged: y's byte, that could go first, stands for z's
+  -- no smaller byte leads to the same end with twinned threads exchanged: y's byte, that could go first, stands for z's
   pub listed-twinned : (u : Schedule) (b : ℕ) (s : Schedule) → v ≡ u ++ (b ∷ s) → (y z : ℕ) → y ≢ z → Together p y z → Tw (endOf p u) y z → (c : ℕ) (r : Schedule) → FullFrom TSO (endOf p u) (c ∷ r) →
       run TSO (endOf p u) (c ∷ r) ≡ run TSO (endOf p u) (b ∷ s) → movedByte π b ≤ movedByte π (movedByte (swapped y z) c)
   listed-twinned u b s e y z ne k tw c r f q =

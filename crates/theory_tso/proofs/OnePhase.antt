@@ -275,7 +275,7 @@ module _ (y z : ℕ) (ne : y ≢ z) (hy : y < 6) (hz : z < 6) where
       end-both : run TSO (step σ y) (z ∷ (f ++ (r ++ b))) ≡ run TSO (step σ y) w
       end-both = run-cons TSO (step σ y) z (f ++ (r ++ b)) ∙ over-run (action σ z) z f (r ++ b) (step σ y) over-z ∙ end-y
 
-      -- so z is taken first in w too
+      -- z is taken first in w too
       pulled-w : Pulled (step σ y) w z
       pulled-w = pull (step σ y) reg-y z (f ++ (r ++ b)) w (may-z, full-both) (fw .1) end-both
 

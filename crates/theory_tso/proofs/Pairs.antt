@@ -119,7 +119,7 @@ module _ (p : Program) (wf : WellFormed p) (perm : List ℕ) (mem : List·Memᴰ
       × ((a b : ℕ) → Pair a b → Tw σ (π b) (π a) → (r : Schedule) → Ends σ (x ∷ s) ((π a + 16) ∷ r) → x ≤ π b + 16)
       × KeepsRules (step σ x) s
 
-  -- and of m, seen at its exchange v: no move where an access could go; the moves in the order of m
+  -- what the rules say of m, seen at its exchange v: no move where an access could go; the moves in the order of m
   abbrev pub KeepsListed : State → Schedule → Type 0
   KeepsListed σ [] = Unit {0}
   KeepsListed σ (x ∷ s) =
@@ -248,7 +248,7 @@ module _ (p : Program) (wf : WellFormed p) (perm : List ℕ) (mem : List·Memᴰ
                 at (yes i) = i
                 at (no i) = absurd (k (omega arith))
 
-    -- its thread stays
+    -- the thread of the move stays
     stays-there : a ≡ x
     stays-there = go (decLt a x) (decLt x a)
       where
@@ -263,7 +263,7 @@ module _ (p : Program) (wf : WellFormed p) (perm : List ℕ) (mem : List·Memᴰ
         go (no h) (yes k) = let d = below k in absurd (omega (arith, i, d .1, d .2, k))
         go (no h) (no k) = omega arith
 
-    -- and is in no pair
+    -- the thread of the move is in no pair
     no-greater : (b c : ℕ) → Pair b c → π b ≢ x
     no-greater b c k q =
         let t = tw b c k in

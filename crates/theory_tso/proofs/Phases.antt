@@ -136,7 +136,7 @@ module _ (d : Action) (t : ℕ) where
     subst (λ (τ : State). AtEach P τ (f ++ b)) (o .4) (over-each P f b (step σ x) (regular-step σ x g (o .0)) (o .6) (λ ρ y s r i j m. h ρ y s r i j (List·Memᴰ·tail m)) (k .1)),
   )
 
-  -- so a prompt schedule stays prompt
+  -- a prompt schedule stays prompt without a step that its accesses pass
   pub over-prompt : (f b : Schedule) (σ : State) → Regular σ → Over d σ f t → ((x : ℕ) → List·Memᴰ x f → kindOf x ≡ access) → Prompt σ (f ++ (t ∷ b)) → Prompt (step σ t) (f ++ b)
   over-prompt f b σ g o h = over-each PromptAt f b σ g o (λ ρ x s r i j m k e. absurd (access≢move (sym (h x m) ∙ e)))
 

@@ -96,7 +96,7 @@ before = record {
   starting = zeros;
 }
 
--- here thread 2's move stays: at 00 00 01 02 threads 1 and 2 were twins too, but 10 was taken, which is smaller than 11
+-- a schedule in which thread 2's move stays: at 00 00 01 02 threads 1 and 2 were twins too, but 10 was taken, which is smaller than 11
 lower : Schedule
 lower = 0 ∷ 0 ∷ 1 ∷ 2 ∷ 16 ∷ 1 ∷ 16 ∷ 2 ∷ []
 

@@ -112,7 +112,7 @@ module _ (β : Values) (σ : State) (t : ℕ) (h6 : t < 6) (agrees : Agrees β �
           let f = found-none t (newest (h .queue) l) (cellOf σ l) e in
           ap (λ (y : Event). foundFrom β t (h .queue) l (some y)) (f .1) ∙ other-found β t (h .queue) l (latest (cellOf σ l .writes)) not-own ∙ sym (agrees .cells l) ∙ sym (f .0)
 
-  -- so the access leads where its source does
+  -- an access leads where its source does
   access-leads : pending (threadOf σ t .local) ≡ true → (n : ℕ) → tracked (threadOf σ t .local) (threadOf σ t .queue) n (finds t (threadOf σ t) (cellOf σ (placeOf (threadOf σ t .local))) .value)
       ≡ tracked (threadOf σ t .local) (threadOf σ t .queue) n (foundFrom β t (threadOf σ t .queue) (placeOf (threadOf σ t .local)) (sourceOr (takes (threadOf σ t .local)) (finds t (threadOf σ t) (cellOf σ (placeOf (threadOf σ t .local))) .source)))
   unfolding sourceOr

@@ -82,7 +82,7 @@ module _ (p : Program) (wf : WellFormed p) (v : Schedule) (a : Allowed TSO (star
       (stands-pass u t ne (threadOf (endOf p v) u) (λ r m. from-other (endOf p v) t u (r .1) ht ne (quiet-silence (endOf p v) t (tw .2)) (sourced p wf v a u r m))))
       (both-and (quiet-silent (withoutQueues (endOf p v)) u (seen-quiet (endOf p v) u (tw .1))) (quiet-silent (withoutQueues (endOf p v)) t (seen-quiet (endOf p v) t (tw .2)))))
 
-  -- and what passes is twinned
+  -- threads that pass the test are twinned
   pub test-tw : twin p (endOf p v) t u ≡ true → Tw (endOf p v) u t
   unfolding twin
   test-tw e =

@@ -175,7 +175,7 @@ module _ (u t : ℕ) (hu : u < 6) (ht : t < 6) where
   digit-matches (some e) none a b q = absurd (store-apart u hu e (a e refl) q)
   digit-matches (some e) (some f) a b q = source-matches e f (a e refl) (b f refl) q
 
-  -- the same digits
+  -- accesses whose digits make the same number match
   digits-matched : (os xs : List (Option Event)) → AllCodable os → AllCodable xs → Small u os → Small t xs → digits u os ≡ digits t xs → Matched u t os xs
   digits-matched os xs a b s r = digits-paired 128 (omega arith) (digit u) (digit t) (Matches u t) os xs (λ o m. (digit-positive u o, s o m)) (λ x m. (digit-positive t x, r x m))
       (λ o x m k. digit-matches o x (λ e z. a e (subst (λ (y : Option Event). List·Memᴰ y os) z m)) (λ e z. b e (subst (λ (y : Option Event). List·Memᴰ y xs) z k)))
@@ -344,7 +344,7 @@ module _ (p : Program) (w : WellFormed p) (few : allAccesses (p .threads) ≤ 16
       let k = members p w u t line in
       ap (λ (h : Thread). h .local) (drained-thread (SC.start p) u ∙ ap idle (Start.start-thread p u (k .0) ∙ ap SC.opened (k .2) ∙ sym (Start.start-thread p t (k .1))) ∙ sym (drained-thread (SC.start p) t))
 
-  -- the same word: they stand alike
+  -- threads with the same word stand alike
   alike : Together p u t → silent (withoutQueues (endOf p v)) u ≡ true → silent (withoutQueues (endOf p v)) t ≡ true → digits u (sourcesOf (threadOf (endOf p v) u .history .done) (threadOf (endOf p v) u .history .reads))
       ≡ digits t (sourcesOf (threadOf (endOf p v) t .history .done) (threadOf (endOf p v) t .history .reads)) → standsAs u t (threadOf (endOf p v) u) (threadOf (endOf p v) t) ≡ true
   unfolding standsAs
@@ -372,7 +372,7 @@ module _ (p : Program) (w : WellFormed p) (few : allAccesses (p .threads) ≤ 16
       go (inr (inl e)) = omega (arith, ht, i, ap (λ (y : Event). y .0) e)
       go (inr (inr k)) = q (k .0) (r .1) (k .1) i
 
-  -- and back
+  -- threads that stand alike have equal words
   same-word : silent (withoutQueues (endOf p v)) u ≡ true → silent (withoutQueues (endOf p v)) t ≡ true → threadOf (endOf p v) u .history .done ≡ threadOf (endOf p v) t .history .done →
       sameList (sameSource u t) (threadOf (endOf p v) u .history .reads) (threadOf (endOf p v) t .history .reads) ≡ true → wordOf (endOf p v) u ≡ wordOf (endOf p v) t
   unfolding wordOf

@@ -155,7 +155,7 @@ module _ (p : Program) (w : WellFormed p) (few : allAccesses (p .threads) ≤ 16
   unfolding worded
   put-word k x ek e = word-is (stepOf σ (kindOf b) (owner b)) (owner b) false (threadOf (stepOf σ (kindOf b) (owner b)) (owner b) .history) (silent-put σ (kindOf b) (owner b) g (enabled-able σ b ok) x e) refl
 
-  -- and behind an access that puts nothing
+  -- a thread's history behind an access that puts nothing
   access-history : (k : Kind) → k ≡ access → able k (threadOf (endOf p v) (owner b)) (length (endOf p v .cells)) ≡ true → threadOf (stepOf (endOf p v) k (owner b)) (owner b) .history
       ≡ noted (takes (threadOf (endOf p v) (owner b) .local)) (finds (owner b) (threadOf (endOf p v) (owner b)) (cellOf (endOf p v) (place (endOf p v) k (owner b))) .source) (threadOf (endOf p v) (owner b) .history)
   unfolding threadBehind

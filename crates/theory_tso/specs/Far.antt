@@ -38,7 +38,7 @@ takenAt p v = reverse (trace TSO placed (start p) v)
 unfoldable pub twinMoves : Program → State → ℕ → ℕ → Bool
 twinMoves p σ b t = any (λ u. twin p σ t u && ltb (u + 16) b) (range 0 t)
 
--- of a thread's move alone
+-- whether a step of t of this kind begins to come far at a place: a move alone can
 unfoldable pub startsBy : Program → Place → Kind → ℕ → Bool
 startsBy p q access t = false
 startsBy p q move t = twinMoves p (q .0) (q .1) t

@@ -17,6 +17,6 @@ bytesOf f k = setOf (λ t. f (byteFor k t)) 6
 abbrev pub lateAt : Program → Schedule → ℕ → Bool
 lateAt = LateSet.lateAt tso
 
--- it may step, and its step would come far
+-- behind the prefix v the byte c may step, and its step would come far
 abbrev pub farAt : Program → Schedule → ℕ → Bool
 farAt p = LateSet.backAt tso placed actionAt byteAt (starts p) p

@@ -1,8 +1,4 @@
 -- What the search goes by, in reading order; no promise rests on it.
--- a run that fails
-pub mod Graph
--- the least order of what the steps of a run did
-pub mod Actions
 -- R2 and R3
 pub mod Rules
 -- R2 far

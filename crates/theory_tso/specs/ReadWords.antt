@@ -16,16 +16,16 @@ sourcesOf zero rs = []
 sourcesOf (suc n) [] = none ∷ sourcesOf n []
 sourcesOf (suc n) (r ∷ rs) = elim (eqb (r .0) n) [ true ↦ some (r .1) ∷ sourcesOf n rs | false ↦ none ∷ sourcesOf n (r ∷ rs) ]
 
--- a source, read by thread t: an own one, the initial one, another thread's
+-- the digit of a source that thread t read: an own store, the initial write, or another thread's write
 unfoldable pub sourceDigit : ℕ → Event → ℕ
 sourceDigit t e = cond (eqb (e .0) t) (e .1 + 3) (cond (ltb (e .0) 6) (e .0 * 16 + e .1 + 19) 2)
 
--- an access of thread t
+-- the digit of an access of thread t
 unfoldable pub digit : ℕ → Option Event → ℕ
 digit t none = 1
 digit t (some e) = sourceDigit t e
 
--- accesses of thread t, the latest last
+-- the number that the digits of accesses of thread t make, the latest last
 abbrev pub digits : ℕ → List (Option Event) → ℕ
 digits t = ThreadWords.digits 128 (digit t)
 
@@ -35,6 +35,6 @@ wordOf σ t =
     let h = threadOf σ t .history in
     cond (silent (withoutQueues σ) t && ltb (h .done) 9) (digits t (sourcesOf (h .done) (h .reads))) (lone t)
 
--- its word behind an access with this digit that did not put, or behind a step that did
+-- a thread's word behind an access with this digit that did not put, or behind a step that did
 abbrev pub wordBehind : ℕ → ℕ → ℕ → Bool → ℕ
 wordBehind = ThreadWords.wordBehind 128 (2 ^ 49)

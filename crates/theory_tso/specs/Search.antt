@@ -25,7 +25,7 @@ givenUp p v σ b =
 abbrev pub foundBehind : (Program → Model.Rule tso) → Bool → Program → ℕ → Option Schedule → Schedule → List Schedule
 foundBehind = Model.foundBehind tso
 
--- that with b as the next step
+-- all that is found behind the prefix v with b as the next step
 abbrev pub foundWith : (Program → Model.Rule tso) → Bool → Program → ℕ → Option Schedule → Schedule → ℕ → List Schedule
 foundWith = Model.foundWith tso
 

@@ -137,7 +137,7 @@ module _ (code lengths : List ℕ) (m : QueuedMachine) (σ : State) (t : ℕ) (h
   abbrev written : Option ℕ
   written = puts (threadOf σ t .local) (finds t (threadOf σ t) (cellOf σ (place σ access t)) .value)
 
-  -- it writes nothing
+  -- the access writes nothing
   access-nothing : a .writes ≡ false
       → HoldsStep code lengths σ t (did (record { threads = set (m .threads) t (a .thread); memory = m .memory; last = m .last; heads = m .heads; tails = m .tails; slots = m .slots }) (threadAt (coreOf m) t .done) a false)
   unfolding reaches given
@@ -160,7 +160,7 @@ module _ (code lengths : List ℕ) (m : QueuedMachine) (σ : State) (t : ℕ) (h
       slots = m .slots;
     }
 
-    -- it is locked, at the location l
+    -- the access is locked, at the location l
     access-locked : (l : ℕ) → l ≡ a .location → a .locks ≡ true → HoldsStep code lengths σ t (did (locking-machine l) (threadAt (coreOf m) t .done) a true)
     unfolding reaches given
     access-locked l el q =
@@ -178,7 +178,7 @@ module _ (code lengths : List ℕ) (m : QueuedMachine) (σ : State) (t : ℕ) (h
       slots = set (m .slots) k (record { value = a .value; number = threadAt (coreOf m) t .done; location = a .location });
     }
 
-    -- it is a store, put into slot k
+    -- the access is a store, put into slot k
     access-waiting : (k : ℕ) → k ≡ tailAt m t → a .locks ≡ false → HoldsStep code lengths σ t (did (waiting-machine k) (threadAt (coreOf m) t .done) a false)
     unfolding reaches given
     access-waiting k ek q =

@@ -125,7 +125,7 @@ module _ (code lengths : List ℕ) (m : QueuedMachine) (σ : State) (t : ℕ) (h
     places = held .places;
   })
 
-  -- it writes nothing
+  -- the access writes nothing
   pub holds-nothing : a .writes ≡ false → Holds code lengths (kept (m .memory) (m .last)) (stepOf σ access t)
   unfolding reaches
   holds-nothing e =
@@ -136,7 +136,7 @@ module _ (code lengths : List ℕ) (m : QueuedMachine) (σ : State) (t : ℕ) (h
     some-written : written ≡ some (a .value)
     some-written = met .puts ∙ ap (λ (b : Bool). cond b (some (a .value)) none) e
 
-    -- it is locked and writes memory
+    -- the access is locked and writes memory
     pub holds-locked : (l i : ℕ) → l ≡ a .location → i ≡ h .history .done → a .locks ≡ true
         → Holds code lengths (kept (set (m .memory) l (a .value)) (set (m .last) l (record { thread = t; number = i }))) (stepOf σ access t)
     unfolding reaches numberOf

@@ -16,7 +16,7 @@ use Rattle.tso_machine.specs.declared.state.Pending.{Pending}
 use Rattle.tso_machine.specs.declared.state.QueuedMachine.{QueuedMachine}
 use Rattle.tso_machine.specs.Slots.{noStore, queueAt}
 
--- what it has in common with the machine of sequential consistency
+-- what a machine with queues has in common with the machine of sequential consistency
 abbrev pub coreOf : QueuedMachine → Machine
 coreOf m = record { threads = m .threads; memory = m .memory; last = m .last }
 
@@ -27,7 +27,7 @@ headAt m t = getD (m .heads) t 0
 abbrev pub tailAt : QueuedMachine → ℕ → ℕ
 tailAt m t = getD (m .tails) t 0
 
--- where its slots end: the next thread's queue begins behind them, and there are sixteen
+-- where thread t's slots end: the next thread's queue begins behind them, and there are sixteen
 abbrev pub limitAt : QueuedMachine → ℕ → ℕ
 limitAt m t = getD (m .heads) (t + 1) 16
 

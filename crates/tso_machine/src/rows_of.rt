@@ -20,7 +20,7 @@ pub fn locks_at(code: &Code, row: usize) -> bool
     b <= 0x13
 }
 
-// Where the access goes.
+// The location of the access in a row.
 pub(crate) fn location_at(code: &Code, row: usize) -> u8
     requires { ⌜ row < 96 ⌝ }
     ensures { λ r. ⌜ (beginsWithAccess (instructionAt (now (code .entry)) row ∷ []) ≡ true

@@ -68,7 +68,7 @@ fn value_behind(puts: bool, v: u32, x: u32) -> u32
     x
 }
 
-// Its last write behind thread t's access `number`, which put or did not, where w was.
+// The last write of a location behind thread t's access `number`, which put or did not, where w was.
 fn last_behind(puts: bool, t: u8, number: u8, w: LastWrite) -> LastWrite
     ensures { λ r. ⌜ r ≡ cond puts (record { thread = t; number = number }) w ⌝ }
 {

@@ -50,7 +50,7 @@ pub or-not : (a b : Bool) → b ≡ false → (a || b) ≡ a
 or-not true b e = refl
 or-not false b e = e
 
--- those below t that pass a second test are those below k
+-- of the numbers below t those that pass a second test are those below k
 pub any-cut : (f g : ℕ → Bool) (k t : ℕ) → k ≤ t → ((u : ℕ) → u < k → g u ≡ true) → ((u : ℕ) → k ≤ u → u < t → g u ≡ false) → any (λ u. f u && g u) (range 0 t) ≡ any f (range 0 k)
 any-cut f g k t h yes-below no-above = equal-tests (any (λ u. f u && g u) (range 0 t)) (any f (range 0 k)) there back
   where
@@ -116,6 +116,6 @@ chosen-free k n q f w s e = bytes-same (λ c. n c && (not (q c) && (f c && not (
     ap (λ (x : Bool). x && not (w (byteFor k u))) (ap (λ (i : ℕ). has i u) e ∙ set-has (λ u. n (byteFor k u) && (not (q (byteFor k u)) && f (byteFor k u))) 6 u h)
     ∙ and-regrouped (n (byteFor k u)) (not (q (byteFor k u))) (f (byteFor k u)) (not (w (byteFor k u))))
 
--- and each of them may step
+-- each thread chosen may step
 pub chosen-may : (k : Kind) (n q f : ℕ → Bool) (s : ℕ) → s ≡ setOf (λ u. n (byteFor k u) && (not (q (byteFor k u)) && f (byteFor k u))) 6 → (u : ℕ) → u < 6 → has s u ≡ true → n (byteFor k u) ≡ true
 chosen-may k n q f s e u h i = both (n (byteFor k u)) _ (sym (ap (λ (j : ℕ). has j u) e ∙ set-has (λ u. n (byteFor k u) && (not (q (byteFor k u)) && f (byteFor k u))) 6 u h) ∙ i) .0

@@ -45,8 +45,8 @@ fn access_goes_on(
     !access_waits(code, k, memory, holding, u, e)
 }
 
-// Those of a set of threads, which may all do their next access, whose access need not wait; these threads have a store pending to e's
-// location.
+// Of a set of threads, which may all do their next access, those whose access need not wait; `holding` has the threads with a store pending
+// to e's location.
 fn asked_accesses(
     code: &Code,
     threads: [ThreadState; 6],
@@ -78,7 +78,7 @@ fn asked_accesses(
     )
 }
 
-// The same. Where there is nobody to ask, no queue is looked at.
+// Of a set of threads those whose access need not wait. Where the set is empty, no queue is looked at.
 fn free_accesses(
     code: &Code,
     threads: [ThreadState; 6],
@@ -115,7 +115,7 @@ fn move_goes_on(s: Pending, set: u8, e: Deed, u: u8) -> bool
     !move_waits(s, u, e)
 }
 
-// Those of a set of threads, which may all move, whose move need not wait.
+// Of a set of threads, which may all move, those whose move need not wait.
 fn asked_moves(slots: [Pending; 16], heads: &[u8; 6], set: u8, e: Deed) -> u8
     ensures { λ r. ⌜ ((code lengths : List ℕ) (m : QueuedMachine) (σ : State) → Holds code lengths m σ → m .slots ≡ slots
         → m .heads ≡ now (heads .entry) → ((u : ℕ) → u < 6 → has set u ≡ true → enabled σ (byteFor move u) ≡ true)
@@ -137,7 +137,7 @@ fn asked_moves(slots: [Pending; 16], heads: &[u8; 6], set: u8, e: Deed) -> u8
     )
 }
 
-// The same. Where there is nobody to ask, no slot is looked at.
+// Of a set of threads those whose move need not wait. Where the set is empty, no slot is looked at.
 fn free_moves(slots: [Pending; 16], heads: &[u8; 6], set: u8, e: Deed) -> u8
     ensures { λ r. ⌜ ((code lengths : List ℕ) (m : QueuedMachine) (σ : State) → Holds code lengths m σ → m .slots ≡ slots
         → m .heads ≡ now (heads .entry) → ((u : ℕ) → u < 6 → has set u ≡ true → enabled σ (byteFor move u) ≡ true)

@@ -200,7 +200,7 @@ module _ (code lengths class : List ℕ) (threads groups : ℕ) (x : Place) (p :
   snoc : endOf p (v ++ (b ∷ [])) ≡ step (endOf p v) b
   snoc = run-snoc TSO (start p) v b
 
-  -- those that are late, of the ones that the code asks
+  -- of the threads that the code asks those that are late
   late-chosen : (k : Kind) (first may old s : ℕ) → ((u : ℕ) → u + first ≡ byteFor k u) → may ≡ bytesOf (enabled (step (endOf p v) b)) k → old ≡ bytesOf (lateAt p v) k →
       s ≡ setOf (λ u. has may u && (not (eqb b (u + first)) && (ltb (u + first) b || has old u))) 6 →
       s ≡ setOf (λ u. enabled (step (endOf p v) b) (byteFor k u) && (not (eqb b (byteFor k u)) && (ltb (byteFor k u) b || lateAt p v (byteFor k u)))) 6
@@ -215,7 +215,7 @@ module _ (code lengths class : List ℕ) (threads groups : ℕ) (x : Place) (p :
   late-behind k s r es er = er ∙ chosen-free k (enabled τ) (eqb b) (λ c. ltb c b || lateAt p v c) (λ c. waits (deed σ b) (deed τ c)) s es
       ∙ sym (set-same (λ u. lateAt p (v ++ (b ∷ [])) (byteFor k u)) (λ u. goesOn (enabled τ) b (λ c. ltb c b || lateAt p v c) (λ c. waits (deed σ b) (deed τ c)) (byteFor k u)) 6 (λ u h. late-more p w v (at .allowed) b ok (byteFor k u)))
 
-  -- and far
+  -- twins with a smaller move, by words, are where R2 far starts
   twins-word : (t : ℕ) → t < 6 → any (λ u. twinByWord p (x .words) t u && ltb (u + 16) b) (range 0 t) ≡ starts p (endOf p v, b) (byteFor move t)
   unfolding starts startsBy twinMoves
   twins-word t h =

@@ -42,7 +42,7 @@ fn is_none_smaller(before: u8, b: u8, first: u8) -> bool
     false
 }
 
-// Those, the byte of thread 0 being `first`.
+// The threads that may step, not by b, and whose byte is smaller than b or that were in the set; the byte of thread 0 is `first`.
 fn smaller(may: u8, before: u8, b: u8, first: u8) -> u8
     requires { ⌜ first ≤ 16 ⌝ }
     ensures { λ r. ⌜ r ≡ setOf (λ u. has may u && (not (eqb b (u + first)) && (ltb (u + first) b || has before u))) 6 ⌝ }
@@ -92,7 +92,7 @@ fn is_farther(class: &[usize; 6], words: &[u64; 6], may: u8, before: u8, b: u8, 
     has_same_word(class, words, t, moves_below(b, t))
 }
 
-// Those threads.
+// The threads that may move, not by b, and were in the set or have a smaller twin whose move is smaller than b.
 fn farther(class: &[usize; 6], words: &[u64; 6], may: u8, before: u8, b: u8) -> u8
     ensures { λ r. ⌜ ((groups : ℕ) (p : Program) → Lined (now (class .entry)) groups p
         → r ≡ setOf (λ t. has may t && (not (eqb b (t + 16))

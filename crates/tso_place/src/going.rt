@@ -32,7 +32,7 @@ ghost use Rattle.tso_machine.specs.Held.{Holds};
 ghost use Rattle.theory_tso.specs.LateBytes.{bytesOf};
 ghost use Rattle.tso_place.specs.Reached.{Reached};
 
-// Which of the six may do their next access.
+// The threads, of six, that may do their next access.
 fn live_set(code: &Code, lengths: &[usize; 6], m: QueuedMachine) -> u8
     requires { ⌜ ((σ : State) × Holds (now code) (now lengths) m σ) ⌝ }
     ensures { λ r. ⌜ ((σ : State) → Holds (now (code .entry)) (now (lengths .entry)) m σ → r ≡ bytesOf (enabled σ) access) ⌝ }
@@ -47,7 +47,7 @@ fn live_set(code: &Code, lengths: &[usize; 6], m: QueuedMachine) -> u8
     )
 }
 
-// Before the first step of the program in these rows, with these starting values: nobody has anything to move.
+// The place before the first step of the program in these rows, with these starting values: nobody has anything to move.
 pub fn begun(code: &Code, lengths: &[usize; 6], threads: usize, starting: [u32; 8]) -> Place
     requires { ⌜ ((p : Program) × Loaded (now code) (now lengths) threads p × (starting ≡ initial p) × (allAccesses (p .threads) ≤ 16)) ⌝ }
     ensures { λ r. ⌜ ((class : List ℕ) (groups : ℕ) (p : Program) → Loaded (now (code .entry)) (now (lengths .entry)) threads p
@@ -114,7 +114,7 @@ fn deed_of(c: Change, t: u8, b: u8) -> Deed
     }
 }
 
-// Behind the step b, which may be made. One copy of the place is made, and the step's changes are stored in it.
+// The place behind the step b, which may be made. One copy of the place is made, and the step's changes are stored in it.
 pub fn advanced(code: &Code, lengths: &[usize; 6], class: &[usize; 6], x: Place, b: u8) -> Place
     requires { ⌜ ((threads : ℕ) × (groups : ℕ) × (p : Program) × (v : Schedule)
         × Reached (now code) (now lengths) (now class) threads groups x p v × (enabled (endOf p v) b ≡ true)) ⌝ }

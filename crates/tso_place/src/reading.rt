@@ -7,11 +7,17 @@ ghost use Rattle.machine.specs.Held.{eventOf};
 ghost use Rattle.theory_sc.specs.ThreadWords.{lone};
 ghost use Rattle.theory_tso.specs.ReadWords.{sourceDigit, wordBehind};
 
+// The words of threads that can have no twin any more begin at 2^60: the word of eight accesses, seven bits each, is smaller.
+const NO_TWIN: u64 = 0x1000_0000_0000_0000;
+
+// From 2^49 on a word has no room for another access: with seven bits more it would not stay below 2^56.
+const FULL_WORD: u64 = 0x2_0000_0000_0000;
+
 // The word of thread t when it can have no twin any more.
 fn lone(t: u8) -> u64
     ensures { λ r. ⌜ r ≡ lone t ⌝ }
 {
-    1152921504606846976 + (t as u64)
+    NO_TWIN + (t as u64)
 }
 
 // An access of thread t, which reads this write or nothing.
@@ -39,7 +45,7 @@ pub(crate) fn word_behind(t: u8, word: u64, d: u64, puts: bool) -> u64
     if puts {
         return lone(t);
     }
-    if word < 562949953421312 {
+    if word < FULL_WORD {
         return word * 128 + d;
     }
     lone(t)

@@ -128,7 +128,7 @@ module _ (code lengths : List ℕ) (threads : ℕ) (p : Program) (loaded : Loade
     next : take (k + 1) s ≡ take k s ++ (b ∷ [])
     next = ap (λ (j : ℕ). take j s) (let z : k + 1 ≡ suc k = omega arith in z) ∙ take-suc s k 0 h
 
-    -- it may not step
+    -- the next byte may not step
     pub replay-stops : enabled σ b ≡ false → HoldsRun code lengths p s (record { verdict = Refused 20 k; machine = m; log = log; notes = count; schedule = made; steps = k })
     unfolding refusalOf
     replay-stops e = record {

@@ -7,5 +7,3 @@ pub mod NotesHere
 pub mod FewNotes
 -- a schedule carried out
 pub mod HeldReplay
--- what the graph call answers
-pub mod GraphCalled

@@ -21,7 +21,7 @@ noteOf σ b = record {
   wrote = action σ b .puts;
 }
 
--- its note, if it states something
+-- the note of the step b, if it reads or writes memory
 unfoldable pub noted : State → ℕ → List Note
 noted σ b = cond (action σ b .reads || action σ b .puts) (noteOf σ b ∷ []) []
 

@@ -1,4 +1,4 @@
-// A schedule carried out under total store order, and the graph call.
+// A schedule carried out under total store order.
 
 // What total store order turns away.
 mod admitting;
@@ -6,10 +6,7 @@ mod admitting;
 mod noting;
 // A schedule carried out.
 mod replaying;
-// The graph call.
-mod graph_call;
 
 pub use admitting::too_many;
-pub use graph_call::graph;
 pub use replaying::Run;
 pub use replaying::replayed;

@@ -67,7 +67,7 @@ set-empty g = equal-tests (eqb (setOf g 6) 0) (all (λ u. not (g u)) (range 0 6)
     nope true e = absurd (false≢true e)
     nope false e = refl
 
--- and not empty when some does
+-- a set is not empty exactly when some number passes its test
 pub set-some : (g : ℕ → Bool) (s : ℕ) → s ≡ setOf g 6 → not (eqb s 0) ≡ any g (range 0 6)
 set-some g s e = equal-tests (not (eqb s 0)) (any g (range 0 6)) there back
   where

@@ -27,7 +27,7 @@ module _ (σ : State) where
   unfolding bytesOf
   none-of k e t h = sym (set-has (λ u. enabled σ (byteFor k u)) 6 t h) ∙ ap (λ (s : ℕ). has s t) e ∙ has-none t
 
-  -- neither an access nor a move is left
+  -- a state has ended where neither an access nor a move is left
   pub ended-sets : bytesOf (enabled σ) access ≡ 0 → bytesOf (enabled σ) move ≡ 0 → ended TSO σ ≡ true
   ended-sets a m = ended-of TSO σ (λ b. one b (enabled σ b) refl)
     where
@@ -39,7 +39,7 @@ module _ (σ : State) where
       one b true q = ap (enabled σ) (sym (for-owner b)) ∙ by-kind (kindOf b) (owner b) (enabled-small σ b q)
       one b false q = q
 
-  -- one is left
+  -- a state has not ended where an access or a move is left
   pub going-set : (k : Kind) → bytesOf (enabled σ) k ≢ 0 → ended TSO σ ≡ false
   unfolding bytesOf
   going-set k n = go (ended TSO σ) refl

@@ -30,7 +30,7 @@ use Rattle.tso_walk.proofs.TriedBytes.{up-asleep, up-not, tried-enabled
 -- ---- with one next byte
 module _ (code lengths class : List ℕ) (threads groups : ℕ) (x : Place) (p : Program) (v : Schedule) (at : Reached code lengths class threads groups x p v)
     (failures : Bool) (o : Option Schedule) (b : ℕ) (is : tried p v b ≡ true) where
-  -- it leaves some asleep
+  -- the byte leaves some step asleep
   pub visit-asleep : any (asleep p (v ++ (b ∷ [])) (endOf p (v ++ (b ∷ [])))) (TSO .names) ≡ true → foundWith givenUp failures p (x .steps) o v b ≡ []
   visit-asleep e = with-given-up tso givenUp failures p (x .steps) o v b (tried-enabled p v b is) (up-asleep p v b e)
 
@@ -99,7 +99,7 @@ module _ (code lengths class : List ℕ) (failures : Bool) (x : Place) (o : Opti
       Loop.iteration-tried 48 (Cases code lengths class x) (λ k. failing tso (k .2)) 22 room each whole out₀ rows out out' behind n n' k t h same rest fits long
       (λ k. adds (k .0) (k .1) (k .2) (k .3) (k .4)) eo en
 
-  -- one that is not tried
+  -- a turn with a byte that is not tried
   pub iteration-skipped : (out behind : List ℕ) (n k t : ℕ) → t < 22 → n ≤ room → length out ≡ length out₀ → Still out n t
       → ((threads groups : ℕ) (p : Program) (v : Schedule) → Reached code lengths class threads groups x p v → tried p v t ≡ false)
       → behind ≡ out → k ≡ n → (k ≤ room) × (length behind ≡ length out₀) × Still behind k (t + 1)

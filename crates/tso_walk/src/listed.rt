@@ -15,7 +15,7 @@ ghost use Rattle.spec_tso.specs.TotalStoreOrder.{tso};
 ghost use Rattle.listing_cursor.specs.Bounds.{boundAt};
 ghost use Rattle.listing_cursor.specs.ListRows.{Shown};
 
-// A row has room for so many steps.
+// The steps that a row has room for.
 pub(crate) const WIDTH: usize = 48;
 
 // The bytes of a listed schedule's row.

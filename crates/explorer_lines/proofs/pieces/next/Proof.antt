@@ -11,7 +11,7 @@ use Rattle.explorer_lines.proofs.NextLines.{next-refusal, next-none}
 use Rattle.explorer_lines.proofs.pieces.next.Statement.{statement}
 use Rattle.explorer_lines.proofs.pieces.next.Tie as tie
 
--- so many bytes as the callee says
+-- the piece has as many bytes as the callee says
 as-many : (s s' : Listing) (xs : List ℕ) (n m : ℕ) → n ≡ m → (m ≤ length xs) × Next s (take m xs) s' → (n ≤ length xs) × Next s (take n xs) s'
 as-many s s' xs n m e h = subst (λ (k : ℕ). (k ≤ length xs) × Next s (take k xs) s') (sym e) h
 

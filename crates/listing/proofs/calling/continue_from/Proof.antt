@@ -9,7 +9,7 @@ use Rattle.listing.specs.AnswerOf.{listAnswerOf}
 use Rattle.spec_file.specs.Decode.{decode}
 use Rattle.spec_model.specs.OnFile.{admit}
 use Rattle.file_decoder.proofs.Said.{answer-refused, answer-accepted}
-use Rattle.listing.proofs.ListedProgram.{answer-listed}
+use Rattle.listing_replay.proofs.ListedProgram.{answer-listed}
 use Rattle.listing.proofs.FileCalls.{continue-file, continue-file-refused}
 use Rattle.listing.proofs.calling.continue_from.Statement.{statement}
 use Rattle.listing.proofs.calling.continue_from.Tie as tie

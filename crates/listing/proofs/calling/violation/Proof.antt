@@ -13,7 +13,7 @@ use Rattle.listing.specs.AnswerOf.{violationAnswerOf}
 use Rattle.spec_file.specs.Decode.{decode}
 use Rattle.spec_model.specs.OnFile.{admit}
 use Rattle.file_decoder.proofs.Said.{answer-refused, answer-accepted}
-use Rattle.listing.proofs.ListedProgram.{answer-listed}
+use Rattle.listing_replay.proofs.ListedProgram.{answer-listed}
 use Rattle.listing.proofs.FileCalls.{violation-refused, violation-answer, violation-output}
 use Rattle.listing.proofs.calling.violation.Statement.{statement}
 use Rattle.listing.proofs.calling.violation.Tie as tie

@@ -5,7 +5,7 @@ use Rattle.spec_model.specs.OnFile.{admit}
 use Rattle.listing_model.specs.ModelOf.{modelOf}
 use Rattle.listing_model.proofs.ModelLaws.{model-laws}
 use Rattle.file_decoder.proofs.Said.{answer-refused, answer-accepted}
-use Rattle.listing.proofs.ListedProgram.{answer-listed}
+use Rattle.listing_replay.proofs.ListedProgram.{answer-listed}
 use Rattle.listing.proofs.CountCalled.{count-refused, count-answered}
 use Rattle.listing.proofs.counting.count.Statement.{statement}
 use Rattle.listing.proofs.counting.count.Tie as tie

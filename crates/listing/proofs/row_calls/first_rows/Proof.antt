@@ -11,7 +11,7 @@ use Rattle.listing_model.proofs.ModelLaws.{model-laws}
 use Rattle.spec_file.specs.Decode.{decode}
 use Rattle.spec_model.specs.OnFile.{admit}
 use Rattle.file_decoder.proofs.Said.{answer-refused, answer-accepted}
-use Rattle.listing.proofs.ListedProgram.{answer-listed}
+use Rattle.listing_replay.proofs.ListedProgram.{answer-listed}
 use Rattle.listing.proofs.RowsAnswered.{rows-refused, rows-paged}
 use Rattle.listing.proofs.row_calls.first_rows.Statement.{statement}
 use Rattle.listing.proofs.row_calls.first_rows.Tie as tie

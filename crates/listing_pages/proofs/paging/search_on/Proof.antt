@@ -98,7 +98,7 @@ few c =
     (subst (λ (n : ℕ). c .wide .result ≡ getD (later d) ((rows d - 1) * n) 0) (row-is d) (c .wide .ensures .0)) in
     omega (arith, h, d .before .before .before .before .before .before .width .ensures)
 
--- so does the last of them
+-- the last row of a page lies within the buffer
 last-in : (c : tie.Else2) → ((rows (c .before .before .before) - 1) * row (c .before .before .before) + row (c .before .before .before) ≤ length (c .before .before .before .before .before .before .before .before .before .before .before .args .out .now)) × (length (later (c .before .before .before)) ≡ length (c .before .before .before .before .before .before .before .before .before .before .before .args .out .now))
 last-in c =
     let d = c .before .before .before in

@@ -1,15 +1,14 @@
 -- `at_end` writes the schedule's row, if it is looked for.
 use borrow.Author.Needs.{needs}
 use borrow.Author.Tests.{not-true, not-false}
-use mathlib.Core.Path.{_≡_, refl, sym, _∙_}
+use mathlib.Core.Path.{_≡_, sym, _∙_}
 use native.Mathlib.Omega.{arith}
 use lib.ListN.{length, length-take}
 use lib.Seq.{length-take-le}
-use Rattle.spec_sc.specs.Graph.{endOf}
 use Rattle.spec_model.specs.Model.{failing}
 use Rattle.spec_sc.specs.Sequential.{sc}
 use Rattle.theory_sc.proofs.Search.{behind-end, behind-passed}
-use Rattle.search_place.specs.Reached.{machineOf}
+use Rattle.machine.proofs.HeldAsking.{fails-by}
 use Rattle.spec_calls.specs.Rows.{rowOf}
 use Rattle.listing_cursor.proofs.AddedRows.{adds-none, adds-full, adds-one}
 use Rattle.search_tail.proofs.full.at_end.Statement.{statement}
@@ -28,7 +27,7 @@ returns-2 c =
       entry .pre .1,
       λ code lengths class threads groups p v at e.
           adds-none 24 (failing sc p) (a .a .room) _ (a .out .now) (a .a .rows)
-          (behind-passed (a .a .failures) p (a .x .steps) v (c .before .before .some-failed .result) e (sym (c .before .before .some-failed .ensures code lengths (machineOf (a .x) (at .last)) (endOf p v) refl (at .holds))) (sym (c .before .is-meant .ensures) ∙ not-true _ (c .if2 .taken))),
+          (behind-passed (a .a .failures) p (a .x .steps) v (c .before .before .some-failed .result) e (sym (c .before .before .some-failed .ensures ∙ fails-by (at .holds))) (sym (c .before .is-meant .ensures) ∙ not-true _ (c .if2 .taken))),
     )
 
 array-share-prefix-schedule : tie.Need-array-share-prefix-schedule
@@ -59,7 +58,7 @@ returns-3 c = (
       let a = entry .args in
       let some-failed = c .before .before .before .before .before .before .before .before .some-failed in
       let is-meant = c .before .before .before .before .before .before .before .is-meant in
-      let f : failing sc p v ≡ some-failed .result = sym (some-failed .ensures code lengths (machineOf (a .x) (at .last)) (endOf p v) refl (at .holds)) in
+      let f : failing sc p v ≡ some-failed .result = sym (some-failed .ensures ∙ fails-by (at .holds)) in
       let w = at .schedule in
       adds-one 24 (failing sc p) (a .a .room) _ v (a .out .now) (c .before .before .put-row .last .0) (a .a .rows)
       (behind-end (a .a .failures) p (a .x .steps) v (some-failed .result) e f (sym (is-meant .ensures) ∙ not-false _ (c .before .before .before .before .before .before .if2 .left)))

@@ -21,12 +21,13 @@ use Rattle.spec_sc.specs.Graph.{endOf}
 use Rattle.spec_sc.proofs.Steps.{enabled-small}
 use Rattle.machine.specs.Held.{idle, ReadyThread}
 use Rattle.machine.specs.declared.stepping.Moved.{Moved}
+use Rattle.machine.proofs.HeldAsking.{fails-by}
 use Rattle.theory_sc.specs.LateSet.{lateSet}
 use Rattle.theory_sc.specs.ReadWords.{wordBehind}
 use Rattle.theory_sc.specs.Sleepers.{sleepers}
 use Rattle.spec_model.specs.Model.{failing}
 use Rattle.spec_sc.specs.Sequential.{sc}
-use Rattle.search_place.specs.Reached.{Reached, machineOf}
+use Rattle.search_place.specs.Reached.{Reached}
 use Rattle.search_place.specs.declared.place.Place.{Place}
 use Rattle.search_place.proofs.LateLoop.{LateBelow, late-below-none, late-below-fits, late-below-more, late-below-all}
 use Rattle.search_place.proofs.ReachedStep.{Short, reached-ready, reached-room, reached-bit, reached-open, moved-by, next-short, reached-next, enabled-again, enabled-left}
@@ -52,7 +53,7 @@ use Rattle.search_rules.proofs.some_asleep.Reads as some-asleep-reads
 use Rattle.search_tail.proofs.last_runner.Reads as last-runner-reads
 use Rattle.search_tail.proofs.run_out.Reads as run-out-reads
 use Rattle.search_tail.proofs.runner_at.Reads as runner-at-reads
-use Rattle.search_tail.proofs.some_failed.Reads as some-failed-reads
+use Rattle.machine.proofs.some_failed.Reads as some-failed-reads
 use Rattle.search_walk.proofs.walking.aim_behind.Reads as aim-behind-reads
 use Rattle.search_walk.proofs.walking.is_tried.Reads as is-tried-reads
 use Rattle.search_walk.proofs.walking.+visit.{statement}
@@ -319,7 +320,7 @@ module _ (t : ℕ) where
             visit-adds (a .code .now) (a .lengths .now) (a .class .now) count groups (a .x) p v at (a .a .failures) (boundAt (a .a .tight) (a .bound .now) (a .x .steps)) (a .t) (pre .1 .4 count groups p v at) (next (c .before .before .before .before .before .before .before .before .before .before .before .before .before .before .before .before .before)) to
             wake (a .a .room) (a .a .rows) (aim .result) (a .bound .now) (aim .ensures .0) (aim .ensures .1) (aim .ensures .2) (aim .ensures .3) (a .out .now) _ _
             (run .ensures .1 (a .class .now) count groups (next (c .before .before .before .before .before .before .before .before .before .before .before .before .before .before .before .before .before)) p (v ++ (a .t ∷ [])) (a .bound .now) to (held (c .before .before .before .before))
-            (ap (λ (r : Runner). r .failed) ((c .before .before .before .before .runner-at) .ensures) ∙ (c .before .before .before .before .before .before .before .before .before .some-failed) .ensures (a .code .now) (a .lengths .now) (machineOf (next (c .before .before .before .before .before .before .before .before .before .before .before .before .before .before .before .before .before)) (to .last)) (endOf p (v ++ (a .t ∷ []))) refl (to .holds))
+            (ap (λ (r : Runner). r .failed) ((c .before .before .before .before .runner-at) .ensures) ∙ (c .before .before .before .before .before .before .before .before .before .some-failed) .ensures ∙ fails-by (to .holds))
             ((c .before .before .before .before .before .before .before .before .before .before .before .before .last-runner) .ensures (a .code .now) (a .lengths .now) (a .class .now) count groups (next (c .before .before .before .before .before .before .before .before .before .before .before .before .before .before .before .before .before)) p (v ++ (a .t ∷ [])) to refl .0 ((c .before .before .before .before .before .before .before .before .before .before .before .if2) .taken) (none-sleeps p (v ++ (a .t ∷ [])) wake))),
       )
 
