@@ -27,7 +27,7 @@ use Rattle.spec_model.specs.OnFile.{admit, startOn, continueOn, startFil
 use Rattle.spec_model.proofs.TheList.{list-ascends}
 
 -- a full schedule is not refused
-full-goes : (M : System) (s : Schedule) (k : ℕ) (σ : M .State) → FullFrom M σ s → refusesFrom M k σ s ≡ none
+pub full-goes : (M : System) (s : Schedule) (k : ℕ) (σ : M .State) → FullFrom M σ s → refusesFrom M k σ s ≡ none
 unfolding refusesFrom
 full-goes M [] k σ f = rw (f, refusesFrom)
 full-goes M (b ∷ s) k σ f = let e = f .0 in rw (e, refusesFrom) (full-goes M s (suc k) (M .step σ b) (f .1))
