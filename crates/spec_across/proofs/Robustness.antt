@@ -1,6 +1,6 @@
 -- Every file and room has exactly one answer: what is found in the list of total store order is one, and every one is what is found.
 use Prim.Native.Nat.{ℕ, _<_, _≤_}
-use mathlib.Core.Path.{_≡_, refl, sym, ap, _∙_}
+use mathlib.Core.Path.{_≡_, refl, sym, ap, subst, _∙_}
 use mathlib.Core.Logic.{_↔_}
 use mathlib.Core.Bool.{cond}
 use mathlib.Core.Option.{Option, none, some}
@@ -30,6 +30,19 @@ unfoldable pub answerOn : Decoded → ℕ → Answer
 answerOn (accepted p) room = cond (ltb room 48) (refusing 22 0) (answerBy (firstRelaxed p))
 answerOn (refused n k) room = refusing n k
 
+pub answer-refused : (n k room : ℕ) → answerOn (refused n k) room ≡ refusing n k
+unfolding answerOn
+answer-refused n k room = refl
+
+module _ (p : Program) (room : ℕ) where
+  pub answer-short : room < 48 → answerOn (accepted p) room ≡ refusing 22 0
+  unfolding answerOn
+  answer-short h = rw (lt-ltb room 48 h)
+
+  pub answer-long : 48 ≤ room → answerOn (accepted p) room ≡ answerBy (firstRelaxed p)
+  unfolding answerOn
+  answer-long h = rw (le-ltb room 48 h)
+
 module _ (file : List ℕ) (room : ℕ) where
   abbrev here : Decoded
   here = admit tso (decode file)
@@ -42,34 +55,37 @@ module _ (file : List ℕ) (room : ℕ) where
     lists = listed-program tso tso-laws file p e
 
     -- what is found is right
-    pub found-right : 48 ≤ room → (o : Option Schedule) → firstRelaxed p ≡ o → R (answerBy o)
+    found-right : 48 ≤ room → (o : Option Schedule) → firstRelaxed p ≡ o → R (answerBy o)
     unfolding answerBy
     found-right h none q = holding p e h (none-robust p lists q)
     found-right h (some s) q = breaking p s e h (some-first p lists s q)
 
-    answer-room : Dec (room < 48) → R (answerOn (accepted p) room)
-    unfolding answerOn
-    answer-room (yes h) = rw (lt-ltb room 48 h) (by-output p e h)
-    answer-room (no h) = let enough : 48 ≤ room = omega (arith, h) in rw (le-ltb room 48 enough) (found-right enough (firstRelaxed p) refl)
+    right : Dec (room < 48) → R (answerOn (accepted p) room)
+    right (yes h) = subst R (sym (answer-short p room h)) (by-output p e h)
+    right (no h) =
+        let enough : 48 ≤ room = omega (arith, h) in
+        subst R (sym (answer-long p room enough)) (found-right enough (firstRelaxed p) refl)
 
-  answer-right : (d : Decoded) → here ≡ d → R (answerOn d room)
-  unfolding answerOn
-  answer-right (refused n k) e = by-file n k e
-  answer-right (accepted p) e = answer-room p e (decLt room 48)
+  right-on : (d : Decoded) → here ≡ d → R (answerOn d room)
+  right-on (refused n k) e = subst R (sym (answer-refused n k room)) (by-file n k e)
+  right-on (accepted p) e = right p e (decLt room 48)
+
+  pub robustness-right : R (answerOn here room)
+  robustness-right = right-on here refl
 
   read : (d : Decoded) → here ≡ d → answerOn here room ≡ answerOn d room
   read d e = ap (λ (x : Decoded). answerOn x room) e
 
   answer-is : {a : Answer} → R a → answerOn here room ≡ a
-  unfolding answerOn answerBy
-  answer-is (by-file n k e) = read (refused n k) e
-  answer-is (by-output p e h) = read (accepted p) e ∙ rw (lt-ltb room 48 h)
-  answer-is (holding p e h r) = read (accepted p) e ∙ rw (le-ltb room 48 h) (ap answerBy (robust-none p (lists p e) r))
-  answer-is (breaking p s e h f) = read (accepted p) e ∙ rw (le-ltb room 48 h) (ap answerBy (first-some p (lists p e) s f))
+  unfolding answerBy
+  answer-is (by-file n k e) = read (refused n k) e ∙ answer-refused n k room
+  answer-is (by-output p e h) = read (accepted p) e ∙ answer-short p room h
+  answer-is (holding p e h r) = read (accepted p) e ∙ answer-long p room h ∙ ap answerBy (robust-none p (lists p e) r)
+  answer-is (breaking p s e h f) = read (accepted p) e ∙ answer-long p room h ∙ ap answerBy (first-some p (lists p e) s f)
 
   -- THERE IS AN ANSWER
   pub robustness-exists : (a : Answer) × R a
-  robustness-exists = (answerOn here room, answer-right here refl)
+  robustness-exists = (answerOn here room, robustness-right)
 
   -- THERE IS ONE ANSWER ONLY
   pub robustness-unique : (a b : Answer) → R a → R b → a ≡ b
