@@ -49,7 +49,7 @@ rows-few Sequential n h = omega (arith, h)
 rows-few TotalStoreOrder n h = omega (arith, h)
 
 -- a refusal before the list's own: the program's, or 41 at place 0
-refused-small : (m : Model) (file : List ℕ) (n k : ℕ) → admit (modelOf m) (decode file) ≡ refused n k → (n < 256) × (k < 2 ^ 48)
+pub refused-small : (m : Model) (file : List ℕ) (n k : ℕ) → admit (modelOf m) (decode file) ≡ refused n k → (n < 256) × (k < 2 ^ 48)
 refused-small Sequential file n k e = refusal-fits file n k (sym (sc-admits (decode file)) ∙ e)
 refused-small TotalStoreOrder file n k e = go (decode file) refl
   where

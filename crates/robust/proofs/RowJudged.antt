@@ -72,11 +72,10 @@ module _ (p : Program) (a : Admitted tso p) (s : Schedule) (f : Full tso p s) (c
     short : length T ≤ 400
     short = notes-400 (notes (start p) s) (omega (arith, counted, few-notes))
 
-    pub text-few : n ≤ 512
-    text-few = omega (arith, wrote (notes (start p) s) noted counted .0, short)
-
-    pub text-size : length text ≡ 512
-    text-size = ap length (wrote (notes (start p) s) noted counted .1) ∙ length-over T zeros (omega (arith, short, size)) ∙ size
+    pub text-within : n ≤ length text
+    text-within =
+        let g = wrote (notes (start p) s) noted counted in
+        omega (arith, g .0, short, ap length (g .1), length-over T zeros (omega (arith, short, size)), size)
 
     pub text-is : take n text ≡ graphText (graph tso p s)
     text-is =

@@ -5,7 +5,8 @@ use mathlib.Core.Bool.{true, false}
 use mathlib.Core.Option.{none, some}
 use mathlib.Core.List.{List, [], _++_, List·Memᴰ, Memᴰ·append-left}
 use native.Mathlib.Omega.{arith}
-use lib.ListN.{length, getD, take, drop, length-take, take-append-drop}
+use lib.ListN.{length, getD, take, drop, length-take, length-drop, take-append-drop}
+use lib.Seq.{drop-drop, take-all}
 use Rattle.spec_file.specs.Over.{over}
 use Rattle.spec_file.specs.Program.{Program}
 use Rattle.spec_schedules.specs.Lists.{find}
@@ -15,15 +16,13 @@ use Rattle.spec_model.specs.Model.{failing}
 use Rattle.spec_model.specs.Search.{sought}
 use Rattle.spec_model.proofs.TheList.{list-exact}
 use Rattle.spec_tso.specs.TotalStoreOrder.{tso}
-use Rattle.spec_tso.proofs.Laws.{tso-laws, at-most-16}
-use Rattle.spec_tso.proofs.Lawful.{at-most-32}
+use Rattle.spec_tso.proofs.Laws.{tso-laws}
 use Rattle.listing_cursor.specs.declared.cursor.Cursor.{Cursor}
 use Rattle.listing_cursor.specs.declared.cursor.Page.{Page}
 use Rattle.listing_cursor.specs.Cursor.{isEnd}
 use Rattle.listing_cursor.specs.ListRows.{remaining, pages, Paged}
 use Rattle.listing_cursor.proofs.CursorLaws.{from-end, of-from}
 use Rattle.listing_cursor.proofs.PageLaws.{page-split, page-size, page-less}
-use Rattle.listing_cursor.proofs.RowsRead.{row-steps}
 use Rattle.spec_across.specs.RobustCall.{Answer, outputAfter}
 use Rattle.spec_across.proofs.Relaxed.{isRelaxed, firstRelaxed}
 use Rattle.spec_across.proofs.Robustness.{answerBy}
@@ -32,7 +31,7 @@ use Rattle.robust.specs.declared.robust_call.RobustAnswer.the-variants.{
 use Rattle.robust.specs.AnswerOf.{robustAnswerOf}
 use Rattle.robust.specs.Page.{Rows}
 use Rattle.robust.proofs.FirstOfTwo.{find-empty, first-part, second-part}
-use Rattle.robust.proofs.Rows.{row-full, row-is, row-count}
+use Rattle.robust.proofs.Rows.{row-32, row-steps}
 
 -- what is looked for is yet to come
 abbrev pub ToCome : Program → Cursor → Type 0
@@ -100,14 +99,21 @@ module _ (p : Program) (c : Cursor) (rows rows' : List ℕ) (size : length rows 
     pub to-come-here : (s : Schedule) → find (isRelaxed p) here ≡ some s → firstRelaxed p ≡ some s
     to-come-here s e = whole ∙ first-part (isRelaxed p) here (remaining tso p false (r .cursor)) s e
 
--- a row's schedule put in front of the output
-module _ (p : Program) (a : Admitted tso p) (ss : List Schedule) (rows : List ℕ) (n : ℕ) (r : Rows p ss rows n) (k : ℕ) (h : k < n) where
-  pub row-32 : length (getD ss k []) ≤ 32
-  row-32 = at-most-32 p (at-most-16 p (a .1)) (getD ss k []) (row-full p ss rows n r k h)
+-- a row's schedule, which stands in what is behind the row's beginning
+module _ (p : Program) (a : Admitted tso p) (ss : List Schedule) (rows : List ℕ) (n : ℕ) (r : Rows p ss rows n) (k : ℕ) (h : k < n) (most : n ≤ 64) where
+  abbrev behind : List ℕ
+  behind = take (3200 - k * 50) (drop (k * 50) rows)
 
-  pub row-put : (m : ℕ) (row out : List ℕ) → m ≡ length (getD ss k []) → row ≡ take (k * 50 + 50 - k * 50) (drop (k * 50) rows)
-      → over (take m (drop 2 row)) out ≡ over (getD ss k []) out
-  row-put m row out e q =
-      let s : Schedule = getD ss k [] in
+  left : length (drop (k * 50) rows) ≡ 3200 - k * 50
+  left = length-drop (k * 50) rows ∙ ap (λ (i : ℕ). i - k * 50) (r .room)
+
+  whole-behind : behind ≡ drop (k * 50) rows
+  whole-behind = take-all (3200 - k * 50) (drop (k * 50) rows) (omega (arith, left))
+
+  pub row-room : length (getD ss k []) + 2 ≤ length behind
+  row-room = omega (arith, ap length whole-behind, left, row-32 p ss rows n r k h a, h, most)
+
+  pub row-put : (m : ℕ) (out : List ℕ) → m ≡ length (getD ss k []) → over (take m (drop 2 behind)) out ≡ over (getD ss k []) out
+  row-put m out e =
       ap (λ (l : List ℕ). over l out)
-      (ap₂ (λ (i : ℕ) (l : List ℕ). take i (drop 2 l)) e (q ∙ row-is p ss rows n r k h) ∙ row-steps 48 s (failing tso p s) (omega (arith, row-32)))
+      (ap₂ take e (ap (drop 2) whole-behind ∙ drop-drop 2 (k * 50) rows) ∙ row-steps p ss rows n r k h a)

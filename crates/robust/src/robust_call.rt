@@ -46,7 +46,7 @@ fn walked(program: Compiled, out: &mut [u8]) -> RobustAnswer
         if k < n {
             let at = k * 50;
             let steps = wide(rows[at]);
-            put_schedule(out, &rows[at..at + 50], steps);
+            put_schedule(out, &rows[at..], steps);
             return RobustAnswer::Relaxed(steps);
         }
         cursor = page.cursor;

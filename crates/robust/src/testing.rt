@@ -6,7 +6,6 @@ use graph_writer::write_graph;
 use judge::judged;
 use tso_replay::replayed;
 ghost use mathlib.Core.Path.{_≡_};
-ghost use mathlib.Core.Bool.{Bool};
 ghost use mathlib.Core.List.{List, []};
 ghost use mathlib.Core.Option.{none, some};
 ghost use Prim.Native.Nat.{_<_, _≤_};
@@ -17,28 +16,18 @@ ghost use Rattle.spec_schedules.specs.Order.{Schedule};
 ghost use Rattle.spec_model.specs.Laws.{Admitted};
 ghost use Rattle.spec_model.specs.Model.{Full};
 ghost use Rattle.spec_tso.specs.TotalStoreOrder.{tso};
-ghost use Rattle.spec_calls.specs.Rows.{rowBytes};
 ghost use Rattle.spec_across.proofs.Relaxed.{isRelaxed};
 ghost use Rattle.robust.specs.Page.{Rows};
 
-// Whether the full schedule of a row is.
-fn is_relaxed(program: Compiled, row: &[u8]) -> bool
-    requires { ⌜ Admitted tso (programOf program)
-        × ((s : Schedule) × (b : Bool) × (now row ≡ rowBytes 48 s b) × Full tso (programOf program) s) ⌝ }
-    ensures { λ r. ⌜ ((s : Schedule) (b : Bool) → now (row .entry) ≡ rowBytes 48 s b → Full tso (programOf program) s
-        → r ≡ isRelaxed (programOf program) s) ⌝ }
+// Whether a full schedule is.
+fn is_relaxed(program: Compiled, steps: &[u8]) -> bool
+    requires { ⌜ Admitted tso (programOf program) × Full tso (programOf program) (now steps) ⌝ }
+    ensures { λ r. ⌜ r ≡ isRelaxed (programOf program) (now (steps .entry)) ⌝ }
 {
     let code = program.code;
     let lengths = program.lengths;
     let starting = program.starting;
-    let steps = wide(row[0]);
-    let run = replayed(
-        &code,
-        &lengths,
-        program.threads,
-        starting,
-        &row[2..steps + 2],
-    );
+    let run = replayed(&code, &lengths, program.threads, starting, steps);
     let log = run.log;
     let mut text = [0u8; 512];
     let n = write_graph(&mut text, &log, run.notes);
@@ -59,8 +48,9 @@ pub(crate) fn first_relaxed(program: Compiled, rows: &[u8], n: usize) -> usize
 {
     let mut k = 0;
     while k < n {
-        let at = k * 50;
-        if is_relaxed(program, &rows[at..at + 50]) {
+        let at = k * 50 + 2;
+        let steps = wide(rows[at - 2]);
+        if is_relaxed(program, &rows[at..at + steps]) {
             return k;
         }
         k += 1;
