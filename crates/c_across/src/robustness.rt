@@ -18,8 +18,8 @@ pub extern "C" fn tarczolin_robust(file: &[u8], out: &mut [u8]) -> u64
 {
     let a = robust::robust(file, out);
     match a {
-        RobustAnswer::Robust => nothing(),
         RobustAnswer::Relaxed(n) => answered(n),
+        RobustAnswer::Robust => nothing(),
         RobustAnswer::Refused(number, place) => refused(number, place),
     }
 }
