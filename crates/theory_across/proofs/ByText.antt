@@ -19,15 +19,12 @@ use Rattle.spec_across.specs.Robust.{Sequential}
 use Rattle.theory_across.proofs.Readable.{tso-text-read}
 
 module _ (file : List ℕ) (p : Program) (e : admit tso (decode file) ≡ accepted p) (s : Schedule) (f : Full tso p s) (room : ℕ) (h : 24 ≤ room) where
-  abbrev text : List ℕ
-  text = graphText (graph tso p s)
-
   -- YES EXACTLY when the graph is consistent
-  pub judged-sequential : ((r : Schedule) × Judgement file text room (consistent r)) ↔ Sequential p s
+  pub judged-sequential : ((r : Schedule) × Judgement file (graphText (graph tso p s)) room (consistent r)) ↔ Sequential p s
   judged-sequential =
-      demand-2 file p (admitted tso (decode file) p e .0) .yes-exactly text room h (graph tso p s) (tso-text-read p (listed-program tso tso-laws file p e) s f)
+      demand-2 file p (admitted tso (decode file) p e .0) .yes-exactly (graphText (graph tso p s)) room h (graph tso p s) (tso-text-read p (listed-program tso tso-laws file p e) s f)
 
   -- NO EXACTLY when it is not
-  pub judged-relaxed : Judgement file text room inconsistent ↔ (Sequential p s → ⊥)
+  pub judged-relaxed : Judgement file (graphText (graph tso p s)) room inconsistent ↔ (Sequential p s → ⊥)
   judged-relaxed =
-      demand-2 file p (admitted tso (decode file) p e .0) .no-exactly text room h (graph tso p s) (tso-text-read p (listed-program tso tso-laws file p e) s f)
+      demand-2 file p (admitted tso (decode file) p e .0) .no-exactly (graphText (graph tso p s)) room h (graph tso p s) (tso-text-read p (listed-program tso tso-laws file p e) s f)
