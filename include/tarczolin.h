@@ -2,7 +2,7 @@
  *
  * Every call answers one word:
  *
- *   bits 56 to 63   the kind: 1 answered; 2 no more, none, no, or covered; 3 refused; 4 of two files the second is refused;
+ *   bits 56 to 63   the kind: 1 answered; 2 no more, none, no, covered, or robust; 3 refused; 4 of two files the second is refused;
  *                   5 nobody asks
  *   bits 48 to 55   a refusal's number, else 0
  *   bits  0 to 47   the length of an answer in bytes, 0 where there is none; of rows their number; of a class its size; of tarczolin_force a step;
@@ -188,6 +188,13 @@ uint64_t tarczolin_tso_violation(const uint8_t *file, size_t file_len, uint8_t *
 uint64_t tarczolin_tso_count(const uint8_t *file, size_t file_len, uint64_t *listed, uint64_t *failing);
 uint64_t tarczolin_tso_rows(const uint8_t *file, size_t file_len, uint8_t *out, size_t out_len);
 uint64_t tarczolin_tso_rows_after(const uint8_t *file, size_t file_len, const uint8_t *schedule, size_t schedule_len, uint8_t *out, size_t out_len);
+
+/* Is the program robust: is the graph of every full schedule of total store order consistent? Both machines then have exactly the same
+ * graphs of it, and the same outcomes. Robust: kind 2. Not robust: kind 1, the first listed schedule of total store order whose graph is
+ * not consistent stands in front of the output, the answer carries its length, and the bytes behind it keep their value; no smaller full
+ * schedule, listed or not, has such a graph. Refused, in this order: the program's (1 to 8, 40); 41 at place 0, more than 16 accesses;
+ * 22 at place 0, an output of under 48 bytes, also where the answer would be robust. Robust and a refusal change no byte. */
+uint64_t tarczolin_robust(const uint8_t *file, size_t file_len, uint8_t *out, size_t out_len);
 
 /* Four callers, 0 to 3, on one explorer. Their records lie in a list that the host lends, whatever it holds; `last`, the caller served last,
  * goes into each call and comes out of it. The first list is four records of zeros, with `last` 3. Refused, in this order: 22 at place 0, a

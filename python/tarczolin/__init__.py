@@ -16,7 +16,7 @@ one translation and not two.
 from ._library import library_path
 from .errors import CommandMissing, Error, LibraryMissing, Mark, Refused, TextError, Unfit
 from .execution import Execution
-from .program import Count, Covering, Force, Judgement, Outcome, Program
+from .program import Count, Covering, Force, Judgement, Outcome, Program, Robustness
 from .service import Served, Service
 from .text import Note
 
@@ -24,5 +24,5 @@ __version__ = '0.1.0'
 
 __all__ = [
     'CommandMissing', 'Count', 'Covering', 'Error', 'Execution', 'Force', 'Judgement', 'LibraryMissing', 'Mark', 'Note', 'Outcome',
-    'Program', 'Refused', 'Served', 'Service', 'TextError', 'Unfit', 'library_path',
+    'Program', 'Refused', 'Robustness', 'Served', 'Service', 'TextError', 'Unfit', 'library_path',
 ]

@@ -40,7 +40,7 @@ class CallerRecord(ctypes.Structure):
 
 _SHARED = [POINTER(CallerRecord), c_size_t, POINTER(c_uint64)]
 
-# The calls under both models, those under sequential consistency alone, and those of four callers: their arguments.
+# The calls under both models, those of one question, and those of four callers: their arguments.
 LISTING = {
     'graph': _FILE + _FILE + _OUT, 'class': _FILE + _FILE, 'start': _FILE + _OUT, 'continue': _FILE + _FILE + _OUT,
     'violation': _FILE + _OUT, 'count': _FILE + _COUNTS, 'rows': _FILE + _OUT, 'rows_after': _FILE + _FILE + _OUT,
@@ -48,6 +48,7 @@ LISTING = {
 CALLS = {
     **LISTING, **{f'tso_{name}': arguments for name, arguments in LISTING.items()},
     'check': _FILE, 'judge': _FILE + _FILE + _OUT, 'covers': _FILE + _FILE + _OUT, 'force': _FILE + [c_uint8],
+    'robust': _FILE + _OUT,
     'open': _SHARED + [c_size_t] + _FILE, 'ask': _SHARED + [c_size_t], 'serve': _SHARED + _OUT, 'close': _SHARED + [c_size_t],
     'set': _SHARED + [c_size_t] + _FILE, 'return': _SHARED + [c_size_t] + _FILE, 'forget': _SHARED + [c_size_t] + _FILE,
 }

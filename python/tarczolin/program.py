@@ -48,6 +48,17 @@ class Covering:
 
 
 @dataclass(frozen=True)
+class Robustness:
+    """Whether a program is robust, which is also its truth value, and else the first relaxed execution of total store order."""
+
+    robust: bool
+    execution: Optional[Execution]
+
+    def __bool__(self) -> bool:
+        return self.robust
+
+
+@dataclass(frozen=True)
 class Force:
     """Who can force its end, `hostile` or `friendly`, and the hostile side's least first step that keeps its win, if it has one."""
 
@@ -200,6 +211,19 @@ class Program:
         schedule = out.raw[:answer.value]
         fails = bool(Execution(new, schedule, False).failed())
         return Covering(False, Execution(new, schedule, fails))
+
+    def robust(self) -> Robustness:
+        """Whether every execution under total store order is one of sequential consistency; asked of a program of `tso`."""
+        if self.model != 'tso':
+            raise ValueError("robust is asked of a program under total store order, of model='tso'")
+        out = room(TSO_SCHEDULE)
+        answer = call('robust', self.file, out)
+        self._done(answer)
+        if answer.kind != ANSWERED:
+            return Robustness(True, None)
+        schedule = out.raw[:answer.value]
+        fails = bool(Execution(self, schedule, False).failed())
+        return Robustness(False, Execution(self, schedule, fails))
 
     def force(self, hostile: Iterable[Union[int, str]]) -> Force:
         """Which side can force its end, where these threads, by number or name, are hostile and step in turn with the others."""

@@ -128,6 +128,20 @@ class Asked(unittest.TestCase):
         # a graph of nothing is made by the schedule of no steps, and that is a yes
         self.assertTrue(Program(b'').judge(b''))
 
+    def test_robust(self):
+        found = Program(PAIR, 'tso').robust()
+        self.assertFalse(found)
+        self.assertEqual((str(found.execution), found.execution.fails), ('000001011011', False))
+        self.assertEqual(found.execution.memory(), {'x0': 1, 'x1': 1})
+        with self.assertRaises(ValueError):
+            Program(PAIR).robust()
+        for one in ('store-load-pair.hex', 'message-passing.asm', 'queue-broken.asm', 'queue-repaired.asm', 'whole.hex'):
+            told = answers('robust', f'examples/{one}')[-1]
+            with self.subTest(one):
+                found = Program.read(EXAMPLES / one, 'tso').robust()
+                self.assertEqual(told['robust'], bool(found))
+                self.assertEqual(told.get('schedule'), found.execution and str(found.execution))
+
     def test_covers(self):
         added = Program('01\n1200000000000001\n01\n1200000000000001\n')
         loaded = Program(file('load-add-store.hex'))

@@ -37,7 +37,7 @@ fn denied() -> Finding
 }
 
 // Judges the graph in this table for the program in these rows, with these starting values.
-pub(crate) fn judged(
+pub fn judged(
     code: &Code,
     lengths: &[usize; 6],
     threads: usize,

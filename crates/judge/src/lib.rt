@@ -13,3 +13,5 @@ mod answering;
 
 pub use answering::Outcome;
 pub use answering::judge;
+pub use judging::Finding;
+pub use judging::judged;

@@ -1,7 +1,7 @@
 -- The list has exactly the listed schedules, ascends and is finite; each full schedule is alike to exactly one of it.
 use Prim.Native.Nat.{ℕ, _^_, _<_, _≤_}
-use mathlib.Core.Path.{_≡_, refl, sym, subst, _∙_}
-use mathlib.Core.Logic.{_↔_}
+use mathlib.Core.Path.{_≡_, refl, sym, ap, subst, _∙_}
+use mathlib.Core.Logic.{_↔_, ⊎-elim}
 use mathlib.Core.Bool.{Bool, true, false, true≢false}
 use mathlib.Core.List.{List·Memᴰ}
 use native.Mathlib.Omega.{arith}
@@ -12,6 +12,7 @@ use Rattle.spec_schedules.specs.Order.{Schedule, less}
 use Rattle.spec_schedules.proofs.ListedTerms as Schedules
 use Rattle.spec_schedules.specs.Listed as Schedules-2
 use Rattle.spec_schedules.proofs.Listed.{listed-exact, listed-ascend, listed-length, some-listed, one-listed}
+use Rattle.spec_schedules.proofs.Order.{less-transitive, not-less-at-most}
 use Rattle.spec_schedules.proofs.Runs.{full-length}
 use Rattle.spec_schedules.proofs.SomeRun.{some-full}
 use Rattle.spec_model.specs.Model.{Model, Full}
@@ -82,6 +83,14 @@ module _ (M : Model) (L : Laws M) (p : Program) where
           λ q m l. one-listed (M .system) (L .steps .lawful) (L .steps .ascend) (M .start p) (alike M p) refl-test trans-test sym-test s q (c .0) f
               (subst (List·Memᴰ q) list-is m) (c .1) (alike-exact M L p q s .1 l) (c .2),
         )
+
+    -- a listed schedule is not greater than a full one that is alike to it
+    pub listed-below : (m r s : Schedule) → Listed M p m → Full M p r → Alike M p m r → less r s ≡ true → less m s ≡ true
+    listed-below m r s l full k h = go (less r m) refl
+      where
+        go : (b : Bool) → less r m ≡ b → less m s ≡ true
+        go true e = absurd (l .1 (r, full, e, alike-sym M L p a m r k))
+        go false e = ⊎-elim (λ (i : m ≡ r). ap (λ (x : Schedule). less x s) i ∙ h) (λ (i : less m r ≡ true). less-transitive m r s i h) (not-less-at-most m r e)
 
     -- the list is never empty
     pub some-member : (s : Schedule) × List·Memᴰ s (listOf M p)

@@ -191,7 +191,7 @@ drained-ended σ e = ended-of TSO (drained σ) (λ b. go b (decLt (owner b) 6) (
     go b (yes h) k q = ap₂ (λ (x y : Bool). x && y) (lt-ltb (owner b) 6 h) (none-able (kindOf b) (owner b) h)
 
 -- whole schedules
-replayed : (s : Schedule) (σ : SC.State) → Regular σ → FullFrom SC σ s → (z : Schedule) × FullFrom TSO (drained σ) z × (run TSO (drained σ) z ≡ drained (run SC σ s))
+pub replayed : (s : Schedule) (σ : SC.State) → Regular σ → FullFrom SC σ s → (z : Schedule) × FullFrom TSO (drained σ) z × (run TSO (drained σ) z ≡ drained (run SC σ s))
 unfolding run
 replayed [] σ r f = ([], drained-ended σ f, refl)
 replayed (t ∷ s) σ r f =

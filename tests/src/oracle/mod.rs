@@ -7,6 +7,7 @@ pub mod graph;
 pub mod judge;
 pub mod listing;
 pub mod machine;
+pub mod robust;
 pub mod tso;
 pub mod users;
 

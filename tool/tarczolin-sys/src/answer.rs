@@ -4,7 +4,7 @@
 pub enum Answer {
     /// Answered; the length of the answer in bytes, 0 where there is none; of rows their number; of `force` a step plus 1, or 0.
     Answered(u64),
-    /// No more, none, or no.
+    /// No more, none, no, or robust.
     None,
     /// Refused, with the number and the place.
     Refused(u8, u64),

@@ -2,6 +2,7 @@
 //!
 //! What each call answers, for all inputs, is said in `include/tarczolin.h` and proved; here each only gets slices in place
 //! of pointers and lengths. No call keeps anything for the next, so all may be made from many threads at once.
+pub mod across;
 mod answer;
 mod caller;
 mod closed;

@@ -1,7 +1,7 @@
 //! The library's calls with answers to keep: each lends an output that is long enough and takes the answer out of it.
 use crate::model::Model;
 use crate::schedule::Schedule;
-use tarczolin_sys::{self as library, tso, Answer, Covers, GRAPH, SCHEDULE};
+use tarczolin_sys::{self as library, across, tso, Answer, Covers, GRAPH, SCHEDULE};
 
 /// A refusal: its number and its place.
 #[derive(Clone, Copy, Debug, PartialEq, Eq)]
@@ -176,6 +176,11 @@ pub fn covers(first: &[u8], second: &[u8]) -> Result<Option<Schedule>, Refusal> 
         Covers::Lacking(length) => Ok(Some(Schedule::of_output(&out[..length as usize]))),
         Covers::Refused(number, place) | Covers::SecondRefused(number, place) => Err(Refusal { number, place }),
     }
+}
+
+/// The first listed schedule of total store order whose graph is not consistent, or none where the program is robust.
+pub fn robust(file: &[u8]) -> Result<Option<Schedule>, Refusal> {
+    schedule(|out| across::robust(file, out))
 }
 
 /// Who can force its end.

@@ -34,7 +34,7 @@ fn every_answer(at: &str, mut each: impl FnMut(&[&str], &[u8], i32, usize)) -> B
     let [graph, piece] =
         [("graph", &["graph", QUEUE, "00000102020201"][..]), ("piece", &["list", QUEUE])].map(|one| kept(at, one));
     let (no, pair) = (b"400001ffff\n400101ffff\n41000000\n41010100\n", "examples/store-load-pair.hex");
-    let cases: [(&[&str], &[u8], i32, usize); 42] = [
+    let cases: [(&[&str], &[u8], i32, usize); 45] = [
         (&["list", QUEUE], b"", 1, 7),
         (&["count", QUEUE], b"", 1, 1),
         (&["count", QUEUE, "--jobs", "2"], b"", 1, 1),
@@ -45,6 +45,9 @@ fn every_answer(at: &str, mut each: impl FnMut(&[&str], &[u8], i32, usize)) -> B
         (&["force", QUEUE, "--hostile", "3"], b"", 2, 1),
         (&["outcomes", QUEUE], b"", 1, 7),
         (&["outcomes", QUEUE, "--where", "second.mine = 1"], b"", 1, 7),
+        (&["robust", QUEUE], b"", 0, 1),
+        (&["robust", pair], b"", 1, 1),
+        (&["robust", "-"], b"01\n110400\n", 2, 1),
         (&["covers", QUEUE, QUEUE], b"", 0, 1),
         (&["covers", QUEUE, pair], b"", 2, 1),
         (&["covers", QUEUE, pair, "--by", "number"], b"", 1, 1),

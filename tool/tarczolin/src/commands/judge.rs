@@ -46,7 +46,7 @@ fn no(question: &Question, graph: &OsStr, source: &Accepted, text: &[u8]) -> Res
     let fields = [
         ("graph", graph.to_string_lossy().into_owned().into()),
         ("possible", false.into()),
-        ("why", why.as_ref().map(json).into()),
+        ("why", why.as_ref().map(why_json).into()),
     ];
     question.answer(&format!("no{words}"), fields, End::Violation)
 }
@@ -62,7 +62,7 @@ fn order(order: Order) -> (&'static str, &'static str) {
 }
 
 /// The explanation for the eye.
-fn told(program: &Program, graph: &Graph, why: &Why) -> String {
+pub fn told(program: &Program, graph: &Graph, why: &Why) -> String {
     const NOTE: &str = "(explained by plain Rust, which is not proved; the answer is)";
     let (names, places) = (&program.names, places(program, graph));
     // the statement as it is written, with its line; of a program file the instruction
@@ -81,7 +81,8 @@ fn told(program: &Program, graph: &Graph, why: &Why) -> String {
     }
 }
 
-fn json(why: &Why) -> Json {
+/// The explanation for programs.
+pub fn why_json(why: &Why) -> Json {
     let event = |event: Event| object([("thread", event.t.into()), ("access", event.i.into())]);
     match why {
         Why::Misfit(message) => object([("kind", "misfit".into()), ("message", message.as_str().into())]),

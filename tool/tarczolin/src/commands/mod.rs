@@ -28,6 +28,7 @@ mod pages;
 mod piece;
 mod record;
 mod reply;
+mod robust;
 mod show;
 mod spool;
 mod table;

@@ -8,8 +8,8 @@ use super::piece::{AFTER, JOBS_OPTION, UNTIL};
 use super::reply::JSON;
 use super::violation::FEWEST;
 use super::{
-    asm, check, count, covers, cuts, disasm, fences, force, graph, join, judge, list, litmus, outcomes, show, test, users,
-    violation,
+    asm, check, count, covers, cuts, disasm, fences, force, graph, join, judge, list, litmus, outcomes, robust, show, test,
+    users, violation,
 };
 
 const SHOW: Opt =
@@ -30,7 +30,7 @@ const SHOW_OPTIONS: &[Opt] = &[
     JSON,
 ];
 
-pub const COMMANDS: [Command; 19] = [
+pub const COMMANDS: [Command; 20] = [
     Command {
         name: "list",
         words: "FILE..",
@@ -80,6 +80,14 @@ pub const COMMANDS: [Command; 19] = [
         options: covers::OPTIONS,
         example: "tarczolin covers examples/queue-repaired.asm examples/queue-broken.asm",
         run: covers::run,
+    },
+    Command {
+        name: "robust",
+        words: "FILE..",
+        about: "is every execution under total store order one of sequential consistency? robust, or the first that is not, and its circle",
+        options: &[JSON],
+        example: "tarczolin robust examples/store-load-pair.hex",
+        run: robust::run,
     },
     Command {
         name: "show",

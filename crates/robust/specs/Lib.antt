@@ -1,0 +1,5 @@
+-- How arrays and answers hold what the definitions say, in reading order.
+-- the call's answer as the code gives it
+pub mod AnswerOf
+-- rows of full schedules; for the code
+pub mod Page
