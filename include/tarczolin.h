@@ -190,10 +190,10 @@ uint64_t tarczolin_tso_rows_after(const uint8_t *file, size_t file_len, const ui
  * output, with its length in bits 0 to 39 and the caller in bits 40 to 47; or no more, kind 2, the caller likewise. Its asking ends, and
  * `last` is that caller; a schedule counts in that caller's record and in no other, no more in none. Nobody asks: kind 5. In every list of
  * these calls from the first list on, each handed what the one before gave back, those on marks included: whoever asked and does not close
- * is served by the fourth serve at the latest, and from an opening to its closing, or to its first return, a caller is given its program's
- * list in order, each member once, and no more exactly when all have been given. A caller's `count` is the number of schedules handed to it
- * since it opened, repeats after a return included, modulo 2^64. What the others open, ask, mark or close changes neither it nor the
- * sequence that the caller receives: both go by its own calls and by the serves that take it. */
+ * is served by the fourth serve at the latest, refused serves not counted, and from an opening to its closing, or to its first return, a
+ * caller is given its program's list in order, each member once, and no more exactly when all have been given. A caller's `count` is the
+ * number of schedules handed to it since it opened, repeats after a return included, modulo 2^64. What the others open, ask, mark or close
+ * changes neither it nor the sequence that the caller receives: both go by its own calls and by the serves that take it. */
 uint64_t tarczolin_open(struct tarczolin_caller *callers, size_t callers_len, uint64_t *last, size_t caller, const uint8_t *file, size_t file_len);
 uint64_t tarczolin_ask(struct tarczolin_caller *callers, size_t callers_len, uint64_t *last, size_t caller);
 uint64_t tarczolin_serve(struct tarczolin_caller *callers, size_t callers_len, uint64_t *last, uint8_t *out, size_t out_len);

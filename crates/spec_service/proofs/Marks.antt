@@ -123,6 +123,11 @@ unfolding bears markPlace noMark nameFits isSome
 bears-none p n = refl
 
 -- ---- where the mark of a name stands
+-- the place of the mark that was found
+unfoldable pub placeFound : Program → Option Mark → Option Place
+placeFound p none = none
+placeFound p (some m) = markPlace p m
+
 pub slot-at : (p : Program) (n : List ℕ) (ms : List Mark) → length ms ≡ 8 →
     ((slotOf p n ms ≡ none) × (find (bears p n) ms ≡ none)) ⊎ ((i : ℕ) × (slotOf p n ms ≡ some i) × (find (bears p n) ms ≡ some (getD ms i noMark)))
 unfolding slotOf

@@ -25,14 +25,9 @@ use Rattle.spec_service.specs.Noted.{Noted, nothingNoted, placeBehind, n
 use Rattle.spec_service.proofs.Readings.{handed-given, reading-returned}
 use Rattle.spec_service.proofs.Seats.{Four, marks-open, four-after}
 use Rattle.spec_service.proofs.Touches.{recordOf, whose, ownDone, Apart, Own, Taken, touch}
-use Rattle.spec_service.proofs.Marks.{slot-at, forgets-own, forgets-other, sets-own, sets-other, new-place, new-bears}
+use Rattle.spec_service.proofs.Marks.{placeFound, slot-at, forgets-own, forgets-other, sets-own, sets-other, new-place, new-bears}
 use Rattle.spec_service.proofs.Fates.{Kept, Served, fate, reads, not-opened, set-done, known-done, set-leaves, forget-leaves, return-leaves, slot-place, taken-is, come-full}
 use Rattle.spec_service.proofs.InOrder.{stays-now, stays-on}
-
--- the place of the mark that was found
-unfoldable pub placeFound : Program → Option Mark → Option Place
-placeFound p none = none
-placeFound p (some m) = markPlace p m
 
 -- the last schedule handed, as a place
 unfoldable pub asPlace : Option Schedule → Option Place

@@ -1,6 +1,7 @@
 -- What holds of every list of calls from four fresh records, each call handed what the one before gave back.
 use Prim.Native.Nat.{ℕ, _%_, _^_, _<_, _≤_}
 use mathlib.Core.Path.{_≡_}
+use mathlib.Core.Logic.{_↔_}
 use mathlib.Core.Bool.{Bool, true, false}
 use mathlib.Core.Option.{none, some}
 use mathlib.Core.List.{List, [], map}
@@ -13,9 +14,12 @@ use Rattle.spec_schedules.specs.Calls.{member}
 use Rattle.spec_model.specs.Alike.{listOf}
 use Rattle.spec_sc.specs.Sequential.{sc}
 use Rattle.spec_service.specs.Seat.{Place, closed, active, toCome, asks}
-use Rattle.spec_service.specs.Record.{fresh}
+use Rattle.spec_service.specs.Record.{noMark, fresh}
 use Rattle.spec_service.specs.Marks.{nameFits}
-use Rattle.spec_service.specs.Call.{Call, open-for, ask-for, close-for, return-to, forget, done, refused, Shared, seatOf, answerTo, after, start}
+use Rattle.spec_service.specs.Call.{Call, open-for, ask-for, close-for, set-mark, return-to, forget, done, refused}
+use Rattle.spec_service.specs.Call.{Shared, seatOf, marksOf, answerTo, after, start}
+use Rattle.spec_service.specs.Lent.{Eight}
+use Rattle.spec_service.specs.Asking.{asksIn}
 use Rattle.spec_service.specs.Play.{answers, behindAll, received, serves, schedulesOf, returns, Stays}
 use Rattle.spec_service.specs.Noted.{nothingNoted, noted}
 use Rattle.spec_service.specs.Concerns.{concerns}
@@ -31,6 +35,8 @@ pub record Sharing : Type 0 where
   pub fourth-serve : (before later : List Call) (k : ℕ) → answerTo (ask-for k) (behindAll before start) ≡ done → Stays k later →
       4 ≤ serves (answers later (after (ask-for k) (behindAll before start))) →
       received k (answers later (after (ask-for k) (behindAll before start))) ≡ [] → ⊥
+  -- ASKING: a caller asks exactly when it asked, and since then no serve took it and it neither opened nor closed
+  pub asks-exactly : (calls : List Call) (k : ℕ) → k < 4 → asks (seatOf (behindAll calls start .callers) k) ≡ asksIn k calls start false
   -- IN ORDER: from one opening to its closing, up to its first return, a caller's serves give its program's list from the beginning
   pub in-order : (before later : List Call) (k : ℕ) (f : List ℕ) (p : Program) → decode f ≡ accepted p →
       let opening = after (open-for k f) (behindAll before start) in
@@ -56,6 +62,14 @@ pub record Sharing : Type 0 where
       answerTo (open-for k f) (behindAll before start) ≡ done → Stays k later → nameFits (length n) ≡ true →
       noted k n later opening nothingNoted .place ≡ none →
       let now = behindAll later opening in (answerTo (return-to k n) now ≡ refused 46 0) × (answerTo (forget k n) now ≡ refused 46 0)
+  -- EIGHT MARKS, with names of eight bytes, are in every record behind every list of calls
+  pub eight-marks : (calls : List Call) (k : ℕ) → k < 4 →
+      let marks = marksOf (behindAll calls start .callers) k in
+      (length marks ≡ 8) × ((i : ℕ) → i < 8 → length (getD marks i noMark .name) ≡ 8)
+  -- NINTH: 47 refuses a set exactly where the name is unknown and eight others are known
+  pub ninth-exactly : (calls : List Call) (k : ℕ) (n : List ℕ) →
+      let now = behindAll calls start in
+      (answerTo (set-mark k n) now ≡ refused 47 0) ↔ ((answerTo (return-to k n) now ≡ refused 46 0) × Eight now k)
   -- CLOSED: behind a closing that is not refused the record is empty, and nobody is there
   pub closes : (before : List Call) (k : ℕ) → answerTo (close-for k) (behindAll before start) ≡ done →
       let closing = after (close-for k) (behindAll before start) in
