@@ -13,6 +13,8 @@ pub mod Marks
 pub mod Ninth
 -- what a call does to an open caller that it does not close
 pub mod Fates
+-- what a call can answer, whatever it is lent
+pub mod Answers
 -- whether a caller asks
 pub mod Asking
 -- eight marks with names of eight bytes

@@ -4,7 +4,7 @@ use mathlib.Core.Path.{_≡_, refl, sym, ap, subst, _∙_}
 use mathlib.Core.Logic.{_⊎_, inl, inr, ⊎-elim}
 use mathlib.Core.Bool.{Bool, true, false, cond, _&&_, false≢true}
 use mathlib.Core.Option.{Option, none, some}
-use mathlib.Core.List.{List, [], _∷_, map, List·Memᴰ, List·Memᴰ·head, List·Memᴰ·tail}
+use mathlib.Core.List.{List, [], _∷_, map}
 use native.Mathlib.Omega.{arith}
 use lib.Dec.{eqb}
 use lib.ListN.{length, take, replicate, getD, set, length-set, length-map}
@@ -24,20 +24,11 @@ use Rattle.spec_service.specs.Seat.{Place, beginning}
 use Rattle.spec_service.specs.Record.{placeOf, noMark}
 use Rattle.spec_service.specs.Marks.{sameName, isSome, nameFits, markPlace, nameOf, bears, slotOf, isFree, slotFor, lastHanded, newMark, markAt, emptied}
 use Rattle.spec_service.specs.Lent.{orBeginning}
+use Rattle.spec_service.proofs.Rotation.{find-member}
 
 -- ---- the first member that passes a test
--- it is a member
-find-member : {A : Type 0} (f : A → Bool) (l : List A) (x : A) → find f l ≡ some x → List·Memᴰ x l
-unfolding find
-find-member f [] x e = absurd (let z : _≡_ {A = ℕ} 0 1 = cc in omega arith)
-find-member f (y ∷ l) x e = go (f y) refl (λ q. find-member f l x q)
-  where
-    go : (b : Bool) → f y ≡ b → (find f l ≡ some x → List·Memᴰ x l) → List·Memᴰ x (y ∷ l)
-    go true q ih = let z : y ≡ x = (let w = sym (find-yes f y l q) ∙ e in cc) in List·Memᴰ·head (sym z)
-    go false q ih = List·Memᴰ·tail (ih (sym (find-no f y l q) ∙ e))
-
 module _ {A : Type 0} (f : A → Bool) (d : A) where
-  -- the same, by its place: nowhere in both, or at i
+  -- the first that passes, by its place: nowhere in both, or at i
   abbrev At : List A → Option ℕ → ℕ → Type 0
   At l o a = ((o ≡ none) × (find f l ≡ none)) ⊎ ((i : ℕ) × (b : ℕ) × (b ≡ a + i) × (o ≡ some b) × (find f l ≡ some (getD l i d)))
 

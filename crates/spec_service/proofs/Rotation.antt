@@ -5,7 +5,7 @@ use mathlib.Core.Path.{_≡_, refl, sym, ap, subst, _∙_}
 use mathlib.Core.Logic.{_⊎_, inl, inr, ⊎-elim}
 use mathlib.Core.Bool.{Bool, true, false, cond, _&&_, _||_, false≢true}
 use mathlib.Core.Option.{Option, none, some}
-use mathlib.Core.List.{List, [], _∷_, map}
+use mathlib.Core.List.{List, [], _∷_, map, List·Memᴰ, List·Memᴰ·head, List·Memᴰ·tail, Memᴰ·of-map}
 use native.Mathlib.Omega.{arith}
 use borrow.Author.Tests.{eqb-true, le-ltb, ltb-true, ltb-false, leb-true}
 use lib.Dec.{eqb, ltb, leb}
@@ -35,6 +35,16 @@ in-turn-read n = ap (λ (m : ℕ). map (λ d. (m + d) % 4) (1 ∷ 2 ∷ 3 ∷ 4 
 
 unfoldable pub distance : ℕ → ℕ → ℕ
 distance n k = (k + 3 - n) % 4
+
+-- the first member that passes a test is a member
+pub find-member : {A : Type 0} (f : A → Bool) (l : List A) (x : A) → find f l ≡ some x → List·Memᴰ x l
+unfolding find
+find-member f [] x e = absurd (let z : _≡_ {A = ℕ} 0 1 = cc in omega arith)
+find-member f (y ∷ l) x e = go (f y) refl (λ q. find-member f l x q)
+  where
+    go : (b : Bool) → f y ≡ b → (find f l ≡ some x → List·Memᴰ x l) → List·Memᴰ x (y ∷ l)
+    go true q ih = let z : y ≡ x = (let w = sym (find-yes f y l q) ∙ e in cc) in List·Memᴰ·head (sym z)
+    go false q ih = List·Memᴰ·tail (ih (sym (find-no f y l q) ∙ e))
 
 -- where k stands in turn, and who stands before it
 unfoldable nearer : ℕ → ℕ → ℕ → Bool
@@ -103,6 +113,14 @@ pub turn-nearer : (f : ℕ → Bool) (n k : ℕ) → k < 4 → f k ≡ true →
 turn-nearer f n k small e =
     subst (λ (l : List ℕ). (m : ℕ) × (find f l ≡ some m) × (m < 4) × (f m ≡ true) × ((m ≡ k) ⊎ (distance m k < distance (lastRead n) k)))
     (in-turn-read n) (next-nearer f (lastRead n) k (last-small n) small e)
+
+-- whoever is found is one of the four
+pub turn-small : (f : ℕ → Bool) (n k : ℕ) → find f (inTurn n) ≡ some k → k < 4
+unfolding inTurn
+turn-small f n k e = go (lastRead n) (find-member f (inTurn n) k e)
+  where
+    go : (m : ℕ) → List·Memᴰ k (map (λ d. (m + d) % 4) (1 ∷ 2 ∷ 3 ∷ 4 ∷ [])) → k < 4
+    go m i = let r = Memᴰ·of-map (λ d. (m + d) % 4) (1 ∷ 2 ∷ 3 ∷ 4 ∷ []) i in let z = r .2 in omega (arith, z)
 
 -- where no caller passes a test none is found
 pub turn-none : (f : ℕ → Bool) (n : ℕ) → ((k : ℕ) → k < 4 → f k ≡ false) → find f (inTurn n) ≡ none
