@@ -73,9 +73,10 @@ struct tarczolin_mark {
     uint8_t schedule[TARCZOLIN_SCHEDULE]; /* at 11 */
 };
 
-/* A caller's record, in memory of the host's: 4448 bytes, aligned to 8. All zeros is a fresh one, as closing leaves it. Any content is
- * allowed: a record whose program would be refused, or whose place is neither the beginning, behind a full schedule nor the end, counts
- * as closed and empty. The last schedule handed to it since it opened stands in `newest`; one that is not full counts as none. */
+/* A caller's record, in memory of the host's: 4448 bytes, aligned to 8, and no byte of it is outside a field. All zeros is a fresh one, as
+ * closing leaves it. Any content is allowed: a record whose program would be refused, or whose place is neither the beginning, behind a full
+ * schedule nor the end, counts as closed and empty. The last schedule handed to it since it opened stands in `newest`; one that is not full
+ * counts as none. */
 struct tarczolin_caller {
     uint8_t file[TARCZOLIN_FILE];         /* at    0: the program file is its first `length` bytes */
     size_t length;                        /* at 4096 */
@@ -88,6 +89,7 @@ struct tarczolin_caller {
     uint8_t size;                         /* at 4140 */
     uint8_t newest[TARCZOLIN_SCHEDULE];   /* at 4141 */
     struct tarczolin_mark marks[TARCZOLIN_MARKS]; /* at 4165 */
+    uint8_t padding[3];                   /* at 4445: means nothing; zeros where the record opens or closes, else left as it is */
 };
 
 #ifdef __cplusplus
