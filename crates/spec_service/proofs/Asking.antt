@@ -32,7 +32,7 @@ use Rattle.spec_service.proofs.Touches.{recordOf, whose, ownDone, Apart
 use Rattle.spec_service.proofs.Fates.{set-done, known-done, set-leaves, forget-leaves, return-leaves, slot-place}
 
 -- ---- one record
--- it asks where it says so and somebody is there
+-- a record asks where it says so and somebody is there
 asks-reading : (c : Caller) → asks (reading c) ≡ (eqb (c .asking) 1 && isOpen (reading c))
 unfolding reading seatBy seated asks isOpen
 asks-reading c = go (fileRead c)
@@ -86,7 +86,7 @@ module _ (σ : Shared) (four : Four (σ .callers)) (k : ℕ) (small : k < 4) whe
   abbrev OwnHere : Call → Type 0
   OwnHere c = Own σ four k small c
 
-  -- by the record behind it
+  -- whether the caller asks behind a call, by the record that the call leaves
   next-by : (c : Call) (r : Caller) (a : Bool) → recordOf (after c σ) k ≡ r → asks (reading r) ≡ a → asksBehind k c (answerTo c σ) was ≡ a → Next c
   unfolding seatOf
   next-by c r a e h q = ap (λ (z : Caller). asks (reading z)) e ∙ h ∙ sym q
@@ -222,7 +222,7 @@ ask-leaves : (σ : Shared) (k : ℕ) → answerTo (ask-for k) σ ≡ done → af
 unfolding after callersAfter callersDone lastAfter
 ask-leaves σ k e = rw e
 
--- one that asks stays as it is
+-- a record that asks stays as it is behind an ask
 asked-same : (c : Caller) → c .asking ≡ 1 → asked c ≡ c
 unfolding asked standing
 asked-same c e = ap (standing c (c .place) (c .steps) (c .schedule)) (sym e)

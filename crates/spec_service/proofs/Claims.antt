@@ -76,7 +76,7 @@ opened-seat : (σ : Shared) (k : ℕ) (f : List ℕ) (p : Program) → Four (σ 
 unfolding seatOf
 opened-seat σ k f p h d e = let q = opened-record σ k f h e in (q .0, ap reading (q .1) ∙ reading-opened f p d)
 
--- so it is open with nothing noted
+-- behind an open that is done the caller is open with nothing noted
 opened-open : (σ : Shared) (k : ℕ) (f : List ℕ) (p : Program) (n : List ℕ) → Four (σ .callers) → decode f ≡ accepted p → (e : answerTo (open-for k f) σ ≡ done) → (small : k < 4) →
     Open p n k small (after (open-for k f) σ) nothingNoted
 opened-open σ k f p n h d e small = record {

@@ -143,7 +143,7 @@ module _ (σ τ : Shared) (four : Four (σ .callers)) (all : LikeAll (σ .caller
   same-answer (return-to k n) = like-marks cs ds all k n (λ p ms. doneIf (isSome (slotOf p n ms)) 46)
   same-answer (forget k n) = like-marks cs ds all k n (λ p ms. doneIf (isSome (slotOf p n ms)) 46)
 
-  -- by the answer, and the records behind it
+  -- like lists behind a call, by its answer and the records that it leaves in both
   behind-by : (c : Call) (a : Answer) (us vs : List Caller) → answerTo c σ ≡ a → callersAfter c a cs ≡ us → callersAfter c a ds ≡ vs → LikeAll us vs →
       LikeAll (after c σ .callers) (after c τ .callers)
   unfolding after

@@ -230,7 +230,7 @@ name-small : (n : ℕ) → nameFits n ≡ true → n ≤ 8
 unfolding nameFits
 name-small n e = leb-true n 8 (both (leb 1 n) (leb n 8) e .1)
 
--- which of the two refused it
+-- a refusal above 45 is not by the length of the name
 refused-by : (b o : Bool) (w : ℕ) → 45 < w → cond b (doneIf o w) (refused 45 0) ≡ refused w 0 → (b ≡ true) × (o ≡ false)
 unfolding doneIf
 refused-by true true w h e = absurd (let z : _≡_ {A = ℕ} 0 1 = cc in omega arith)

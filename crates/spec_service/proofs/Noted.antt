@@ -137,7 +137,7 @@ module _ (p : Program) (n : List ℕ) (σ : Shared) (four : Four (σ .callers)) 
   abbrev OwnHere : Call → Type 0
   OwnHere c = Own σ four k small c
 
-  -- its record and what is noted, both known
+  -- what follows where both the caller's record and what is noted are known
   next-by : (c : Call) (s : Caller) (ν : Noted) → recordOf (after c σ) k ≡ s → noteCall k n c (answerTo c σ) μ ≡ ν → Agrees p n s ν → Next c
   next-by c s ν e h q = subst (λ (w : Noted). Agrees p n (recordOf (after c σ) k) w) (sym h) (subst (λ (w : Caller). Agrees p n w ν) (sym e) q)
 

@@ -107,7 +107,7 @@ next-nearer f n k h i e = (getD (inTurn n) j 0, r .2, ltb-true _ 4 (here .0), r 
         (λ (q : ltb (distance (getD (inTurn n) j 0) k) (distance n k) ≡ true). inr (ltb-true _ _ q))
         (either (leb (distance n k) j) (ltb (distance (getD (inTurn n) j 0) k) (distance n k)) (here .1))
 
--- the same, whatever number the last one served has
+-- an asking caller comes nearer in turn, whatever number the last one served has
 pub turn-nearer : (f : ℕ → Bool) (n k : ℕ) → k < 4 → f k ≡ true →
     (m : ℕ) × (find f (inTurn n) ≡ some m) × (m < 4) × (f m ≡ true) × ((m ≡ k) ⊎ (distance m k < distance (lastRead n) k))
 turn-nearer f n k small e =

@@ -105,7 +105,7 @@ module _ (r : Caller) where
   served-marks (some x) = refl
 
   module _ (s : Shaped (r .marks)) where
-    -- by its program
+    -- what is done to an open record by its program keeps eight marks
     shaped-by : (f : Program → Caller) → ((p : Program) → Shaped (f p .marks)) → Shaped (byProgram (reading r) r f .marks)
     unfolding byProgram
     shaped-by f h = go (reading r)

@@ -36,7 +36,7 @@ whose (set-mark j n) = some j
 whose (return-to j n) = some j
 whose (forget j n) = some j
 
--- what it leaves in its caller's record
+-- what a call that is done leaves in its caller's record
 unfoldable pub ownDone : Call → Caller → Caller
 ownDone (open-for j f) r = opened f
 ownDone (ask-for j) r = asked r
@@ -56,7 +56,7 @@ own-sets (set-mark i n) j cs e = let z : i ≡ j = cc in ap (λ (m : ℕ). chang
 own-sets (return-to i n) j cs e = let z : i ≡ j = cc in ap (λ (m : ℕ). changed cs m (λ p. markReturned p n)) z
 own-sets (forget i n) j cs e = let z : i ≡ j = cc in ap (λ (m : ℕ). changed cs m (λ p. markForgotten p n)) z
 
--- it is done or refused
+-- a call on one record is done or refused
 pub own-either : (c : Call) (j : ℕ) (σ : Shared) → Four (σ .callers) → whose c ≡ some j → (answerTo c σ ≡ done) ⊎ ((n : ℕ) × (m : ℕ) × (answerTo c σ ≡ refused n m))
 unfolding whose answerTo setAnswer knownOnly
 own-either (open-for i f) j σ h e = ⊎-elim (λ (q : (openAnswer (σ .callers) i f ≡ done) × Opens (σ .callers) i f). inl (q .0))
@@ -90,7 +90,7 @@ unnoted k n (set-mark i m) j μ e ne = let z : i ≡ j = cc in rw (ne-eqb i k (�
 unnoted k n (return-to i m) j μ e ne = refl
 unnoted k n (forget i m) j μ e ne = let z : i ≡ j = cc in rw (ne-eqb i k (λ q. ne (sym q ∙ z)))
 
--- nor does it change whether k asks
+-- another's call does not change whether k asks
 unasked : (k : ℕ) (c : Call) (j : ℕ) (a : Bool) → whose c ≡ some j → k ≢ j → asksDone k c a ≡ a
 unfolding whose asksDone
 unasked k (open-for i f) j a e ne = let z : i ≡ j = cc in rw (ne-eqb i k (λ q. ne (sym q ∙ z)))
@@ -102,14 +102,14 @@ unasked k (return-to i m) j a e ne = refl
 unasked k (forget i m) j a e ne = refl
 
 module _ (σ : Shared) (four : Four (σ .callers)) (k : ℕ) (small : k < 4) where
-  -- it is handed nothing, and its record, what it noted and whether it asks stay
+  -- caller k is handed nothing, and its record, what it noted and whether it asks stay
   pub record Apart (c : Call) : Type 0 where
     pub nothing : handsTo k (answerTo c σ) ≡ []
     pub unseen : (n : List ℕ) (μ : Noted) → noteCall k n c (answerTo c σ) μ ≡ μ
     pub still : (a : Bool) → asksBehind k c (answerTo c σ) a ≡ a
     pub leaves : recordOf (after c σ) k ≡ recordOf σ k
 
-  -- its own call, done
+  -- caller k's own call, done
   pub record Own (c : Call) : Type 0 where
     pub mine : whose c ≡ some k
     pub answered : answerTo c σ ≡ done
@@ -139,7 +139,7 @@ module _ (σ : Shared) (four : Four (σ .callers)) (k : ℕ) (small : k < 4) whe
   unfolding handsTo noteCall asksBehind callersAfter
   touch-refused c n m e = apart-by c (refused n m) e refl (λ n μ. refl) (λ a. refl) refl
 
-  -- its own call that is done
+  -- what caller k's own call leaves, where it is done
   pub own-leaves : (c : Call) → whose c ≡ some k → answerTo c σ ≡ done → recordOf (after c σ) k ≡ ownDone c (recordOf σ k)
   unfolding callersAfter after
   own-leaves c w e = ap (λ (z : Answer). getD (callersAfter c z (σ .callers)) k fresh) e

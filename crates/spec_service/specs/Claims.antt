@@ -24,8 +24,8 @@ use Rattle.spec_service.specs.Play.{answers, behindAll, received, serves
 use Rattle.spec_service.specs.Noted.{nothingNoted, noted}
 use Rattle.spec_service.specs.Concerns.{concerns}
 
--- what caller k is handed by these calls is this list in order, each member once, and no more exactly when all have been given: the i-th
--- serve, from 0, gives member i, or no more if there are not so many
+-- what the calls hand to caller k is the list l in order, each member once, and no more exactly when all have been given: the i-th serve
+-- of the caller, from 0, gives member i, or no more if the list has fewer
 abbrev pub InOrder : ℕ → List Schedule → List Call → Shared → Type 0
 InOrder k l calls σ = received k (answers calls σ) ≡ map (member l) (range 0 (length (received k (answers calls σ))))
 
@@ -42,7 +42,7 @@ pub record Sharing : Type 0 where
       let opening = after (open-for k f) (behindAll before start) in
       answerTo (open-for k f) (behindAll before start) ≡ done → Stays k later → returns k later opening ≡ false →
       InOrder k (listOf sc p) later opening
-  -- BEHIND A MARK: after each return, up to the next or the closing, they give what the list holds behind the place so set
+  -- BEHIND A MARK: after each return, up to the next or the closing, a caller's serves give what the list holds behind the mark's place
   pub behind-mark : (before later : List Call) (k : ℕ) (n : List ℕ) (p : Program) (x : Place) (a : Bool) →
       let back = after (return-to k n) (behindAll before start) in
       answerTo (return-to k n) (behindAll before start) ≡ done → seatOf (back .callers) k ≡ active p x a →
@@ -56,7 +56,7 @@ pub record Sharing : Type 0 where
       let now = behindAll later opening in
       (answerTo (return-to k n) now ≡ done) × (seatOf (after (return-to k n) now .callers) k ≡ active p x (asks (seatOf (now .callers) k)))
       × (answerTo (forget k n) now ≡ done)
-  -- UNKNOWN: any other name of 1 to 8 bytes is refused by 46
+  -- UNKNOWN: a name of 1 to 8 bytes that was not set since the opening, or was forgotten since, is refused by 46
   pub unknown : (before later : List Call) (k : ℕ) (f : List ℕ) (p : Program) (n : List ℕ) → decode f ≡ accepted p →
       let opening = after (open-for k f) (behindAll before start) in
       answerTo (open-for k f) (behindAll before start) ≡ done → Stays k later → nameFits (length n) ≡ true →
@@ -80,7 +80,7 @@ pub record Sharing : Type 0 where
       answerTo (open-for k f) (behindAll before start) ≡ done → Stays k later →
       getD (behindAll later opening .callers) k fresh .count ≡ schedulesOf (received k (answers later opening)) % 2 ^ 64
   -- ISOLATED: in two lists of calls that agree in caller k's own calls and in the serves that take it, in the same order among themselves,
-  -- its count, its whole record and the sequence that it receives are the same, whatever others open, ask, mark or close
+  -- the caller's count, its whole record and the sequence that it receives are the same, whatever others open, ask, mark or close
   pub isolated : (left right : List Call) (k : ℕ) → k < 4 → concerns k left start ≡ concerns k right start →
       (getD (behindAll left start .callers) k fresh .count ≡ getD (behindAll right start .callers) k fresh .count)
       × (getD (behindAll left start .callers) k fresh ≡ getD (behindAll right start .callers) k fresh)

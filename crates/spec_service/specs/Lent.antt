@@ -21,13 +21,13 @@ unfoldable pub orBeginning : Option Place → Place
 orBeginning none = beginning
 orBeginning (some x) = x
 
--- four records, of which caller k's is open; its marks are eight, as the record's type has them
+-- of the four records that are lent caller k's is open, with the eight marks that the type of a record has
 pub record LentTo (σ : Shared) (k : ℕ) (p : Program) (x : Place) (a : Bool) : Type 0 where
   pub four : length (σ .callers) ≡ 4
   pub eight : length (marksOf (σ .callers) k) ≡ 8
   pub seat : seatOf (σ .callers) k ≡ active p x a
 
--- eight names are known
+-- caller k knows eight names: a return to each of them is done
 pub record Eight (σ : Shared) (k : ℕ) : Type 0 where
   pub names : List (List ℕ)
   pub eight : length names ≡ 8
@@ -55,7 +55,7 @@ pub record Lent : Type 0 where
   -- SET: a set with a name of 1 to 8 bytes is done, unless 47 refuses it
   pub set-unless : (σ : Shared) (k : ℕ) (p : Program) (x : Place) (a : Bool) (n : List ℕ) → LentTo σ k p x a →
       nameFits (length n) ≡ true → (answerTo (set-mark k n) σ ≡ done) ⊎ (answerTo (set-mark k n) σ ≡ refused 47 0)
-  -- and behind one that is done return to that name goes behind the last schedule handed, or to the beginning, and keeps the asking
+  -- RETURN: behind a set that is done return to that name goes behind the last schedule handed, or to the beginning, and keeps the asking
   pub set-returns : (σ : Shared) (k : ℕ) (p : Program) (x : Place) (a : Bool) (n : List ℕ) → LentTo σ k p x a →
       answerTo (set-mark k n) σ ≡ done →
       let now = after (set-mark k n) σ in
@@ -71,10 +71,10 @@ pub record Lent : Type 0 where
   pub forgotten : (σ : Shared) (k : ℕ) (p : Program) (x : Place) (a : Bool) (n : List ℕ) → LentTo σ k p x a →
       answerTo (forget k n) σ ≡ done →
       answerTo (return-to k n) (after (forget k n) σ) ≡ refused 46 0
-  -- NINTH: 47 refuses a set where the name is unknown and eight others are known,
+  -- NINTH: 47 refuses a set where the name is unknown and eight others are known
   pub ninth : (σ : Shared) (k : ℕ) (p : Program) (x : Place) (a : Bool) (n : List ℕ) → LentTo σ k p x a →
       answerTo (return-to k n) σ ≡ refused 46 0 → Eight σ k → answerTo (set-mark k n) σ ≡ refused 47 0
-  -- and only there, names being arrays of eight bytes
+  -- 47 refuses a set only where the name is unknown and eight others are known, names being arrays of eight bytes
   pub only-ninth : (σ : Shared) (k : ℕ) (p : Program) (x : Place) (a : Bool) (n : List ℕ) → LentTo σ k p x a →
       ((i : ℕ) → i < 8 → length (getD (marksOf (σ .callers) k) i noMark .name) ≡ 8) →
       answerTo (set-mark k n) σ ≡ refused 47 0 → (answerTo (return-to k n) σ ≡ refused 46 0) × Eight σ k

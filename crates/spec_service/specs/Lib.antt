@@ -3,7 +3,7 @@
 pub mod Seat
 -- a caller's record, what it reads as, and the records that the calls leave
 pub mod Record
--- its marks and the last schedule handed to it: which count, and what the calls on them leave
+-- a caller's marks and the last schedule handed to it: which count, and what the calls on them leave
 pub mod Marks
 -- the seven calls: what each answers, and the later content of all that is lent
 pub mod Call
