@@ -85,9 +85,10 @@ struct tarczolin_mark {
     uint8_t schedule[TARCZOLIN_SCHEDULE]; /* at 11 */
 };
 
-/* A caller's record, in memory of the host's: 4448 bytes, aligned to 8. All zeros is a fresh one, as closing leaves it. Any content is
- * allowed: a record whose program would be refused, or whose place is neither the beginning, behind a full schedule nor the end, counts
- * as closed and empty. The last schedule handed to it since it opened stands in `newest`; one that is not full counts as none. */
+/* A caller's record, in memory of the host's: 4448 bytes, aligned to 8, and no byte of it is outside a field. All zeros is a fresh one, as
+ * closing leaves it. Any content is allowed: a record whose program would be refused, or whose place is neither the beginning, behind a full
+ * schedule nor the end, counts as closed and empty. The last schedule handed to it since it opened stands in `newest`; one that is not full
+ * counts as none. */
 struct tarczolin_caller {
     uint8_t file[TARCZOLIN_FILE];         /* at    0: the program file is its first `length` bytes */
     size_t length;                        /* at 4096 */
@@ -100,6 +101,7 @@ struct tarczolin_caller {
     uint8_t size;                         /* at 4140 */
     uint8_t newest[TARCZOLIN_SCHEDULE];   /* at 4141 */
     struct tarczolin_mark marks[TARCZOLIN_MARKS]; /* at 4165 */
+    uint8_t padding[3];                   /* at 4445: means nothing; zeros where the record opens or closes, else left as it is */
 };
 
 #ifdef __cplusplus
@@ -209,10 +211,10 @@ uint64_t tarczolin_robust(const uint8_t *file, size_t file_len, uint8_t *out, si
  * output, with its length in bits 0 to 39 and the caller in bits 40 to 47; or no more, kind 2, the caller likewise. Its asking ends, and
  * `last` is that caller; a schedule counts in that caller's record and in no other, no more in none. Nobody asks: kind 5. In every list of
  * these calls from the first list on, each handed what the one before gave back, those on marks included: whoever asked and does not close
- * is served by the fourth serve at the latest, and from an opening to its closing, or to its first return, a caller is given its program's
- * list in order, each member once, and no more exactly when all have been given. A caller's `count` is the number of schedules handed to it
- * since it opened, repeats after a return included, modulo 2^64. What the others open, ask, mark or close changes neither it nor the
- * sequence that the caller receives: both go by its own calls and by the serves that take it. */
+ * is served by the fourth serve at the latest, refused serves not counted, and from an opening to its closing, or to its first return, a
+ * caller is given its program's list in order, each member once, and no more exactly when all have been given. A caller's `count` is the
+ * number of schedules handed to it since it opened, repeats after a return included, modulo 2^64. What the others open, ask, mark or close
+ * changes neither it nor the sequence that the caller receives: both go by its own calls and by the serves that take it. */
 uint64_t tarczolin_open(struct tarczolin_caller *callers, size_t callers_len, uint64_t *last, size_t caller, const uint8_t *file, size_t file_len);
 uint64_t tarczolin_ask(struct tarczolin_caller *callers, size_t callers_len, uint64_t *last, size_t caller);
 uint64_t tarczolin_serve(struct tarczolin_caller *callers, size_t callers_len, uint64_t *last, uint8_t *out, size_t out_len);

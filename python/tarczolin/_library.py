@@ -34,7 +34,7 @@ class CallerRecord(ctypes.Structure):
     _fields_ = [
         ('file', c_uint8 * FILE), ('length', c_size_t), ('count', c_uint64), ('place', c_uint8), ('asking', c_uint8),
         ('steps', c_uint8), ('schedule', c_uint8 * SCHEDULE), ('handed', c_uint8), ('size', c_uint8),
-        ('newest', c_uint8 * SCHEDULE), ('marks', MarkRecord * MARKS),
+        ('newest', c_uint8 * SCHEDULE), ('marks', MarkRecord * MARKS), ('padding', c_uint8 * 3),
     ]
 
 

@@ -22,6 +22,7 @@ pub fn lent(record: &Record) -> Caller {
         size: record.size,
         newest: record.newest,
         marks: record.marks.map(lent_mark),
+        padding: record.padding,
     }
 }
 

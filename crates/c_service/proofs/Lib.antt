@@ -4,3 +4,5 @@ pub mod UserWords
 pub mod PlainWalk
 -- the walk of one with bytes: open, set, return, forget
 pub mod BytesWalk
+-- what a word of these calls tells
+pub mod Told

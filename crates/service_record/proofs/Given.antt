@@ -32,7 +32,7 @@ use Rattle.listing.specs.AnswerOf.{listAnswerOf}
 use Rattle.listing.specs.declared.calling.ListAnswer.the-variants.{Found, NoMore, Refused}
 use Rattle.spec_service.specs.declared.caller.Caller.{Caller}
 use Rattle.spec_service.specs.Seat.{Place, beginning, behind, end, toCome, Seat, closed, active}
-use Rattle.spec_service.specs.Record.{fileRead, behindFull, placeOf, seated, reading, served, standing, handing, counting}
+use Rattle.spec_service.specs.Record.{fileRead, behindFull, placeOf, seated, reading, recordBy, served, standing, handing, counting}
 use Rattle.spec_service.specs.Call.{forSeat}
 use Rattle.spec_service.proofs.Fates.{come-full}
 use Rattle.spec_service.proofs.Readings.{active-formed}
@@ -45,35 +45,13 @@ use Rattle.service_record.proofs.Opened.{read-long, read-file, read-ref
 module _ (c : Caller) (n : Next) where
   -- behind a schedule, which is the last one handed, with this count
   abbrev pub behindFound : ℕ → Caller
-  behindFound m = record {
-    file = c .file;
-    length = c .length;
-    count = m;
-    place = 2;
-    asking = 0;
-    steps = n .steps;
-    schedule = n .schedule;
-    handed = 1;
-    size = n .steps;
-    newest = n .schedule;
-    marks = c .marks;
-  }
+  behindFound m = recordBy (c .file) (c .length) m (record { place = 2; asking = 0; steps = n .steps; schedule = n .schedule })
+      (record { handed = 1; size = n .steps; newest = n .schedule }) (c .marks) (c .padding)
 
   pub served-found : (m : ℕ) → m ≡ (c .count + 1) % 2 ^ 64 → n .found ≡ true → (o : Option Schedule) → n ≡ nextOf o → behindFound m ≡ served c o
   unfolding nextOf served standing handing counting
-  served-found m g f (some s) e = λ i. record {
-    file = c .file;
-    length = c .length;
-    count = g i;
-    place = 2;
-    asking = 0;
-    steps = e i .steps;
-    schedule = e i .schedule;
-    handed = 1;
-    size = e i .steps;
-    newest = e i .schedule;
-    marks = c .marks;
-  }
+  served-found m g f (some s) e = λ i. recordBy (c .file) (c .length) (g i) (record { place = 2; asking = 0; steps = e i .steps; schedule = e i .schedule })
+      (record { handed = 1; size = e i .steps; newest = e i .schedule }) (c .marks) (c .padding)
   served-found m g f none e = absurd (true≢false (sym f ∙ ap (λ (m : Next). m .found) e))
 
   pub served-none : n .found ≡ false → (o : Option Schedule) → n ≡ nextOf o → standing c 3 (n .steps) (n .schedule) 0 ≡ served c o

@@ -26,7 +26,7 @@ pub fn no_mark() -> Mark
     }
 }
 
-// Eight of them.
+// Eight free marks.
 fn no_marks() -> [Mark; 8]
     ensures { λ r. ⌜ r ≡ replicate 8 noMark ⌝ }
 {
@@ -50,6 +50,7 @@ pub fn fresh_record() -> Caller
         size: 0,
         newest: [0u8; STEPS],
         marks: no_marks(),
+        padding: [0u8; 3],
     }
 }
 
@@ -85,6 +86,7 @@ pub fn opened_with(file: &[u8]) -> Caller
         size: 0,
         newest: [0u8; STEPS],
         marks: no_marks(),
+        padding: [0u8; 3],
     }
 }
 

@@ -1,11 +1,13 @@
 -- WHAT HOLDS OF EVERY LIST OF CALLS from four fresh records.
-use Prim.Native.Nat.{ℕ, _+_, _<_, _≤_, _%_, _^_}
+use Prim.Native.Nat.{ℕ, zero, suc, _+_, _<_, _≤_, _%_, _^_}
 use mathlib.Core.Path.{_≡_, refl, sym, ap, subst, _∙_}
-use mathlib.Core.Logic.{_⊎_, ⊎-elim}
-use mathlib.Core.Bool.{Bool, true, false}
+use mathlib.Core.Logic.{_↔_, _⊎_, ⊎-elim}
+use mathlib.Core.Bool.{Bool, true, false, cond}
 use mathlib.Core.Option.{none, some}
 use mathlib.Core.List.{List, [], _∷_}
 use native.Mathlib.Omega.{arith}
+use borrow.Author.Tests.{ltb-false}
+use lib.Dec.{ltb}
 use lib.ListN.{length, getD}
 use Rattle.spec_file.specs.Program.{Program}
 use Rattle.spec_file.specs.Decode.{accepted, decode}
@@ -15,16 +17,19 @@ use Rattle.spec_service.specs.declared.caller.Caller.{Caller}
 use Rattle.spec_service.specs.Seat.{Place, beginning, Seat, closed, active, toCome, isOpen, asks}
 use Rattle.spec_service.specs.Record.{reading, noMark, fresh, opened, plain}
 use Rattle.spec_service.specs.Marks.{nameFits}
-use Rattle.spec_service.specs.Call.{Call, open-for, ask-for, close-for, return-to, forget, done, refused, Shared, start, seatOf, openAnswer, openOnly, answerTo, after}
+use Rattle.spec_service.specs.Call.{Call, open-for, ask-for, close-for, set-mark, return-to, forget, Answer, done, refused, Shared, start, seatOf, openAnswer, openOnly, byProgram, marksOnly, marksOf, setAnswer, knownOnly, answerTo, after}
 use Rattle.spec_service.specs.Play.{answers, behindAll, received, schedulesOf}
 use Rattle.spec_service.specs.Noted.{Noted, nothingNoted}
 use Rattle.spec_service.specs.Concerns.{Event}
+use Rattle.spec_service.specs.Lent.{LentTo, Eight}
 use Rattle.spec_service.specs.Claims.{Sharing}
 use Rattle.spec_service.proofs.Readings.{reading-fresh, reading-opened, reading-asked, reading-returned}
-use Rattle.spec_service.proofs.Seats.{Four, Opens, open-either, only-either, four-after}
+use Rattle.spec_service.proofs.Seats.{Four, checked-four, Opens, open-either, only-either, four-after}
 use Rattle.spec_service.proofs.Touches.{recordOf, whose, ownDone, own-leaves}
 use Rattle.spec_service.proofs.Fates.{return-leaves}
-use Rattle.spec_service.proofs.Lent.{known-small}
+use Rattle.spec_service.proofs.Asking.{asks-from}
+use Rattle.spec_service.proofs.Shaped.{Shaped, shaped-fresh, shaped-from}
+use Rattle.spec_service.proofs.Lent.{known-small, lent}
 use Rattle.spec_service.proofs.InOrder.{order-from}
 use Rattle.spec_service.proofs.Fair.{fair-from, distance-small}
 use Rattle.spec_service.proofs.Noted.{Agrees, agrees-opened, Open, noted-from, known-slot, unknown-refused}
@@ -71,7 +76,7 @@ opened-seat : (σ : Shared) (k : ℕ) (f : List ℕ) (p : Program) → Four (σ 
 unfolding seatOf
 opened-seat σ k f p h d e = let q = opened-record σ k f h e in (q .0, ap reading (q .1) ∙ reading-opened f p d)
 
--- so it is open with nothing noted
+-- behind an open that is done the caller is open with nothing noted
 opened-open : (σ : Shared) (k : ℕ) (f : List ℕ) (p : Program) (n : List ℕ) → Four (σ .callers) → decode f ≡ accepted p → (e : answerTo (open-for k f) σ ≡ done) → (small : k < 4) →
     Open p n k small (after (open-for k f) σ) nothingNoted
 opened-open σ k f p n h d e small = record {
@@ -115,14 +120,69 @@ unknown-both : (p : Program) (n : List ℕ) (k : ℕ) (small : k < 4) (σ : Shar
 unfolding answerTo
 unknown-both p n k small σ μ o f e = let r = unknown-refused p n k small σ μ o f e in (r, r)
 
+-- nobody asks at the start, and every record is a fresh one
+start-fresh : (k : ℕ) → recordOf start k ≡ fresh
+unfolding start
+start-fresh zero = refl
+start-fresh (suc zero) = refl
+start-fresh (suc (suc zero)) = refl
+start-fresh (suc (suc (suc zero))) = refl
+start-fresh (suc (suc (suc (suc k)))) = refl
+
+start-silent : (k : ℕ) → asks (seatOf (start .callers) k) ≡ false
+unfolding seatOf asks
+start-silent k = ap (λ (r : Caller). asks (reading r)) (start-fresh k) ∙ ap asks reading-fresh
+
+start-shaped : (k : ℕ) → Shaped (recordOf start k .marks)
+start-shaped k = subst (λ (r : Caller). Shaped (r .marks)) (sym (start-fresh k)) shaped-fresh
+
+-- ---- a ninth name
+-- a call on marks that goes by its name is that of an open one
+marks-seat : (σ : Shared) (k : ℕ) (n : List ℕ) (g : Program → Answer) (w : ℕ) → Four (σ .callers) → 45 < w → marksOnly (σ .callers) k n g ≡ refused w 0 →
+    (k < 4) × ((p : Program) × (x : Place) × (a : Bool) × (seatOf (σ .callers) k ≡ active p x a))
+unfolding marksOnly byProgram
+marks-seat σ k n g w h big e = go (ltb 3 k) (seatOf (σ .callers) k) refl refl (sym (checked-four (σ .callers) k _ h) ∙ e)
+  where
+    go : (b : Bool) (s : Seat) → ltb 3 k ≡ b → seatOf (σ .callers) k ≡ s →
+        cond (ltb 3 k) (refused 42 0) (byProgram (seatOf (σ .callers) k) (refused 44 0) (λ p. cond (nameFits (length n)) (g p) (refused 45 0))) ≡ refused w 0 →
+        (k < 4) × ((p : Program) × (x : Place) × (a : Bool) × (seatOf (σ .callers) k ≡ active p x a))
+    go true s q r z = let y : refused 42 0 ≡ refused w 0 = rw q at z in let m : 42 ≡ w = cc in absurd (omega (arith, m, big))
+    go false closed q r z = let y : refused 44 0 ≡ refused w 0 = rw (q, r, byProgram) at z in let m : 44 ≡ w = cc in absurd (omega (arith, m, big))
+    go false (active p x a) q r z = ((let m = ltb-false 3 k q in omega (arith, m)), (p, x, a, r))
+
+ninth-all : (calls : List Call) (k : ℕ) (n : List ℕ) →
+    (answerTo (set-mark k n) (behindAll calls start) ≡ refused 47 0) ↔ ((answerTo (return-to k n) (behindAll calls start) ≡ refused 46 0) × Eight (behindAll calls start) k)
+unfolding answerTo setAnswer knownOnly marksOf
+ninth-all calls k n = (
+  λ e. let s = marks-seat σ k n _ 47 four (omega arith) e in
+      lent .only-ninth σ k (s .1 .0) (s .1 .1) (s .1 .2) n (lends (s .0) (s .1 .0) (s .1 .1) (s .1 .2) (s .1 .3)) (shape (s .0) .bytes) e,
+  λ q. let s = marks-seat σ k n _ 46 four (omega arith) (q .0) in
+      lent .ninth σ k (s .1 .0) (s .1 .1) (s .1 .2) n (lends (s .0) (s .1 .0) (s .1 .1) (s .1 .2) (s .1 .3)) (q .0) (q .1),
+)
+  where
+    σ : Shared
+    σ = behindAll calls start
+
+    four : Four (σ .callers)
+    four = four-all calls start four-start
+
+    shape : k < 4 → Shaped (recordOf σ k .marks)
+    shape small = shaped-from k small calls start four-start (start-shaped k)
+
+    lends : k < 4 → (p : Program) (x : Place) (a : Bool) → seatOf (σ .callers) k ≡ active p x a → LentTo σ k p x a
+    lends small p x a s = record { four = four; eight = shape small .eight; seat = s }
+
 pub sharing : Sharing
-unfolding toCome start answerTo
+unfolding toCome start answerTo marksOf
 sharing = record {
   fourth-serve = λ before later k e st more r.
       let σ = behindAll before start in
       let h = four-all before start four-start in
       let q = asked-seat σ k h e in
       fair-from k (q .0) (q .1 .0) later (after (ask-for k) σ) 3 (q .1 .1) (four-after (ask-for k) σ h) (q .1 .2) st (distance-small _ k) more r;
+  asks-exactly = λ calls k small. asks-from k small calls start false four-start (start-silent k);
+  eight-marks = λ calls k small. let z = shaped-from k small calls start four-start (start-shaped k) in (z .eight, z .bytes);
+  ninth-exactly = λ calls k n. ninth-all calls k n;
   in-order = λ before later k f p d e st nr.
       let σ = behindAll before start in
       let h = four-all before start four-start in

@@ -22,7 +22,7 @@ use Rattle.spec_service.proofs.InOrder.{stays-now, stays-on}
 
 -- ---- one call
 module _ (σ : Shared) (four : Four (σ .callers)) (k : ℕ) (small : k < 4) (p : Program) (x : Place) (a : Bool) (seat : seatOf (σ .callers) k ≡ active p x a) where
-  -- it adds what it hands, and stays below 2^64
+  -- a call adds what it hands to the caller's count, which stays below 2^64
   abbrev Adds : Call → Type 0
   Adds c = ((n : ℕ) → (recordOf (after c σ) k .count + n) % 2 ^ 64 ≡ (recordOf σ k .count + (schedulesOf (handsTo k (answerTo c σ)) + n)) % 2 ^ 64)
       × (recordOf σ k .count < 2 ^ 64 → recordOf (after c σ) k .count < 2 ^ 64)

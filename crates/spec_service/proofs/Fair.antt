@@ -16,27 +16,10 @@ use Rattle.spec_service.specs.Seat.{Place, Seat, active, isOpen, asks}
 use Rattle.spec_service.specs.Marks.{isSome, slotOf, slotFor}
 use Rattle.spec_service.specs.Call.{Call, open-for, ask-for, serve, close-for, set-mark, return-to, forget, Answer, done, given, ended, idle, refused, Shared, seatOf, lastRead, inTurn, nextAsking, forSeat, handedTo, servedTo, openAnswer, openOnly, marksOnly, doneIf, marksOf, setAnswer, knownOnly, serveAnswer, answerTo, lastAfter, after}
 use Rattle.spec_service.specs.Play.{answers, handsTo, received, isServe, serves, Stays}
-use Rattle.spec_service.proofs.Rotation.{distance, next-nearer}
+use Rattle.spec_service.proofs.Rotation.{last-small, last-twice, distance, turn-nearer}
 use Rattle.spec_service.proofs.Seats.{Four, Opens, Marking, open-either, only-either, marks-either, serve-either, four-after}
 use Rattle.spec_service.proofs.Fates.{Kept, Served, fate}
 use Rattle.spec_service.proofs.InOrder.{stays-now, stays-on}
-
--- the caller served last, as it is read, is one of the four; reading it twice is reading it once
-last-small : (n : ℕ) → lastRead n < 4
-unfolding lastRead
-last-small n = go (ltb 3 n) refl
-  where
-    go : (b : Bool) → ltb 3 n ≡ b → cond (ltb 3 n) 3 n < 4
-    go true e = rw e (omega arith)
-    go false e = rw e (let z = ltb-false 3 n e in omega (arith, z))
-
-last-twice : (n : ℕ) → n < 4 → lastRead n ≡ n
-unfolding lastRead
-last-twice n h = rw (le-ltb 3 n (omega (arith, h)))
-
-in-turn-read : (n : ℕ) → inTurn (lastRead n) ≡ inTurn n
-unfolding inTurn
-in-turn-read n = ap (λ (m : ℕ). map (λ d. (m + d) % 4) (1 ∷ 2 ∷ 3 ∷ 4 ∷ [])) (last-twice (lastRead n) (last-small n))
 
 -- there are never more than three between two callers
 pub distance-small : (n k : ℕ) → distance n k ≤ 3
@@ -76,9 +59,7 @@ module _ (σ : Shared) (four : Four (σ .callers)) (k : ℕ) (small : k < 4) (p 
       asking j = asks (seatOf (σ .callers) j)
 
       found : (m : ℕ) × (find asking (inTurn (σ .last)) ≡ some m) × (m < 4) × (asking m ≡ true) × ((m ≡ k) ⊎ (distance m k < distance (lastRead (σ .last)) k))
-      found =
-          subst (λ (l : List ℕ). (m : ℕ) × (find asking l ≡ some m) × (m < 4) × (asking m ≡ true) × ((m ≡ k) ⊎ (distance m k < distance (lastRead (σ .last)) k)))
-          (in-turn-read (σ .last)) (next-nearer asking (lastRead (σ .last)) k (last-small (σ .last)) small (ap asks seat))
+      found = turn-nearer asking (σ .last) k small (ap asks seat)
 
       near : (o : Option Schedule) → handsTo k (handedTo (found .0) o) ≡ [] → distance (lastRead (found .0)) k < distance (lastRead (σ .last)) k
       near o h = ⊎-elim (λ (q : found .0 ≡ k). absurd (mine o q h)) (λ (d : distance (found .0) k < distance (lastRead (σ .last)) k). rw (last-twice (found .0) (found .2)) d) (found .4)

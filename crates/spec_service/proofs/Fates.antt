@@ -40,7 +40,7 @@ come-next p beginning s l e = ap (after (some s)) e ∙ after-behind [] s l (sub
 come-next p (behind b) s l e = after-on (some b) (listOf sc p) [] s l (list-ascends sc sc-laws p) e
 come-next p end s l e = absurd (let z : _≡_ {A = ℕ} 0 1 = cc in omega arith)
 
--- the first of it is full
+-- the first of what is yet to come is full
 pub come-full : (p : Program) (x : Place) (s : Schedule) (l : List Schedule) → toCome p x ≡ s ∷ l → Full p s
 unfolding toCome
 come-full p beginning s l e = list-exact sc sc-laws p s .0 (subst (List·Memᴰ s) (sym e) (List·Memᴰ·head refl)) .0
@@ -64,12 +64,12 @@ module _ (σ : Shared) (four : Four (σ .callers)) (k : ℕ) (small : k < 4) (p 
     pub stands : seatOf (Calls.after c σ .callers) k ≡ active p place false
     pub rest : toCome p place ≡ tail (toCome p x)
 
-  -- its record reads as this
+  -- the caller's record reads as its seat
   pub reads : reading (recordOf σ k) ≡ active p x a
   unfolding seatOf
   reads = seat
 
-  -- by its program
+  -- what goes by the program of the caller's seat
   pub by-active : (f : Program → Caller) → byProgram (reading (recordOf σ k)) (recordOf σ k) f ≡ f p
   unfolding byProgram
   by-active f = ap (λ (s : Seat). byProgram s (recordOf σ k) f) reads
@@ -205,7 +205,7 @@ module _ (σ : Shared) (four : Four (σ .callers)) (k : ℕ) (small : k < 4) (p 
         rest = come-next p x s l n ∙ sym (ap tail n);
       }
 
-  -- ITS FATE under a call that does not close it
+  -- A CALLER'S FATE under a call that does not close it
   pub fate : (c : Call) → (c ≡ close-for k → ⊥) → Kept c ⊎ Served c
   fate c n = ⊎-elim (λ (t : Apart σ four k small c). inl (kept-by c (recordOf σ k) (t .nothing) (t .leaves) reads))
       (λ (t : OwnHere c ⊎ Taken σ four k small c). ⊎-elim (λ (o : OwnHere c). inl (kept-own c n o)) (λ (z : Taken σ four k small c). inr (served-taken c z)) t)

@@ -32,7 +32,7 @@ stays-now s e = s (List·Memᴰ·head (sym e))
 pub stays-on : {k : ℕ} {c : Call} {cs : List Call} → Stays k (c ∷ cs) → Stays k cs
 stays-on s m = s (List·Memᴰ·tail m)
 
--- neither now nor later does it return to a mark
+-- a caller that does not return in a list of calls does so neither now nor later
 returns-now : (b d : Bool) → cond b true d ≡ false → (b ≡ false) × (d ≡ false)
 returns-now true d e = absurd (false≢true (sym e))
 returns-now false d e = (refl, e)

@@ -47,7 +47,7 @@ own-answer (set-mark j n) k σ h e = let z : j ≡ k = cc in ap (λ (m : ℕ). s
 own-answer (return-to j n) k σ h e = let z : j ≡ k = cc in ap (λ (m : ℕ). knownOnly (σ .callers) m n) z ∙ checked-four (σ .callers) k _ h
 own-answer (forget j n) k σ h e = let z : j ≡ k = cc in ap (λ (m : ℕ). knownOnly (σ .callers) m n) z ∙ checked-four (σ .callers) k _ h
 
--- what it leaves in it
+-- what a caller's own call leaves in its record, by the answer
 ownLeaves : Call → Answer → Caller → Caller
 ownLeaves c done r = ownDone c r
 ownLeaves c (given j s) r = r
@@ -107,7 +107,7 @@ unfolding handsTo takes handedTo
 takes-own k none = (rw (eq-eqb k k refl), rw (eq-eqb k k refl))
 takes-own k (some s) = (rw (eq-eqb k k refl), rw (eq-eqb k k refl))
 
--- its own call is an event, another's is none
+-- a caller's own call is an event, another's is none
 own-event : (k : ℕ) (c : Call) (j : ℕ) → whose c ≡ some j → ownCall k c ≡ cond (eqb j k) (called c ∷ []) []
 unfolding whose ownCall
 own-event k (open-for i f) j e = let z : i ≡ j = cc in ap (λ (m : ℕ). cond (eqb m k) (called (open-for i f) ∷ []) []) z
@@ -123,7 +123,7 @@ module _ (σ : Shared) (four : Four (σ .callers)) (k : ℕ) (small : k < 4) whe
   abbrev events : Call → List Event
   events c = ownCall k c ++ takes k (answerTo c σ)
 
-  -- its events decide the record behind it and what it hands
+  -- the events of a call decide the record behind it and what it hands
   abbrev Decided : Call → Type 0
   Decided c = (recordOf (after c σ) k ≡ recordAfter k (events c) (recordOf σ k)) × (handsTo k (answerTo c σ) ≡ handsAfter k (events c) (recordOf σ k))
 
@@ -131,7 +131,7 @@ module _ (σ : Shared) (four : Four (σ .callers)) (k : ℕ) (small : k < 4) whe
       handsTo k (answerTo c σ) ≡ handsAfter k es (recordOf σ k) → Decided c
   decided-by c es e h q = (h ∙ ap (λ (l : List Event). recordAfter k l (recordOf σ k)) (sym e), q ∙ ap (λ (l : List Event). handsAfter k l (recordOf σ k)) (sym e))
 
-  -- its own call
+  -- a caller's own call decides so
   decided-own : (c : Call) → whose c ≡ some k → Decided c
   unfolding recordAfter handsAfter recordBy handsBy ownLeaves handsTo takes
   decided-own c w = ⊎-elim
@@ -148,7 +148,7 @@ module _ (σ : Shared) (four : Four (σ .callers)) (k : ℕ) (small : k < 4) whe
       event : ownCall k c ≡ called c ∷ []
       event = own-event k c k w ∙ rw (eq-eqb k k refl)
 
-  -- another's call, and a serve that does not take it
+  -- another's call, and a serve that does not take the caller, decide nothing
   decided-apart : (c : Call) → ownCall k c ≡ [] → Apart σ four k small c → Decided c
   unfolding recordAfter handsAfter
   decided-apart c e t = decided-by c [] (ap (λ (l : List Event). l ++ takes k (answerTo c σ)) e ∙ takes-none k (answerTo c σ) (t .nothing)) (t .leaves) (t .nothing)

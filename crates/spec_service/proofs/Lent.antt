@@ -1,7 +1,7 @@
--- WHAT THE CALLS ON MARKS DO, whatever the four records hold.
+-- WHAT THE CALLS ON MARKS DO, whatever the four records hold, with what holds of asking and of closed records.
 use Prim.Native.Nat.{ℕ, _<_, _≤_}
 use mathlib.Core.Path.{_≡_, refl, sym, ap, subst, _∙_}
-use mathlib.Core.Logic.{_⊎_, ⊎-elim}
+use mathlib.Core.Logic.{_⊎_, inl, inr, ⊎-elim}
 use mathlib.Core.Bool.{Bool, true, false, cond, _&&_, false≢true}
 use mathlib.Core.Option.{Option, none, some}
 use mathlib.Core.List.{List}
@@ -19,13 +19,15 @@ use Rattle.spec_service.specs.Seat.{Place, active}
 use Rattle.spec_service.specs.Record.{reading, noMark, fresh, withMarks}
 use Rattle.spec_service.specs.Marks.{sameName, isSome, nameFits, markPlace, nameOf, bears, slotOf, slotFor, lastHanded, newMark, emptied}
 use Rattle.spec_service.specs.Call.{Call, set-mark, return-to, forget, done, refused, Shared, seatOf, doneIf, marksOf, setAnswer, knownOnly, answerTo, after}
-use Rattle.spec_service.specs.Lent.{orBeginning, LentTo, Eight, Lent}
+use Rattle.spec_service.specs.Lent.{orBeginning, LentTo, Eight, Keeps, Lent}
 use Rattle.spec_service.proofs.Readings.{not-both, reading-fresh, reading-marks, reading-returned}
-use Rattle.spec_service.proofs.Seats.{Four, Marking, marks-either, marks-open, four-after}
+use Rattle.spec_service.proofs.Seats.{Four, Marking, marks-either, marks-open, after-refused, four-after}
 use Rattle.spec_service.proofs.Touches.{recordOf, whose, own-leaves}
-use Rattle.spec_service.proofs.Marks.{slot-at, forgets-own, forgets-other, sets-own, sets-other, new-place, new-bears}
-use Rattle.spec_service.proofs.Ninth.{no-slot, all-used, names, names-eight, names-differ, names-known}
-use Rattle.spec_service.proofs.Fates.{set-done, known-done, set-leaves, forget-leaves, return-leaves}
+use Rattle.spec_service.proofs.Marks.{placeFound, slot-at, forgets-own, forgets-other, sets-own, sets-other, new-place, new-bears}
+use Rattle.spec_service.proofs.Ninth.{slot-first, no-slot, all-used, names, names-eight, names-differ, names-known}
+use Rattle.spec_service.proofs.Fates.{set-done, known-done, set-leaves, forget-leaves, return-leaves, slot-place}
+use Rattle.spec_service.proofs.Asking.{ask-twice, ask-again, idle-exactly}
+use Rattle.spec_service.proofs.Closed.{closed-empty}
 
 -- a call on marks that is done is that of one of the four
 pub set-small : (σ : Shared) (k : ℕ) (n : List ℕ) → Four (σ .callers) → answerTo (set-mark k n) σ ≡ done → k < 4
@@ -52,12 +54,48 @@ slot-found p n ms h = ⊎-elim
     (λ (q : (i : ℕ) × (slotOf p n ms ≡ some i) × (find (bears p n) ms ≡ some (getD ms i noMark))). ap isSome (q .1) ∙ sym (ap isSome (q .2)))
     (slot-at p n ms h)
 
+-- where a return leads from x, by the mark that bears the name, if there is one
+unfoldable orStays : Program → Place → List ℕ → Option Mark → Place
+orStays p x n o = cond (nameFits (length n)) (elim (placeFound p o) [ some y ↦ y | none ↦ x ]) x
+
 module _ (σ : Shared) (k : ℕ) (small : k < 4) (p : Program) (x : Place) (a : Bool) (lent : LentTo σ k p x a) where
   -- return goes by whether some mark bears the name
   by-bears : (n : List ℕ) → knownOnly (σ .callers) k n ≡ cond (nameFits (length n)) (doneIf (isSome (find (bears p n) (recordOf σ k .marks))) 46) (refused 45 0)
   unfolding knownOnly marksOf
   by-bears n = marks-open (σ .callers) k n (λ y. isSome (slotOf y n (recordOf σ k .marks))) 46 p x a (lent .four) small (lent .seat)
       ∙ ap (λ (b : Bool). cond (nameFits (length n)) (doneIf b 46) (refused 45 0)) (slot-found p n (recordOf σ k .marks) (lent .eight))
+
+  returned-to : (n : List ℕ) (i : ℕ) (y : Place) → nameFits (length n) ≡ true → slotOf p n (recordOf σ k .marks) ≡ some i →
+      markPlace p (getD (recordOf σ k .marks) i noMark) ≡ some y →
+      (knownOnly (σ .callers) k n ≡ done) × (seatOf (after (return-to k n) σ .callers) k ≡ active p y a)
+  unfolding answerTo seatOf whose knownOnly marksOf doneIf isSome
+  returned-to n i y f e h =
+      let known : knownOnly (σ .callers) k n ≡ done = marks-open (σ .callers) k n (λ z. isSome (slotOf z n (recordOf σ k .marks))) 46 p x a (lent .four) small (lent .seat)
+      ∙ rw (f, e, isSome) in (
+        known,
+        ap reading (own-leaves σ (lent .four) k small (return-to k n) refl known ∙ return-leaves σ (lent .four) k small p x a (lent .seat) n i e)
+            ∙ reading-returned (recordOf σ k) p x a (getD (recordOf σ k .marks) i noMark) y (lent .seat) h,
+      )
+
+  stays : (n : List ℕ) (v : ℕ) → knownOnly (σ .callers) k n ≡ refused v 0 → seatOf (after (return-to k n) σ .callers) k ≡ active p x a
+  unfolding answerTo
+  stays n v e = ap (λ (τ : Shared). seatOf (τ .callers) k) (after-refused (return-to k n) σ v 0 e) ∙ lent .seat
+
+  goes : (n : List ℕ) → seatOf (after (return-to k n) σ .callers) k ≡ active p (orStays p x n (find (bears p n) (recordOf σ k .marks))) a
+  unfolding orStays placeFound doneIf isSome marksOf
+  goes n = go (nameFits (length n)) refl
+    where
+      ms : List Mark
+      ms = recordOf σ k .marks
+
+      go : (b : Bool) → nameFits (length n) ≡ b → seatOf (after (return-to k n) σ .callers) k ≡ active p (orStays p x n (find (bears p n) ms)) a
+      go false q = stays n 45 (by-bears n ∙ rw q) ∙ rw (q, orStays)
+      go true q = ⊎-elim
+          (λ (r : (slotOf p n ms ≡ none) × (find (bears p n) ms ≡ none)). stays n 46 (by-bears n ∙ rw (q, r .1, isSome)) ∙ rw (q, r .1, orStays, placeFound))
+          (λ (r : (i : ℕ) × (slotOf p n ms ≡ some i) × (find (bears p n) ms ≡ some (getD ms i noMark))).
+          let y = slot-place σ (lent .four) k small p x a (lent .seat) n (r .0) (r .1) in
+          returned-to n (r .0) (y .0) q (r .1) (y .1) .1 ∙ rw (q, r .2, y .1, orStays, placeFound))
+          (slot-at p n ms (lent .eight))
 
   -- a call that leaves these marks, and eight of them, leaves it lent and open
   lent-on : (c : Call) (ms : List Mark) → recordOf (after c σ) k ≡ withMarks (recordOf σ k) ms → length ms ≡ 8 → LentTo (after c σ) k p x a
@@ -105,18 +143,25 @@ module _ (σ : Shared) (k : ℕ) (p : Program) (x : Place) (a : Bool) (lent : Le
         (sets-other p n m (recordOf σ k .marks) (slot .1 .0) new (slot .1 .1) ne (new-bears p m (recordOf σ k) (slot .0)))
         ∙ sym (by-bears σ k small p x a lent n)
 
+    set-keeps : (n : List ℕ) → sameName m n ≡ false → Keeps (set-mark k m) σ k n
+    unfolding answerTo
+    set-keeps n ne = record {
+      answer = others n ne;
+      place = goes (after (set-mark k m) σ) k small p x a then n
+          ∙ ap (λ (ms : List Mark). active p (orStays p x n (find (bears p n) ms)) a) (marks-on σ k small p x a lent (set-mark k m) marks left)
+          ∙ ap (λ (o : Option Mark). active p (orStays p x n o) a)
+          (sets-other p n m (recordOf σ k .marks) (slot .1 .0) new (slot .1 .1) ne (new-bears p m (recordOf σ k) (slot .0)))
+          ∙ sym (goes σ k small p x a lent n);
+    }
+
     own : (answerTo (return-to k m) (after (set-mark k m) σ) ≡ done)
         × (seatOf (after (return-to k m) (after (set-mark k m) σ) .callers) k ≡ active p (orBeginning (lastHanded p (recordOf σ k))) a)
-    unfolding answerTo seatOf whose doneIf isSome marksOf
+    unfolding answerTo marksOf
     own = ⊎-elim
         (λ (q : (slotOf p m (recordOf τ k .marks) ≡ none) × (find (bears p m) (recordOf τ k .marks) ≡ none)). let z = sym (q .1) ∙ found in absurd (let y : _≡_ {A = ℕ} 0 1 = cc in omega arith))
         (λ (q : (i : ℕ) × (slotOf p m (recordOf τ k .marks) ≡ some i) × (find (bears p m) (recordOf τ k .marks) ≡ some (getD (recordOf τ k .marks) i noMark))).
-        let z : new ≡ getD (recordOf τ k .marks) (q .0) noMark = (let w = sym found ∙ q .2 in cc) in (
-          known,
-          ap reading (own-leaves τ (then .four) k small (return-to k m) refl known ∙ return-leaves τ (then .four) k small p x a (then .seat) m (q .0) (q .1))
-              ∙ reading-returned (recordOf τ k) p x a (getD (recordOf τ k .marks) (q .0) noMark) (orBeginning (lastHanded p (recordOf σ k))) (then .seat)
-              (ap (markPlace p) (sym z) ∙ new-place p m (recordOf σ k) (slot .0)),
-        ))
+        let z : new ≡ getD (recordOf τ k .marks) (q .0) noMark = (let w = sym found ∙ q .2 in cc) in
+        returned-to τ k small p x a then m (q .0) (orBeginning (lastHanded p (recordOf σ k))) (slot .0) (q .1) (ap (markPlace p) (sym z) ∙ new-place p m (recordOf σ k) (slot .0)))
         (slot-at p m (recordOf τ k .marks) (then .eight))
       where
         τ : Shared
@@ -125,9 +170,6 @@ module _ (σ : Shared) (k : ℕ) (p : Program) (x : Place) (a : Bool) (lent : Le
         found : find (bears p m) (recordOf τ k .marks) ≡ some new
         found = ap (find (bears p m)) (marks-on σ k small p x a lent (set-mark k m) marks left)
             ∙ sets-own p m m (recordOf σ k .marks) (slot .1 .0) new (lent .eight) (slot .1 .1) (same-list eqb (λ i. eq-eqb i i refl) m) (new-bears p m (recordOf σ k) (slot .0))
-
-        known : knownOnly (τ .callers) k m ≡ done
-        known = by-bears τ k small p x a then m ∙ rw (slot .0, found, isSome)
 
   -- ---- behind a forget
   module _ (m : List ℕ) (e : answerTo (forget k m) σ ≡ done) where
@@ -161,6 +203,16 @@ module _ (σ : Shared) (k : ℕ) (p : Program) (x : Place) (a : Bool) (lent : Le
     kept n ne = by-bare n ∙ ap (λ (o : Option Mark). cond (nameFits (length n)) (doneIf (isSome o) 46) (refused 45 0)) (forgets-other p n m (recordOf σ k .marks) ne)
         ∙ sym (by-bears σ k (facts .0) p x a lent n)
 
+    forget-keeps : (n : List ℕ) → sameName m n ≡ false → Keeps (forget k m) σ k n
+    unfolding answerTo
+    forget-keeps n ne = record {
+      answer = kept n ne;
+      place = goes (after (forget k m) σ) k (facts .0) p x a later n
+          ∙ ap (λ (ms : List Mark). active p (orStays p x n (find (bears p n) ms)) a) (marks-on σ k (facts .0) p x a lent (forget k m) bare bared)
+          ∙ ap (λ (o : Option Mark). active p (orStays p x n o) a) (forgets-other p n m (recordOf σ k .marks) ne)
+          ∙ sym (goes σ k (facts .0) p x a lent n);
+    }
+
 -- ---- a ninth name
 -- only one of the four can be open
 lent-small : (σ : Shared) (k : ℕ) (p : Program) (x : Place) (a : Bool) → LentTo σ k p x a → k < 4
@@ -178,7 +230,7 @@ name-small : (n : ℕ) → nameFits n ≡ true → n ≤ 8
 unfolding nameFits
 name-small n e = leb-true n 8 (both (leb 1 n) (leb n 8) e .1)
 
--- which of the two refused it
+-- a refusal above 45 is not by the length of the name
 refused-by : (b o : Bool) (w : ℕ) → 45 < w → cond b (doneIf o w) (refused 45 0) ≡ refused w 0 → (b ≡ true) × (o ≡ false)
 unfolding doneIf
 refused-by true true w h e = absurd (let z : _≡_ {A = ℕ} 0 1 = cc in omega arith)
@@ -201,6 +253,21 @@ module _ (σ : Shared) (k : ℕ) (p : Program) (x : Place) (a : Bool) (lent : Le
   by-room : (n : List ℕ) → setAnswer (σ .callers) k n ≡ cond (nameFits (length n)) (doneIf (isSome (slotFor p n (recordOf σ k .marks))) 47) (refused 45 0)
   unfolding setAnswer marksOf
   by-room n = marks-open (σ .callers) k n (λ y. isSome (slotFor y n (recordOf σ k .marks))) 47 p x a (lent .four) in-four (lent .seat)
+
+  -- a set with a name that fits is done, or refused by 47
+  unless : (n : List ℕ) → nameFits (length n) ≡ true → (setAnswer (σ .callers) k n ≡ done) ⊎ (setAnswer (σ .callers) k n ≡ refused 47 0)
+  unfolding doneIf
+  unless n f = go (isSome (slotFor p n (recordOf σ k .marks))) refl
+    where
+      go : (b : Bool) → isSome (slotFor p n (recordOf σ k .marks)) ≡ b → (setAnswer (σ .callers) k n ≡ done) ⊎ (setAnswer (σ .callers) k n ≡ refused 47 0)
+      go true q = inl (by-room n ∙ rw (f, q))
+      go false q = inr (by-room n ∙ rw (f, q))
+
+  first : (n : List ℕ) (i : ℕ) (y : Place) → nameFits (length n) ≡ true → i < 8 → bears p n (getD (recordOf σ k .marks) i noMark) ≡ true →
+      ((j : ℕ) → j < i → bears p n (getD (recordOf σ k .marks) j noMark) ≡ false) → markPlace p (getD (recordOf σ k .marks) i noMark) ≡ some y →
+      (knownOnly (σ .callers) k n ≡ done) × (seatOf (after (return-to k n) σ .callers) k ≡ active p y a)
+  unfolding marksOf
+  first n i y f h e front place = returned-to σ k in-four p x a lent n i y f (slot-first p (recordOf σ k .marks) (lent .eight) n i h e front) place
 
   no-room : (n : List ℕ) → knownOnly (σ .callers) k n ≡ refused 46 0 → Eight σ k → setAnswer (σ .callers) k n ≡ refused 47 0
   unfolding answerTo isSome doneIf marksOf
@@ -246,10 +313,16 @@ module _ (σ : Shared) (k : ℕ) (p : Program) (x : Place) (a : Bool) (lent : Le
 pub lent : Lent
 unfolding answerTo marksOf
 lent = record {
+  ask-twice = ask-twice;
+  ask-again = ask-again;
+  idle-exactly = idle-exactly;
+  closed-empty = closed-empty;
+  set-unless = λ σ k p x a n l f. unless σ k p x a l n f;
+  first-mark = λ σ k p x a n i y l f h e front place. first σ k p x a l n i y f h e front place;
   ninth = λ σ k p x a n l e g. no-room σ k p x a l n e g;
   only-ninth = λ σ k p x a n l b e. full σ k p x a l n b e;
   set-returns = λ σ k p x a n l e. own σ k p x a l n e;
   forgotten = λ σ k p x a n l e. gone σ k p x a l n e;
-  set-others = λ σ k p x a m n l e ne. others σ k p x a l m e n ne;
-  forget-others = λ σ k p x a m n l e ne. kept σ k p x a l m e n ne;
+  set-others = λ σ k p x a m n l e ne. set-keeps σ k p x a l m e n ne;
+  forget-others = λ σ k p x a m n l e ne. forget-keeps σ k p x a l m e n ne;
 }

@@ -13,7 +13,15 @@ pub mod Marks
 pub mod Ninth
 -- what a call does to an open caller that it does not close
 pub mod Fates
--- the calls on marks, whatever the four records hold
+-- what a call can answer, whatever it is lent
+pub mod Answers
+-- whether a caller asks
+pub mod Asking
+-- eight marks with names of eight bytes
+pub mod Shaped
+-- a record that reads as closed counts as empty
+pub mod Closed
+-- the calls, whatever the four records hold
 pub mod Lent
 -- the claims
 pub mod InOrder

@@ -4,7 +4,7 @@ use mathlib.Core.Path.{_≡_, refl, sym, ap, subst, _∙_}
 use mathlib.Core.Logic.{_⊎_, inl, inr, ⊎-elim}
 use mathlib.Core.Bool.{Bool, true, false, cond, _&&_, false≢true}
 use mathlib.Core.Option.{Option, none, some}
-use mathlib.Core.List.{List, [], _∷_, map, List·Memᴰ, List·Memᴰ·head, List·Memᴰ·tail}
+use mathlib.Core.List.{List, [], _∷_, map}
 use native.Mathlib.Omega.{arith}
 use lib.Dec.{eqb}
 use lib.ListN.{length, take, replicate, getD, set, length-set, length-map}
@@ -24,20 +24,11 @@ use Rattle.spec_service.specs.Seat.{Place, beginning}
 use Rattle.spec_service.specs.Record.{placeOf, noMark}
 use Rattle.spec_service.specs.Marks.{sameName, isSome, nameFits, markPlace, nameOf, bears, slotOf, isFree, slotFor, lastHanded, newMark, markAt, emptied}
 use Rattle.spec_service.specs.Lent.{orBeginning}
+use Rattle.spec_service.proofs.Rotation.{find-member}
 
 -- ---- the first member that passes a test
--- it is a member
-find-member : {A : Type 0} (f : A → Bool) (l : List A) (x : A) → find f l ≡ some x → List·Memᴰ x l
-unfolding find
-find-member f [] x e = absurd (let z : _≡_ {A = ℕ} 0 1 = cc in omega arith)
-find-member f (y ∷ l) x e = go (f y) refl (λ q. find-member f l x q)
-  where
-    go : (b : Bool) → f y ≡ b → (find f l ≡ some x → List·Memᴰ x l) → List·Memᴰ x (y ∷ l)
-    go true q ih = let z : y ≡ x = (let w = sym (find-yes f y l q) ∙ e in cc) in List·Memᴰ·head (sym z)
-    go false q ih = List·Memᴰ·tail (ih (sym (find-no f y l q) ∙ e))
-
 module _ {A : Type 0} (f : A → Bool) (d : A) where
-  -- the same, by its place: nowhere in both, or at i
+  -- the first that passes, by its place: nowhere in both, or at i
   abbrev At : List A → Option ℕ → ℕ → Type 0
   At l o a = ((o ≡ none) × (find f l ≡ none)) ⊎ ((i : ℕ) × (b : ℕ) × (b ≡ a + i) × (o ≡ some b) × (find f l ≡ some (getD l i d)))
 
@@ -82,7 +73,7 @@ module _ {A : Type 0} (f : A → Bool) (d : A) where
           go true q ih = find-yes f (e x) (map e l) (like x ∙ q) ∙ ap some (still x q) ∙ sym (find-yes f x l q)
           go false q ih = find-no f (e x) (map e l) (like x ∙ q) ∙ ih ∙ sym (find-no f x l q)
 
-      -- also if one that fails is put where the first that passes is not
+      -- the first that passes stays if one that fails is put elsewhere
       find-other : (l : List A) (i : ℕ) (v : A) → f v ≡ false → (f (getD l i d) ≡ true → any f (take i l) ≡ true) → find f (set (map e l) i v) ≡ find f l
       unfolding any
       find-other [] i v h k = refl
@@ -123,6 +114,11 @@ unfolding bears markPlace noMark nameFits isSome
 bears-none p n = refl
 
 -- ---- where the mark of a name stands
+-- the place of the mark that was found
+unfoldable pub placeFound : Program → Option Mark → Option Place
+placeFound p none = none
+placeFound p (some m) = markPlace p m
+
 pub slot-at : (p : Program) (n : List ℕ) (ms : List Mark) → length ms ≡ 8 →
     ((slotOf p n ms ≡ none) × (find (bears p n) ms ≡ none)) ⊎ ((i : ℕ) × (slotOf p n ms ≡ some i) × (find (bears p n) ms ≡ some (getD ms i noMark)))
 unfolding slotOf
@@ -164,7 +160,7 @@ slot-for p n ms i e = go (slotOf p n ms) refl
         let b = of-range 0 8 i (find-member (isFree p ms) (range 0 8) i z) in
         (omega (arith, b .1), inr (find-passes (isFree p ms) (range 0 8) i z))
 
--- if a free one bears a name, an earlier one does
+-- if a mark that counts as free bears a name, an earlier mark does
 pub free-later : (p : Program) (n : List ℕ) (ms : List Mark) (i : ℕ) → isFree p ms i ≡ true → bears p n (getD ms i noMark) ≡ true → any (bears p n) (take i ms) ≡ true
 unfolding isFree
 free-later p n ms i e h =
@@ -198,12 +194,12 @@ module _ (p : Program) (n m : List ℕ) where
       go true q = absurd (false≢true (sym (bears-one p n m x e q) ∙ h))
       go false q = rw q
 
-  -- that name is unknown
+  -- behind a forget the forgotten name is unknown
   pub forgets-own : (ms : List Mark) → sameName m n ≡ true → find (bears p n) (emptied p m ms) ≡ none
   unfolding emptied
   forgets-own ms e = find-emptied (bears p n) noMark emptier (gone e) ms
 
-  -- another keeps its mark
+  -- behind a forget another name keeps its mark
   pub forgets-other : (ms : List Mark) → sameName m n ≡ false → find (bears p n) (emptied p m ms) ≡ find (bears p n) ms
   unfolding emptied
   forgets-other ms e = find-left (bears p n) noMark emptier (like e) (still e) ms
@@ -218,7 +214,7 @@ module _ (p : Program) (n m : List ℕ) where
       find-new (bears p n) noMark (map emptier ms) i v (find-emptied (bears p n) noMark emptier (gone e) ms)
       (subst (λ (k : List ℕ). bears p k v ≡ true) (same-list-is eqb eqb-true m n e) b) (omega (arith, j, l))
 
-  -- another keeps its mark
+  -- behind a set another name keeps its mark
   pub sets-other : (ms : List Mark) (i : ℕ) (v : Mark) → slotFor p m ms ≡ some i → sameName m n ≡ false → bears p m v ≡ true →
       find (bears p n) (set (emptied p m ms) i v) ≡ find (bears p n) ms
   unfolding emptied
@@ -236,7 +232,7 @@ at-handed : (p : Program) (n : List ℕ) (c : Caller) (x : Place) → nameFits (
 unfolding markPlace newMark markAt orBeginning
 at-handed p n c x e h = rw (e, h)
 
--- it holds the place of the last schedule handed, or the beginning
+-- a new mark holds the place of the last schedule handed, or the beginning
 pub new-place : (p : Program) (n : List ℕ) (c : Caller) → nameFits (length n) ≡ true → markPlace p (newMark n c (lastHanded p c)) ≡ some (orBeginning (lastHanded p c))
 unfolding lastHanded
 new-place p n c e = go (eqb (c .handed) 1) refl (placeOf p 2 (c .size) (c .newest)) refl
@@ -247,7 +243,7 @@ new-place p n c e = go (eqb (c .handed) 1) refl (placeOf p 2 (c .size) (c .newes
     go true q none r = rw (q, r) (at-beginning p n c e)
     go true q (some x) r = rw (q, r) (at-handed p n c x e r)
 
--- and it bears its name
+-- a new mark bears its name
 new-name : (n : List ℕ) (c : Caller) (o : Option Place) → nameOf (newMark n c o) ≡ n
 unfolding nameOf newMark markAt
 new-name n c none = take-over n (replicate 8 0)

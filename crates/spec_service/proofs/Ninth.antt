@@ -98,7 +98,20 @@ module _ (p : Program) (ms : List Mark) (eight : length ms ≡ 8) where
   unfolding slotOf
   front-bears m i j e h = front-fails (λ u. bears p m (getD ms u noMark)) 0 8 i e j (omega arith) h
 
-  -- so it does not count as free
+  -- the first mark that bears a name is the name's
+  pub slot-first : (n : List ℕ) (i : ℕ) → i < 8 → bears p n (getD ms i noMark) ≡ true → ((j : ℕ) → j < i → bears p n (getD ms j noMark) ≡ false) → slotOf p n ms ≡ some i
+  slot-first n i h e front = go (slotOf p n ms) refl
+    where
+      same : (j : ℕ) (a b : Bool) → ltb j i ≡ a → ltb i j ≡ b → slotOf p n ms ≡ some j → j ≡ i
+      same j true b u v q = absurd (false≢true (sym (front j (ltb-true j i u)) ∙ slot-of p n ms j q .1))
+      same j false true u v q = absurd (false≢true (sym (front-bears n j i q (ltb-true i j v)) ∙ e))
+      same j false false u v q = let y = ltb-false j i u in let z = ltb-false i j v in omega (arith, y, z)
+
+      go : (o : Option ℕ) → slotOf p n ms ≡ o → slotOf p n ms ≡ some i
+      go none q = absurd (false≢true (sym (unknown-bears n i q h) ∙ e))
+      go (some j) q = q ∙ ap some (same j (ltb j i) (ltb i j) refl refl q)
+
+  -- the mark of a name does not count as free
   not-free : (m : List ℕ) (i : ℕ) → slotOf p m ms ≡ some i → isFree p ms i ≡ true → ⊥
   not-free m i e f =
       let r = any-at (bears p m) noMark ms i (free-later p m ms i f (slot-of p m ms i e .1)) in

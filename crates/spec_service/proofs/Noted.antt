@@ -25,14 +25,9 @@ use Rattle.spec_service.specs.Noted.{Noted, nothingNoted, placeBehind, n
 use Rattle.spec_service.proofs.Readings.{handed-given, reading-returned}
 use Rattle.spec_service.proofs.Seats.{Four, marks-open, four-after}
 use Rattle.spec_service.proofs.Touches.{recordOf, whose, ownDone, Apart, Own, Taken, touch}
-use Rattle.spec_service.proofs.Marks.{slot-at, forgets-own, forgets-other, sets-own, sets-other, new-place, new-bears}
+use Rattle.spec_service.proofs.Marks.{placeFound, slot-at, forgets-own, forgets-other, sets-own, sets-other, new-place, new-bears}
 use Rattle.spec_service.proofs.Fates.{Kept, Served, fate, reads, not-opened, set-done, known-done, set-leaves, forget-leaves, return-leaves, slot-place, taken-is, come-full}
 use Rattle.spec_service.proofs.InOrder.{stays-now, stays-on}
-
--- the place of the mark that was found
-unfoldable pub placeFound : Program → Option Mark → Option Place
-placeFound p none = none
-placeFound p (some m) = markPlace p m
 
 -- the last schedule handed, as a place
 unfoldable pub asPlace : Option Schedule → Option Place
@@ -142,7 +137,7 @@ module _ (p : Program) (n : List ℕ) (σ : Shared) (four : Four (σ .callers)) 
   abbrev OwnHere : Call → Type 0
   OwnHere c = Own σ four k small c
 
-  -- its record and what is noted, both known
+  -- what follows where both the caller's record and what is noted are known
   next-by : (c : Call) (s : Caller) (ν : Noted) → recordOf (after c σ) k ≡ s → noteCall k n c (answerTo c σ) μ ≡ ν → Agrees p n s ν → Next c
   next-by c s ν e h q = subst (λ (w : Noted). Agrees p n (recordOf (after c σ) k) w) (sym h) (subst (λ (w : Caller). Agrees p n w ν) (sym e) q)
 

@@ -48,7 +48,7 @@ active-file c p x a e = go (fileRead c) refl e
         (m ∙ ap accepted (k .0), subst (λ (y : Program). placeOf y (c .place) (c .steps) (c .schedule) ≡ some x) (k .0) (k .1), k .2)
     go (refused n k) m h = absurd (not-both h)
 
--- so the program is well formed
+-- the program of an open record is well formed
 pub active-formed : (c : Caller) (p : Program) (x : Place) (a : Bool) → reading c ≡ active p x a → WellFormed p
 unfolding fileRead
 active-formed c p x a e = go (ltb 4096 (c .length)) refl (active-file c p x a e .0)
@@ -90,7 +90,7 @@ pub reading-given : (c : Caller) (p : Program) (x : Place) (a : Bool) (s : Sched
 unfolding served standing handing counting fileRead
 reading-given c p x a s e f = let k = active-file c p x a e in by-place (served c (some s)) p (behind s) (k .0) (full-place c p x a s e f)
 
--- and it is the last one handed
+-- the schedule that a record is served with is the last one handed
 pub handed-given : (c : Caller) (p : Program) (x : Place) (a : Bool) (s : Schedule) → reading c ≡ active p x a → Full p s → lastHanded p (served c (some s)) ≡ some (behind s)
 unfolding served standing handing counting lastHanded
 handed-given c p x a s e f = full-place c p x a s e f

@@ -1,13 +1,13 @@
 -- The callers in turn. `distance n k` callers come between the last one served and caller k; whoever asks and comes first is no farther, and
 -- from that one on k is nearer.
 use Prim.Native.Nat.{ℕ, zero, suc, _+_, _-_, _%_, _<_, _≤_}
-use mathlib.Core.Path.{_≡_, refl, sym, ap, _∙_}
+use mathlib.Core.Path.{_≡_, refl, sym, ap, subst, _∙_}
 use mathlib.Core.Logic.{_⊎_, inl, inr, ⊎-elim}
-use mathlib.Core.Bool.{Bool, true, false, _&&_, _||_, false≢true}
-use mathlib.Core.Option.{Option, some}
-use mathlib.Core.List.{List, [], _∷_, map}
+use mathlib.Core.Bool.{Bool, true, false, cond, _&&_, _||_, false≢true}
+use mathlib.Core.Option.{Option, none, some}
+use mathlib.Core.List.{List, [], _∷_, map, List·Memᴰ, List·Memᴰ·head, List·Memᴰ·tail, Memᴰ·of-map}
 use native.Mathlib.Omega.{arith}
-use borrow.Author.Tests.{eqb-true, ltb-true, leb-true}
+use borrow.Author.Tests.{eqb-true, le-ltb, ltb-true, ltb-false, leb-true}
 use lib.Dec.{eqb, ltb, leb}
 use lib.ListN.{length, getD}
 use Rattle.spec_file.proofs.DigitValues.{both}
@@ -16,8 +16,35 @@ use Rattle.spec_schedules.specs.Lists.{range, all, find}
 use Rattle.spec_schedules.proofs.Lists.{all-at, in-range, find-yes, find-no}
 use Rattle.spec_service.specs.Call.{lastRead, inTurn}
 
+-- the caller served last, as it is read, is one of the four; reading it twice is reading it once
+pub last-small : (n : ℕ) → lastRead n < 4
+unfolding lastRead
+last-small n = go (ltb 3 n) refl
+  where
+    go : (b : Bool) → ltb 3 n ≡ b → cond (ltb 3 n) 3 n < 4
+    go true e = rw e (omega arith)
+    go false e = rw e (let z = ltb-false 3 n e in omega (arith, z))
+
+pub last-twice : (n : ℕ) → n < 4 → lastRead n ≡ n
+unfolding lastRead
+last-twice n h = rw (le-ltb 3 n (omega (arith, h)))
+
+in-turn-read : (n : ℕ) → inTurn (lastRead n) ≡ inTurn n
+unfolding inTurn
+in-turn-read n = ap (λ (m : ℕ). map (λ d. (m + d) % 4) (1 ∷ 2 ∷ 3 ∷ 4 ∷ [])) (last-twice (lastRead n) (last-small n))
+
 unfoldable pub distance : ℕ → ℕ → ℕ
 distance n k = (k + 3 - n) % 4
+
+-- the first member that passes a test is a member
+pub find-member : {A : Type 0} (f : A → Bool) (l : List A) (x : A) → find f l ≡ some x → List·Memᴰ x l
+unfolding find
+find-member f [] x e = absurd (let z : _≡_ {A = ℕ} 0 1 = cc in omega arith)
+find-member f (y ∷ l) x e = go (f y) refl (λ q. find-member f l x q)
+  where
+    go : (b : Bool) → f y ≡ b → (find f l ≡ some x → List·Memᴰ x l) → List·Memᴰ x (y ∷ l)
+    go true q ih = let z : y ≡ x = (let w = sym (find-yes f y l q) ∙ e in cc) in List·Memᴰ·head (sym z)
+    go false q ih = List·Memᴰ·tail (ih (sym (find-no f y l q) ∙ e))
 
 -- where k stands in turn, and who stands before it
 unfoldable nearer : ℕ → ℕ → ℕ → Bool
@@ -79,3 +106,29 @@ next-nearer f n k h i e = (getD (inTurn n) j 0, r .2, ltb-true _ 4 (here .0), r 
     near = ⊎-elim (λ (q : leb (distance n k) j ≡ true). inl (ap (λ (m : ℕ). getD (inTurn n) m 0) (let z : j ≡ distance n k = omega (arith, r .1, leb-true _ j q) in z) ∙ at))
         (λ (q : ltb (distance (getD (inTurn n) j 0) k) (distance n k) ≡ true). inr (ltb-true _ _ q))
         (either (leb (distance n k) j) (ltb (distance (getD (inTurn n) j 0) k) (distance n k)) (here .1))
+
+-- an asking caller comes nearer in turn, whatever number the last one served has
+pub turn-nearer : (f : ℕ → Bool) (n k : ℕ) → k < 4 → f k ≡ true →
+    (m : ℕ) × (find f (inTurn n) ≡ some m) × (m < 4) × (f m ≡ true) × ((m ≡ k) ⊎ (distance m k < distance (lastRead n) k))
+turn-nearer f n k small e =
+    subst (λ (l : List ℕ). (m : ℕ) × (find f l ≡ some m) × (m < 4) × (f m ≡ true) × ((m ≡ k) ⊎ (distance m k < distance (lastRead n) k)))
+    (in-turn-read n) (next-nearer f (lastRead n) k (last-small n) small e)
+
+-- whoever is found is one of the four
+pub turn-small : (f : ℕ → Bool) (n k : ℕ) → find f (inTurn n) ≡ some k → k < 4
+unfolding inTurn
+turn-small f n k e = go (lastRead n) (find-member f (inTurn n) k e)
+  where
+    go : (m : ℕ) → List·Memᴰ k (map (λ d. (m + d) % 4) (1 ∷ 2 ∷ 3 ∷ 4 ∷ [])) → k < 4
+    go m i = let r = Memᴰ·of-map (λ d. (m + d) % 4) (1 ∷ 2 ∷ 3 ∷ 4 ∷ []) i in let z = r .2 in omega (arith, z)
+
+-- where no caller passes a test none is found
+pub turn-none : (f : ℕ → Bool) (n : ℕ) → ((k : ℕ) → k < 4 → f k ≡ false) → find f (inTurn n) ≡ none
+unfolding inTurn find
+turn-none f n h = go (lastRead n)
+  where
+    at : (k : ℕ) → f (k % 4) ≡ false
+    at k = h (k % 4) (omega arith)
+
+    go : (m : ℕ) → find f ((m + 1) % 4 ∷ (m + 2) % 4 ∷ (m + 3) % 4 ∷ (m + 4) % 4 ∷ []) ≡ none
+    go m = rw (at (m + 1), at (m + 2), at (m + 3), at (m + 4), find)

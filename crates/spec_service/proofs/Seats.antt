@@ -38,7 +38,7 @@ pub record Opens (cs : List Caller) (k : ℕ) (f : List ℕ) : Type 0 where
   pub program : Program
   pub read : decode f ≡ accepted program
 
--- it is done, or refused
+-- an open is done, or refused
 pub open-either : (cs : List Caller) (k : ℕ) (f : List ℕ) → Four cs → ((openAnswer cs k f ≡ done) × Opens cs k f) ⊎ ((n : ℕ) × (m : ℕ) × (openAnswer cs k f ≡ refused n m))
 unfolding openAnswer openedBy
 open-either cs k f h = go (ltb 3 k) (isOpen (seatOf cs k)) (decode f) refl refl refl
@@ -79,7 +79,7 @@ pub record Marking (cs : List Caller) (k : ℕ) (n : List ℕ) (g : Program → 
   pub fits : nameFits (length n) ≡ true
   pub passes : g program ≡ true
 
--- for an open one it goes by its program
+-- for an open caller a call on marks goes by its program
 pub marks-open : (cs : List Caller) (k : ℕ) (n : List ℕ) (g : Program → Bool) (w : ℕ) (p : Program) (x : Place) (a : Bool) → Four cs → k < 4 → seatOf cs k ≡ active p x a →
     marksOnly cs k n (λ p. doneIf (g p) w) ≡ cond (nameFits (length n)) (doneIf (g p) w) (refused 45 0)
 unfolding marksOnly byProgram

@@ -20,6 +20,7 @@ use Rattle.spec_service.specs.Marks.{isSome, slotOf, slotFor, markSet, m
 use Rattle.spec_service.specs.Call.{Call, open-for, ask-for, serve, close-for, set-mark, return-to, forget, Answer, done, given, ended, idle, refused, Shared, seatOf, nextAsking, forSeat, handedTo, servedTo, serveAnswer, openAnswer, openOnly, byProgram, marksOf, setAnswer, knownOnly, changed, answerTo, callersDone, callersAfter, after}
 use Rattle.spec_service.specs.Play.{handsTo}
 use Rattle.spec_service.specs.Noted.{Noted, noteDone, noteCall}
+use Rattle.spec_service.specs.Asking.{asksDone, asksBehind}
 use Rattle.spec_service.proofs.Seats.{Four, Opens, Marking, open-either, only-either, marks-either, serve-either, after-refused}
 
 abbrev pub recordOf : Shared → ℕ → Caller
@@ -35,7 +36,7 @@ whose (set-mark j n) = some j
 whose (return-to j n) = some j
 whose (forget j n) = some j
 
--- what it leaves in its caller's record
+-- what a call that is done leaves in its caller's record
 unfoldable pub ownDone : Call → Caller → Caller
 ownDone (open-for j f) r = opened f
 ownDone (ask-for j) r = asked r
@@ -45,7 +46,7 @@ ownDone (set-mark j n) r = byProgram (reading r) r (λ p. markSet p n r)
 ownDone (return-to j n) r = byProgram (reading r) r (λ p. markReturned p n r)
 ownDone (forget j n) r = byProgram (reading r) r (λ p. markForgotten p n r)
 
-own-sets : (c : Call) (j : ℕ) (cs : List Caller) → whose c ≡ some j → callersDone c cs ≡ set cs j (ownDone c (getD cs j fresh))
+pub own-sets : (c : Call) (j : ℕ) (cs : List Caller) → whose c ≡ some j → callersDone c cs ≡ set cs j (ownDone c (getD cs j fresh))
 unfolding whose callersDone ownDone changed seatOf
 own-sets (open-for i f) j cs e = let z : i ≡ j = cc in ap (λ (m : ℕ). set cs m (opened f)) z
 own-sets (ask-for i) j cs e = let z : i ≡ j = cc in ap (λ (m : ℕ). set cs m (asked (getD cs m fresh))) z
@@ -55,7 +56,7 @@ own-sets (set-mark i n) j cs e = let z : i ≡ j = cc in ap (λ (m : ℕ). chang
 own-sets (return-to i n) j cs e = let z : i ≡ j = cc in ap (λ (m : ℕ). changed cs m (λ p. markReturned p n)) z
 own-sets (forget i n) j cs e = let z : i ≡ j = cc in ap (λ (m : ℕ). changed cs m (λ p. markForgotten p n)) z
 
--- it is done or refused
+-- a call on one record is done or refused
 pub own-either : (c : Call) (j : ℕ) (σ : Shared) → Four (σ .callers) → whose c ≡ some j → (answerTo c σ ≡ done) ⊎ ((n : ℕ) × (m : ℕ) × (answerTo c σ ≡ refused n m))
 unfolding whose answerTo setAnswer knownOnly
 own-either (open-for i f) j σ h e = ⊎-elim (λ (q : (openAnswer (σ .callers) i f ≡ done) × Opens (σ .callers) i f). inl (q .0))
@@ -89,14 +90,26 @@ unnoted k n (set-mark i m) j μ e ne = let z : i ≡ j = cc in rw (ne-eqb i k (�
 unnoted k n (return-to i m) j μ e ne = refl
 unnoted k n (forget i m) j μ e ne = let z : i ≡ j = cc in rw (ne-eqb i k (λ q. ne (sym q ∙ z)))
 
+-- another's call does not change whether k asks
+unasked : (k : ℕ) (c : Call) (j : ℕ) (a : Bool) → whose c ≡ some j → k ≢ j → asksDone k c a ≡ a
+unfolding whose asksDone
+unasked k (open-for i f) j a e ne = let z : i ≡ j = cc in rw (ne-eqb i k (λ q. ne (sym q ∙ z)))
+unasked k (ask-for i) j a e ne = let z : i ≡ j = cc in rw (ne-eqb i k (λ q. ne (sym q ∙ z)))
+unasked k (serve out) j a e ne = refl
+unasked k (close-for i) j a e ne = let z : i ≡ j = cc in rw (ne-eqb i k (λ q. ne (sym q ∙ z)))
+unasked k (set-mark i m) j a e ne = refl
+unasked k (return-to i m) j a e ne = refl
+unasked k (forget i m) j a e ne = refl
+
 module _ (σ : Shared) (four : Four (σ .callers)) (k : ℕ) (small : k < 4) where
-  -- it is handed nothing, and its record and what it noted stay
+  -- caller k is handed nothing, and its record, what it noted and whether it asks stay
   pub record Apart (c : Call) : Type 0 where
     pub nothing : handsTo k (answerTo c σ) ≡ []
     pub unseen : (n : List ℕ) (μ : Noted) → noteCall k n c (answerTo c σ) μ ≡ μ
+    pub still : (a : Bool) → asksBehind k c (answerTo c σ) a ≡ a
     pub leaves : recordOf (after c σ) k ≡ recordOf σ k
 
-  -- its own call, done
+  -- caller k's own call, done
   pub record Own (c : Call) : Type 0 where
     pub mine : whose c ≡ some k
     pub answered : answerTo c σ ≡ done
@@ -113,19 +126,20 @@ module _ (σ : Shared) (four : Four (σ .callers)) (k : ℕ) (small : k < 4) whe
   Touch c = Apart c ⊎ (Own c ⊎ Taken c)
 
   apart-by : (c : Call) (b : Answer) → answerTo c σ ≡ b → handsTo k b ≡ [] → ((n : List ℕ) (μ : Noted) → noteCall k n c b μ ≡ μ) →
-      getD (callersAfter c b (σ .callers)) k fresh ≡ recordOf σ k → Apart c
+      ((a : Bool) → asksBehind k c b a ≡ a) → getD (callersAfter c b (σ .callers)) k fresh ≡ recordOf σ k → Apart c
   unfolding after
-  apart-by c b e h u r = record {
+  apart-by c b e h u s r = record {
     nothing = ap (handsTo k) e ∙ h;
     unseen = λ n μ. ap (λ (z : Answer). noteCall k n c z μ) e ∙ u n μ;
+    still = λ a. ap (λ (z : Answer). asksBehind k c z a) e ∙ s a;
     leaves = ap (λ (z : Answer). getD (callersAfter c z (σ .callers)) k fresh) e ∙ r;
   }
 
   touch-refused : (c : Call) (n m : ℕ) → answerTo c σ ≡ refused n m → Apart c
-  unfolding handsTo noteCall callersAfter
-  touch-refused c n m e = apart-by c (refused n m) e refl (λ n μ. refl) refl
+  unfolding handsTo noteCall asksBehind callersAfter
+  touch-refused c n m e = apart-by c (refused n m) e refl (λ n μ. refl) (λ a. refl) refl
 
-  -- its own call that is done
+  -- what caller k's own call leaves, where it is done
   pub own-leaves : (c : Call) → whose c ≡ some k → answerTo c σ ≡ done → recordOf (after c σ) k ≡ ownDone c (recordOf σ k)
   unfolding callersAfter after
   own-leaves c w e = ap (λ (z : Answer). getD (callersAfter c z (σ .callers)) k fresh) e
@@ -133,26 +147,26 @@ module _ (σ : Shared) (four : Four (σ .callers)) (k : ℕ) (small : k < 4) whe
       ∙ getD-set-same (σ .callers) k (ownDone c (recordOf σ k)) fresh (omega (arith, four, small))
 
   touch-own : (c : Call) (j : ℕ) → whose c ≡ some j → Touch c
-  unfolding handsTo noteCall callersAfter
+  unfolding handsTo noteCall asksBehind callersAfter
   touch-own c j w = ⊎-elim (λ (e : answerTo c σ ≡ done). go e (ℕ-discrete k j))
       (λ (e : (n : ℕ) × (m : ℕ) × (answerTo c σ ≡ refused n m)). inl (touch-refused c (e .0) (e .1) (e .2)))
       (own-either c j σ four w)
     where
       go : answerTo c σ ≡ done → Dec (k ≡ j) → Touch c
-      go e (no ne) = inl (apart-by c done e refl (λ n μ. unnoted k n c j μ w ne)
+      go e (no ne) = inl (apart-by c done e refl (λ n μ. unnoted k n c j μ w ne) (λ a. unasked k c j a w ne)
           (ap (λ (l : List Caller). getD l k fresh) (own-sets c j (σ .callers) w) ∙ getD-set-other (σ .callers) j k (ownDone c (recordOf σ j)) fresh ne))
       go e (yes q) = inr (inl (record { mine = w ∙ ap some (sym q); answered = e; leaves = own-leaves c (w ∙ ap some (sym q)) e }))
 
   touch-taken : (out : List ℕ) (m : ℕ) → answerTo (serve out) σ ≡ handedTo m (forSeat (seatOf (σ .callers) m)) → Dec (k ≡ m) → Touch (serve out)
-  unfolding handsTo noteCall callersAfter after handedTo seatOf
+  unfolding handsTo noteCall asksBehind callersAfter after handedTo seatOf
   touch-taken out m e (no ne) = inl (go (forSeat (seatOf (σ .callers) m)) e)
     where
       other : eqb m k ≡ false
       other = ne-eqb m k (λ q. ne (sym q))
 
       go : (o : Option Schedule) → answerTo (serve out) σ ≡ handedTo m o → Apart (serve out)
-      go none q = apart-by (serve out) (ended m) q (rw other) (λ n μ. refl) (getD-set-other (σ .callers) m k (served (recordOf σ m) none) fresh ne)
-      go (some s) q = apart-by (serve out) (given m s) q (rw other) (λ n μ. rw other) (getD-set-other (σ .callers) m k (served (recordOf σ m) (some s)) fresh ne)
+      go none q = apart-by (serve out) (ended m) q (rw other) (λ n μ. refl) (λ a. rw other) (getD-set-other (σ .callers) m k (served (recordOf σ m) none) fresh ne)
+      go (some s) q = apart-by (serve out) (given m s) q (rw other) (λ n μ. rw other) (λ a. rw other) (getD-set-other (σ .callers) m k (served (recordOf σ m) (some s)) fresh ne)
   touch-taken out m e (yes q) = inr (inr (record {
     output = out;
     call = refl;
@@ -168,14 +182,14 @@ module _ (σ : Shared) (four : Four (σ .callers)) (k : ℕ) (small : k < 4) whe
       go (some s) = getD-set-same (σ .callers) k (served (recordOf σ k) (some s)) fresh (omega (arith, four, small))
 
   touch-serve : (out : List ℕ) → Touch (serve out)
-  unfolding answerTo servedTo handsTo noteCall callersAfter
+  unfolding answerTo servedTo handsTo noteCall asksBehind callersAfter
   touch-serve out = ⊎-elim
       (λ (e : serveAnswer (σ .callers) (σ .last) out ≡ refused 22 0). inl (touch-refused (serve out) 22 0 e))
       (λ (e : serveAnswer (σ .callers) (σ .last) out ≡ servedTo (σ .callers) (nextAsking (σ .callers) (σ .last))). go (nextAsking (σ .callers) (σ .last)) e)
       (serve-either (σ .callers) (σ .last) out four)
     where
       go : (o : Option ℕ) → serveAnswer (σ .callers) (σ .last) out ≡ servedTo (σ .callers) o → Touch (serve out)
-      go none e = inl (apart-by (serve out) idle e refl (λ n μ. refl) refl)
+      go none e = inl (apart-by (serve out) idle e refl (λ n μ. refl) (λ a. refl) refl)
       go (some m) e = touch-taken out m e (ℕ-discrete k m)
 
   -- WHAT A CALL DOES to caller k's record

@@ -63,16 +63,17 @@ openedBy (File.refused n k) = refused n k
 unfoldable pub openAnswer : List Caller → ℕ → List ℕ → Answer
 openAnswer cs k f = checked cs k (cond (isOpen (seatOf cs k)) (refused 43 0) (openedBy (decode f)))
 
--- 44 refuses to ask, or to close, for a closed one
+-- 44 refuses to ask, or to close, for a closed caller
 unfoldable pub openOnly : List Caller → ℕ → Answer
 openOnly cs k = checked cs k (cond (isOpen (seatOf cs k)) done (refused 44 0))
 
--- by an open seat's program
+-- what f says of an open seat's program; z of a closed seat
 unfoldable pub byProgram : {A : Type 0} → Seat → A → (Program → A) → A
 byProgram closed z f = z
 byProgram (active p x a) z f = f p
 
--- the calls on marks: 44 for a closed one, 45 for a name of another length, and then by its program
+-- what a call on marks answers: 44 for a closed caller, 45 for a name that has not 1 to 8 bytes, and then what f says of the caller's
+-- program
 unfoldable pub marksOnly : List Caller → ℕ → List ℕ → (Program → Answer) → Answer
 marksOnly cs k n f = checked cs k (byProgram (seatOf cs k) (refused 44 0) (λ p. cond (nameFits (length n)) (f p) (refused 45 0)))
 

@@ -6,7 +6,7 @@ use lib.Dec.{eqb}
 use Rattle.spec_service.specs.Call.{Call, open-for, ask-for, serve, close-for, set-mark, return-to, forget}
 use Rattle.spec_service.specs.Call.{Answer, done, given, ended, idle, refused, Shared, answerTo, after}
 
--- its own call, refused or not; a serve that takes it, whatever it gives
+-- what concerns a caller: its own call, refused or not; or a serve that takes it, whatever it gives
 pub data Event : Type 0 where
   called : Call → Event
   taken : Event

@@ -69,17 +69,17 @@ newMark n c none = markAt n 1 0 (replicate 24 0)
 unfoldable pub emptied : Program → List ℕ → List Mark → List Mark
 emptied p n ms = map (λ m. cond (bears p n m) noMark m) ms
 
--- a mark is set under this name, and no other of this name is left
+-- the record with a mark set under this name, and no other of this name left
 unfoldable pub markSet : Program → List ℕ → Caller → Caller
 markSet p n c = elim (slotFor p n (c .marks)) [
   | some i ↦ withMarks c (set (emptied p n (c .marks)) i (newMark n c (lastHanded p c)))
   | none ↦ c
 ]
 
--- the name is forgotten
+-- the record with the name forgotten
 unfoldable pub markForgotten : Program → List ℕ → Caller → Caller
 markForgotten p n c = withMarks c (emptied p n (c .marks))
 
--- the place is that of the name's mark
+-- the record at the place of the name's mark
 unfoldable pub markReturned : Program → List ℕ → Caller → Caller
 markReturned p n c = elim (slotOf p n (c .marks)) [ some i ↦ returned c (getD (c .marks) i noMark) | none ↦ c ]

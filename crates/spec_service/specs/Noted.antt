@@ -19,12 +19,12 @@ pub record Noted : Type 0 where
 unfoldable pub nothingNoted : Noted
 nothingNoted = record { last = none; place = none }
 
--- behind the last schedule handed, or the beginning if there is none
+-- the place behind the last schedule handed, or the beginning if none was
 unfoldable pub placeBehind : Option Schedule → Place
 placeBehind none = beginning
 placeBehind (some s) = behind s
 
--- a set of the name stores that, a forget of it frees the name; a return notes nothing
+-- what a call that is done notes: a set of the name the place behind the last schedule handed, a forget of it none; a return nothing
 unfoldable pub noteDone : ℕ → List ℕ → Call → Noted → Noted
 noteDone k n (open-for j f) μ = μ
 noteDone k n (ask-for j) μ = μ

@@ -9,7 +9,7 @@ use Rattle.spec_schedules.specs.Order.{Schedule}
 use Rattle.spec_service.specs.Call.{Call, open-for, ask-for, serve, close-for, set-mark, return-to, forget}
 use Rattle.spec_service.specs.Call.{Answer, done, given, ended, idle, refused, Shared, answerTo, after}
 
--- what they answer, and what is left behind the last
+-- what the calls of a list answer, and what is left behind the last
 unfoldable pub answers : List Call → Shared → List Answer
 answers [] σ = []
 answers (c ∷ cs) σ = answerTo c σ ∷ answers cs (after c σ)
@@ -44,7 +44,7 @@ unfoldable pub serves : List Answer → ℕ
 serves [] = 0
 serves (a ∷ rs) = elim (isServe a) [ true ↦ suc (serves rs) | false ↦ serves rs ]
 
--- how many schedules these are; no more is none
+-- how many schedules a caller was handed; no more is none
 unfoldable pub schedulesOf : List (Option Schedule) → ℕ
 schedulesOf [] = 0
 schedulesOf (some s ∷ os) = suc (schedulesOf os)

@@ -8,7 +8,7 @@ use Rattle.spec_service.specs.Call.{Call, serve, Answer, done, given, en
 use Rattle.spec_service.specs.declared.reply.Reply.{Reply}
 use Rattle.spec_service.specs.declared.reply.Reply.the-variants.{Done, Given, Ended, Idle, Refused}
 
--- of a schedule its length, since the schedule itself stands in front of the output
+-- the reply to an answer: of a schedule its length, since the schedule itself stands in front of the output
 unfoldable pub replyOf : Answer → Reply
 replyOf done = Done
 replyOf (given k s) = Given k (length s)
@@ -20,11 +20,11 @@ replyOf (refused n k) = Refused n k
 abbrev pub shared : List Caller → ℕ → Shared
 shared cs m = record { callers = cs; last = m }
 
--- a call answers this and leaves this
+-- the call c answers r and leaves the records and the last caller σ′
 abbrev pub Does : Call → Shared → Reply → Shared → Type 0
 Does c σ r σ′ = (r ≡ replyOf (answerTo c σ)) × (σ′ ≡ after c σ)
 
--- so does a serve, and it leaves this in its output
+-- a serve answers r, leaves the records and the last caller σ′, and leaves out′ in its output
 abbrev pub Served : List ℕ → Shared → Reply → Shared → List ℕ → Type 0
 Served out σ r σ′ out′ =
     (r ≡ replyOf (answerTo (serve out) σ)) × (σ′ ≡ after (serve out) σ) × (out′ ≡ outputAfter (answerTo (serve out) σ) out)

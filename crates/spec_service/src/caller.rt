@@ -14,7 +14,8 @@ pub struct Mark {
 
 // The program file is the first `length` bytes of `file`. The place is 1 at the beginning, 2 behind the first `steps` bytes of `schedule`,
 // 3 at the end, and anything else where the record is closed. It asks where `asking` is 1. The last schedule handed to it since it opened
-// is the first `size` bytes of `newest`, where `handed` is 1. So many schedules were handed to it since then: `count`, modulo 2^64.
+// is the first `size` bytes of `newest`, where `handed` is 1. `count` is the number of schedules handed to it since then, modulo 2^64.
+// `padding` are the bytes behind the marks up to a multiple of 8: they mean nothing, and are zeros where the record opens or closes.
 #[repr(C)]
 pub struct Caller {
     pub file: [u8; 4096],
@@ -28,4 +29,5 @@ pub struct Caller {
     pub size: u8,
     pub newest: [u8; STEPS],
     pub marks: [Mark; 8],
+    pub padding: [u8; 3],
 }

@@ -1,9 +1,9 @@
 // What a call of four callers answers.
 
 pub enum Reply {
-    // Opened, asking or closed.
+    // Opened, asking, closed, or a mark set, returned to or forgotten.
     Done,
-    // For this caller a schedule of so many steps, which stands in front of the output.
+    // A schedule for the caller of the first number, of as many steps as the second, which stands in front of the output.
     Given(usize, usize),
     // No more for this caller.
     Ended(usize),

@@ -21,6 +21,7 @@ pub struct Record {
     pub size: u8,
     pub newest: [u8; 24],
     pub marks: [Mark; 8],
+    pub padding: [u8; 3],
 }
 
 /// A mark as it lies there.
@@ -121,8 +122,8 @@ impl Record {
     /// A fresh one, as closing leaves it: nothing in it.
     pub fn fresh() -> Record {
         let (place, asking, steps, schedule) = (0, 0, 0, [0; 24]);
-        let (handed, size, newest, marks) = (0, 0, [0; 24], [FREE; 8]);
-        Record { file: vec![0; 4096], length: 0, count: 0, place, asking, steps, schedule, handed, size, newest, marks }
+        let (handed, size, newest, marks, padding) = (0, 0, [0; 24], [FREE; 8], [0; 3]);
+        Record { file: vec![0; 4096], length: 0, count: 0, place, asking, steps, schedule, handed, size, newest, marks, padding }
     }
 
     /// Opened with this accepted file: before the first schedule.

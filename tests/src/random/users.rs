@@ -106,6 +106,9 @@ fn damage_record(random: &mut Random, files: &[Vec<u8>], record: &mut Record) {
         11..=14 => damage_newest(random, record),
         _ => damage_marks(random, record),
     }
+    if random.one_in(3) {
+        record.padding[random.below(3)] = random.byte();
+    }
 }
 
 /// A schedule of the record's program as it would stand there: a full one, listed or not, or one that is none.

@@ -41,6 +41,8 @@ pub struct Caller {
     pub size: u8,
     pub newest: [u8; SCHEDULE],
     pub marks: [Mark; MARKS],
+    /// Means nothing: zeros where the record opens or closes, else left as it is.
+    pub padding: [u8; 3],
 }
 
 impl Mark {
@@ -62,5 +64,6 @@ impl Caller {
         size: 0,
         newest: [0; SCHEDULE],
         marks: [Mark::FREE; MARKS],
+        padding: [0; 3],
     };
 }

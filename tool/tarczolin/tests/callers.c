@@ -35,6 +35,7 @@ int main(void) {
   FIELD(size);
   FIELD(newest);
   FIELD(marks);
+  FIELD(padding);
   printf("mark %zu, %d of them\n", sizeof callers[0].marks[0], TARCZOLIN_MARKS);
   MARK(name);
   MARK(length);

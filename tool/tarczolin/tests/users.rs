@@ -261,6 +261,7 @@ fn records_in_c() {
         ("size", offset_of!(Caller, size), 1),
         ("newest", offset_of!(Caller, newest), 24),
         ("marks", offset_of!(Caller, marks), 8 * size_of::<Mark>()),
+        ("padding", offset_of!(Caller, padding), 3),
     ];
     assert_eq!((size_of::<Caller>(), offset_of!(Caller, marks), size_of::<Mark>()), (4448, 4165, 35), "as the header says");
     let layout: String = fields.iter().map(|(name, offset, size)| format!("{name} {offset} {size}\n")).collect();
