@@ -3,17 +3,18 @@ use super::arguments::Arguments;
 use super::judge::{told, why_json};
 use super::record;
 use super::reply::{each, Question};
+use crate::accepted::Accepted;
+use crate::ask;
 use crate::end::End;
 use crate::error::Error;
 use crate::execution::Execution;
 use crate::graph::Graph;
 use crate::model::Model;
+use crate::program::Program;
 use crate::progress::waiting;
+use crate::schedule::Schedule;
 use crate::show::{columns, By};
 use crate::why::why;
-use crate::accepted::Accepted;
-use crate::ask;
-use crate::schedule::Schedule;
 
 pub fn run(arguments: &Arguments) -> Result<End, Error> {
     each("robust", arguments, |question| {
@@ -34,8 +35,10 @@ fn relaxed(question: &Question, source: &Accepted, schedule: &Schedule) -> Resul
     let program = &source.program;
     let execution = Execution::replayed(&source.file, program, schedule).expect("a listed schedule is full");
     let graph = Graph::of_text(&ask::graph(Model::Tso, &source.file, schedule).expect("a listed schedule is full"));
-    let why = why(program, &graph);
-    let circle = why.as_ref().map_or(String::new(), |why| told(program, &graph, why));
+    // the judge's definition knows no queues: threads run on the values that the graph gives their reads
+    let judged = Program { model: Model::Sc, ..program.clone() };
+    let why = why(&judged, &graph);
+    let circle = why.as_ref().map_or(String::new(), |why| told(&judged, &graph, why));
     let text = format!(
         "not robust: this execution under total store order is none of sequential consistency\n\n{}{}\n",
         columns(&execution, By::Time),
