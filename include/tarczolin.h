@@ -17,6 +17,7 @@
  *    24576   tarczolin_judge, tarczolin_open, tarczolin_ask, tarczolin_close
  *    36864   tarczolin_set, tarczolin_return, tarczolin_forget
  *    40960   tarczolin_start, tarczolin_continue, tarczolin_violation, tarczolin_count, tarczolin_rows, tarczolin_rows_after
+ *    65536   tarczolin_count_with, tarczolin_violation_with
  *    65536   tarczolin_tso_start, tarczolin_tso_continue, tarczolin_tso_violation, tarczolin_tso_count, tarczolin_tso_rows,
  *    65536   tarczolin_tso_rows_after
  *    73728   tarczolin_force
@@ -147,6 +148,13 @@ uint64_t tarczolin_violation(const uint8_t *file, size_t file_len, uint8_t *out,
 /* How many schedules are listed, and how many of these fail. Answered: kind 1 and the rest 0. Both words keep their
  * value on refusal (1 to 8, 40). `listed` and `failing` are different words, and neither lies in the file. */
 uint64_t tarczolin_count(const uint8_t *file, size_t file_len, uint64_t *listed, uint64_t *failing);
+
+/* The same two with a scratch, in which states are remembered: what was counted behind one, or that nothing fails behind it. Answer and other
+ * buffers are exactly those of tarczolin_count and tarczolin_violation, whatever the scratch's length and content, 0 words too; only the
+ * time depends on it. The scratch shares no byte with any other buffer. An answer, none too, leaves zeros in all of its words; a
+ * refusal leaves it as it was. Its length is counted in words of 8 bytes. */
+uint64_t tarczolin_count_with(const uint8_t *file, size_t file_len, uint64_t *listed, uint64_t *failing, uint64_t *scratch, size_t scratch_len);
+uint64_t tarczolin_violation_with(const uint8_t *file, size_t file_len, uint8_t *out, size_t out_len, uint64_t *scratch, size_t scratch_len);
 
 /* Many listed schedules at a time, as rows of 26 bytes: the number of steps, 1 where the schedule fails and 0 where it
  * does not, and the steps, with zeros behind them up to 24. Answered: as many rows as the output has room for stand in

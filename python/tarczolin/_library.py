@@ -18,6 +18,7 @@ CALLERS, NOBODY, MARKS = 4, 3, 8
 _FILE = [c_char_p, c_size_t]
 _OUT = [c_void_p, c_size_t]
 _COUNTS = [POINTER(c_uint64), POINTER(c_uint64)]
+_SCRATCH = [POINTER(c_uint64), c_size_t]
 
 
 class MarkRecord(ctypes.Structure):
@@ -47,6 +48,7 @@ LISTING = {
 }
 CALLS = {
     **LISTING, **{f'tso_{name}': arguments for name, arguments in LISTING.items()},
+    'count_with': _FILE + _COUNTS + _SCRATCH, 'violation_with': _FILE + _OUT + _SCRATCH,
     'check': _FILE, 'judge': _FILE + _FILE + _OUT, 'covers': _FILE + _FILE + _OUT, 'force': _FILE + [c_uint8],
     'robust': _FILE + _OUT,
     'open': _SHARED + [c_size_t] + _FILE, 'ask': _SHARED + [c_size_t], 'serve': _SHARED + _OUT, 'close': _SHARED + [c_size_t],
@@ -95,6 +97,11 @@ def call(name: str, *arguments: Any) -> Answer:
     if not ANSWERED <= answer.kind <= IDLE:
         raise RuntimeError(f'{word:#018x} is no answer word')
     return answer
+
+
+def scratch(words: int) -> Any:
+    """Memory of so many words of 8 bytes, in which a call remembers states."""
+    return (c_uint64 * words)()
 
 
 def room(size: int) -> Any:

@@ -5,10 +5,11 @@ import os
 from ctypes import byref, c_uint64
 from dataclasses import dataclass
 from functools import cached_property
+from math import prod
 from typing import Dict, Iterable, Iterator, List, NamedTuple, Optional, Tuple, Union
 
 from . import _frames
-from ._library import ANSWERED, GRAPH, REFUSED, SCHEDULE, SECOND_REFUSED, TSO_SCHEDULE, Answer, call, room
+from ._library import ANSWERED, GRAPH, REFUSED, SCHEDULE, SECOND_REFUSED, TSO_SCHEDULE, Answer, call, room, scratch
 from ._matching import matched
 from .errors import Refused, Unfit, line_at
 from .execution import Execution
@@ -16,6 +17,8 @@ from .text import Note, imported, is_file, translated
 
 Schedule = Union[bytes, str]
 PAGE = 1024
+# at most so many bytes to remember states in, and so many words for each way in which the threads can stand at their accesses
+MEMORY, EACH = 16 << 20, 16 * 20
 
 
 class Count(NamedTuple):
@@ -149,16 +152,22 @@ class Program:
             if answer.value < PAGE:
                 return
 
-    def count(self) -> Count:
-        """How many schedules are listed, and how many of these fail; under total store order modulo 2^64."""
+    def count(self, memory: int = MEMORY) -> Count:
+        """How many schedules are listed, and how many of these fail; under total store order modulo 2^64.
+
+        Under sequential consistency states are remembered in at most so many bytes of memory: the answer does not depend on it.
+        """
         listed, failing = c_uint64(), c_uint64()
-        self._call('count', byref(listed), byref(failing))
+        self._by_states('count', memory, byref(listed), byref(failing))
         return Count(listed.value, failing.value)
 
-    def violation(self) -> Optional[Execution]:
-        """The first listed execution in which an assertion fails; None where none does, and then none at all does."""
+    def violation(self, memory: int = MEMORY) -> Optional[Execution]:
+        """The first listed execution in which an assertion fails; None where none does, and then none at all does.
+
+        States are remembered as for `count`.
+        """
         out = room(self._size)
-        answer = self._call('violation', out)
+        answer = self._by_states('violation', memory, out)
         return Execution(self, out.raw[:answer.value], True) if answer.kind == ANSWERED else None
 
     def outcomes(self) -> List[Outcome]:
@@ -255,6 +264,13 @@ class Program:
         answer = call(name if self.model == 'sc' else f'tso_{name}', self.file, *arguments)
         self._done(answer, subject)
         return answer
+
+    def _by_states(self, name: str, memory: int, *arguments: object) -> Answer:
+        """A call that remembers states in memory, no more than can be of use, where the model has one."""
+        if self.model != 'sc':
+            return self._call(name, *arguments)
+        places = prod(1 + sum(one.is_access() for one in code) for code in self.code.threads)
+        return self._call(f'{name}_with', *arguments, scratch(min(memory // 8, EACH * places)))
 
     def _done(self, answer: Answer, subject: str = 'program') -> None:
         """Raises what an answer refuses: the file's own refusals come first."""

@@ -36,6 +36,14 @@ class Listing(unittest.TestCase):
         self.assertEqual(Program(PAIR, 'tso').count(), (4, 0))
         self.assertEqual(Program(b'').count(), (1, 0))
 
+    def test_memory_changes_no_answer(self):
+        for name in programs():
+            program = Program.read(EXAMPLES / name)
+            told = program.count(), program.violation()
+            for memory in (0, 7, 8, 1000, 1 << 20):
+                self.assertEqual((program.count(memory), program.violation(memory=memory)), told, name)
+        self.assertEqual(Program(PAIR, 'tso').count(memory=64), Program(PAIR, 'tso').count())
+
     def test_violation(self):
         found = Program(QUEUE).violation()
         self.assertEqual((str(found), found.fails), ('00000102020201', True))

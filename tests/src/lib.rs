@@ -6,6 +6,7 @@ pub mod lent;
 pub mod oracle;
 pub mod painted;
 pub mod papers;
+pub mod parts;
 pub mod random;
 pub mod search;
 pub mod share;

@@ -123,6 +123,7 @@ fn ask_all(random: &mut Random, file: &[u8], beside: &[u8]) {
         held(random, [file], out, [SCHEDULE, 24], false, |[f], out| calls::start(f, out));
         held(random, [file, beside], out, [SCHEDULE, 24], true, |[f, s], out| calls::continue_from(f, s, out));
         held(random, [file], out, [SCHEDULE, 24], true, |[f], out| calls::violation(f, out));
+        held(random, [file], out, [SCHEDULE, 24], true, |[f], out| calls::violation_with(f, out, &mut vec![3; 500]));
         counts(random, file);
         rows(random, file, beside);
         against(random, file, beside);
@@ -212,8 +213,11 @@ fn counts(random: &mut Random, file: &[u8]) {
     let before: [u64; 4] = std::array::from_fn(|_| random.word());
     let mut words = before;
     let [_, listed, failing, _] = &mut words;
-    match calls::count(file, listed, failing) {
-        Answer::Answered(0) => assert!(words[1] >= 1 && words[2] <= words[1]),
+    let answer = calls::count(file, listed, failing);
+    let (mut all, mut bad, mut scratch) = (0, 0, vec![random.word(); random.below(600)]);
+    assert_eq!(calls::count_with(file, &mut all, &mut bad, &mut scratch), answer);
+    match answer {
+        Answer::Answered(0) => assert!(words[1] >= 1 && words[2] <= words[1] && [all, bad] == words[1..3]),
         Answer::Refused(1..=8 | 40, _) => assert_eq!(words, before),
         other => panic!("{other:?} is no answer of count"),
     }

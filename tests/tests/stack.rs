@@ -108,6 +108,9 @@ fn of_list(most: &mut Most, random: &mut Random, file: &[u8], other: &[u8]) {
     most.of("tarczolin_continue", || _ = calls::continue_from(file, &steps, &mut [0; SCHEDULE]));
     most.of("tarczolin_violation", || _ = calls::violation(file, &mut [0; SCHEDULE]));
     most.of("tarczolin_count", || _ = calls::count(file, &mut 0, &mut 0));
+    let mut scratch = vec![7; 5_000];
+    most.of("tarczolin_violation_with", || _ = calls::violation_with(file, &mut [0; SCHEDULE], &mut scratch));
+    most.of("tarczolin_count_with", || _ = calls::count_with(file, &mut 0, &mut 0, &mut scratch));
     let mut rows = vec![0; 9 * ROW];
     most.of("tarczolin_rows", || _ = calls::rows(file, &mut rows));
     most.of("tarczolin_rows_after", || _ = calls::rows_after(file, &steps, &mut rows));

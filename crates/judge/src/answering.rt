@@ -20,7 +20,7 @@ pub enum Outcome {
 }
 
 // Copies the first steps of the schedule to the front of the output.
-fn put(out: &mut [u8], schedule: [u8; STEPS], steps: usize)
+pub fn put(out: &mut [u8], schedule: [u8; STEPS], steps: usize)
     requires { ⌜ (steps ≤ 24) × (24 ≤ length (now out)) ⌝ }
     ensures { λ r. ⌜ now (out .exit) ≡ over (take steps schedule) (now (out .entry)) ⌝ }
 {

@@ -13,5 +13,6 @@ mod answering;
 
 pub use answering::Outcome;
 pub use answering::judge;
+pub use answering::put;
 pub use judging::Finding;
 pub use judging::judged;

@@ -61,7 +61,7 @@ fn next_of(
 }
 
 // The first one that is yet to come, of all that are listed or of those that fail.
-fn next_listed(
+pub(crate) fn next_listed(
     model: Model,
     program: Compiled,
     cursor: Cursor,

@@ -58,7 +58,7 @@ fn counted(model: Model, program: Compiled, rows: &mut [u8]) -> Tally
 const PAGE_BYTES: usize = 3200;
 
 // The counts of a listed program.
-fn counts(model: Model, program: Compiled) -> Tally
+pub(crate) fn counts(model: Model, program: Compiled) -> Tally
     requires { ⌜ Admitted (modelOf model) (programOf program) ⌝ }
     ensures { λ r. ⌜ (r .listed ≡ countOf (modelOf model) (programOf program) .listed)
         × (r .failing ≡ countOf (modelOf model) (programOf program) .failed) ⌝ }

@@ -4,6 +4,8 @@
 mod calling;
 // How many are listed, and how many of these fail.
 mod counting;
+// Count and violation with a lent scratch.
+mod lent;
 // Listed schedules by rows.
 mod row_calls;
 
@@ -13,5 +15,7 @@ pub use calling::start;
 pub use calling::violation;
 pub use counting::CountAnswer;
 pub use counting::count;
+pub use lent::count_with;
+pub use lent::violation_with;
 pub use row_calls::first_rows;
 pub use row_calls::next_rows;

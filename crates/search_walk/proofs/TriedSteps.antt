@@ -1,6 +1,7 @@
 -- Which next steps are tried: as the code asks it, and what is found with one that is not.
 use Prim.Native.Nat.{ℕ}
 use mathlib.Core.Path.{_≡_, refl, sym, ap, _∙_}
+use mathlib.Core.Logic.{_⊎_, inl, inr, ⊎-elim}
 use mathlib.Core.Bool.{Bool, true, false, not, _&&_, true≢false}
 use mathlib.Core.Option.{Option}
 use mathlib.Core.List.{List, []}
@@ -14,7 +15,7 @@ use Rattle.spec_sc.specs.Graph.{endOf}
 use Rattle.theory_sc.specs.Rules.{twin}
 use Rattle.spec_schedules.specs.Sets.{has}
 use Rattle.theory_sc.specs.LateSet.{lateSet}
-use Rattle.theory_sc.specs.Search.{foundWith}
+use Rattle.theory_sc.specs.Search.{givenUp, foundWith}
 use Rattle.theory_sc.proofs.Search.{up-late, up-twin, with-ended, with-given-up}
 use Rattle.search_walk.specs.Tried.{tried}
 
@@ -46,12 +47,18 @@ module _ (p : Program) (v : Schedule) (t : ℕ) where
   pub tried-alone : tried p v t ≡ true → any (twin p (endOf p v) t) (range 0 t) ≡ false
   tried-alone e = not-true _ (both (not (has (lateSet p v) t)) _ (parts e .1) .1)
 
-  -- ---- with one that is not tried nothing is found
-  pub untried-none : (failures : Bool) (steps : ℕ) (o : Option Schedule) → tried p v t ≡ false → foundWith failures p steps o v t ≡ []
-  untried-none failures steps o e = go (enabled (endOf p v) t) refl (has (lateSet p v) t) refl (any (twin p (endOf p v) t) (range 0 t)) refl
+  -- ---- one that is not tried may not step, or a rule gives it up
+  pub untried : tried p v t ≡ false → (enabled (endOf p v) t ≡ false) ⊎ ((enabled (endOf p v) t ≡ true) × (givenUp p v (endOf p v) t ≡ true))
+  untried e = go (enabled (endOf p v) t) refl (has (lateSet p v) t) refl (any (twin p (endOf p v) t) (range 0 t)) refl
     where
-      go : (m : Bool) → enabled (endOf p v) t ≡ m → (l : Bool) → has (lateSet p v) t ≡ l → (w : Bool) → any (twin p (endOf p v) t) (range 0 t) ≡ w → foundWith failures p steps o v t ≡ []
-      go false em l el w ew = with-ended failures p steps o v t em
-      go true em true el w ew = with-given-up failures p steps o v t em (up-late p v t el)
-      go true em false el true ew = with-given-up failures p steps o v t em (up-twin p v t ew)
+      go : (m : Bool) → enabled (endOf p v) t ≡ m → (l : Bool) → has (lateSet p v) t ≡ l → (w : Bool) → any (twin p (endOf p v) t) (range 0 t) ≡ w
+          → (enabled (endOf p v) t ≡ false) ⊎ ((enabled (endOf p v) t ≡ true) × (givenUp p v (endOf p v) t ≡ true))
+      go false em l el w ew = inl em
+      go true em true el w ew = inr (em, up-late p v t el)
+      go true em false el true ew = inr (em, up-twin p v t ew)
       go true em false el false ew = absurd (true≢false (tried-twin em el false (sym ew) ∙ e))
+
+  -- nothing is found with it
+  pub untried-none : (failures : Bool) (steps : ℕ) (o : Option Schedule) → tried p v t ≡ false → foundWith failures p steps o v t ≡ []
+  untried-none failures steps o e = ⊎-elim (λ (m : enabled (endOf p v) t ≡ false). with-ended failures p steps o v t m)
+      (λ (m : (enabled (endOf p v) t ≡ true) × (givenUp p v (endOf p v) t ≡ true)). with-given-up failures p steps o v t (m .0) (m .1)) (untried e)

@@ -6,4 +6,5 @@ mod walking;
 mod listed;
 
 pub use listed::listed_rows;
+pub use walking::is_tried;
 pub use walking::walk;

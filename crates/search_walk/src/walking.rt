@@ -36,7 +36,7 @@ ghost use Rattle.search_walk.specs.Tried.{tried};
 ghost use Rattle.search_tail.specs.Walked.{Adds};
 
 // Whether t is tried: it has not ended, is not late, and has no smaller twin.
-fn is_tried(class: &[usize; 6], words: &[u64; 6], live: u8, late: u8, t: u8) -> bool
+pub fn is_tried(class: &[usize; 6], words: &[u64; 6], live: u8, late: u8, t: u8) -> bool
     requires { ⌜ t < 6 ⌝ }
     ensures { λ r. ⌜ ((code lengths : List ℕ) (threads groups : ℕ) (x : Place) (p : Program) (v : Schedule)
         → Reached code lengths (now (class .entry)) threads groups x p v → x .words ≡ now (words .entry) → x .live ≡ live → x .late ≡ late

@@ -19,6 +19,8 @@ pub mod Judged
 pub mod Listed
 -- what count says
 pub mod Tallied
+-- what count and violation leave in the scratch that they are lent
+pub mod Scratch
 -- what the calls by rows say
 pub mod ByRows
 -- what the class call says

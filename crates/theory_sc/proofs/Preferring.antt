@@ -51,7 +51,7 @@ unfolding sameLocal
 local-same h k e = subst (λ (x : Thread). sameLocal (h .local) (x .local) ≡ true) e
     (both-and (eq-eqb (length (h .local .rest)) (length (h .local .rest)) refl) (both-and (same-list eqb (λ x. eq-eqb x x refl) (h .local .registers)) (flag-same (h .local .failed))))
 
-history-same : (h k : Thread) → h ≡ k → sameHistory (h .history) (k .history) ≡ true
+pub history-same : (h k : Thread) → h ≡ k → sameHistory (h .history) (k .history) ≡ true
 unfolding sameHistory
 history-same h k e = subst (λ (x : Thread). sameHistory (h .history) (x .history) ≡ true) e
     (both-and (eq-eqb (h .history .done) (h .history .done) refl) (same-list sameRead same-read (h .history .reads)))

@@ -71,7 +71,7 @@ latest-known σ g l (x ∷ ws) q = inr (g .old l x (subst (List·Memᴰ x) (sym 
 pub sources-known : (σ : State) → Regular σ → (t : ℕ) → Sources (Known σ) (threadOf σ t .history .reads)
 sources-known σ g t r m = ⊎-elim (λ (q : r .1 ≡ initialWrite). inl q) (λ (w : Written σ (r .1)). inr (g .old (w .0) (r .1) (w .1))) (g .sourced t r m)
 
-known-new : (σ : State) (t : ℕ) → t < 6 → (e : Event) → Known σ e → e ≢ upcoming σ t
+pub known-new : (σ : State) (t : ℕ) → t < 6 → (e : Event) → Known σ e → e ≢ upcoming σ t
 unfolding initialWrite
 known-new σ t h e (inl q) k = let i : 255 ≡ t = ap (λ (x : Event). x .0) (sym q ∙ k) in omega arith
 known-new σ t h e (inr d) k = upcoming-undone σ t (subst (Done σ) k d)

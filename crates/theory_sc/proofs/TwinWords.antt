@@ -70,7 +70,7 @@ module _ (p : Program) (w : WellFormed p) (v : Schedule) (a : Allowed SC (start 
   short : length v ≤ 24
   short = omega (arith, allowed-length SC lawful (start p) v a, start-24 p w)
 
-  held : Held (start p) (endOf p v) (length v) (wordsOf p v)
+  pub held : Held (start p) (endOf p v) (length v) (wordsOf p v)
   unfolding wordsOf
   held = subst (λ (k : ℕ). Held (start p) (endOf p v) k (wordsAfter (start p) 0 noWords v)) (omega arith) (held-run v (start p) (start p) 0 noWords (held-start p w) (regular-start p w) a (omega (arith, short)))
 

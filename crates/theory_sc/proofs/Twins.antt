@@ -46,7 +46,7 @@ use Rattle.theory_search.proofs.Standing.{same-local}
 use Rattle.spec_model.proofs.Swapped.{swapped, swapped-high, swapped-exchange}
 use Rattle.spec_sc.proofs.Swapped.{swapped-state}
 
-same-history : (h k : History) → sameHistory h k ≡ true → h ≡ k
+pub same-history : (h k : History) → sameHistory h k ≡ true → h ≡ k
 unfolding sameHistory
 same-history h k e =
     let a = both (eqb (h .done) (k .done)) _ e in

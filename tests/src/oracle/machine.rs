@@ -46,6 +46,15 @@ impl Thread {
         self.failed || self.next >= code.len()
     }
 
+    /// How many instructions are left of it; none of a failed one.
+    pub fn left(&self, code: &[Instruction]) -> usize {
+        if self.ended(code) {
+            0
+        } else {
+            code.len() - self.next
+        }
+    }
+
     /// Carries out the instructions up to the next access.
     pub fn settle(&mut self, code: &[Instruction]) {
         while !self.ended(code) && !code[self.next].is_access() {

@@ -3,6 +3,7 @@
 //! (R2), or where it leaves threads asleep for good (R3). What is reached in full is listed: no test is left.
 mod place;
 mod state;
+pub mod states;
 pub mod store_order;
 pub mod tso;
 pub mod walk;
@@ -10,11 +11,20 @@ pub mod walk;
 use crate::oracle::decode::Program;
 use place::{Left, Place};
 
+/// The threads of the `02` line of each thread, as bits; none where it stands in no line.
+fn alike(program: &Program) -> [u8; 6] {
+    let mut alike = [0; 6];
+    for group in &program.alike {
+        let bits = group.iter().fold(0, |bits, t| bits | 1 << t);
+        group.iter().for_each(|&t| alike[t as usize] = bits);
+    }
+    alike
+}
+
 /// A search over one program, with the prefix that it stands at.
 pub struct Search<'a> {
     program: &'a Program,
     left: Left,
-    /// The threads alike to each, as bits.
     alike: [u8; 6],
     schedule: [u8; 24],
     /// Prefixes visited, those of them that go on to no full schedule by their next step, and full schedules reached.
@@ -25,12 +35,15 @@ pub struct Search<'a> {
 
 impl<'a> Search<'a> {
     pub fn new(program: &'a Program) -> Search<'a> {
-        let mut alike = [0; 6];
-        for group in &program.alike {
-            let bits = group.iter().fold(0, |bits, t| bits | 1 << t);
-            group.iter().for_each(|&t| alike[t as usize] = bits);
+        Search {
+            program,
+            left: Left::of(program),
+            alike: alike(program),
+            schedule: [0; 24],
+            prefixes: 0,
+            dead_ends: 0,
+            reached: 0,
         }
-        Search { program, left: Left::of(program), alike, schedule: [0; 24], prefixes: 0, dead_ends: 0, reached: 0 }
     }
 
     /// Hands the listed schedules after the bound, ascending, each with whether it fails, to `each`, until that says stop.

@@ -3,7 +3,7 @@ use crate::oracle::decode::{Instruction, Operand, Program};
 use crate::oracle::machine::{opened, Thread};
 
 /// The word of a thread that can have no twin any more, and the least that has no room for a read.
-const LONE: u64 = 1 << 60;
+pub(super) const LONE: u64 = 1 << 60;
 const FULL: u64 = 1 << 55;
 
 /// A thread's next access: where, and whether it writes if it is done now.
@@ -22,11 +22,11 @@ impl Access {
 #[derive(Clone, Copy)]
 pub struct Place {
     pub threads: [Thread; 6],
-    memory: [u32; 8],
+    pub(super) memory: [u32; 8],
     /// For each location the number of the step that wrote it last, from 1, or 0.
-    stamps: [u8; 8],
-    /// For each thread a word that tells its reads.
-    words: [u64; 6],
+    pub(super) stamps: [u8; 8],
+    /// For each thread a word that tells its reads, a digit each: one more than the number of the step that wrote what it read.
+    pub(super) words: [u64; 6],
     /// The threads that have not ended, and those whose next step would come late, as bits.
     pub running: u8,
     pub late: u8,
@@ -72,7 +72,7 @@ impl Place {
             next.stamps[l] = number;
             next.words[t] = LONE + t as u64;
         } else {
-            next.words[t] = if word < FULL { word * 32 + self.stamps[l] as u64 } else { LONE + t as u64 };
+            next.words[t] = if word < FULL { word * 32 + self.stamps[l] as u64 + 1 } else { LONE + t as u64 };
         }
         if next.threads[t].ended(&program.threads[t]) {
             next.running &= !(1 << t);
@@ -95,9 +95,9 @@ impl Place {
         late
     }
 
-    /// R2: does u stand where t stands, both without a write, with the same sources?
+    /// R2: do these threads of equal code stand at one place, both without a write, with the same sources?
     pub fn twins(&self, u: usize, t: usize) -> bool {
-        self.words[u] == self.words[t] && self.threads[u] == self.threads[t]
+        self.words[u] == self.words[t]
     }
 }
 

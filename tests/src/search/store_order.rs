@@ -2,58 +2,59 @@
 //! ascending (0 to 5 a thread's access, 16 to 21 the move of its oldest pending store), one copy of the place a step. A step is given up
 //! where it comes late (R1), where a smaller twin could take it (R2), where a move could have gone to a place at which a smaller twin
 //! stood (R2 far), or where it leaves a byte asleep for good (R3, one byte at a time). What is reached in full is listed.
+use super::alike;
 use super::place::Left;
 use crate::oracle::decode::{Instruction, Program};
 use crate::oracle::machine::{opened, Thread};
 
 /// The word of a thread that can have no twin any more, and the least that has no room for an access.
-const LONE: u64 = 1 << 60;
+pub(super) const LONE: u64 = 1 << 60;
 const FULL: u64 = 1 << 54;
 /// Digits of a word: a store; what memory held, by the number of the step that put it there; a pending store of its own, by its number.
 const STORED: u64 = 1;
-const FOUND: u64 = 2;
+pub(super) const FOUND: u64 = 2;
 const OWN: u64 = 40;
 
 #[derive(Clone, Copy, Default)]
-struct Pending {
+pub(super) struct Pending {
     number: u8,
-    location: u8,
-    value: u32,
+    pub(super) location: u8,
+    pub(super) value: u32,
 }
 
 /// A step as others have to wait for it: its thread, whether it is a move, where, whether it puts, whether it read memory.
 #[derive(Clone, Copy)]
-struct Step {
+pub(super) struct Step {
     thread: usize,
     moves: bool,
-    location: u8,
+    pub(super) location: u8,
     puts: bool,
-    looks: bool,
+    pub(super) looks: bool,
     /// A store into an empty queue: the move behind it is its own.
     first: bool,
 }
 
 #[derive(Clone, Copy)]
 pub struct Place {
-    threads: [Thread; 6],
-    memory: [u32; 8],
-    stamps: [u8; 8],
-    words: [u64; 6],
+    pub(super) threads: [Thread; 6],
+    pub(super) memory: [u32; 8],
+    pub(super) stamps: [u8; 8],
+    pub(super) words: [u64; 6],
     /// The pending stores: thread t's from `head` to `tail` of its own part.
     slots: [Pending; 16],
     head: [u8; 6],
     tail: [u8; 6],
     /// The bytes that may step, and those whose step would come late, a bit for each; the threads whose move is given up by R2 far.
-    enabled: u32,
-    late: u32,
-    far: u8,
+    pub(super) enabled: u32,
+    pub(super) late: u32,
+    pub(super) far: u8,
 }
 
 /// A search over one program, with the prefix that it stands at.
 pub struct Search<'a> {
     program: &'a Program,
     left: Left,
-    alike: [u8; 6],
+    pub(super) alike: [u8; 6],
     base: [u8; 6],
     schedule: [u8; 32],
     pub prefixes: u64,
@@ -64,17 +65,21 @@ pub struct Search<'a> {
 impl<'a> Search<'a> {
     /// Of a program with at most 16 accesses.
     pub fn new(program: &'a Program) -> Search<'a> {
-        let mut alike = [0; 6];
-        for group in &program.alike {
-            let bits = group.iter().fold(0, |bits, t| bits | 1 << t);
-            group.iter().for_each(|&t| alike[t as usize] = bits);
-        }
         let mut base = [0; 6];
         for t in 1..6 {
             let before = program.threads.get(t - 1).map_or(0, |code| code.iter().filter(|i| i.is_access()).count());
             base[t] = base[t - 1] + before as u8;
         }
-        Search { program, left: Left::of(program), alike, base, schedule: [0; 32], prefixes: 0, dead_ends: 0, reached: 0 }
+        Search {
+            program,
+            left: Left::of(program),
+            alike: alike(program),
+            base,
+            schedule: [0; 32],
+            prefixes: 0,
+            dead_ends: 0,
+            reached: 0,
+        }
     }
 
     /// Hands the listed schedules, ascending, each with whether it fails, to `each`.
@@ -92,7 +97,7 @@ impl<'a> Search<'a> {
         counts
     }
 
-    fn start(&self) -> Place {
+    pub(super) fn start(&self) -> Place {
         let mut place = Place {
             threads: [Thread::default(); 6],
             memory: self.program.memory,
@@ -136,7 +141,7 @@ impl<'a> Search<'a> {
             if twins[b % 16] != 0xff {
                 continue;
             }
-            let next = self.behind(place, b, depth as u8 + 1, &twins);
+            let (next, _) = self.behind(place, b, depth as u8 + 1, &twins);
             if next.late != 0 && self.some_asleep(&next) {
                 continue;
             }
@@ -148,7 +153,7 @@ impl<'a> Search<'a> {
     }
 
     /// The smallest twin of each thread, or ff.
-    fn smaller_twins(&self, place: &Place) -> [u8; 6] {
+    pub(super) fn smaller_twins(&self, place: &Place) -> [u8; 6] {
         let mut twins = [0xff; 6];
         for (t, twin) in twins.iter_mut().enumerate() {
             let mut smaller = self.alike[t] & ((1 << t) - 1);
@@ -164,7 +169,8 @@ impl<'a> Search<'a> {
         twins
     }
 
-    fn behind(&self, place: &Place, b: usize, number: u8, twins: &[u8; 6]) -> Place {
+    /// The place behind the step of a byte, and the step.
+    pub(super) fn behind(&self, place: &Place, b: usize, number: u8, twins: &[u8; 6]) -> (Place, Step) {
         let mut next = *place;
         let t = b % 16;
         let step = if b < 16 { self.access(&mut next, t, number) } else { self.moved(&mut next, t, number) };
@@ -186,12 +192,16 @@ impl<'a> Search<'a> {
             }
         }
         next.far = far;
-        next
+        (next, step)
+    }
+
+    /// What is pending, oldest first.
+    pub(super) fn queue<'b>(&self, place: &'b Place, t: usize) -> &'b [Pending] {
+        &place.slots[(self.base[t] + place.head[t]) as usize..(self.base[t] + place.tail[t]) as usize]
     }
 
     fn newest(&self, place: &Place, t: usize, l: u8) -> Option<Pending> {
-        let (from, to) = ((self.base[t] + place.head[t]) as usize, (self.base[t] + place.tail[t]) as usize);
-        place.slots[from..to].iter().rev().find(|entry| entry.location == l).copied()
+        self.queue(place, t).iter().rev().find(|entry| entry.location == l).copied()
     }
 
     fn access(&self, next: &mut Place, t: usize, number: u8) -> Step {
@@ -272,7 +282,7 @@ impl<'a> Search<'a> {
     }
 
     /// R3: is there a byte that is late and that nothing left to other threads can make wait?
-    fn some_asleep(&self, place: &Place) -> bool {
+    pub(super) fn some_asleep(&self, place: &Place) -> bool {
         let mut late = place.late;
         while late != 0 {
             let c = late.trailing_zeros() as usize;
@@ -297,10 +307,9 @@ impl<'a> Search<'a> {
 
     /// Could something left to u put at l, or, where that matters, read there?
     fn wakes(&self, place: &Place, u: usize, l: u8, reads: bool) -> bool {
-        let (from, to) = ((self.base[u] + place.head[u]) as usize, (self.base[u] + place.tail[u]) as usize);
         let thread = &place.threads[u];
         let (read, written) = if thread.failed { (0, 0) } else { self.left.behind(u, thread.next) };
-        place.slots[from..to].iter().any(|entry| entry.location == l) || (written | if reads { read } else { 0 }) >> l & 1 == 1
+        self.queue(place, u).iter().any(|entry| entry.location == l) || (written | if reads { read } else { 0 }) >> l & 1 == 1
     }
 }
 

@@ -131,6 +131,18 @@ fn exchanged(graph: &Graph, permutation: &Moved) -> Graph {
     moved
 }
 
+/// All orders of the accesses of a program: no fewer than its full schedules.
+pub fn orders(program: &Program) -> u64 {
+    let (mut all, mut steps) = (1u64, 0);
+    for code in &program.threads {
+        for k in 1..=code.iter().filter(|instruction| instruction.is_access()).count() as u64 {
+            steps += 1;
+            all = all.saturating_mul(steps) / k;
+        }
+    }
+    all
+}
+
 /// Walks every full schedule.
 pub fn walk(program: &Program) -> Walked {
     let accesses = |t: usize| program.threads[t].iter().filter(|instruction| instruction.is_access()).count();

@@ -30,6 +30,22 @@ extern "C" {
     ) -> u64;
     pub fn tarczolin_violation(file: *const u8, file_len: usize, out: *mut u8, out_len: usize) -> u64;
     pub fn tarczolin_count(file: *const u8, file_len: usize, listed: *mut u64, failing: *mut u64) -> u64;
+    pub fn tarczolin_count_with(
+        file: *const u8,
+        file_len: usize,
+        listed: *mut u64,
+        failing: *mut u64,
+        scratch: *mut u64,
+        scratch_len: usize,
+    ) -> u64;
+    pub fn tarczolin_violation_with(
+        file: *const u8,
+        file_len: usize,
+        out: *mut u8,
+        out_len: usize,
+        scratch: *mut u64,
+        scratch_len: usize,
+    ) -> u64;
     pub fn tarczolin_rows(file: *const u8, file_len: usize, out: *mut u8, out_len: usize) -> u64;
     pub fn tarczolin_rows_after(
         file: *const u8,

@@ -123,20 +123,20 @@ impl Rows {
     }
 }
 
-/// The first listed schedule that fails, or none.
-pub fn violation(model: Model, file: &[u8]) -> Result<Option<Schedule>, Refusal> {
+/// The first listed schedule that fails, or none. Under sequential consistency states are remembered in the scratch.
+pub fn violation(model: Model, file: &[u8], scratch: &mut [u64]) -> Result<Option<Schedule>, Refusal> {
     schedule(|out| match model {
-        Model::Sc => library::violation(file, out),
+        Model::Sc => library::violation_with(file, out, scratch),
         Model::Tso => tso::violation(file, out),
     })
 }
 
-/// How many schedules are listed, and how many of these fail.
-pub fn count(model: Model, file: &[u8]) -> Result<Counts, Refusal> {
+/// How many schedules are listed, and how many of these fail. Under sequential consistency states are remembered in the scratch.
+pub fn count(model: Model, file: &[u8], scratch: &mut [u64]) -> Result<Counts, Refusal> {
     let mut counts = Counts::default();
     let Counts { listed, failing } = &mut counts;
     length(match model {
-        Model::Sc => library::count(file, listed, failing),
+        Model::Sc => library::count_with(file, listed, failing, scratch),
         Model::Tso => tso::count(file, listed, failing),
     })?;
     Ok(counts)

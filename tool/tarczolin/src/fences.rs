@@ -7,6 +7,7 @@ use crate::decide::{decide, Verdict};
 use crate::error::Error;
 use crate::expect::{Expectation, Kind};
 use crate::input::Content;
+use crate::memory::Memory;
 use crate::model::Model;
 use crate::program::{Program, ACCESSES_TSO};
 use crate::schedule::Schedule;
@@ -72,7 +73,8 @@ impl Search<'_> {
             return Err(self.unfit(format!("not decided: {why}; a greater number behind --limit looks at more")));
         }
         if shown.is_none() && goals.iter().any(|one| one.kind == Kind::NoViolation) {
-            let answer = ask::violation(source.program.model, &source.file).expect("the file is accepted");
+            let mut scratch = Memory::default().lent(&source.program);
+            let answer = ask::violation(source.program.model, &source.file, &mut scratch).expect("the file is accepted");
             assert_eq!(answer, None, "the library's own answer is that none fails");
         }
         Ok(shown)

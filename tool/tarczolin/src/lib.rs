@@ -24,6 +24,7 @@ pub mod json;
 pub mod litmus;
 pub mod machine;
 pub mod matching;
+pub mod memory;
 pub mod model;
 pub mod near;
 pub mod note;

@@ -55,8 +55,10 @@ fn catches(id: u32) -> bool {
 /// the command to come so far that there is something to tell: it catches Ctrl-C, save where it is one call, and has told what it tells on
 /// its way. After half a minute it is interrupted in any case.
 fn interrupted_with(progress: &str, words: &[&str], file: &[u8]) -> (Option<i32>, String, String) {
+    // with memory for their states these programs would be counted at once
     let mut child = tool(words)
         .env("TARCZOLIN_PROGRESS", progress)
+        .env("TARCZOLIN_MEMORY", "0")
         .stdin(Stdio::piped())
         .stdout(Stdio::piped())
         .stderr(Stdio::piped())

@@ -9,16 +9,18 @@ mod growth;
 mod judge;
 mod listing;
 mod search;
+mod states;
 mod step;
 mod store_order;
 mod timing;
 
-const PARTS: [(&str, fn()); 10] = [
+const PARTS: [(&str, fn()); 11] = [
     ("check", check::report),
     ("graph", graph::report),
     ("step", step::report),
     ("judge", judge::report),
     ("search", search::report),
+    ("states", states::report),
     ("listing", listing::report),
     ("growth", growth::report),
     ("store_order", store_order::report),

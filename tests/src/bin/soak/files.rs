@@ -3,6 +3,7 @@ use tarczolin_tests::files::text;
 use tarczolin_tests::oracle::decode::{decode, Program};
 use tarczolin_tests::random::program::{frames, frames_parted, Size, ANY, SMALL};
 use tarczolin_tests::random::{damage, tso, Random};
+use tarczolin_tests::search::walk::orders;
 
 const SIZES: [Size; 5] = [
     SMALL,
@@ -24,18 +25,6 @@ pub fn any(random: &mut Random) -> Vec<u8> {
         4..=8 => text(&tso::frames(random, size)),
         _ => text(&frames_parted(random, size)),
     }
-}
-
-/// All orders of the accesses: no fewer than the full schedules.
-fn orders(program: &Program) -> u64 {
-    let (mut all, mut steps) = (1u64, 0);
-    for code in &program.threads {
-        for k in 1..=code.iter().filter(|instruction| instruction.is_access()).count() as u64 {
-            steps += 1;
-            all = all.saturating_mul(steps) / k;
-        }
-    }
-    all
 }
 
 /// May every schedule of it be walked?

@@ -2,7 +2,7 @@
 use crate::files::is_quick;
 use crate::tally::Tally;
 use tarczolin_tests::calls::{self, tso, Answer, GRAPH, ROW, SCHEDULE};
-use tarczolin_tests::lent::{held, held_by, held_covers, shown_rows};
+use tarczolin_tests::lent::{held, held_by, held_covers, shown, shown_rows};
 use tarczolin_tests::oracle::calls::{self as oracle, Found};
 use tarczolin_tests::oracle::decode::{decode, Program};
 use tarczolin_tests::oracle::force::{self, Forced};
@@ -100,7 +100,7 @@ fn held_count(
     random: &mut Random,
     file: &[u8],
     found: Result<(u64, u64), Refusal>,
-    call: fn(&[u8], &mut u64, &mut u64) -> Answer,
+    call: impl FnOnce(&[u8], &mut u64, &mut u64) -> Answer,
 ) {
     let before = (random.word(), random.word());
     let (mut listed, mut failing) = before;
@@ -118,13 +118,31 @@ fn ask_list(random: &mut Random, tally: &Tally, file: &[u8], list: &Result<Vec<L
     tally.call("count");
     let counts = list.as_ref().map(|list| listing::count(list)).map_err(|refusal| *refusal);
     held_count(random, file, counts, calls::count);
+    ask_by_states(random, tally, file, list);
     let out = random.below(40 * ROW);
     let rows = list.as_ref().map(|list| listing::rows(list, None, out)).map_err(|refusal| *refusal);
     tally.call("rows");
     held_by(random, [file], out, shown_rows(&rows, ROW), |[f], out| calls::rows(f, out));
 }
 
-/// One file against another, and against itself.
+/// Count and violation with a scratch of some length and any content: zeros behind an answer, itself behind a refusal.
+fn ask_by_states(random: &mut Random, tally: &Tally, file: &[u8], list: &Result<Vec<Listed>, Refusal>) {
+    let words = random.pick(&[0, 1, 7, 20, 21, 64, 300, 1_000]);
+    let before: Vec<u64> = (0..words).map(|_| random.word()).collect();
+    let later = |answer| if matches!(answer, Answer::Refused(..)) { before.clone() } else { vec![0; words] };
+    let mut scratch = before.clone();
+    let counts = list.as_ref().map(|list| listing::count(list)).map_err(|refusal| *refusal);
+    tally.call("count_with");
+    held_count(random, file, counts, |file, listed, failing| calls::count_with(file, listed, failing, &mut scratch));
+    assert_eq!(scratch, later(number(counts.map(|_| 0))), "the scratch: {}", file.escape_ascii());
+    let (mut scratch, out) = (before.clone(), output(random, SCHEDULE));
+    let first = found(list, out, SCHEDULE, listing::violation);
+    tally.call("violation_with");
+    held(random, [file], out, &first, |[f], out| calls::violation_with(f, out, &mut scratch));
+    assert_eq!(scratch, later(shown(&first).0), "the scratch: {}", file.escape_ascii());
+}
+
+/// One file against another, and the other against it.
 fn ask_both(random: &mut Random, tally: &Tally, file: &[u8], other: &[u8]) {
     for files in [[file, other], [other, file]] {
         let output = output(random, SCHEDULE);

@@ -2,7 +2,7 @@
 use std::sync::atomic::{AtomicU64, Ordering};
 
 /// The calls, without the word in front of their names.
-const NAMES: [&str; 27] = [
+const NAMES: [&str; 29] = [
     "check",
     "graph",
     "class",
@@ -11,6 +11,8 @@ const NAMES: [&str; 27] = [
     "continue",
     "violation",
     "count",
+    "count_with",
+    "violation_with",
     "rows",
     "rows_after",
     "covers",

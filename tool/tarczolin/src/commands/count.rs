@@ -1,13 +1,18 @@
 //! count: how many schedules are listed, and how many of these fail; with --classes also how many executions they stand for.
 use super::arguments::Arguments;
+use super::lent::memory;
 use super::opt::Opt;
 use super::piece::{self, Piece};
 use super::reply::{each, Question};
+use crate::accepted::Accepted;
 use crate::ask::{self, Counts};
 use crate::end::End;
 use crate::error::Error;
 use crate::jobs::List;
 use crate::json::{list as json_list, object, Json};
+use crate::memory::Memory;
+use crate::model::Model;
+use crate::program::{apart, Program};
 use std::collections::BTreeMap;
 
 pub const CLASSES: Opt = Opt {
@@ -15,25 +20,52 @@ pub const CLASSES: Opt = Opt {
     value: None,
     about: "also how many executions they stand for, and how many listed ones stand for so many each",
 };
+pub const BY: Opt = Opt {
+    name: "--by",
+    value: Some("size"),
+    about: "beside --classes: walk the list for how many stand for so many each also where it is long, which takes its time",
+};
+
+/// Of a list that is no longer than this it is told how many stand for so many each.
+const SHORT: u64 = 100_000;
+
+/// What is asked: with classes, by their sizes in any case, and with so much memory.
+#[derive(Clone, Copy)]
+struct Asking {
+    classes: bool,
+    by_size: bool,
+    memory: Memory,
+}
 
 pub fn run(arguments: &Arguments) -> Result<End, Error> {
     let piece = Piece::of(arguments)?;
-    let classes = arguments.flag(CLASSES.name);
-    each("count", arguments, |question| counted(question, &piece, classes))
+    let by_size = arguments.one_of(BY.name, &[("size", true)], false)?;
+    let asking = Asking { classes: arguments.flag(CLASSES.name), by_size, memory: memory(arguments)? };
+    if by_size && !asking.classes {
+        return Err(Error::usage("--by size stands beside --classes"));
+    }
+    each("count", arguments, |question| counted(question, &piece, asking))
 }
 
 /// The whole list by one job is one call of the library; else its rows are counted.
-fn counted(question: &Question, piece: &Piece, classes: bool) -> Result<End, Error> {
-    let (source, model) = (question.source_under(piece.model)?, piece.model);
-    let list = piece.list(List::of(&source, classes))?;
-    if piece.is_one_call() && !classes {
-        return match piece::answered(&list, move |file| ask::count(model, file)) {
-            Ok(counts) => told(question, counts.expect("the file is accepted"), None, false),
+fn counted(question: &Question, piece: &Piece, asking: Asking) -> Result<End, Error> {
+    let source = question.source_under(piece.model)?;
+    let list = piece.list(List::of(&source, asking.classes))?;
+    // under total store order a call remembers no states, and is no quicker than the walk
+    let by_states = piece.model == Model::Sc && !asking.by_size;
+    if piece.is_one_call() && (!asking.classes || by_states) {
+        match called(&list, piece.model, asking.memory) {
+            Ok(counts) if !asking.classes => return told(question, counts, None, false),
+            Ok(counts) if counts.listed > SHORT => {
+                let classes = Classes { sum: all_executions(&source, asking.memory), sizes: None };
+                return told(question, counts, Some(classes), false);
+            }
+            Ok(_) => {}
             Err(found) => {
                 piece::tell_cut(&found);
-                told(question, found.counts, None, true)
+                return told(question, found.counts, None, true);
             }
-        };
+        }
     }
     let mut sizes = Sizes::default();
     let found = piece::walk(&list, piece.jobs, |part| {
@@ -41,7 +73,26 @@ fn counted(question: &Question, piece: &Piece, classes: bool) -> Result<End, Err
         Ok(())
     });
     piece::tell_cut(&found);
-    told(question, found.counts, classes.then_some(sizes), found.cut)
+    let classes = asking.classes.then(|| Classes { sum: sizes.sum(), sizes: Some(sizes) });
+    told(question, found.counts, classes, found.cut)
+}
+
+/// The counts by one call of the library, or what was found until Ctrl-C.
+fn called(list: &List, model: Model, memory: Memory) -> Result<Counts, Box<piece::Found>> {
+    let call = move |file: &[u8]| ask::count(model, file, &mut memory.lent(&Program::of_accepted(file)));
+    piece::answered(list, call).map(|counts| counts.expect("the file is accepted"))
+}
+
+/// How many executions all listed ones stand for: so many are listed of the file without its `02` lines.
+fn all_executions(source: &Accepted, memory: Memory) -> u64 {
+    let counts = ask::count(Model::Sc, &apart(&source.file), &mut memory.lent(&source.program));
+    counts.expect("an accepted file is one without its 02 lines too").listed
+}
+
+/// How many executions the listed ones stand for, and how many of these stand for so many each, where that is known.
+struct Classes {
+    sum: u64,
+    sizes: Option<Sizes>,
 }
 
 /// How many listed executions stand for so many each.
@@ -72,16 +123,23 @@ impl Sizes {
     }
 }
 
-fn told(question: &Question, counts: Counts, sizes: Option<Sizes>, cut: bool) -> Result<End, Error> {
+fn told(question: &Question, counts: Counts, classes: Option<Classes>, cut: bool) -> Result<End, Error> {
     let Counts { listed, failing } = counts;
     let found = if cut { End::of_cut(failing) } else { End::of_failing(failing) };
     let fields = [("listed", listed.into()), ("failing", failing.into()), ("interrupted", cut.into())];
-    let Some(sizes) = sizes else {
+    let Some(Classes { sum, sizes }) = classes else {
         return question.answer(&format!("{listed} listed, {failing} failing"), fields, found);
     };
-    let sum = sizes.sum();
     let [all, bad, interrupted] = fields;
-    let fields = [all, bad, interrupted, ("executions", sum.into()), ("classes", sizes.json())];
-    let text = format!("{listed} listed, {failing} failing, {sum} in all\n{}", sizes.table());
+    let fields = [
+        all,
+        bad,
+        interrupted,
+        ("executions", sum.into()),
+        ("classes", sizes.as_ref().map_or(Json::from(None::<u64>), Sizes::json)),
+    ];
+    let table =
+        sizes.map_or("  (--by size walks the list for how many stand for so many each)\n".to_string(), |sizes| sizes.table());
+    let text = format!("{listed} listed, {failing} failing, {sum} in all\n{table}");
     question.answer_text(text, fields, found)
 }

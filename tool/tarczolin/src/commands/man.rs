@@ -26,6 +26,7 @@ pub fn page(commands: &[&Command]) -> String {
     for (statement, about) in STATEMENTS {
         write!(text, ".TP\n{}\n{}\n", escaped(statement), escaped(about)).expect("text grows");
     }
-    let environment = "TARCZOLIN_PROGRESS: off for no lines of progress, or how often there is one, in milliseconds.";
+    let environment = "TARCZOLIN_PROGRESS: off for no lines of progress, or how often there is one, in milliseconds.\n.br\n\
+                       TARCZOLIN_MEMORY: as \\-\\-memory, where that is not given.";
     text + &format!(".SH ENVIRONMENT\n{environment}\n.SH EXIT STATUS\n{}\n", escaped(STATUS))
 }

@@ -16,6 +16,7 @@ mod graph;
 mod help;
 mod join;
 mod judge;
+mod lent;
 mod list;
 mod litmus;
 mod man;

@@ -1,7 +1,8 @@
 //! The commands, each with its words, its options and an example.
 use super::command::Command;
-use super::count::CLASSES;
+use super::count::{BY, CLASSES};
 use super::expected::LIMIT;
+use super::lent::MEMORY;
 use super::models::{FOR_MODEL, MODEL};
 use super::opt::Opt;
 use super::piece::{AFTER, JOBS_OPTION, UNTIL};
@@ -43,7 +44,7 @@ pub const COMMANDS: [Command; 20] = [
         name: "count",
         words: "FILE..",
         about: "how many schedules are listed, and how many of these fail",
-        options: &[CLASSES, JOBS_OPTION, MODEL, AFTER, UNTIL, JSON],
+        options: &[CLASSES, BY, MEMORY, JOBS_OPTION, MODEL, AFTER, UNTIL, JSON],
         example: "tarczolin count examples/*.hex",
         run: count::run,
     },
@@ -51,7 +52,7 @@ pub const COMMANDS: [Command; 20] = [
         name: "violation",
         words: "FILE..",
         about: "the first listed schedule that fails, or none",
-        options: &[SHOW, FEWEST, JOBS_OPTION, MODEL, LIMIT, JSON],
+        options: &[SHOW, FEWEST, MEMORY, JOBS_OPTION, MODEL, LIMIT, JSON],
         example: "tarczolin violation --show examples/queue-broken.asm",
         run: violation::run,
     },

@@ -1,6 +1,7 @@
 //! violation: the first listed schedule that fails.
 use super::arguments::Arguments;
 use super::expected::{self, Asking};
+use super::lent::memory;
 use super::opt::Opt;
 use super::piece::{self, Found, Piece};
 use super::record;
@@ -13,7 +14,9 @@ use crate::error::Error;
 use crate::execution::Execution;
 use crate::jobs::List;
 use crate::json::{list as json_list, Json};
+use crate::memory::Memory;
 use crate::model::Model;
+use crate::program::Program;
 use crate::schedule::Schedule;
 use crate::show::{columns, By};
 use crate::switches::{fewest, switches};
@@ -30,30 +33,32 @@ const WHY_NOTE: &str = "traced back from the assertion by plain Rust, which is n
 pub fn run(arguments: &Arguments) -> Result<End, Error> {
     let piece = Piece::of(arguments)?;
     let asking = Asking::of(arguments, piece.jobs)?;
+    let memory = memory(arguments)?;
     let fewest = arguments.one_of(FEWEST.name, &[("switches", true)], false)?;
     each("violation", arguments, |question| {
         let source = question.source_under(piece.model)?;
         let expectations = source.expectations()?;
         expected::note_others(question, &source, &expectations, piece.model)?;
-        let showing = Showing { show: arguments.flag("--show"), fewest, limit: asking.limit };
+        let showing = Showing { show: arguments.flag("--show"), fewest, limit: asking.limit, memory };
         let end = violation(question, &source, &piece, showing)?;
         Ok(end.max(expected::tell(question, &source, &expectations, asking)?))
     })
 }
 
-/// What is shown of a violation.
+/// What is shown of a violation, and how it is looked for.
 #[derive(Clone, Copy)]
 struct Showing {
     show: bool,
     fewest: bool,
     limit: u64,
+    memory: Memory,
 }
 
 fn violation(question: &Question, source: &Accepted, piece: &Piece, showing: Showing) -> Result<End, Error> {
     let model = piece.model;
     let list = List::of(source, false);
     let found = if piece.is_one_call() {
-        let call = move |file: &[u8]| ask::violation(model, file);
+        let call = move |file: &[u8]| ask::violation(model, file, &mut showing.memory.lent(&Program::of_accepted(file)));
         piece::answered(&list, call).map(|found| found.expect("the file is accepted"))
     } else {
         by_rows(&list, piece.jobs)

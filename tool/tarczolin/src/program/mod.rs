@@ -118,6 +118,13 @@ pub fn frames(file: &[u8]) -> Option<Vec<Frame>> {
     lines.map(|line| Frame::of_bytes(&crate::hex::bytes(line)?)).collect()
 }
 
+/// The file without its `02` lines: each thread is alike to itself only.
+pub fn apart(file: &[u8]) -> Vec<u8> {
+    let mut frames = frames(file).expect("an accepted file has frames only");
+    frames.retain(|frame| !matches!(frame, Frame::Alike(_)));
+    self::file(&frames)
+}
+
 /// The program file of these frames.
 pub fn file(frames: &[Frame]) -> Vec<u8> {
     frames.iter().flat_map(|frame| crate::hex::line(&frame.bytes()).into_bytes()).collect()

@@ -1,0 +1,7 @@
+// The calls by states for C and Rust, each with one word as answer: those of the list with a scratch that the host lends.
+
+// Count and violation: tarczolin_count_with, tarczolin_violation_with.
+mod by_states;
+
+pub use by_states::tarczolin_count_with;
+pub use by_states::tarczolin_violation_with;

@@ -1,0 +1,18 @@
+// The key of a position of the search, in words.
+
+// A prefix of a run with the ways of its threads.
+mod spot;
+// The ways behind a step.
+mod going;
+// Who is near whom.
+mod nearness;
+// The values that matter.
+mod values;
+// The words of a key.
+mod keys;
+
+pub use going::first_spot;
+pub use going::mark_way;
+pub use going::way_behind;
+pub use keys::key;
+pub use spot::Spot;
