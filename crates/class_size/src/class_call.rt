@@ -27,7 +27,7 @@ pub enum ClassAnswer {
 }
 
 // How many permutations move threads within their `02` lines, divided by how many of these leave the graph of the notes the same.
-pub fn quotient_of(class: [usize; 6], groups: usize, log: [u8; 192], steps: usize) -> usize
+fn quotient_of(class: [usize; 6], groups: usize, log: [u8; 192], steps: usize) -> usize
     requires { ⌜ steps ≤ 24 ⌝ }
     ensures { λ r. ⌜ r ≡ quotient (groupsOf class groups) (notesAt log steps) ⌝ }
 {

@@ -16,4 +16,3 @@ pub use by_number::permutation_table;
 pub use by_number::unpacked;
 pub use class_call::ClassAnswer;
 pub use class_call::class_size;
-pub use class_call::quotient_of;

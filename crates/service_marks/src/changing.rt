@@ -2,9 +2,9 @@
 use crate::bearing::bears;
 use crate::slots::mark_at;
 use file_decoder::Compiled;
+use file_rows::put_front;
 use service_record::is_place;
 use service_record::no_mark;
-use service_record::put_front;
 use spec_file::STEPS;
 use spec_service::Caller;
 use spec_service::Mark;

@@ -1,5 +1,6 @@
 // The records that calls leave: fresh, opened, asking, served.
 use crate::next::Next;
+use file_rows::put_front;
 use spec_file::STEPS;
 use spec_service::Caller;
 use spec_service::Mark;
@@ -7,8 +8,7 @@ use std::num::wrapping_add_u64;
 ghost use mathlib.Core.Path.{_≡_};
 ghost use mathlib.Core.Option.{Option};
 ghost use Prim.Native.Nat.{_≤_};
-ghost use lib.ListN.{length, take, replicate};
-ghost use Rattle.spec_file.specs.Over.{over};
+ghost use lib.ListN.{length, replicate};
 ghost use Rattle.spec_schedules.specs.Order.{Schedule};
 ghost use Rattle.spec_service.specs.Record.{noMark, fresh, opened, asked, served};
 ghost use Rattle.service_record.specs.Next.{nextOf};
@@ -51,18 +51,6 @@ pub fn fresh_record() -> Caller
         newest: [0u8; STEPS],
         marks: no_marks(),
         padding: [0u8; 3],
-    }
-}
-
-// Copies the first n of these bytes to the front of a buffer.
-pub fn put_front(out: &mut [u8], bytes: &[u8], n: usize)
-    requires { ⌜ (n ≤ length (now bytes)) × (n ≤ length (now out)) ⌝ }
-    ensures { λ r. ⌜ now (out .exit) ≡ over (take n (now (bytes .entry))) (now (out .entry)) ⌝ }
-{
-    let mut k = 0;
-    while k < n {
-        out[k] = bytes[k];
-        k += 1;
     }
 }
 

@@ -11,7 +11,6 @@ pub use left::asked;
 pub use left::fresh_record;
 pub use left::no_mark;
 pub use left::opened_with;
-pub use left::put_front;
 pub use left::served;
 pub use next::Next;
 pub use next::next_of;

@@ -2,11 +2,11 @@
 use crate::order::next_asking;
 use crate::order::of_four;
 use file_lines::wide;
+use file_rows::put_front;
 use service_one::Kept;
 use service_one::settle;
 use service_record::fresh_record;
 use service_record::next_of;
-use service_record::put_front;
 use service_record::served;
 use spec_file::STEPS;
 use spec_service::Caller;
