@@ -21,7 +21,7 @@ pub record Fine (v : Values) : Type 0 where
   pub threads : (t : ℕ) → Words (localAt v t)
   pub memory : (l : ℕ) → Word (getD (v .memory) l 0)
 
-set-keeps : {A : Type 0} (P : A → Type 0) (l : List A) (i k : ℕ) (a d : A) → P (getD l k d) → P a → P (getD (set l i a) k d)
+pub set-keeps : {A : Type 0} (P : A → Type 0) (l : List A) (i k : ℕ) (a d : A) → P (getD l k d) → P a → P (getD (set l i a) k d)
 set-keeps P [] i k a d h q = h
 set-keeps P (x ∷ xs) zero zero a d h q = q
 set-keeps P (x ∷ xs) zero (suc k) a d h q = h

@@ -5,3 +5,5 @@ pub mod Values
 pub mod Writing
 -- what holds of both fetch and adds: full schedules, ends and outcomes
 pub mod SameOutcomes
+-- the same under total store order
+pub mod StoreOrder

@@ -54,6 +54,8 @@ pub mod GroupLines
 pub mod AccessCounts
 -- what holds while lines are read
 pub mod Sound
+-- 7 stands at the earliest line of all far skips
+pub mod FarSkips
 -- what was read makes a well-formed program
 pub mod SoundProgram
 -- what holds of every member of a list

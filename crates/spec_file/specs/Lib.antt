@@ -25,6 +25,8 @@ pub mod Kinds
 pub mod Frames
 -- program files, line by line, with refusals 1 to 8 and 40
 pub mod Decode
+-- far skips, and where 7 stands
+pub mod FarSkips
 -- a program without its groups, a file with its `02` lines taken out
 pub mod Ungrouped
 -- answers that differ at most in the place of a refusal

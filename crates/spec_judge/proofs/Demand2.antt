@@ -4,7 +4,7 @@ use mathlib.Core.Path.{_≡_, refl, sym, ap, subst, _∙_}
 use mathlib.Core.Logic.{_↔_}
 use mathlib.Core.Bool.{Bool, true, false}
 use mathlib.Core.Option.{Option, none, some}
-use mathlib.Core.List.{List}
+use mathlib.Core.List.{List, List·Memᴰ}
 use native.Mathlib.Omega.{arith}
 use native.Mathlib.Decide.{decLt}
 use borrow.Author.Tests.{le-ltb}
@@ -20,20 +20,22 @@ use Rattle.spec_schedules.specs.Order.{Schedule, less}
 use Rattle.spec_model.specs.Answers.{refusesFrom}
 use Rattle.spec_model.specs.GraphCall.{GraphResult, texted, graphBy, graphAnswer, graphOn, graphFile, graphOutput}
 use Rattle.spec_model.proofs.Refusing.{full-goes, goes-full}
+use Rattle.spec_sc.specs.Local.{Local, accessPuts, firstPuts, puts}
 use Rattle.spec_sc.specs.Graph.{Graph, graph, Full}
-use Rattle.spec_sc.specs.State.{SC, start}
+use Rattle.spec_sc.specs.State.{Event, SC, start}
 use Rattle.spec_sc.specs.Sequential.{sc}
 use Rattle.spec_sc.proofs.Admits.{sc-admits}
 use Rattle.spec_sc.proofs.Lawful.{at-most-24}
-use Rattle.spec_judge.specs.Consistent.{Consistent}
+use Rattle.spec_judge.specs.Consistent.{orderOf, Values, localAt, Makes, Consistent}
 use Rattle.spec_judge.specs.Least.{MadeBy, LeastFor}
 use Rattle.spec_judge.specs.Reading.{Parsed, parsed, refusedAt, readGraph}
 use Rattle.spec_judge.specs.Answer.{Answer, consistent, inconsistent, refusing, TextRead, Judgement, program-refused, output-refused, text-refused, judged-yes, judged-no, outputAfter}
-use Rattle.spec_judge.specs.Demand2.{textFor, Gives, Demand2, ProgramFirst}
+use Rattle.spec_judge.specs.Demand2.{textFor, Gives, AddsZero, Demand2, ProgramFirst}
 use Rattle.spec_judge.proofs.Walk.{judge}
 use Rattle.spec_judge.proofs.ByWalk.{answerOf, answerTo}
 use Rattle.spec_judge.proofs.ConsistentIff.{consistent-iff}
 use Rattle.spec_judge.proofs.Judged.{judge-yes, judge-no, judge-consistent}
+use Rattle.spec_judge.proofs.Parsed.{read-canonical}
 use Rattle.spec_judge.proofs.RunRead.{run-text-read}
 use Rattle.spec_judge.proofs.LineNumbers.{text-numbers}
 use Rattle.spec_judge.proofs.Judgements.{text-judged, judgement-exists, judgement-unique}
@@ -57,6 +59,11 @@ refusing-is p (parsed g) n k e = absurd (go (judge p g) e)
     go : (o : Option Schedule) → answerOf o ≡ refusing n k → ⊥
     go none e = let z : _≡_ {A = ℕ} 0 1 = cc in omega arith
     go (some s) e = let z : _≡_ {A = ℕ} 0 1 = cc in omega arith
+
+-- an access that adds zero writes nothing, whatever it finds
+adds-nothing : (h : Local) (x : ℕ) → AddsZero h → puts h x ≡ none
+unfolding puts firstPuts accessPuts
+adds-nothing h x z = rw (z .4, z .5)
 
 module _ (file : List ℕ) (p : Program) (ok : decode file ≡ accepted p) where
   wf : WellFormed p
@@ -163,17 +170,28 @@ module _ (file : List ℕ) (p : Program) (ok : decode file ≡ accepted p) where
   unfolding outputAfter
   yes-in-front text out s j = (at-most-24 p wf s (yes-full text (length out) s j), take-over s out, drop-over s out)
 
+  zero-unwritten : (g : Graph) (v : Values) → Makes p g v → (e : Event) → AddsZero (localAt p v e) → (l : ℕ) → List·Memᴰ e (orderOf g l) → ⊥
+  zero-unwritten g v m e z l i = m .writes l e .0 i .1 (adds-nothing (localAt p v e) (v e) z)
+
+  zero-judged : (text : List ℕ) (room : ℕ) → 24 ≤ room → (g : Graph) → Gives p text g → (e : Event) (l : ℕ) → List·Memᴰ e (orderOf g l) →
+      ((v : Values) → Makes p g v → AddsZero (localAt p v e)) → Judgement file text room inconsistent
+  zero-judged text room h g q e l i z =
+      no-exactly text room h g q .1 (λ c. zero-unwritten g (c .value) (c .makes) e (z (c .value) (c .makes)) l i)
+
   pub demand-2 : Demand2 file p
   unfolding outputAfter
   demand-2 = record {
     has-text = has-text;
     text-in-front = text-in-front;
     text-back = run-text-read p wf;
+    canonical = read-canonical p;
     own-yes = own-yes;
     one-answer = one-answer;
     yes-exactly = yes-exactly;
     no-exactly = no-exactly;
     graphs-exactly = λ g. let c = consistent-iff p wf g in ((λ k. let r = c .0 k in (r .0, r .1 .0, r .1 .1)), λ k. c .1 (k .0, (k .1, k .2)));
+    zero-unwritten = zero-unwritten;
+    zero-judged = zero-judged;
     least = least;
     short = short;
     text-refused = line-refused;

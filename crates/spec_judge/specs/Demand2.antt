@@ -5,15 +5,21 @@ use Prim.Native.Nat.{ℕ, _<_, _≤_}
 use mathlib.Core.Path.{_≡_}
 use mathlib.Core.Logic.{_↔_}
 use mathlib.Core.Bool.{false}
-use mathlib.Core.List.{List}
+use mathlib.Core.List.{List, _∷_, List·Memᴰ}
 use lib.ListN.{length, take, drop}
 use Rattle.spec_file.specs.Program.{Program}
 use Rattle.spec_schedules.specs.Order.{Schedule, less}
+use Rattle.spec_file.specs.declared.instruction.Operand.{Operand}
+use Rattle.spec_file.specs.declared.instruction.Access.the-variants.{FetchAdd}
+use Rattle.spec_file.specs.declared.instruction.Instruction.{Instruction}
+use Rattle.spec_file.specs.declared.instruction.Instruction.the-variants.{Memory}
+use Rattle.spec_sc.specs.Local.{Local, eval}
+use Rattle.spec_sc.specs.State.{Event}
 use Rattle.spec_sc.specs.Graph.{Graph, graph, Full}
 use Rattle.spec_sc.specs.Text.{graphText}
 use Rattle.spec_sc.specs.Sequential.{sc}
 use Rattle.spec_model.specs.GraphCall.{texted, graphFile, graphOutput}
-use Rattle.spec_judge.specs.Consistent.{Consistent}
+use Rattle.spec_judge.specs.Consistent.{orderOf, Values, localAt, Makes, Canonical, Consistent}
 use Rattle.spec_judge.specs.Reading.{parsed, refusedAt, readGraph}
 use Rattle.spec_judge.specs.Answer.{Answer, consistent, inconsistent, refusing, Judgement, outputAfter}
 
@@ -24,6 +30,10 @@ textFor p s = graphText (graph p s)
 -- the text is not refused: it gives the graph g
 abbrev pub Gives : Program → List ℕ → Graph → Type 0
 Gives p text g = readGraph (length (p .threads)) text ≡ parsed g
+
+-- the thread's next access is a fetch and add of zero
+abbrev pub AddsZero : Local → Type 0
+AddsZero h = (r l : ℕ) × (o : Operand) × (rest : List Instruction) × (h .rest ≡ Memory (FetchAdd r l o) ∷ rest) × (eval (h .registers) o ≡ 0)
 
 pub record Demand2 (file : List ℕ) (p : Program) : Type 0 where
   -- EVERY FULL SCHEDULE, and no other, has its graph's text by the graph call, with an output that is not too short
@@ -36,6 +46,8 @@ pub record Demand2 (file : List ℕ) (p : Program) : Type 0 where
       (take (length t) later ≡ t) × (drop (length t) later ≡ drop (length t) out)
   -- the text of a full schedule's graph, read, gives that graph back
   pub text-back : (s : Schedule) → Full p s → Gives p (textFor p s) (graph p s)
+  -- every text that is not refused gives a row for each thread and a list for each location, in order, nothing twice
+  pub canonical : (text : List ℕ) (g : Graph) → Gives p text g → Canonical p g
   -- THE TEXT OF A FULL SCHEDULE'S GRAPH IS JUDGED YES, with a schedule that is not greater
   pub own-yes : (s : Schedule) → Full p s → (room : ℕ) → 24 ≤ room →
       (r : Schedule) × Judgement file (textFor p s) room (consistent r) × (less s r ≡ false)
@@ -50,6 +62,13 @@ pub record Demand2 (file : List ℕ) (p : Program) : Type 0 where
       Judgement file text room inconsistent ↔ (Consistent p g → ⊥)
   -- the consistent graphs are exactly the graphs of full schedules
   pub graphs-exactly : (g : Graph) → Consistent p g ↔ ((s : Schedule) × Full p s × (graph p s ≡ g))
+  -- A FETCH AND ADD OF ZERO STANDS IN NO `41` LINE of a consistent graph: on values that make a graph, an event that adds zero is not among
+  -- its writes
+  pub zero-unwritten : (g : Graph) (v : Values) → Makes p g v → (e : Event) → AddsZero (localAt p v e) → (l : ℕ) →
+      List·Memᴰ e (orderOf g l) → ⊥
+  -- a text that has an event in a `41` line which adds zero on all values that make its graph is judged no
+  pub zero-judged : (text : List ℕ) (room : ℕ) → 24 ≤ room → (g : Graph) → Gives p text g → (e : Event) (l : ℕ) →
+      List·Memᴰ e (orderOf g l) → ((v : Values) → Makes p g v → AddsZero (localAt p v e)) → Judgement file text room inconsistent
   -- THE SCHEDULE ANSWERED is full, has the text's graph, and no smaller full schedule has that graph
   pub least : (text : List ℕ) (room : ℕ) → 24 ≤ room → (g : Graph) → Gives p text g → (s : Schedule) →
       Judgement file text room (consistent s) ↔

@@ -49,6 +49,11 @@ pub data Class : Type 0 where
   sized : ℕ → Class
   refused-class : ℕ → ℕ → Class
 
+-- the number that an answer says, 0 for a refusal
+unfoldable pub sizeIn : Class → ℕ
+sizeIn (sized n) = n
+sizeIn (refused-class n k) = 0
+
 module _ (M : Model) where
   -- the class call's answer by what refuses the schedule: 20 and 21 as of continue
   unfoldable pub classBy : Program → Schedule → Option (ℕ × ℕ) → Class

@@ -14,7 +14,7 @@ use Rattle.spec_model.specs.Exchange.{permitted}
 use Rattle.spec_model.specs.Model.{Model, Full, graph, failing}
 use Rattle.spec_model.specs.Alike.{Alike, listOf}
 use Rattle.spec_model.specs.OnFile.{admit, counted, countFile}
-use Rattle.spec_model.specs.ClassSize.{total, classGraphs, classSize, leaving}
+use Rattle.spec_model.specs.ClassSize.{total, classGraphs, classSize, leaving, sized, sizeIn, classFile}
 
 -- what a model shows beside its laws so that classes can be counted: neither its start nor what it turns away sees the groups
 pub record GroupsUnseen (M : Model) : Type 0 where
@@ -31,12 +31,16 @@ pub record Classes (M : Model) (file : List ℕ) (p : Program) : Type 0 where
   pub own : (s : Schedule) → Full M p s → List·Memᴰ (graph M p s) (classGraphs M p s)
   -- alike schedules have one number
   pub alike-same : (r s : Schedule) → Full M p r → Full M p s → Alike M p r s → classSize M p r ≡ classSize M p s
+  -- THE CLASS CALL answers that number for every full schedule, listed or not
+  pub called : (s : Schedule) → Full M p s → classFile M file s ≡ sized (classSize M p s)
   -- TIMES the number of permitted permutations that leave the graph the same, a class's number is that of all permitted permutations
   pub times : (s : Schedule) → Full M p s → classSize M p s * length (leaving M p s) ≡ length (permitted p)
   -- the number of a class is not more than 720
   pub few : (s : Schedule) → Full M p s → classSize M p s < 721
   -- OVER THE WHOLE LIST the numbers of the classes sum to the length of the list of the program without groups
   pub sum : total (classSize M p) (listOf M p) ≡ length (listOf M (ungrouped p))
+  -- what the class call answers for the members of the list sums to that length
+  pub sum-called : total (λ s. sizeIn (classFile M file s)) (listOf M p) ≡ length (listOf M (ungrouped p))
   -- over the members that pass a test that tells no alike ones apart, as those with one outcome, the numbers sum to how many pass in the
   -- list of the program without groups
   pub sum-of : (f : Schedule → Bool) → ((r s : Schedule) → Full M p r → Full M p s → Alike M p r s → f r ≡ f s) →

@@ -9,6 +9,8 @@ pub mod Suffix
 -- the four functions by which an access is seen, and settling: with Words the only laws that go by instruction
 pub mod Access
 pub mod Idle
+-- an operand that is the register to be set is read first
+pub mod OwnOperand
 -- what a step touches, and what it adds at one thread and one location
 pub mod Steps
 pub mod Change
