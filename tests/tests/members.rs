@@ -121,7 +121,7 @@ fn random_programs() {
 fn there_and_back() {
     let mut random = Random::new(102);
     let (mut scratch, mut members, mut others) = (vec![0; 4_000], 0, 0);
-    for _ in 0..share::of(400) {
+    for _ in 0..share::of(1_000) {
         let file = text(&frames_parted(&mut random, SMALL));
         let program = decode(&file).expect("accepted");
         let list = walked(&file);

@@ -68,7 +68,9 @@ impl<'a> Walk<'a> {
         let Choice { places, failing_only, memory } = self.choice;
         let mut walked = Walked { counts: Counts::default(), place: self.front, written: Ok(()), cut: false };
         let size = self.all.map(|all| places.of_so_many(all.listed));
-        if size == Some(0) {
+        // where only failing ones are wanted and their number is known, nothing is looked for behind the last of them
+        let failing = self.failing().filter(|_| failing_only);
+        if size == Some(0) || failing == Some(0) {
             return Walked { counts: self.all.unwrap_or_default(), ..walked };
         }
         let (mut progress, mut done) =
@@ -85,7 +87,7 @@ impl<'a> Walk<'a> {
                 walked.written = each(walked.place, listed);
             }
             progress.tell(walked.counts, || Some(done.share(walked.counts.listed, &listed.schedule)));
-            walked.written.is_err()
+            walked.written.is_err() || failing == Some(walked.counts.failing)
         });
         progress.hide();
         let all = self.all.filter(|_| !walked.cut);
