@@ -11,9 +11,9 @@ use tarczolin_tests::papers;
 use tarczolin_tests::parts;
 use tarczolin_tests::random::program::{frames_parted, straight, Size, ANY, SMALL};
 use tarczolin_tests::random::{damage, Random};
+use tarczolin_tests::scratch::Scratch;
 use tarczolin_tests::search::states::{Sc, States, Table};
 use tarczolin_tests::search::walk::orders;
-use tarczolin_tests::scratch::Scratch;
 use tarczolin_tests::share;
 
 /// Scratches of every length that has something about it: none, too short for any key, just long enough for one, and longer ones.

@@ -47,7 +47,9 @@ fn pieces_from_place_to_place() {
     let file = one_failing();
     let whole = listed(&file, &[]);
     assert_eq!(whole.len(), 3_432);
-    for (from, to) in [(1, 2), (1, 3433), (2, 2), (17, 1500), (3432, 3433), (3000, 9000), (3433, 3434), (5000, 6000), (1, u64::MAX)] {
+    for (from, to) in
+        [(1, 2), (1, 3433), (2, 2), (17, 1500), (3432, 3433), (3000, 9000), (3433, 3434), (5000, 6000), (1, u64::MAX)]
+    {
         let words = places(from, to);
         let words = words.each_ref().map(String::as_str);
         let wanted = &whole[(from as usize - 1).min(3432)..(to.min(3433) as usize - 1).max(from as usize - 1).min(3432)];

@@ -12,7 +12,6 @@ use std::ffi::OsStr;
 use std::io;
 use std::path::Path;
 
-
 /// An execution of the list, ready to be shown.
 pub fn execution<'a>(list: &'a List, position: u64, listed: &Listed) -> Execution<'a> {
     Execution::of(list.file, list.program, position, listed).expect("a listed schedule of an accepted file is full")
@@ -27,7 +26,10 @@ pub fn of_list<'a>(name: &'a str, walk: &Walk<'a>) -> Result<Page<'a>, Error> {
         pick.add(position, listed);
         stopped = walk.is_enough(&pick);
         // what stops the walk is nobody's error
-        if stopped { Err(io::Error::other("the page is full")) } else { Ok(()) }
+        match stopped {
+            true => Err(io::Error::other("the page is full")),
+            false => Ok(()),
+        }
     });
     if cut {
         return Err(Error::Interrupted(listed));
