@@ -129,9 +129,10 @@ returns c =
       λ class threads groups x p v at of s.
           let ran = loop .inv .1 class threads groups x p v at (apart x (a .t) (a .r) of) in
           subst (λ (y : Runner). Wrapped (charged (a .r .failed) (numbersAt p v)) 1 (cond (y .failed) 1 0)
-          × (a .r .failed ≡ fails (endOf p v) → foundBehind true p (x .steps) none v ≡ cond (y .failed) (take (y .steps) (y .schedule) ∷ []) [])) (sym e)
-          (ran-numbers (a .code .now) (a .lengths .now) class threads groups x p v (a .t) (a .r .failed) (loop .k) (loop .memory) (loop .schedule) (loop .n) (loop .failed) ran (c .before .before .before .before .before .before .before .before .before .pre .1) over s,
-          ran-found (a .code .now) (a .lengths .now) class threads groups x p v (a .t) (a .r .failed) (loop .k) (loop .memory) (loop .schedule) (loop .n) (loop .failed) ran (c .before .before .before .before .before .before .before .before .before .pre .1) over s),
+          × (a .r .failed ≡ fails (endOf p v) → foundBehind true p (x .steps) none v ≡ cond (y .failed) (take (y .steps) (y .schedule) ∷ []) [])) (sym e) (
+            ran-numbers (a .code .now) (a .lengths .now) class threads groups x p v (a .t) (a .r .failed) (loop .k) (loop .memory) (loop .schedule) (loop .n) (loop .failed) ran (c .before .before .before .before .before .before .before .before .before .pre .1) over s,
+            ran-found (a .code .now) (a .lengths .now) class threads groups x p v (a .t) (a .r .failed) (loop .k) (loop .memory) (loop .schedule) (loop .n) (loop .failed) ran (c .before .before .before .before .before .before .before .before .before .pre .1) over s,
+          ),
     )
 
 pub ran-out-spec : {M : Type 1} → statement M
