@@ -10,5 +10,6 @@ pub mod parts;
 pub mod random;
 pub mod search;
 pub mod share;
+pub mod spin;
 pub mod table;
 pub mod users;
