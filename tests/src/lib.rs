@@ -11,5 +11,6 @@ pub mod random;
 pub mod scratch;
 pub mod search;
 pub mod share;
+pub mod spin;
 pub mod table;
 pub mod users;

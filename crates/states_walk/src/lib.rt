@@ -2,6 +2,8 @@
 
 // A step of the search.
 mod stepping;
+// The last running thread.
+mod alone;
 // How many are listed, and how many of these fail.
 mod counting;
 // The first that fails.
