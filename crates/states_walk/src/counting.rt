@@ -30,7 +30,7 @@ ghost use Rattle.theory_states.specs.Wrapped.{Wrapped};
 ghost use Rattle.states_walk.specs.Known.{Numbered, numbersAt, numbersBy};
 
 // Of those with t, which is tried, as the next step.
-fn visit(
+pub fn visit(
     code: &Code,
     lengths: &[usize; 6],
     class: &[usize; 6],

@@ -1,0 +1,1 @@
+-- The laws, in the order in which they rest on each other.
