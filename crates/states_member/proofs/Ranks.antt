@@ -11,11 +11,11 @@ use Rattle.spec_file.specs.Program.{Program}
 use Rattle.spec_file.specs.WellFormed.{WellFormed}
 use Rattle.spec_schedules.specs.Order.{Schedule}
 use Rattle.spec_schedules.specs.System.{Allowed, FullFrom, ended}
-use Rattle.spec_schedules.proofs.Runs.{run-snoc, not-ended}
+use Rattle.spec_schedules.proofs.Runs.{run-snoc, not-ended, full-length}
 use Rattle.spec_sc.specs.State.{State, SC, enabled, start}
 use Rattle.spec_sc.specs.Graph.{endOf}
 use Rattle.spec_sc.specs.Sequential.{sc}
-use Rattle.spec_sc.proofs.Lawful.{lawful}
+use Rattle.spec_sc.proofs.Lawful.{lawful, start-24}
 use Rattle.spec_sc.proofs.Steps.{enabled-small}
 use Rattle.theory_search.specs.Found.{foundFrom}
 use Rattle.theory_search.specs.ModelSearch.{lookedFor}
@@ -28,6 +28,7 @@ use Rattle.theory_states.specs.Numbers.{Numbers, sumRange}
 use Rattle.theory_states.specs.Wrapped.{Wrapped}
 use Rattle.theory_states.specs.Ranked.{rank}
 use Rattle.theory_states.proofs.Numbers.{sum-same}
+use Rattle.theory_states.proofs.Passing.{size-left}
 use Rattle.theory_states.proofs.Wrapped.{add-on, last-on}
 use Rattle.theory_states.proofs.Ranked.{rank-end, rank-turn, rank-live, rank-cut}
 use Rattle.states_key.specs.Stands.{placeOf, Stands}
@@ -71,6 +72,10 @@ module _ (p : Program) (w : WellFormed p) (v : Schedule) (a : Allowed SC (start 
         let z = ap₂ (λ (k : ℕ) (τ : State). rank ((v ++ (b ∷ [])) ++ s) (foundFrom SC 6 (givenUp p) (lookedFor sc false p) k none (v ++ (b ∷ [])) τ)) i (run-snoc SC (start p) v b)
         ∙ sym (rank-live SC 6 (givenUp p) (lookedFor sc false p) (24 - steps - 1) b s v (endOf p v) ok c) in
         ap (λ (n : ℕ). (l' + n) % 2 ^ 64) z ∙ added
+
+-- what goes on behind a prefix to the end has at most 24 steps
+pub full-few : (p : Program) → WellFormed p → (v s : Schedule) → Allowed SC (start p) v → FullFrom SC (endOf p v) s → length s ≤ 24
+full-few p w v s a f = omega (arith, full-length SC lawful (endOf p v) s f, size-left SC lawful v (start p) a, start-24 p w)
 
 -- ---- step by step
 -- what is left to the loop: those behind x that are smaller than the rest of the schedule complete the whole; and the table stays true

@@ -6,7 +6,7 @@ use native.Mathlib.Omega.{arith}
 use lib.ListN.{length, getD}
 use Rattle.spec_sc.specs.Graph.{endOf}
 use Rattle.spec_sc.proofs.Steps.{enabled-small}
-use Rattle.states_member.proofs.Ranks.{Along, along-start, along-enabled, along-up, along-next, along-over}
+use Rattle.states_member.proofs.Ranks.{full-few, Along, along-start, along-enabled, along-up, along-next, along-over}
 use Rattle.states_member.proofs.ranking.rank_behind.Statement.{statement}
 use Rattle.states_member.proofs.ranking.rank_behind.Tie as tie
 
@@ -67,6 +67,13 @@ advanced-requires c κs =
     (c .before .before .before .before .before .before .before .before .loop-test .taken) (e .0, e .1, e .2, e .3, e .4) (e .5) in
     (a .class .now, e .0, e .1, e .2, here .0, here .1, here .2)
 
+add-i : tie.Need-add-i Inv-loop μ-loop
+add-i c =
+    let e = c .before .before .before .before .before .before .before .before .before .before .before .before .before .pre .0 in
+    let at = e .4 .reached in
+    let h : c .before .before .before .before .before .before .before .before .before .before .loop .i < 24 = omega (arith, c .before .before .before .before .before .before .before .before .before .loop-test .taken, full-few (e .2) (at .loaded .wellFormed) (e .3) (c .before .before .before .before .before .before .before .before .before .before .before .before .before .args .schedule .now) (at .allowed) (e .5)) in
+    search needs
+
 loop-again : tie.Need-loop-again Inv-loop μ-loop
 loop-again c =
     let a = c .before .before .before .before .before .before .before .before .before .before .before .before .before .args in
@@ -93,5 +100,5 @@ returns-2 c =
 pub rank-behind-spec : {M : Type 1} → statement M
 rank-behind-spec =
     tie.close
-    (tie.spec Inv-loop μ-loop loop-holds (λ c. search needs) smaller-requires (λ c κs. search needs) gives-up-requires (λ c. search needs) returns advanced-requires (λ c. search needs) (λ c. search needs) loop-again
+    (tie.spec Inv-loop μ-loop loop-holds (λ c. search needs) smaller-requires (λ c κs. search needs) gives-up-requires (λ c. search needs) returns advanced-requires add-i (λ c. search needs) loop-again
     (λ c. search needs) returns-2)
