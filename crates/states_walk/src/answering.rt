@@ -58,7 +58,7 @@ fn accesses(code: &Code) -> usize {
 }
 
 // A table of so many words whose entries have so many behind the key, for a program with keys of this width and so many accesses.
-fn shape_of(width: usize, accesses: usize, words: usize, entry: usize) -> Shape
+pub fn shape_of(width: usize, accesses: usize, words: usize, entry: usize) -> Shape
     ensures { λ r. ⌜ r .width ≡ width ⌝ }
 {
     let n = slots(words, width, entry);
@@ -80,7 +80,8 @@ fn depth(slots: usize, accesses: usize) -> usize {
     accesses - FEW + 1
 }
 
-fn made(program: Compiled) -> Setup
+// Makes ready.
+pub fn made(program: Compiled) -> Setup
     requires { ⌜ WellFormed (programOf program) ⌝ }
     ensures { λ r. ⌜ Made program r ⌝ }
 {

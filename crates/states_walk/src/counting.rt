@@ -44,7 +44,7 @@ fn one() -> Tally
 }
 
 // Of those with t, which is tried, as the next step.
-fn visit(
+pub fn visit(
     code: &Code,
     lengths: &[usize; 6],
     class: &[usize; 6],
