@@ -103,6 +103,30 @@ pub fn violation_with(file: &[u8], out: &mut [u8], scratch: &mut [u64]) -> Answe
     })
 }
 
+/// The listed schedule number k, from 0, or no more where the list has not so many; the scratch as by `count_with`.
+pub fn kth(file: &[u8], k: u64, out: &mut [u8], scratch: &mut [u64]) -> Answer {
+    // safe: the call reads only the bytes of the first slice and writes only bytes of the second and words of the third
+    Answer::of_word(unsafe {
+        raw::tarczolin_kth(file.as_ptr(), file.len(), k, out.as_mut_ptr(), out.len(), scratch.as_mut_ptr(), scratch.len())
+    })
+}
+
+/// How many listed schedules are smaller than the full one given, which need not be listed; the scratch as by `count_with`.
+pub fn rank(file: &[u8], schedule: &[u8], rank: &mut u64, scratch: &mut [u64]) -> Answer {
+    // safe: the call reads only the bytes of the first two slices and writes only the word and words of the third
+    Answer::of_word(unsafe {
+        raw::tarczolin_rank(
+            file.as_ptr(),
+            file.len(),
+            schedule.as_ptr(),
+            schedule.len(),
+            rank,
+            scratch.as_mut_ptr(),
+            scratch.len(),
+        )
+    })
+}
+
 /// The first listed schedules as rows, as many as the output has room for; the answer carries the number of rows.
 pub fn rows(file: &[u8], out: &mut [u8]) -> Answer {
     // safe: the call reads only the bytes of the first slice and writes only bytes of the second
