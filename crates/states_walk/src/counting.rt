@@ -80,6 +80,10 @@ pub fn visit(
         let end = ran_out(code, lengths, r, s);
         return charged(end.failed, one());
     }
+    if shape.deep <= y.steps {
+        let few = summed(code, lengths, class, left, masks, shape, y, table);
+        return charged(k.failed, few);
+    }
     let n = behind(code, lengths, class, left, masks, shape, y, table);
     charged(k.failed, n)
 }

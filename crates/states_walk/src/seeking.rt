@@ -111,6 +111,10 @@ fn first_with(
         let r = first_of(end);
         return r;
     }
+    if shape.deep <= y.steps {
+        let r = first_among(code, lengths, class, left, masks, shape, y, table);
+        return r;
+    }
     let r = first_behind(code, lengths, class, left, masks, shape, y, table);
     r
 }

@@ -4,7 +4,7 @@ use borrow.Author.Needs.{needs}
 use Prim.Native.Nat.{ℕ, _<_, _≤_, _-_, _+_, _^_}
 use mathlib.Core.Path.{_≡_, refl, sym, ap, ap₂, subst, _∙_}
 use mathlib.Core.Logic.{⊎-elim}
-use mathlib.Core.Bool.{Bool, cond}
+use mathlib.Core.Bool.{Bool, cond, true≢false}
 use mathlib.Core.List.{[], _∷_, _++_}
 use native.Mathlib.Omega.{arith}
 use lib.ListN.{length, getD}
@@ -84,7 +84,7 @@ abbrev summed-callees : ℕ → summed-lts.Claims
 summed-callees t = (is-tried-reads.Asked, is-tried-reads.Learnt, visit-below t, visit.Post, added-reads.Asked, added-reads.Learnt)
 
 abbrev visit-callees : ℕ → visit-lts.Claims
-visit-callees t = (advanced-reads.Asked, advanced-reads.Learnt, some-asleep-reads.Asked, some-asleep-reads.Learnt, wide-reads.Asked, wide-reads.Learnt, last-runner-reads.Asked, last-runner-reads.Learnt, runner-at-reads.Asked, runner-at-reads.Learnt, ran-out-reads.Asked, ran-out-reads.Learnt, one-reads.Asked, one-reads.Learnt, charged-reads.Asked, charged-reads.Learnt, behind-below t, behind.Post)
+visit-callees t = (advanced-reads.Asked, advanced-reads.Learnt, some-asleep-reads.Asked, some-asleep-reads.Learnt, wide-reads.Asked, wide-reads.Learnt, last-runner-reads.Asked, last-runner-reads.Learnt, runner-at-reads.Asked, runner-at-reads.Learnt, ran-out-reads.Asked, ran-out-reads.Learnt, one-reads.Asked, one-reads.Learnt, charged-reads.Asked, charged-reads.Learnt, summed-below t, summed.Post, behind-below t, behind.Post)
 
 -- a tally of one that does not fail
 one-is : (n : Tally) → n .listed ≡ 1 → n .failing ≡ 0 → n ≡ record { listed = 1; failing = 0 }
@@ -304,28 +304,64 @@ visit-returns-2 t c = let pre = (c .before .before .before .before .before .befo
           ),
     )
 
+visit-summed-requires : (t : ℕ) → visit-lts.Need-summed-requires (visit-callees t) (visit-at t) visit.Post
+visit-summed-requires t c κs =
+    let pre = (c .before .before .before .before .before .before .before .before .before .before .before .before .pre) in
+    let a = (c .before .before .before .before .before .before .before .before .before .before .before .before .args) in
+    let e = pre .1 .0 in
+    let y = placeOf ((c .before .before .before .before .before .before .before .before .before .before .advanced) .result) in
+    let next = (c .before .before .before .before .before .before .before .before .before .before .advanced) .ensures (a .class .now) (e .0) (e .1) (e .2) (e .3) (e .4) in
+    let less = step-less (e .2) (e .3) (a .t) (a .code .now) (a .lengths .now) (a .class .now) (e .0) (e .1) ((c .before .before .before .before .before .before .before .before .before .before .advanced) .result) next (tried-enabled (e .2) (e .3) (a .t) (pre .1 .4 (e .0) (e .1) (e .2) (e .3) (e .4))) (a .x) (e .4) in
+    let going = (c .before .before .before .before .last-runner) .ensures (a .code .now) (a .lengths .now) (a .class .now) (e .0) (e .1) y (e .2) (e .3 ++ (a .t ∷ [])) (next .reached) refl .1 ((c .before .before .before .if2) .left) in (
+      omega (arith, pre .0, less),
+      (
+        (e .0, e .1, e .2, e .3 ++ (a .t ∷ []), next),
+        pre .1 .1,
+        pre .1 .2,
+        pre .1 .3,
+        λ z. true≢false (sym (reached-ended (a .code .now) (a .lengths .now) (a .class .now) (e .0) (e .1) y (e .2) (e .3 ++ (a .t ∷ [])) (next .reached) z) ∙ going),
+      ),
+    )
+
+-- few steps are left
+visit-returns-3 : (t : ℕ) → visit-lts.Need-returns-3 (visit-callees t) (visit-at t) visit.Post
+visit-returns-3 t c = let pre = (c .before .before .before .before .before .before .before .before .before .before .before .before .before .before .before .before .pre) in
+    let a = (c .before .before .before .before .before .before .before .before .before .before .before .before .before .before .before .before .args) in (
+      (c .before .before .before .summed) .ensures .0,
+      λ threads groups p v at wide true-table.
+          let is = pre .1 .4 threads groups p v at in
+          let next = (c .before .before .before .before .before .before .before .before .before .before .before .before .before .before .advanced) .ensures (a .class .now) threads groups p v at in
+          let r = (c .before .before .before .summed) .ensures .1 threads groups p (v ++ (a .t ∷ [])) next wide true-table in (
+            awake-numbers p v (a .t) is (sym ((c .before .before .before .before .before .before .before .before .before .before .before .before .some-asleep) .ensures (a .class .now) threads groups (placeOf ((c .before .before .before .before .before .before .before .before .before .before .before .before .before .before .advanced) .result)) p (v ++ (a .t ∷ [])) (next .reached) refl refl) ∙ (c .before .before .before .before .before .before .before .before .before .before .before .if1) .left)
+                (getD ((c .before .before .before .before .before .before .before .before .before .before .before .before .before .before .advanced) .result .threads) ((c .before .before .before .before .before .before .before .before .before .before .wide) .result) idle .failed)
+                (step-failed p v (a .t) (a .code .now) (a .lengths .now) (a .class .now) threads groups ((c .before .before .before .before .before .before .before .before .before .before .before .before .before .before .advanced) .result) next (tried-enabled p v (a .t) is) ((c .before .before .before .before .before .before .before .before .before .before .wide) .result) ((c .before .before .before .before .before .before .before .before .before .before .wide) .ensures .0))
+                ((c .before .before .before .summed) .result .listed) ((c .before .before .before .summed) .result .failing) _ _ (r .0) ((c .charged2) .ensures .0) ((c .charged2) .ensures .1),
+            r .1,
+          ),
+    )
+
 visit-behind-requires : (t : ℕ) → visit-lts.Need-behind-requires (visit-callees t) (visit-at t) visit.Post
 visit-behind-requires t c κs =
-    let pre = (c .before .before .before .before .before .before .before .before .before .before .pre) in
-    let a = (c .before .before .before .before .before .before .before .before .before .before .args) in
+    let pre = (c .before .before .before .before .before .before .before .before .before .before .before .before .pre) in
+    let a = (c .before .before .before .before .before .before .before .before .before .before .before .before .args) in
     let e = pre .1 .0 in
-    let next = (c .before .before .before .before .before .before .before .before .advanced) .ensures (a .class .now) (e .0) (e .1) (e .2) (e .3) (e .4) in
-    let less = step-less (e .2) (e .3) (a .t) (a .code .now) (a .lengths .now) (a .class .now) (e .0) (e .1) ((c .before .before .before .before .before .before .before .before .advanced) .result) next (tried-enabled (e .2) (e .3) (a .t) (pre .1 .4 (e .0) (e .1) (e .2) (e .3) (e .4))) (a .x) (e .4) in
+    let next = (c .before .before .before .before .before .before .before .before .before .before .advanced) .ensures (a .class .now) (e .0) (e .1) (e .2) (e .3) (e .4) in
+    let less = step-less (e .2) (e .3) (a .t) (a .code .now) (a .lengths .now) (a .class .now) (e .0) (e .1) ((c .before .before .before .before .before .before .before .before .before .before .advanced) .result) next (tried-enabled (e .2) (e .3) (a .t) (pre .1 .4 (e .0) (e .1) (e .2) (e .3) (e .4))) (a .x) (e .4) in
     (omega (arith, pre .0, less), ((e .0, e .1, e .2, e .3 ++ (a .t ∷ []), next), pre .1 .1, pre .1 .2, pre .1 .3))
 
-visit-returns-3 : (t : ℕ) → visit-lts.Need-returns-3 (visit-callees t) (visit-at t) visit.Post
-visit-returns-3 t c =
-    let pre = (c .before .before .before .before .before .before .before .before .before .before .before .before .before .before .pre) in
-    let a = (c .before .before .before .before .before .before .before .before .before .before .before .before .before .before .args) in (
+visit-returns-4 : (t : ℕ) → visit-lts.Need-returns-4 (visit-callees t) (visit-at t) visit.Post
+visit-returns-4 t c =
+    let pre = (c .before .before .before .before .before .before .before .before .before .before .before .before .before .before .before .before .pre) in
+    let a = (c .before .before .before .before .before .before .before .before .before .before .before .before .before .before .before .before .args) in (
       (c .before .before .before .behind) .ensures .0,
       λ threads groups p v at wide true-table.
           let is = pre .1 .4 threads groups p v at in
-          let next = (c .before .before .before .before .before .before .before .before .before .before .before .before .advanced) .ensures (a .class .now) threads groups p v at in
+          let next = (c .before .before .before .before .before .before .before .before .before .before .before .before .before .before .advanced) .ensures (a .class .now) threads groups p v at in
           let r = (c .before .before .before .behind) .ensures .1 threads groups p (v ++ (a .t ∷ [])) next wide true-table in (
-            awake-numbers p v (a .t) is (sym ((c .before .before .before .before .before .before .before .before .before .before .some-asleep) .ensures (a .class .now) threads groups (placeOf ((c .before .before .before .before .before .before .before .before .before .before .before .before .advanced) .result)) p (v ++ (a .t ∷ [])) (next .reached) refl refl) ∙ (c .before .before .before .before .before .before .before .before .before .if1) .left)
-                (getD ((c .before .before .before .before .before .before .before .before .before .before .before .before .advanced) .result .threads) ((c .before .before .before .before .before .before .before .before .wide) .result) idle .failed)
-                (step-failed p v (a .t) (a .code .now) (a .lengths .now) (a .class .now) threads groups ((c .before .before .before .before .before .before .before .before .before .before .before .before .advanced) .result) next (tried-enabled p v (a .t) is) ((c .before .before .before .before .before .before .before .before .wide) .result) ((c .before .before .before .before .before .before .before .before .wide) .ensures .0))
-                ((c .before .before .before .behind) .result .listed) ((c .before .before .before .behind) .result .failing) _ _ (r .0) ((c .charged2) .ensures .0) ((c .charged2) .ensures .1),
+            awake-numbers p v (a .t) is (sym ((c .before .before .before .before .before .before .before .before .before .before .before .before .some-asleep) .ensures (a .class .now) threads groups (placeOf ((c .before .before .before .before .before .before .before .before .before .before .before .before .before .before .advanced) .result)) p (v ++ (a .t ∷ [])) (next .reached) refl refl) ∙ (c .before .before .before .before .before .before .before .before .before .before .before .if1) .left)
+                (getD ((c .before .before .before .before .before .before .before .before .before .before .before .before .before .before .advanced) .result .threads) ((c .before .before .before .before .before .before .before .before .before .before .wide) .result) idle .failed)
+                (step-failed p v (a .t) (a .code .now) (a .lengths .now) (a .class .now) threads groups ((c .before .before .before .before .before .before .before .before .before .before .before .before .before .before .advanced) .result) next (tried-enabled p v (a .t) is) ((c .before .before .before .before .before .before .before .before .before .before .wide) .result) ((c .before .before .before .before .before .before .before .before .before .before .wide) .ensures .0))
+                ((c .before .before .before .behind) .result .listed) ((c .before .before .before .behind) .result .failing) _ _ (r .0) ((c .charged3) .ensures .0) ((c .charged3) .ensures .1),
             r .1,
           ),
     )
@@ -334,4 +370,4 @@ pub +behind+summed+visit-spec : {M : Type 1} → statement M
 +behind+summed+visit-spec = close μ-behind μ-summed μ-visit
     (λ t. behind-lts.spec (behind-callees t) (behind-at t) behind.Post (λ c κs. search needs) (behind-returns t) (behind-summed-requires t) (λ c. search needs) (behind-returns-2 t) (behind-key-requires t) (behind-array-share-prefix-k t) (behind-slice-aggregate-recall t) (λ c κs. search needs) (λ c. search needs) (behind-returns-3 t) (behind-summed-requires-2 t) (behind-array-share-prefix-k-2 t) (behind-slice-aggregate-keep t) (λ c κs. search needs) (λ c. search needs) (behind-returns-4 t))
     (λ t. summed-lts.spec (summed-callees t) (summed-at t) summed.Post summed-Inv-loop summed-μ-loop (summed-loop-holds t) (λ c κs. search needs) (summed-visit-requires t) (λ c κs. search needs) (λ c. search needs) (λ c. search needs) (summed-loop-again t) (λ c. search needs) (summed-returns t))
-    (λ t. visit-lts.spec (visit-callees t) (visit-at t) visit.Post (visit-advanced-requires t) (visit-some-asleep-requires t) (visit-returns t) (λ c κs. search needs) (λ c. search needs) (visit-element-copy-out-k t) (λ c κs. search needs) (λ c κs. search needs) (λ c. search needs) (visit-element-copy-out-runner-at t) (λ c κs. search needs) (visit-ran-out-requires t) (λ c κs. search needs) (λ c κs. search needs) (visit-returns-2 t) (visit-behind-requires t) (λ c κs. search needs) (λ c. search needs) (visit-returns-3 t))
+    (λ t. visit-lts.spec (visit-callees t) (visit-at t) visit.Post (visit-advanced-requires t) (visit-some-asleep-requires t) (visit-returns t) (λ c κs. search needs) (λ c. search needs) (visit-element-copy-out-k t) (λ c κs. search needs) (λ c κs. search needs) (λ c. search needs) (visit-element-copy-out-runner-at t) (λ c κs. search needs) (visit-ran-out-requires t) (λ c κs. search needs) (λ c κs. search needs) (visit-returns-2 t) (visit-summed-requires t) (λ c κs. search needs) (λ c. search needs) (visit-returns-3 t) (visit-behind-requires t) (λ c κs. search needs) (λ c. search needs) (visit-returns-4 t))
