@@ -17,7 +17,7 @@
  *    24576   tarczolin_judge, tarczolin_open, tarczolin_ask, tarczolin_close
  *    36864   tarczolin_set, tarczolin_return, tarczolin_forget
  *    40960   tarczolin_start, tarczolin_continue, tarczolin_violation, tarczolin_count, tarczolin_rows, tarczolin_rows_after
- *    65536   tarczolin_count_with, tarczolin_violation_with
+ *    65536   tarczolin_count_with, tarczolin_violation_with, tarczolin_kth, tarczolin_rank
  *    65536   tarczolin_tso_start, tarczolin_tso_continue, tarczolin_tso_violation, tarczolin_tso_count, tarczolin_tso_rows,
  *    65536   tarczolin_tso_rows_after
  *    73728   tarczolin_force
@@ -155,6 +155,16 @@ uint64_t tarczolin_count(const uint8_t *file, size_t file_len, uint64_t *listed,
  * refusal leaves it as it was. Its length is counted in words of 8 bytes. */
 uint64_t tarczolin_count_with(const uint8_t *file, size_t file_len, uint64_t *listed, uint64_t *failing, uint64_t *scratch, size_t scratch_len);
 uint64_t tarczolin_violation_with(const uint8_t *file, size_t file_len, uint8_t *out, size_t out_len, uint64_t *scratch, size_t scratch_len);
+
+/* The listed schedule number k, from 0, with a scratch as tarczolin_count_with has it. Answered as by tarczolin_start; the list has not so many:
+ * kind 2, exactly from its length on. Refused: the program's (1 to 8, 40); 22. No more and a refusal change no byte of the output; an
+ * answer, no more too, leaves zeros in all words of the scratch, a refusal leaves it as it was. */
+uint64_t tarczolin_kth(const uint8_t *file, size_t file_len, uint64_t k, uint8_t *out, size_t out_len, uint64_t *scratch, size_t scratch_len);
+
+/* How many listed schedules are smaller than the full one given, which need not be listed: of the listed one number k this is k. Answered: kind 1
+ * and the rest 0. Refused: the program's (1 to 8, 40); 20 and 21 of the schedule, as by tarczolin_graph. `rank` keeps its value on refusal, and
+ * lies in no other buffer; the scratch as by tarczolin_kth. */
+uint64_t tarczolin_rank(const uint8_t *file, size_t file_len, const uint8_t *schedule, size_t schedule_len, uint64_t *rank, uint64_t *scratch, size_t scratch_len);
 
 /* Many listed schedules at a time, as rows of 26 bytes: the number of steps, 1 where the schedule fails and 0 where it
  * does not, and the steps, with zeros behind them up to 24. Answered: as many rows as the output has room for stand in

@@ -2,6 +2,10 @@
 
 // Count and violation: tarczolin_count_with, tarczolin_violation_with.
 mod by_states;
+// Members of the list by their number: tarczolin_kth, tarczolin_rank.
+mod members;
 
 pub use by_states::tarczolin_count_with;
 pub use by_states::tarczolin_violation_with;
+pub use members::tarczolin_kth;
+pub use members::tarczolin_rank;

@@ -21,5 +21,7 @@ pub mod Counted
 pub mod FirstFailing
 -- in any memory model: the count of the list, and its first failing member, with a table
 pub mod OnList
--- the member number k, and how many are above a schedule, by numbers alone
+-- the member number k, by numbers alone
 pub mod Kth
+-- how many are smaller than a schedule, by numbers alone
+pub mod Ranked

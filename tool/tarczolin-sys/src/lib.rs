@@ -7,6 +7,7 @@ mod answer;
 mod caller;
 mod closed;
 mod covers;
+mod idle;
 mod interrupt;
 mod raw;
 mod served;
@@ -17,6 +18,7 @@ pub use answer::Answer;
 pub use caller::{Caller, Mark, FILE, MARKS, NAME};
 pub use closed::{standard_input_was_closed, standard_output_was_closed};
 pub use covers::Covers;
+pub use idle::only_when_idle;
 pub use interrupt::{note_interrupts, was_interrupted};
 pub use served::Served;
 
@@ -100,6 +102,24 @@ pub fn violation_with(file: &[u8], out: &mut [u8], scratch: &mut [u64]) -> Answe
     // safe: the call reads only the bytes of the first slice and writes only bytes of the second and words of the third
     Answer::of_word(unsafe {
         raw::tarczolin_violation_with(file.as_ptr(), file.len(), out.as_mut_ptr(), out.len(), scratch.as_mut_ptr(), scratch.len())
+    })
+}
+
+/// The listed schedule number k, from 0, in front of the output; none exactly where the list has not so many. What is counted behind a
+/// state is remembered in the scratch, as `count_with` does.
+pub fn kth(file: &[u8], k: u64, out: &mut [u8], scratch: &mut [u64]) -> Answer {
+    // safe: the call reads only the bytes of the first slice and writes only bytes of the second and words of the third
+    Answer::of_word(unsafe {
+        raw::tarczolin_kth(file.as_ptr(), file.len(), k, out.as_mut_ptr(), out.len(), scratch.as_mut_ptr(), scratch.len())
+    })
+}
+
+/// How many listed schedules are smaller than this full one, listed or not. The scratch is as that of `kth`.
+pub fn rank(file: &[u8], schedule: &[u8], rank: &mut u64, scratch: &mut [u64]) -> Answer {
+    let (steps, length) = (schedule.as_ptr(), schedule.len());
+    // safe: the call reads only the bytes of the first two slices and writes only the word and words of the third
+    Answer::of_word(unsafe {
+        raw::tarczolin_rank(file.as_ptr(), file.len(), steps, length, rank, scratch.as_mut_ptr(), scratch.len())
     })
 }
 

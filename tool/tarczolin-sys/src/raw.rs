@@ -46,6 +46,24 @@ extern "C" {
         scratch: *mut u64,
         scratch_len: usize,
     ) -> u64;
+    pub fn tarczolin_kth(
+        file: *const u8,
+        file_len: usize,
+        k: u64,
+        out: *mut u8,
+        out_len: usize,
+        scratch: *mut u64,
+        scratch_len: usize,
+    ) -> u64;
+    pub fn tarczolin_rank(
+        file: *const u8,
+        file_len: usize,
+        schedule: *const u8,
+        schedule_len: usize,
+        rank: *mut u64,
+        scratch: *mut u64,
+        scratch_len: usize,
+    ) -> u64;
     pub fn tarczolin_rows(file: *const u8, file_len: usize, out: *mut u8, out_len: usize) -> u64;
     pub fn tarczolin_rows_after(
         file: *const u8,

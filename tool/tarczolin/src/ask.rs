@@ -142,6 +142,18 @@ pub fn count(model: Model, file: &[u8], scratch: &mut [u64]) -> Result<Counts, R
     Ok(counts)
 }
 
+/// The listed schedule of this number, from 0, under sequential consistency; none where the list has not so many.
+pub fn kth(file: &[u8], number: u64, scratch: &mut [u64]) -> Result<Option<Schedule>, Refusal> {
+    schedule(|out| library::kth(file, number, out, scratch))
+}
+
+/// How many listed schedules are smaller than this full one, listed or not, under sequential consistency.
+pub fn rank(file: &[u8], schedule: &[u8], scratch: &mut [u64]) -> Result<u64, Refusal> {
+    let mut rank = 0;
+    length(library::rank(file, schedule, &mut rank, scratch))?;
+    Ok(rank)
+}
+
 /// The text of the graph of a full schedule.
 pub fn graph(model: Model, file: &[u8], schedule: &[u8]) -> Result<Vec<u8>, Refusal> {
     let mut out = vec![0; GRAPH];

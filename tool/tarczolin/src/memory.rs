@@ -33,6 +33,11 @@ impl Memory {
         places.saturating_mul(EACH).min(self.0)
     }
 
+    /// Is there none at all?
+    pub fn is_none(self) -> bool {
+        self.0 == 0
+    }
+
     /// What is lent for a program: as much of it as can be had.
     pub fn lent(self, program: &Program) -> Vec<u64> {
         let (mut words, mut lent) = (self.words(program), Vec::new());

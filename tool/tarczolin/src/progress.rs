@@ -1,4 +1,4 @@
-//! Progress on standard error: listed so far, failing so far, how many a second, and the share of the range that is done. On a
+//! Progress on standard error: listed so far, failing so far, how many a second, and the share that is done. On a
 //! terminal one line that changes; else a line every few seconds; none where `TARCZOLIN_PROGRESS` is `off`.
 use crate::ask::Counts;
 use std::io::{stderr, stdout, IsTerminal, Write};
@@ -34,6 +34,15 @@ impl Default for Progress {
     }
 }
 
+/// How much is done, from 0 to 1.
+#[derive(Clone, Copy, Debug, PartialEq)]
+pub enum Share {
+    /// Of the list, exactly: its members are counted.
+    OfList(f64),
+    /// Of the range of all schedules, in which the members do not lie evenly.
+    OfRange(f64),
+}
+
 /// How often progress is told: `TARCZOLIN_PROGRESS` gives a number of milliseconds for where there is no terminal, or is off.
 pub fn every() -> Option<Duration> {
     let given = std::env::var("TARCZOLIN_PROGRESS").ok();
@@ -47,18 +56,27 @@ pub fn every() -> Option<Duration> {
 }
 
 /// The line of progress; the share stands there where it is known.
-fn line(counts: Counts, seconds: f64, share: Option<f64>) -> String {
+fn line(counts: Counts, seconds: f64, share: Option<Share>) -> String {
     let rate = counts.listed as f64 / seconds;
-    let share = share.map_or(String::new(), |share| format!(", {:.1} % of the range", share * 100.0));
+    let share = match share {
+        None => String::new(),
+        Some(Share::OfList(share)) => format!(", {:.1} % of the list", share * 100.0),
+        Some(Share::OfRange(share)) => format!(", {:.1} % of the range", share * 100.0),
+    };
     format!("{} listed, {} failing, {rate:.0} a second{share}", counts.listed, counts.failing)
 }
 
 impl Progress {
     /// Tells how far the list is, now and then; the share is asked for only then.
-    pub fn tell(&mut self, counts: Counts, share: impl FnOnce() -> Option<f64>) {
+    pub fn tell(&mut self, counts: Counts, share: impl FnOnce() -> Option<Share>) {
+        let began = self.began;
+        self.say(|| line(counts, began.elapsed().as_secs_f64(), share()));
+    }
+
+    /// Says something now and then, which is asked for only then.
+    pub fn say(&mut self, line: impl FnOnce() -> String) {
         if self.every.is_some_and(|every| self.told.elapsed() >= every) {
-            let line = line(counts, self.began.elapsed().as_secs_f64(), share());
-            self.write(&line);
+            self.write(&line());
         }
     }
 
@@ -119,8 +137,10 @@ mod tests {
 
     #[test]
     fn listed_failing_rate_and_share() {
-        let wanted = "3000 listed, 7 failing, 2000 a second, 12.5 % of the range";
-        assert_eq!(line(Counts { listed: 3000, failing: 7 }, 1.5, Some(0.125)), wanted);
-        assert_eq!(line(Counts { listed: 3000, failing: 7 }, 1.5, None), "3000 listed, 7 failing, 2000 a second");
+        let wanted = "3000 listed, 7 failing, 2000 a second";
+        let told = |share| line(Counts { listed: 3000, failing: 7 }, 1.5, share);
+        assert_eq!(told(Some(Share::OfRange(0.125))), format!("{wanted}, 12.5 % of the range"));
+        assert_eq!(told(Some(Share::OfList(1.0))), format!("{wanted}, 100.0 % of the list"));
+        assert_eq!(told(None), wanted);
     }
 }

@@ -1,5 +1,5 @@
 //! Count and violation by states: the library beside plain Rust with the same key and the same kind of table, of 2^16 slots; beside the
-//! walk, where nothing merges; and on many small programs.
+//! walk, where nothing merges; on many small programs; and beside Spin, where it is installed.
 use crate::timing::best_of;
 use std::hint::black_box;
 use tarczolin_tests::calls::{count, count_with, violation_with, Answer, SCHEDULE};
@@ -9,6 +9,7 @@ use tarczolin_tests::papers;
 use tarczolin_tests::random::program::{frames_parted, SMALL};
 use tarczolin_tests::random::Random;
 use tarczolin_tests::search::states::{Model, Sc, States, Table};
+use tarczolin_tests::spin;
 
 const SLOTS: usize = 1 << 16;
 
@@ -57,6 +58,16 @@ fn row(name: &str, file: &[u8], rounds: usize) {
     println!("  the first that fails: library {:.2} ms, plain Rust {:.2} ms, ratio {ratio:.2}", library / 1e6, plain / 1e6);
 }
 
+/// Spin's time for one program, where Spin is installed: it says whether an assertion fails, and counts nothing.
+fn beside_spin(file: &[u8]) {
+    if !spin::is_installed() {
+        return println!("  Spin is not installed");
+    }
+    let verdict = spin::verdict(&decode(file).unwrap());
+    let fails = if verdict.fails { "an assertion fails" } else { "no assertion fails" };
+    println!("  Spin, without compiling: {fails}, {} states, {:.2} ms", verdict.states, verdict.time.as_secs_f64() * 1e3);
+}
+
 /// Every access tells all that happened before: nothing merges.
 fn history(threads: usize, accesses: usize) -> Vec<u8> {
     let thread = |t: usize| format!("01 12000000{:08x} {}", 1 << t, "1200000100000000 ".repeat(accesses - 1));
@@ -80,11 +91,18 @@ fn as_lent(file: &[u8]) -> usize {
 
 pub fn report() {
     println!("Count and violation by states beside plain Rust with the same key and 2^16 slots (asked: at most 2.5)");
-    row("six threads of four fetch and adds", &lines(&format!("01 {}", "1200000000000001 ".repeat(4)).repeat(6)), 3);
     let sums = "01 110000 21000000000001 10000100000000 110100 2501007fffffff ";
-    row("six threads of load, add 1, store, load and an assertion that holds", &lines(&sums.repeat(6)), 3);
-    row("the same, alike", &lines(&format!("{} 02000102030405", sums.repeat(6))), 3);
-    row("12 stores beside 12 loads", &lines(&format!("01 {} 01 {}", "10000000000001 ".repeat(12), "110000 ".repeat(12))), 20);
+    let beside = format!("01 {} 01 {}", "10000000000001 ".repeat(12), "110000 ".repeat(12));
+    let rows = [
+        ("six threads of four fetch and adds", format!("01 {}", "1200000000000001 ".repeat(4)).repeat(6), 3),
+        ("six threads of load, add 1, store, load and an assertion that holds", sums.repeat(6), 3),
+        ("the same, alike", format!("{} 02000102030405", sums.repeat(6)), 3),
+        ("12 stores beside 12 loads", beside, 20),
+    ];
+    for (name, words, rounds) in rows {
+        row(name, &lines(&words), rounds);
+        beside_spin(&lines(&words));
+    }
     for paper in papers::all().into_iter().filter(|paper| paper.listed > 20_000) {
         row(&paper.name, &paper.file, 5);
     }

@@ -140,6 +140,30 @@ fn ask_by_states(random: &mut Random, tally: &Tally, file: &[u8], list: &Result<
     tally.call("violation_with");
     held(random, [file], out, &first, |[f], out| calls::violation_with(f, out, &mut scratch));
     assert_eq!(scratch, later(shown(&first).0), "the scratch: {}", file.escape_ascii());
+    let (mut scratch, out) = (before.clone(), output(random, SCHEDULE));
+    let end = list.as_ref().map_or(0, Vec::len);
+    let k = if random.one_in(6) { random.word() } else { random.below(end + 2) as u64 };
+    let member = found(list, out, SCHEDULE, |list| list.get(usize::try_from(k).ok()?).map(|one| one.schedule.clone()));
+    tally.call("kth");
+    held(random, [file], out, &member, |[f], out| calls::kth(f, k, out, &mut scratch));
+    assert_eq!(scratch, later(shown(&member).0), "the scratch: {}", file.escape_ascii());
+    ask_rank(random, tally, file, list, &before);
+}
+
+/// The number of a schedule: its word changes when it answers, and not when it refuses.
+fn ask_rank(random: &mut Random, tally: &Tally, file: &[u8], list: &Result<Vec<Listed>, Refusal>, before: &[u64]) {
+    let program = decode(file);
+    let steps = schedule_of(random, program.as_ref().ok(), schedule::schedule);
+    let smaller = |list: &Vec<Listed>| list.partition_point(|one| one.schedule < steps) as u64;
+    let full = program.and_then(|program| run_full(&program, &steps).map(|_| ()));
+    let wanted = full.and_then(|()| list.as_ref().map(smaller).map_err(|refusal| *refusal));
+    let (mut scratch, kept) = (before.to_vec(), random.word());
+    let mut rank = kept;
+    tally.call("rank");
+    assert_eq!(calls::rank(file, &steps, &mut rank, &mut scratch), number(wanted.map(|_| 0)), "{}", file.escape_ascii());
+    assert_eq!(rank, wanted.unwrap_or(kept), "{steps:?}: {}", file.escape_ascii());
+    let later = if wanted.is_ok() { vec![0; before.len()] } else { before.to_vec() };
+    assert_eq!(scratch, later, "the scratch: {}", file.escape_ascii());
 }
 
 /// One file against another, and the other against it.

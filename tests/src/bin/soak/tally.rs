@@ -2,7 +2,7 @@
 use std::sync::atomic::{AtomicU64, Ordering};
 
 /// The calls, without the word in front of their names.
-const NAMES: [&str; 29] = [
+const NAMES: [&str; 31] = [
     "check",
     "graph",
     "class",
@@ -13,6 +13,8 @@ const NAMES: [&str; 29] = [
     "count",
     "count_with",
     "violation_with",
+    "kth",
+    "rank",
     "rows",
     "rows_after",
     "covers",

@@ -1,6 +1,5 @@
 //! count: how many schedules are listed, and how many of these fail; with --classes also how many executions they stand for.
 use super::arguments::Arguments;
-use super::lent::memory;
 use super::opt::Opt;
 use super::piece::{self, Piece};
 use super::reply::{each, Question};
@@ -8,7 +7,7 @@ use crate::accepted::Accepted;
 use crate::ask::{self, Counts};
 use crate::end::End;
 use crate::error::Error;
-use crate::jobs::List;
+use crate::jobs::{Done, List};
 use crate::json::{list as json_list, object, Json};
 use crate::memory::Memory;
 use crate::model::Model;
@@ -40,7 +39,7 @@ struct Asking {
 pub fn run(arguments: &Arguments) -> Result<End, Error> {
     let piece = Piece::of(arguments)?;
     let by_size = arguments.one_of(BY.name, &[("size", true)], false)?;
-    let asking = Asking { classes: arguments.flag(CLASSES.name), by_size, memory: memory(arguments)? };
+    let asking = Asking { classes: arguments.flag(CLASSES.name), by_size, memory: piece.memory };
     if by_size && !asking.classes {
         return Err(Error::usage("--by size stands beside --classes"));
     }
@@ -68,7 +67,9 @@ fn counted(question: &Question, piece: &Piece, asking: Asking) -> Result<End, Er
         }
     }
     let mut sizes = Sizes::default();
-    let found = piece::walk(&list, piece.jobs, |part| {
+    // of the whole list the count is what is asked for
+    let done = if piece.is_whole() { Done::by_range(&list) } else { Done::counted(&list, asking.memory) };
+    let found = piece::walk_with(&list, piece.jobs, done, |part| {
         part.listed.iter().for_each(|listed| sizes.add(&list, &listed.schedule));
         Ok(())
     });

@@ -13,6 +13,7 @@ use crate::execution::Execution;
 use crate::jobs::List;
 use crate::json::{list as json_list, object, Json};
 use crate::matching::matched;
+use crate::memory::Memory;
 use crate::outcome::Final;
 use crate::output;
 use crate::program::Names;
@@ -62,7 +63,7 @@ type Outcome = ([u32; 8], bool);
 /// The outcomes of a list, ascending, and whether Ctrl-C cut it short.
 fn outcomes(list: &List) -> (BTreeSet<Outcome>, bool) {
     let mut all = BTreeSet::new();
-    let found = piece::walk(list, 1, |part| {
+    let found = piece::walk(list, 1, Memory::default(), |part| {
         all.extend(part.listed.iter().map(|listed| (Final::of(list.program, &listed.schedule).memory, listed.fails)));
         Ok(())
     });
