@@ -6,7 +6,10 @@ mod class;
 mod against;
 // Who can force the failure: tarczolin_force.
 mod forcing;
+// The same with a scratch: tarczolin_force_with.
+mod lent;
 
 pub use against::tarczolin_covers;
 pub use class::tarczolin_class;
 pub use forcing::tarczolin_force;
+pub use lent::tarczolin_force_with;

@@ -3,3 +3,5 @@
 pub mod Names
 -- the promise
 pub mod Forcing
+-- the game before its first step
+pub mod Starting
