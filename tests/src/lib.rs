@@ -8,6 +8,7 @@ pub mod painted;
 pub mod papers;
 pub mod parts;
 pub mod random;
+pub mod scratch;
 pub mod search;
 pub mod share;
 pub mod table;

@@ -11,43 +11,10 @@ use tarczolin_tests::papers;
 use tarczolin_tests::parts;
 use tarczolin_tests::random::program::{frames_parted, straight, Size, ANY, SMALL};
 use tarczolin_tests::random::{damage, Random};
+use tarczolin_tests::scratch::{Scratch, LONG, SHORT};
 use tarczolin_tests::search::states::{Sc, States, Table};
 use tarczolin_tests::search::walk::orders;
 use tarczolin_tests::share;
-
-/// So many words on each side of a scratch belong to somebody else.
-const AROUND: usize = 4;
-
-/// Words that are lent, with somebody else's around them; filled anew from the same random ones.
-struct Scratch {
-    random: Vec<u64>,
-    lent: Vec<u64>,
-}
-
-impl Scratch {
-    fn new(random: &mut Random, words: usize) -> Scratch {
-        let all: Vec<u64> = (0..words + 2 * AROUND).map(|_| random.word()).collect();
-        Scratch { lent: all.clone(), random: all }
-    }
-
-    /// Makes a call with the scratch. It answers so; then the scratch holds zeros, or what it held.
-    fn held(&mut self, wanted: Answer, call: impl FnOnce(&mut [u64]) -> Answer, file: &[u8]) {
-        let end = self.random.len() - AROUND;
-        self.lent.copy_from_slice(&self.random);
-        assert_eq!(call(&mut self.lent[AROUND..end]), wanted, "{} words: {}", end - AROUND, file.escape_ascii());
-        let kept = matches!(wanted, Answer::Refused(..));
-        let zeros = self.lent[AROUND..end].iter().all(|word| *word == 0);
-        let same = self.lent[AROUND..end] == self.random[AROUND..end];
-        assert!(
-            if kept { same } else { zeros },
-            "the scratch of {} words behind {wanted:?}: {}",
-            end - AROUND,
-            file.escape_ascii()
-        );
-        let around = self.lent[..AROUND] == self.random[..AROUND] && self.lent[end..] == self.random[end..];
-        assert!(around, "the words around a scratch of {} words: {}", end - AROUND, file.escape_ascii());
-    }
-}
 
 /// Scratches of every length that has something about it: none, too short for any key, just long enough for one, and longer ones.
 struct Scratches {
@@ -57,8 +24,8 @@ struct Scratches {
 
 impl Scratches {
     fn new(random: &mut Random) -> Scratches {
-        let short = [0, 1, 20, 21, 64, 1_000].map(|words| Scratch::new(random, words));
-        Scratches { short: short.into(), long: Scratch::new(random, 1_000_000) }
+        let short = SHORT.map(|words| Scratch::new(random, words));
+        Scratches { short: short.into(), long: Scratch::new(random, LONG) }
     }
 
     /// Both calls with all short ones, and with the long one where that is wanted.

@@ -17,6 +17,7 @@ const NAMES: [&str; 29] = [
     "rows_after",
     "covers",
     "force",
+    "force_with",
     "tso_graph",
     "tso_class",
     "tso_start",
