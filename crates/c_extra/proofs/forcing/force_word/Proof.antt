@@ -1,8 +1,10 @@
 -- `force_word` by the answer's kind.
 use borrow.Author.Needs.{needs}
+use Prim.Native.Nat.{ℕ}
 use mathlib.Core.Path.{_∙_, ap, sym}
 use Rattle.force.specs.declared.answering.ForceAnswer.{ForceAnswer}
 use Rattle.spec_calls.specs.Word.{wordOf}
+use Rattle.spec_calls.specs.Word as word
 use Rattle.c_extra.specs.Forcing.{forcingReply}
 use Rattle.c_extra.proofs.forcing.force_word.Statement.{statement}
 use Rattle.c_extra.proofs.forcing.force_word.Tie as tie
@@ -10,8 +12,8 @@ use Rattle.c_extra.proofs.forcing.force_word.Tie as tie
 returns : tie.Need-returns
 unfolding forcingReply
 returns c =
-    let wide = c .before .wide .ensures .0 in
-    c .answered .ensures ∙ ap (λ (a : ForceAnswer). wordOf (forcingReply a)) (sym (c .before .before .before .a .given .1 ∙ cc))
+    c .answered .ensures ∙ ap (λ (n : ℕ). wordOf (word.answered n)) (c .before .wide .ensures .0)
+    ∙ ap (λ (a : ForceAnswer). wordOf (forcingReply a)) (sym (c .before .before .before .a .given .1))
 
 returns-2 : tie.Need-returns-2
 unfolding forcingReply
