@@ -7,3 +7,5 @@ pub mod Enough
 pub mod Seen
 -- a table of winners: found, put
 pub mod Winners
+-- a side that has all threads; where all are hostile the answer goes by the list
+pub mod OneSide
