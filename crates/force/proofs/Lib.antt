@@ -5,3 +5,5 @@ pub mod Names
 pub mod Forcing
 -- the game before its first step
 pub mod Starting
+-- where all threads are hostile
+pub mod FirstFailing

@@ -12,16 +12,24 @@ use search_place::is_in;
 use states_live::live_masks;
 use states_live::width;
 use states_memory::Shape;
+use states_walk::First;
 use states_walk::first_failing;
 use table::clear;
 use table::slots;
 ghost use mathlib.Core.Path.{_≡_};
+ghost use mathlib.Core.Bool.{true};
 ghost use mathlib.Core.List.{[]};
-ghost use Prim.Native.Nat.{ℕ, _≤_};
+ghost use Prim.Native.Nat.{ℕ, _<_, _≤_};
 ghost use lib.ListN.{length, replicate};
 ghost use Rattle.spec_file.specs.Program.{Program};
 ghost use Rattle.spec_file.specs.WellFormed.{WellFormed};
+ghost use Rattle.spec_schedules.specs.Lists.{headOf};
+ghost use Rattle.spec_schedules.specs.Sets.{has};
+ghost use Rattle.spec_model.specs.Search.{sought};
+ghost use Rattle.spec_sc.specs.Sequential.{sc};
 ghost use Rattle.file_decoder.specs.Compiled.{programOf};
+ghost use Rattle.states_walk.specs.FoundOf.{foundOf};
+ghost use Rattle.theory_game.specs.OneSide.{byFailing};
 ghost use Rattle.spec_force.specs.Game.{hostile};
 ghost use Rattle.spec_force.specs.Forced.{Answer, ForcedIn, Forced};
 ghost use Rattle.spec_calls.specs.Scratch.{forceScratch};
@@ -147,6 +155,54 @@ fn played(program: Compiled, set: u8, table: &mut [u64]) -> ForceAnswer
     r
 }
 
+// Whether each of so many threads is in the set.
+fn owns_all(set: u8, threads: usize) -> bool
+    ensures { λ r. ⌜ (r ≡ true → (t : ℕ) → t < threads → has set t ≡ true) ⌝ }
+{
+    if 8 < threads {
+        return false;
+    }
+    let mut k = 0u8;
+    while k < 8 {
+        if !is_in(set, k) {
+            if (k as usize) < threads {
+                return false;
+            }
+        }
+        k += 1;
+    }
+    true
+}
+
+// What the first listed schedule that fails says where all threads are hostile: its first byte is the least first step.
+fn by_first(v: First) -> ForceAnswer
+    requires { ⌜ ((p : Program) × WellFormed p × (foundOf v ≡ headOf (sought sc true p))) ⌝ }
+    ensures { λ r. ⌜ r ≡ answerOf (byFailing (foundOf v)) ⌝ }
+{
+    if !v.found {
+        return ForceAnswer::Friendly;
+    }
+    if v.steps == 0 {
+        return ForceAnswer::Hostile(0);
+    }
+    let schedule = v.schedule;
+    ForceAnswer::Hostile(schedule[0] + 1)
+}
+
+// Who can force, by the list where all threads are hostile, else by the game; with a table as `played`.
+fn answered(program: Compiled, set: u8, table: &mut [u64]) -> ForceAnswer
+    requires { ⌜ WellFormed (programOf program) ⌝ }
+    ensures answer { λ r. ⌜ ((a : Answer) × ForcedIn set (programOf program) a × (r ≡ answerOf a)) ⌝ }
+    ensures zeros { λ r. ⌜ now (table .exit) ≡ replicate (length (now (table .entry))) 0 ⌝ }
+{
+    if !owns_all(set, program.threads) {
+        let r = played(program, set, table);
+        return r;
+    }
+    let v = first_failing(program, table);
+    by_first(v)
+}
+
 // Who can force its end where the hostile side has the threads in the set, bit t for thread t, with a table in the scratch, whatever that holds; where the
 // answer is no refusal it is left with zeros.
 pub fn force_with(file: &[u8], set: u8, scratch: &mut [u64]) -> ForceAnswer
@@ -163,7 +219,7 @@ pub fn force_with(file: &[u8], set: u8, scratch: &mut [u64]) -> ForceAnswer
             if k < 8 {
                 return ForceAnswer::Refused(48, k as usize);
             }
-            let r = played(p, set, scratch);
+            let r = answered(p, set, scratch);
             r
         }
     }

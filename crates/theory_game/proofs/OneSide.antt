@@ -146,3 +146,10 @@ module _ (set : ℕ) (p : Program) (w : WellFormed p) (all : AllHostile set p) w
           let full = list-exact sc sc-laws p (t ∷ z) .0 (f .0) .0 in
           let l = least-failing t z e full (f .1) in
           hostile-steps t (hostile-forces (t ∷ z) hostile (start p) here full (f .1)) (able-of (gameOf set) lawful hostile (start p) t (l .keeps .own)) l
+
+-- the first byte of the first that fails is a thread
+pub first-small : (p : Program) → WellFormed p → (t : ℕ) (z : Schedule) → find (failing sc p) (listOf sc p) ≡ some (t ∷ z) → t < 6
+first-small p w t z e =
+    let f = find-in (failing sc p) (listOf sc p) (list-ascends sc sc-laws p) (t ∷ z) e in
+    let full = list-exact sc sc-laws p (t ∷ z) .0 (f .0) .0 in
+    omega (arith, enabled-range (start p) t (full .0), start-threads p, w .six)

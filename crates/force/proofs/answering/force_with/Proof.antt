@@ -11,8 +11,8 @@ use Rattle.force.proofs.Starting.{answered-zeros}
 use Rattle.force.proofs.answering.force_with.Statement.{statement}
 use Rattle.force.proofs.answering.force_with.Tie as tie
 
-played-requires : tie.Need-played-requires
-played-requires c κs =
+answered-requires : tie.Need-answered-requires
+answered-requires c κs =
     let decode = c .before .before .before .before .before .before .decode in
     decoded-well-formed (decode .result) (c .before .before .before .before .before .before .before .before .before .args .file .now) (decode .ensures) (c .before .before .before .before .enum-told .given .1)
 
@@ -45,8 +45,8 @@ returns-3 c =
     let w = decoded-well-formed (decode .result) (args .file .now) (decode .ensures) told in
     let missing = c .before .before .before .before .before .missing in
     let names = all-named (decode .result .program) w (args .set) (missing .result) (missing .ensures) (c .before .before .before .before .if1 .left) in
-    let r = c .before .before .played .ensures .0 in
-    (r .0, played p (r .0) (record { accepts = e; names = names }) (r .1), r .2, c .before .before .played .ensures .1 ∙ answered-zeros (args .set) p (r .0) (r .1) (args .scratch .now))
+    let r = c .before .before .answered .ensures .0 in
+    (r .0, played p (r .0) (record { accepts = e; names = names }) (r .1), r .2, c .before .before .answered .ensures .1 ∙ answered-zeros (args .set) p (r .0) (r .1) (args .scratch .now))
 
 pub force-with-spec : {M : Type 1} → statement M
-force-with-spec = tie.close (tie.spec (λ c κs. search needs) (λ c. search needs) (λ c. search needs) (λ c κs. search needs) (λ c. search needs) returns played-requires returns-2 (λ c. search needs) returns-3)
+force-with-spec = tie.close (tie.spec (λ c κs. search needs) (λ c. search needs) (λ c. search needs) (λ c κs. search needs) (λ c. search needs) returns answered-requires returns-2 (λ c. search needs) returns-3)
