@@ -2,7 +2,7 @@
 use std::sync::atomic::{AtomicU64, Ordering};
 
 /// The calls, without the word in front of their names.
-const NAMES: [&str; 29] = [
+const NAMES: [&str; 30] = [
     "check",
     "graph",
     "class",
