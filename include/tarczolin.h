@@ -20,7 +20,7 @@
  *    65536   tarczolin_count_with, tarczolin_violation_with, tarczolin_kth, tarczolin_rank
  *    65536   tarczolin_tso_start, tarczolin_tso_continue, tarczolin_tso_violation, tarczolin_tso_count, tarczolin_tso_rows,
  *    65536   tarczolin_tso_rows_after
- *    73728   tarczolin_force
+ *    81920   tarczolin_force, tarczolin_force_with
  *    98304   tarczolin_serve
  *   135168   tarczolin_covers
  *
@@ -188,8 +188,13 @@ uint64_t tarczolin_covers(const uint8_t *first, size_t first_len, const uint8_t 
  * that the full schedule fails: kind 1, with 0 where it has no step before the first one, else its least first step that keeps
  * the win, plus 1; tarczolin_violation then reports a schedule. The friendly side can force that it does not fail: kind 2.
  * Refused, in this order: the program's (1 to 8, 40); 48, the set names a thread that is not there, at the lowest such number, 6 and
- * 7 too. The file is only read. The time grows with the number of plays. */
+ * 7 too. The file is only read. The time grows with the number of plays.
+ *
+ * With a scratch, in which it is remembered who wins where, the answer is exactly the same, whatever the scratch's length and content, 0
+ * words too; only the time depends on it. The scratch shares no byte with the file. Kinds 1 and 2 leave zeros in all of its words; a
+ * refusal leaves it as it was. Its length is counted in words of 8 bytes. */
 uint64_t tarczolin_force(const uint8_t *file, size_t file_len, uint8_t set);
+uint64_t tarczolin_force_with(const uint8_t *file, size_t file_len, uint8_t set, uint64_t *scratch, size_t scratch_len);
 
 /* The listing under total store order, by the x86-TSO machine of Owens, Sarkar and Sewell: each thread has a queue of pending stores. A
  * step byte t does thread t's next access, the byte 0x10 + t moves its oldest pending store to memory, also after the thread has ended

@@ -302,12 +302,14 @@ class Program:
         fails = bool(Execution(self, schedule, False).failed())
         return Robustness(False, Execution(self, schedule, fails))
 
-    def force(self, hostile: Iterable[Union[int, str]]) -> Force:
-        """Which side can force its end, where these threads, by number or name, are hostile and step in turn with the others."""
+    def force(self, hostile: Iterable[Union[int, str]], memory: int = MEMORY) -> Force:
+        """Which side can force its end, where these threads, by number or name, are hostile and step in turn with the others.
+
+        States are remembered as for `count`.
+        """
         self._only_sc('force')
         threads = [self._thread(one) for one in hostile]
-        answer = call('force', self.file, sum({1 << thread for thread in threads}))
-        self._done(answer, 'threads')
+        answer = self._by_states('force', memory, sum({1 << thread for thread in threads}), subject='threads')
         if answer.kind != ANSWERED:
             return Force('friendly', None)
         return Force('hostile', answer.value - 1 if answer.value else None)
@@ -333,11 +335,11 @@ class Program:
         self._done(answer, subject)
         return answer
 
-    def _by_states(self, name: str, memory: int, *arguments: object) -> Answer:
+    def _by_states(self, name: str, memory: int, *arguments: object, subject: str = 'program') -> Answer:
         """A call that remembers states in memory, no more than can be of use, where the model has one."""
         if self.model != 'sc':
-            return self._call(name, *arguments)
-        return self._call(f'{name}_with', *arguments, self._scratch(memory))
+            return self._call(name, *arguments, subject=subject)
+        return self._call(f'{name}_with', *arguments, self._scratch(memory), subject=subject)
 
     def _scratch(self, memory: int) -> Any:
         places = prod(1 + sum(one.is_access() for one in code) for code in self.code.threads)

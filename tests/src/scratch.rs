@@ -1,6 +1,11 @@
-//! Scratches that are lent to calls by states: words of any number and content, and what they hold afterwards.
+//! A scratch that is lent to a call: however long it is and whatever it holds, an answer leaves zeros in it, a refusal leaves it as it was, and the
+//! words around it stay.
 use crate::calls::Answer;
 use crate::random::Random;
+
+/// Lengths that have something about them: none, too short for any key, just long enough for one, and more.
+pub const SHORT: [usize; 6] = [0, 1, 20, 21, 64, 1_000];
+pub const LONG: usize = 1_000_000;
 
 /// So many words on each side of a scratch belong to somebody else.
 const AROUND: usize = 4;

@@ -11,7 +11,7 @@ use tarczolin_tests::papers;
 use tarczolin_tests::parts;
 use tarczolin_tests::random::program::{frames_parted, straight, Size, ANY, SMALL};
 use tarczolin_tests::random::{damage, Random};
-use tarczolin_tests::scratch::Scratch;
+use tarczolin_tests::scratch::{Scratch, LONG, SHORT};
 use tarczolin_tests::search::states::{Sc, States, Table};
 use tarczolin_tests::search::walk::orders;
 use tarczolin_tests::share;
@@ -24,8 +24,8 @@ struct Scratches {
 
 impl Scratches {
     fn new(random: &mut Random) -> Scratches {
-        let short = [0, 1, 20, 21, 64, 1_000].map(|words| Scratch::new(random, words));
-        Scratches { short: short.into(), long: Scratch::new(random, 1_000_000) }
+        let short = SHORT.map(|words| Scratch::new(random, words));
+        Scratches { short: short.into(), long: Scratch::new(random, LONG) }
     }
 
     /// Both calls with all short ones, and with the long one where that is wanted.

@@ -170,6 +170,7 @@ fn of_users(most: &mut Most, random: &mut Random, files: &[Vec<u8>], rounds: usi
 
 /// Two sides of one thread each step in turn: one play. Where all threads are on one side, that side steps and the other passes.
 fn of_force(most: &mut Most) {
+    let mut scratch = vec![7; 5_000];
     for words in [
         format!("01 {} 23000000000001 01 {}", "110000 ".repeat(12), "10010000000001 ".repeat(12)),
         format!("01 {} 23000000000001", "110000 ".repeat(15)),
@@ -178,6 +179,7 @@ fn of_force(most: &mut Most) {
         let file = lines(&words);
         for set in 0..1 << decode(&file).expect("accepted").threads.len() {
             most.of("tarczolin_force", || _ = calls::force(&file, set));
+            most.of("tarczolin_force_with", || _ = calls::force_with(&file, set, &mut scratch));
         }
     }
 }
@@ -211,7 +213,9 @@ fn no_call_needs_more_than_the_header_says() {
         of_list(&mut most, &mut random, &file, &other);
         of_store_order(&mut most, &mut random, &file);
         let set = random.byte();
+        let mut scratch = vec![7; 5_000];
         most.of("tarczolin_force", || _ = calls::force(&file, set));
+        most.of("tarczolin_force_with", || _ = calls::force_with(&file, set, &mut scratch));
     }
     of_users(&mut most, &mut random, &deep, share::of(6_000));
     let told = told();

@@ -4,9 +4,10 @@
 mod class;
 // One program against another: tarczolin_covers.
 mod against;
-// Who can force the failure: tarczolin_force.
+// Who can force the failure: tarczolin_force, tarczolin_force_with.
 mod forcing;
 
 pub use against::tarczolin_covers;
 pub use class::tarczolin_class;
 pub use forcing::tarczolin_force;
+pub use forcing::tarczolin_force_with;

@@ -152,3 +152,9 @@ pub fn force(file: &[u8], set: u8) -> Answer {
     // safe: the call only reads, and only the bytes of the slice
     Answer::of_word(unsafe { raw::tarczolin_force(file.as_ptr(), file.len(), set) })
 }
+
+/// As `force`, by states: who wins where is remembered in the scratch, as `count_with` does.
+pub fn force_with(file: &[u8], set: u8, scratch: &mut [u64]) -> Answer {
+    // safe: the call reads only the bytes of the first slice and writes only words of the second
+    Answer::of_word(unsafe { raw::tarczolin_force_with(file.as_ptr(), file.len(), set, scratch.as_mut_ptr(), scratch.len()) })
+}

@@ -82,4 +82,5 @@ extern "C" {
         out_len: usize,
     ) -> u64;
     pub fn tarczolin_force(file: *const u8, file_len: usize, set: u8) -> u64;
+    pub fn tarczolin_force_with(file: *const u8, file_len: usize, set: u8, scratch: *mut u64, scratch_len: usize) -> u64;
 }

@@ -203,9 +203,9 @@ pub enum Force {
     Friendly,
 }
 
-/// Who can force its end where the hostile side has the threads in the set, bit t for thread t?
-pub fn force(file: &[u8], set: u8) -> Result<Force, Refusal> {
-    Ok(match length(library::force(file, set))? {
+/// Who can force its end where the hostile side has the threads in the set, bit t for thread t? States are remembered in the scratch.
+pub fn force(file: &[u8], set: u8, scratch: &mut [u64]) -> Result<Force, Refusal> {
+    Ok(match length(library::force_with(file, set, scratch))? {
         Some(step) => Force::Hostile(step.checked_sub(1).map(|t| t as u8)),
         None => Force::Friendly,
     })

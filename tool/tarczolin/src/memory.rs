@@ -27,7 +27,7 @@ impl Memory {
     }
 
     /// No more words than can be of use for a program, so that clearing them costs a small one nothing.
-    fn words(self, program: &Program) -> usize {
+    pub fn words(self, program: &Program) -> usize {
         let accesses = program.threads.iter().map(|code| code.iter().filter(|i| i.access().is_some()).count());
         let places = accesses.fold(1usize, |all, accesses| all.saturating_mul(accesses + 1));
         places.saturating_mul(EACH).min(self.0)

@@ -11,6 +11,7 @@ use tarczolin_tests::oracle::machine::run_full;
 use tarczolin_tests::oracle::tso as oracle_tso;
 use tarczolin_tests::oracle::{covers, refused, Refusal};
 use tarczolin_tests::random::{graph, schedule, tso as random_tso, Random};
+use tarczolin_tests::scratch::Scratch;
 
 /// So many schedules and so many graph texts of each program.
 const SCHEDULES: usize = 6;
@@ -40,6 +41,9 @@ pub fn ask(random: &mut Random, tally: &Tally, file: &[u8], other: &[u8]) {
                 Err(r) => Answer::Refused(r.number, r.place),
             };
             assert_eq!(calls::force(file, set), answer, "{} by {set:02x}", file.escape_ascii());
+            tally.call("force_with");
+            let words = random.pick(&[0, 1, 7, 20, 21, 64, 300, 1_000]);
+            Scratch::new(random, words).held(answer, |scratch| calls::force_with(file, set, scratch), file);
         }
     }
     for _ in 0..SCHEDULES {

@@ -2,7 +2,7 @@
 use std::sync::atomic::{AtomicU64, Ordering};
 
 /// The calls, without the word in front of their names.
-const NAMES: [&str; 31] = [
+const NAMES: [&str; 32] = [
     "check",
     "graph",
     "class",
@@ -19,6 +19,7 @@ const NAMES: [&str; 31] = [
     "rows_after",
     "covers",
     "force",
+    "force_with",
     "tso_graph",
     "tso_class",
     "tso_start",
