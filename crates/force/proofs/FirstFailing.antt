@@ -22,13 +22,13 @@ use Rattle.machine.proofs.HeldStart.{loaded-compiled, threads-held}
 use Rattle.states_walk.specs.declared.seeking.First.{First}
 use Rattle.states_walk.specs.FoundOf.{foundOf}
 use Rattle.states_walk.proofs.FirstFound.{found-none, found-some}
-use Rattle.spec_force.specs.Forced.{ForcedIn}
-use Rattle.theory_game.specs.OneSide.{AllHostile, byFailing}
+use Rattle.spec_force.specs.Forced.{AllIn, ForcedIn}
+use Rattle.theory_game.specs.OneSide.{byFailing}
 use Rattle.theory_game.proofs.OneSide.{answer-failing, first-small}
 use Rattle.force.specs.declared.answering.ForceAnswer.the-variants.{Hostile, Friendly}
 use Rattle.force.specs.Answered.{answerOf}
 
-pub all-owned : (set : ℕ) (c : Compiled) → WellFormed (programOf c) → ((t : ℕ) → t < c .threads → has set t ≡ true) → AllHostile set (programOf c)
+pub all-owned : (set : ℕ) (c : Compiled) → WellFormed (programOf c) → ((t : ℕ) → t < c .threads → has set t ≡ true) → AllIn set (programOf c)
 all-owned set c w h t b = h t (omega (arith, b, threads-held (c .code) (c .lengths) (c .threads) (programOf c) (loaded-compiled c w)))
 
 -- the first of so many bytes
@@ -59,7 +59,7 @@ module _ (v : First) where
     said-small p w is = first-small p w (getD (v .schedule) 0 0) (first .0) (sym (head-filter (failing sc p) (listOf sc p)) ∙ sym is ∙ sym (first .1))
 
   -- THE ANSWER is right
-  pub first-answers : (set : ℕ) (p : Program) → WellFormed p → AllHostile set p → foundOf v ≡ headOf (sought sc true p) → ForcedIn set p (byFailing (foundOf v))
+  pub first-answers : (set : ℕ) (p : Program) → WellFormed p → AllIn set p → foundOf v ≡ headOf (sought sc true p) → ForcedIn set p (byFailing (foundOf v))
   unfolding sought
   first-answers set p w all is =
       subst (λ (o : Option Schedule). ForcedIn set p (byFailing o)) (sym (is ∙ head-filter (failing sc p) (listOf sc p))) (answer-failing set p w all)

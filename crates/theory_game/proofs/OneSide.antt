@@ -1,5 +1,4 @@
--- A SIDE THAT HAS ALL THREADS can force its end where some full schedule ends so: the other side never steps, so that every schedule follows its strategy.
--- So where all threads are hostile the first listed schedule that fails is the answer.
+-- WHERE ALL THREADS ARE HOSTILE the first listed schedule that fails is the answer: the hostile side can force where some full schedule fails.
 use Prim.Native.Nat.{ℕ, _<_, _≤_}
 use native.Mathlib.Omega.{arith}
 use native.Mathlib.Decide.{decLt}
@@ -31,45 +30,21 @@ use Rattle.spec_model.proofs.Alike.{alike-sym}
 use Rattle.spec_model.proofs.Outcome.{same-outcome, none-fails-at-all}
 use Rattle.spec_model.proofs.TheList.{list-exact, list-ascends, one-each}
 use Rattle.spec_force.specs.Game.{Side, hostile, friendly, other, Game, Strategy, mine, mover, winner, FullPlay, Follows, Forces, Keeps}
-use Rattle.spec_force.specs.Forced.{ownerIn, gameOf, CanForce, LeastFirst, ForcedIn, hostile-steps, hostile-passes, friendly-forces}
+use Rattle.spec_force.specs.Forced.{ownerIn, gameOf, AllIn, CanForce, LeastFirst, ForcedIn, hostile-steps, hostile-passes, friendly-forces}
 use Rattle.spec_force.proofs.Sides.{differ, mine-enabled, mine-owned, mine-of, able-some, able-of, mover-steps, full-play, ended-able}
 use Rattle.spec_force.proofs.Against.{follows-nil, follows-cons, forced-play}
-use Rattle.spec_force.proofs.Determined.{exactly-one}
+use Rattle.spec_force.proofs.OneSide.{one-forces}
 use Rattle.spec_force.proofs.Decided.{winner-fails, hostile-fails}
 use Rattle.spec_force.proofs.Answers.{none-fails-friendly}
 use Rattle.theory_states.specs.Positions.{Reached}
 use Rattle.theory_states.proofs.Positions.{reached-start, reached-on}
-use Rattle.theory_game.specs.OneSide.{AllHostile, byFailing}
+use Rattle.theory_game.specs.OneSide.{byFailing}
 
--- ---- any game in which what may step is y's
-module _ (G : Game) (L : Lawful (G .system)) (y : Side) (Here : G .system .State → Type 0)
-    (on : (σ : G .system .State) → Here σ → (t : ℕ) → G .system .enabled σ t ≡ true → Here (G .system .step σ t))
-    (owned : (σ : G .system .State) → Here σ → (t : ℕ) → G .system .enabled σ t ≡ true → G .owner t ≡ y) where
-  moves-all : (x : Side) (σ : G .system .State) → Here σ → ended (G .system) σ ≡ false → mover G x σ ≡ y
-  moves-all x σ h e =
-      let r = able-some G (mover G x σ) σ (mover-steps G L x σ e) in
-      sym (mine-owned G (mover G x σ) σ (r .0) (r .1)) ∙ owned σ h (r .0) (mine-enabled G (mover G x σ) σ (r .0) (r .1))
-
-  -- every full schedule is a play, and follows whatever the other side has in mind
-  follows-all : (s : Schedule) (x : Side) (σ : G .system .State) (f : Strategy) → Here σ → FullFrom (G .system) σ s → FullPlay G x σ s × Follows G (other y) x σ f s
-  follows-all [] x σ f h full = (full, follows-nil G (other y) x σ f)
-  follows-all (t ∷ s) x σ f h full =
-      let moves = moves-all x σ h (not-ended (G .system) L σ t (full .0)) in
-      let later = follows-all s (other (mover G x σ)) (G .system .step σ t) (λ v. f (t ∷ v)) (on σ h t (full .0)) (full .1) in (
-        (subst (λ (z : Side). mine G z σ t ≡ true) (owned σ h t (full .0) ∙ sym moves) (mine-of G σ t (full .0)), later .0),
-        follows-cons G (other y) x σ f t s (λ e. absurd (differ y (sym moves ∙ e))) (later .1),
-      )
-
-  -- so the other side cannot force where one ends as y wants
-  pub owns-all : (s : Schedule) (x : Side) (σ : G .system .State) → Here σ → FullFrom (G .system) σ s → winner G (run (G .system) σ s) ≡ y → Forces G (other y) x σ → ⊥
-  owns-all s x σ h full e f = let r = follows-all s x σ (f .strategy) h full in differ y (sym e ∙ f .wins s (r .0) (r .1))
-
--- ---- under sequential consistency, where all threads are hostile
 owner-hostile : (set t : ℕ) → has set t ≡ true → ownerIn set t ≡ hostile
 unfolding ownerIn
 owner-hostile set t e = rw (e, ownerIn)
 
-module _ (set : ℕ) (p : Program) (w : WellFormed p) (all : AllHostile set p) where
+module _ (set : ℕ) (p : Program) (w : WellFormed p) (all : AllIn set p) where
   abbrev Met : State → Type 0
   Met σ = (v : Schedule) × Reached SC (start p) v σ
 
@@ -83,12 +58,8 @@ module _ (set : ℕ) (p : Program) (w : WellFormed p) (all : AllHostile set p) w
   on-here σ m t e = (m .0 ++ (t ∷ []), reached-on SC (start p) (m .0) σ (m .1) t e)
 
   hostile-forces : (s : Schedule) (x : Side) (σ : State) → Met σ → FullFrom SC σ s → fails (run SC σ s) ≡ true → Forces (gameOf set) hostile x σ
-  unfolding other
-  hostile-forces s x σ m full e = go (exactly-one (gameOf set) lawful x σ .one)
-    where
-      go : Forces (gameOf set) hostile x σ ⊎ Forces (gameOf set) friendly x σ → Forces (gameOf set) hostile x σ
-      go (inl f) = f
-      go (inr f) = absurd (owns-all (gameOf set) lawful hostile Met on-here owned-here s x σ m full (winner-fails (gameOf set) (run SC σ s) e) f)
+  hostile-forces s x σ m full e =
+      one-forces (gameOf set) lawful hostile Met (λ τ t n q. owned-here τ n t q) (λ τ t n q. on-here τ n t q) x σ m .1 (s, full, winner-fails (gameOf set) (run SC σ s) e)
 
   -- each full schedule fails as a listed one does that is not greater
   as-listed : (r : Schedule) → Full p r → (m : Schedule) × List·Memᴰ m (listOf sc p) × (failing sc p m ≡ failing sc p r) × ((s : Schedule) → less r s ≡ true → less m s ≡ true)
