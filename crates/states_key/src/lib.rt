@@ -15,4 +15,7 @@ pub use going::first_spot;
 pub use going::mark_way;
 pub use going::way_behind;
 pub use keys::key;
+pub use keys::left;
+pub use keys::pair;
 pub use spot::Spot;
+pub use values::values_of;

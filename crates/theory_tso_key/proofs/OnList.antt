@@ -23,12 +23,12 @@ use Rattle.spec_tso.proofs.Lawful.{lawful, start-32}
 use Rattle.spec_tso.proofs.Laws.{at-most-16}
 use Rattle.theory_tso.specs.Search.{givenUp, found}
 use Rattle.theory_tso.proofs.Search.{found-exactly}
-use Rattle.theory_states.specs.Numbers.{Numbers, charged}
+use Rattle.theory_states.specs.Numbers.{Numbers, charged, numbers}
 use Rattle.theory_states.specs.SameKey.{Decides}
 use Rattle.theory_states.specs.Memory.{Honest}
 use Rattle.theory_states.specs.Counted.{countedFrom, TrueNumbers}
 use Rattle.theory_states.specs.FirstFailing.{firstFrom, TrueMarks}
-use Rattle.theory_states.proofs.OnList.{count-by-table, first-by-table}
+use Rattle.theory_states.proofs.OnList.{start-listed, start-failing, count-by-table, first-by-table}
 use Rattle.theory_tso_key.specs.Views.{breaks}
 use Rattle.theory_tso_key.proofs.Rules.{Met}
 use Rattle.theory_tso_key.proofs.Breaks.{breaks-law}
@@ -37,6 +37,13 @@ module _ (p : Program) (a : Admitted tso p) where
   exact : (failures : Bool) → foundFrom TSO 22 (givenUp p) (lookedFor tso failures p) 32 none [] (start p) ≡ sought tso failures p
   unfolding found after run
   exact failures = found-exactly p a failures none
+
+  -- THE NUMBERS AT THE START
+  pub tso-start-listed : numbers TSO 22 (givenUp p) breaks [] (start p) .listed ≡ length (listOf tso p)
+  tso-start-listed = start-listed tso p lawful (start-32 p (at-most-16 p (a .1))) (givenUp p) exact breaks (breaks-law p (a .0) (givenUp p))
+
+  pub tso-start-failing : charged (fails (start p)) (numbers TSO 22 (givenUp p) breaks [] (start p)) .failing ≡ length (filter (failing tso p) (listOf tso p))
+  tso-start-failing = start-failing tso p lawful (start-32 p (at-most-16 p (a .1))) (givenUp p) exact breaks (breaks-law p (a .0) (givenUp p))
 
   module _ {K Entries : Type 0} (Fit : K → Type 0) (key : Schedule → State → K) (fit : (v : Schedule) (σ : State) → Met p v σ → Fit (key v σ)) (D : Decides TSO (givenUp p) breaks (Met p) key) where
     -- COUNTING WITH A TABLE

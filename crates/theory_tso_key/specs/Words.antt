@@ -14,7 +14,8 @@ use Rattle.spec_schedules.specs.Order.{Schedule}
 use Rattle.theory_sc.specs.ThreadWords.{digits}
 use Rattle.theory_sc_key.specs.Key.{pairs, padded}
 use Rattle.spec_tso.specs.Queue.{Entry}
-use Rattle.spec_tso.specs.State.{State}
+use Rattle.spec_tso.specs.State.{State, TSO, start}
+use Rattle.theory_states.specs.Positions.{Reached}
 use Rattle.theory_tso_key.specs.Key.{Key, keyOf}
 
 -- one list behind the other
@@ -49,6 +50,10 @@ wordsOf k =
 -- of a position, with zeros behind up to so many words
 abbrev pub wordKey : ℕ → Program → Schedule → State → List ℕ
 wordKey n p v σ = padded n (wordsOf (keyOf p v σ))
+
+-- so many words are enough for every position of the search
+abbrev pub Wide : ℕ → Program → Type 0
+Wide n p = (v : Schedule) (σ : State) → Reached TSO (start p) v σ → length (wordsOf (keyOf p v σ)) ≤ n
 
 -- how many stores are in this code; no more of them can ever be pending
 unfoldable pub storeOf : Instruction → ℕ

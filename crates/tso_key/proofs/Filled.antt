@@ -13,23 +13,13 @@ use Rattle.tso_machine.specs.Slots.{noStore, entryAt, queueAt}
 use Rattle.tso_machine.specs.declared.state.Pending.{Pending}
 use Rattle.tso_machine.proofs.InSlots.{queue-last}
 use Rattle.theory_sc_key.specs.Key.{pairs, padded}
-use Rattle.theory_sc_key.proofs.Packing.{padded-length}
+use Rattle.theory_sc_key.proofs.Packing.{pairs-half, padded-length}
+use Rattle.states_key.proofs.Padding.{padded-put, pairs-padded}
 use Rattle.theory_tso_key.specs.Words.{join, locations, stored, appended}
 use Rattle.theory_tso_key.proofs.Words.{appended-more}
 use Rattle.tso_key.specs.Carried.{queuesTo}
 
 -- ---- one number more behind those that stand there
-zeros-more : (k : ℕ) → 0 < k → replicate {A = ℕ} k 0 ≡ 0 ∷ replicate (k - 1) 0
-zeros-more zero h = absurd (omega arith)
-zeros-more (suc k) h = let e : k ≡ suc k - 1 = omega arith in ap (λ (j : ℕ). 0 ∷ replicate j 0) e
-
-pub padded-put : (k : ℕ) (l : List ℕ) (n v : ℕ) → length l ≡ n → n < k → set (padded k l) n v ≡ padded k (l ++ (v ∷ []))
-unfolding padded
-padded-put k l n v e h =
-    let j : k - length l - 1 ≡ k - length (l ++ (v ∷ [])) = omega (arith, length-append l (v ∷ [])) in
-    ap (λ (z : List ℕ). set (l ++ z) n v) (zeros-more (k - length l) (omega arith)) ∙ set-at l 0 (replicate (k - length l - 1) 0) v n e
-    ∙ ap (λ (m : ℕ). l ++ (v ∷ replicate m 0)) j ∙ sym (append-assoc l (v ∷ []) (replicate (k - length (l ++ (v ∷ []))) 0))
-
 put-behind : (k : ℕ) (l m : List ℕ) (n v : ℕ) (values : List ℕ) → length (l ++ m) ≡ n → n < k → values ≡ padded k (l ++ m) → set values n v ≡ padded k (l ++ (m ++ (v ∷ [])))
 put-behind k l m n v values e h q = ap (λ (z : List ℕ). set z n v) q ∙ padded-put k (l ++ m) n v e h ∙ ap (padded k) (append-assoc l m (v ∷ []))
 
@@ -197,56 +187,6 @@ module _ (slots : List Pending) (heads tails : List ℕ) where
     stored-size n e = length-map (join (queuesTo slots heads tails t)) (λ (x : Entry). x .value) ∙ sym e
 
 -- ---- ZEROS BEHIND, by two and cut off
-pairs-zeros : (m : ℕ) → pairs (replicate (twice m) 0) ≡ replicate m 0
-unfolding pairs twice
-pairs-zeros zero = refl
-pairs-zeros (suc m) = ap (λ (l : List ℕ). 0 ∷ l) (pairs-zeros m)
-
-pairs-pad : (m : ℕ) (l : List ℕ) → length l ≤ twice m → pairs (l ++ replicate (twice m - length l) 0) ≡ pairs l ++ replicate (m - length (pairs l)) 0
-unfolding pairs twice
-pairs-pad m [] h =
-    let e : twice m - 0 ≡ twice m = omega arith in
-    let f : m - 0 ≡ m = omega arith in
-    ap (λ (k : ℕ). pairs (replicate k 0)) e ∙ pairs-zeros m ∙ ap (λ (k : ℕ). replicate {A = ℕ} k 0) (sym f)
-pairs-pad zero (a ∷ l) h = absurd (omega (arith, h))
-pairs-pad (suc m) (a ∷ []) h =
-    let e : suc (suc (twice m)) - 1 ≡ suc (twice m) = omega arith in
-    let f : suc m - 1 ≡ m = omega arith in
-    let z : a + 2 ^ 32 * 0 ≡ a = omega arith in
-    ap (λ (k : ℕ). pairs (a ∷ replicate k 0)) e ∙ ap₂ (λ (x : ℕ) (l : List ℕ). x ∷ l) z (pairs-zeros m) ∙ ap (λ (k : ℕ). a ∷ replicate {A = ℕ} k 0) (sym f)
-pairs-pad (suc m) (a ∷ b ∷ l) h =
-    let e : suc (suc (twice m)) - suc (suc (length l)) ≡ twice m - length l = omega arith in
-    let f : suc m - suc (length (pairs l)) ≡ m - length (pairs l) = omega arith in
-    ap (λ (k : ℕ). (a + 2 ^ 32 * b) ∷ pairs (l ++ replicate k 0)) e ∙ ap (λ (k : List ℕ). (a + 2 ^ 32 * b) ∷ k) (pairs-pad m l (omega (arith, h)) ∙ ap (λ (k : ℕ). pairs l ++ replicate k 0) (sym f))
-
-pairs-padded : (m n : ℕ) (l : List ℕ) → twice m ≡ n → length l ≤ n → pairs (padded n l) ≡ padded m (pairs l)
-unfolding padded
-pairs-padded m n l e h = ap (λ (k : ℕ). pairs (l ++ replicate (k - length l) 0)) (sym e) ∙ pairs-pad m l (omega (arith, e, h))
-
-pairs-half : (l : List ℕ) → length (pairs l) ≡ (length l + 1) / 2
-unfolding pairs
-pairs-half [] = omega arith
-pairs-half (a ∷ []) = omega arith
-pairs-half (a ∷ b ∷ l) = omega (arith, pairs-half l)
-
-take-zeros : (n k : ℕ) → n ≤ k → take n (replicate {A = ℕ} k 0) ≡ replicate n 0
-take-zeros zero k h = refl
-take-zeros (suc n) zero h = absurd (omega arith)
-take-zeros (suc n) (suc k) h = ap (λ (l : List ℕ). 0 ∷ l) (take-zeros n k (omega arith))
-
-pub padded-cut : (n k : ℕ) (l : List ℕ) → length l ≤ n → n ≤ k → take n (padded k l) ≡ padded n l
-unfolding padded
-padded-cut n k [] h i =
-    let e : k - 0 ≡ k = omega arith in
-    let f : n - 0 ≡ n = omega arith in
-    ap (λ (j : ℕ). take n (replicate {A = ℕ} j 0)) e ∙ take-zeros n k i ∙ ap (λ (j : ℕ). replicate {A = ℕ} j 0) (sym f)
-padded-cut zero k (x ∷ l) h i = absurd (omega arith)
-padded-cut (suc n) zero (x ∷ l) h i = absurd (omega arith)
-padded-cut (suc n) (suc k) (x ∷ l) h i =
-    let e : suc k - suc (length l) ≡ k - length l = omega arith in
-    let f : suc n - suc (length l) ≡ n - length l = omega arith in
-    ap (λ (j : ℕ). x ∷ take n (l ++ replicate j 0)) e ∙ ap (λ (z : List ℕ). x ∷ z) (padded-cut n k l (omega arith) (omega arith) ∙ ap (λ (j : ℕ). l ++ replicate j 0) (sym f))
-
 zeros-join : (a b : ℕ) → replicate {A = ℕ} a 0 ++ replicate b 0 ≡ replicate (a + b) 0
 zeros-join zero b = let e : b ≡ 0 + b = omega arith in ap (λ (k : ℕ). replicate {A = ℕ} k 0) e
 zeros-join (suc a) b = let e : suc (a + b) ≡ suc a + b = omega arith in ap (λ (l : List ℕ). 0 ∷ l) (zeros-join a b) ∙ ap (λ (k : ℕ). replicate {A = ℕ} k 0) e
@@ -276,7 +216,7 @@ module _ (a b c count : ℕ) (s l : List ℕ) (size : length s ≡ count) (few :
       let all : take (8 + 8) (padded 16 s) ≡ padded 16 s = take-all 16 (padded 16 s) (let e = padded-length 16 s (omega (arith, size, few)) in omega (arith, e)) in
       let half = pairs-half s in
       q ∙ ap (λ (z : List ℕ). padded 27 ((a ∷ b ∷ c ∷ []) ++ pairs z)) (ap (take (8 + 8)) e ∙ all)
-      ∙ ap (λ (z : List ℕ). padded 27 ((a ∷ b ∷ c ∷ []) ++ z)) (pairs-padded 8 16 s (twice-is 8) (omega (arith, size, few)))
+      ∙ ap (λ (z : List ℕ). padded 27 ((a ∷ b ∷ c ∷ []) ++ z)) (pairs-padded 8 s (omega (arith, size, few)))
       ∙ padded-again 27 8 (a ∷ b ∷ c ∷ []) (pairs s) (omega (arith, half, size, few)) (omega arith)
 
   pub block-size : length (a ∷ b ∷ c ∷ pairs s) ≡ 3 + (count + 1) / 2
@@ -289,5 +229,5 @@ module _ (a b c count : ℕ) (s l : List ℕ) (size : length s ≡ count) (few :
       let half = pairs-half l in
       let front = pairs-half s in
       q ∙ ap (λ (z : List ℕ). padded 27 ((a ∷ b ∷ c ∷ pairs s) ++ pairs z)) (ap (take (16 + 16)) e ∙ all)
-      ∙ ap (λ (z : List ℕ). padded 27 ((a ∷ b ∷ c ∷ pairs s) ++ z)) (pairs-padded 16 32 l (twice-is 16) (omega (arith, many)))
+      ∙ ap (λ (z : List ℕ). padded 27 ((a ∷ b ∷ c ∷ pairs s) ++ z)) (pairs-padded 16 l (omega (arith, many)))
       ∙ padded-again 27 16 (a ∷ b ∷ c ∷ pairs s) (pairs l) (omega (arith, half, many)) (omega (arith, front, size, few))

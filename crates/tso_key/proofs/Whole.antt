@@ -41,11 +41,15 @@ use Rattle.theory_tso_key.specs.Words.{join, locations, stored, number, appende
 use Rattle.theory_tso_key.proofs.Rules.{Met}
 use Rattle.theory_tso_key.proofs.NearBack.{near-back}
 use Rattle.theory_tso_key.proofs.Shape.{key-shaped}
+use Rattle.states_live.specs.Live.{Live}
+use Rattle.states_key.specs.Gathered.{gathered, leftAt}
+use Rattle.states_key.proofs.Padding.{padded-cut}
+use Rattle.states_key.proofs.KeyValues.{values-held, left-held}
 use Rattle.tso_key.specs.declared.spot.Spot.{Spot}
 use Rattle.tso_key.specs.Stands.{Stands}
-use Rattle.tso_key.specs.Carried.{lastAs, carriedNear, queuesTo, pendingAt, leftAt}
+use Rattle.tso_key.specs.Carried.{lastAs, carriedNear, queuesTo, pendingAt}
 use Rattle.tso_key.proofs.LowWays.{near-low}
-use Rattle.tso_key.proofs.Filled.{queue-length, padded-cut}
+use Rattle.tso_key.proofs.Filled.{queue-length}
 
 -- ---- lists
 same-map : {A : Type 0} (f g : ℕ → A) (d n : ℕ) → ((t : ℕ) → t < d + n → f t ≡ g t) → map f (range d n) ≡ map g (range d n)
@@ -71,14 +75,6 @@ locations-bare : (q : List Entry) → locations (map unnumbered q) ≡ locations
 unfolding unnumbered
 locations-bare [] = refl
 locations-bare (e ∷ q) = ap (λ (l : List ℕ). e .location ∷ l) (locations-bare q)
-
--- how many instructions are left
-left-held : (code lengths : List ℕ) (m : QueuedMachine) (σ : State) → Holds code lengths m σ → leftAt lengths (m .threads) ≡ leftOf (withoutQueues σ)
-left-held code lengths m σ held = same-map (λ t. getD lengths t 0 - getD (m .threads) t idle .at) (λ t. length (SCState.threadOf (withoutQueues σ) t .local .rest)) 0 6 (λ t h.
-    let e = ap length (held .core .threads t (omega (arith, h)) .rest) in
-    let n = length-drop (SC.threadAt (coreOf m) t .at) (threadCode code t (getD lengths t 0)) in
-    let c = length-code code t (getD lengths t 0) in
-    omega (arith, e, n, c))
 
 -- ---- WHAT THE ARRAYS OF A SPOT HOLD
 module _ (code lengths class : List ℕ) (threads groups : ℕ) (x : Spot) (p : Program) (v : Schedule) (at : Stands code lengths class threads groups x p v) where
@@ -170,7 +166,7 @@ module _ (code lengths class : List ℕ) (threads groups : ℕ) (x : Spot) (p : 
 
   pub second-held : (second : ℕ) → second ≡ number 32 (pendingAt (x .place .heads) (x .place .tails) ++ leftAt lengths (x .place .threads)) →
       second ≡ number 32 (map length (queuesOf (endOf p v)) ++ leftOf (withoutQueues (endOf p v)))
-  second-held second es = es ∙ ap₂ (λ (a b : List ℕ). number 32 (a ++ b)) pending-held (left-held code lengths (machineOf (x .place)) (endOf p v) held)
+  second-held second es = es ∙ ap₂ (λ (a b : List ℕ). number 32 (a ++ b)) pending-held (left-held code lengths (coreOf (machineOf (x .place))) (withoutQueues (endOf p v)) (held .core))
 
   -- THE WORDS OF THE KEY, with zeros behind, cut off where they fit
   pub words-held : (first second places : ℕ) (s l words : List ℕ) (n : ℕ) → first ≡ 2 ^ 63 + number 64 (setsOf (keyOf p v (endOf p v))) →
@@ -189,3 +185,7 @@ module _ (code lengths class : List ℕ) (threads groups : ℕ) (x : Spot) (p : 
 
   pub slots-held : (k : ℕ) → k < 16 → getD (x .place .slots) k noStore .location < 8
   slots-held = held .places
+
+  -- the values that matter, as they are gathered
+  pub gathered-held : (masks : List ℕ) → Live code lengths masks → gathered lengths masks (x .place .threads) 6 ++ x .place .memory ≡ valuesOf (withoutQueues (endOf p v))
+  gathered-held masks lives = values-held code lengths masks (coreOf (machineOf (x .place))) (withoutQueues (endOf p v)) (held .core) lives short-held

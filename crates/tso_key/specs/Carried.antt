@@ -7,8 +7,7 @@ use lib.ListN.{getD}
 use Rattle.spec_file.specs.Program.{Program}
 use Rattle.spec_model.specs.Exchange.{together}
 use Rattle.machine.specs.declared.state.LastWrite.{LastWrite}
-use Rattle.machine.specs.Held.{idle, unwritten, eventOf}
-use Rattle.machine_access.specs.declared.thread.ThreadState.{ThreadState}
+use Rattle.machine.specs.Held.{unwritten, eventOf}
 use Rattle.spec_schedules.specs.Lists.{range}
 use Rattle.spec_tso.specs.Queue.{Entry}
 use Rattle.tso_machine.specs.Slots.{queueAt}
@@ -29,9 +28,6 @@ carriedNear p last words ways t u =
 abbrev pub queuesTo : List Pending → List ℕ → List ℕ → ℕ → List (List Entry)
 queuesTo slots heads tails n = map (λ t. queueAt slots (getD heads t 0) (getD tails t 0 - getD heads t 0)) (range 0 n)
 
--- of each of the six how much is pending, and how many instructions are left
+-- of each of the six how much is pending
 abbrev pub pendingAt : List ℕ → List ℕ → List ℕ
 pendingAt heads tails = map (λ t. getD tails t 0 - getD heads t 0) (range 0 6)
-
-abbrev pub leftAt : List ℕ → List ThreadState → List ℕ
-leftAt lengths threads = map (λ t. getD lengths t 0 - getD threads t idle .at) (range 0 6)

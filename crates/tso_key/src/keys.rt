@@ -4,6 +4,9 @@ use crate::spot::Spot;
 use crate::waiting::Waiting;
 use crate::waiting::waiting_of;
 use machine_access::ThreadState;
+use states_key::left;
+use states_key::pair;
+use states_key::values_of;
 use tso_order::Sets;
 ghost use mathlib.Core.Path.{_≡_};
 ghost use mathlib.Core.List.{List, _∷_, _++_};
@@ -18,7 +21,9 @@ ghost use Rattle.theory_sc_key.specs.Key.{pairs, padded, valuesOf};
 ghost use Rattle.theory_tso_key.specs.Key.{keyOf};
 ghost use Rattle.theory_tso_key.specs.Words.{number, wordsOf, wordKey};
 ghost use Rattle.tso_key.specs.Stands.{Stands};
-ghost use Rattle.tso_key.specs.Carried.{leftAt, pendingAt};
+ghost use Rattle.states_key.specs.Gathered.{leftAt};
+ghost use Rattle.states_live.specs.Live.{Live};
+ghost use Rattle.tso_key.specs.Carried.{pendingAt};
 
 // The first word: its highest bit, and six bits for each set.
 fn sets_word(sets: Sets, near: u64) -> u64
@@ -28,17 +33,6 @@ fn sets_word(sets: Sets, near: u64) -> u64
     let far = near * 64 + (sets.far as u64);
     let overdue = far * 64 + (sets.overdue as u64);
     0x8000_0000_0000_0000 + (overdue * 64 + (sets.late as u64))
-}
-
-// How many of n instructions are left to a thread that stands at one of them or behind.
-fn left(at: usize, n: usize) -> u64
-    requires { ⌜ (at < n → n ≤ 16) ⌝ }
-    ensures { λ r. ⌜ (r ≡ n - at) × (r < 32) ⌝ }
-{
-    if at < n {
-        return (n - at) as u64;
-    }
-    0
 }
 
 // What is left to each thread, five bits each.
@@ -70,13 +64,6 @@ fn with_pending(lefts: u64, heads: &[u8; 6], tails: &[u8; 6]) -> u64
     word
 }
 
-// Two values as one word.
-fn pair(a: u32, b: u32) -> u64
-    ensures { λ r. ⌜ r ≡ a + 2 ^ 32 * b ⌝ }
-{
-    (a as u64) + 0x1_0000_0000 * (b as u64)
-}
-
 // Stores values by two in so many words from `at` on.
 fn put_pairs(words: &mut [u64; 27], at: usize, values: &[u32], n: usize)
     requires { ⌜ (at + n ≤ 27) × (n + n ≤ length (now values)) ⌝ }
@@ -106,8 +93,8 @@ fn joined(first: u64, second: u64, w: Waiting, values: [u32; 32]) -> [u64; 27]
     words
 }
 
-// The key of the position that this spot is, where these are the values that matter: its first so many words, whatever number of words it fits.
-pub fn words_of(lengths: &[usize; 6], class: &[usize; 6], x: Spot, values: [u32; 32]) -> [u64; 27]
+// The words of the position that this spot is, where these are the values that matter.
+fn words_of(lengths: &[usize; 6], class: &[usize; 6], x: Spot, values: [u32; 32]) -> [u64; 27]
     requires { ⌜ ((code : List ℕ) × (threads : ℕ) × (groups : ℕ) × (p : Program) × (v : Schedule)
         × Stands code (now lengths) (now class) threads groups x p v) ⌝ }
     ensures { λ r. ⌜ ((code : List ℕ) (threads groups n : ℕ) (p : Program) (v : Schedule)
@@ -126,4 +113,19 @@ pub fn words_of(lengths: &[usize; 6], class: &[usize; 6], x: Spot, values: [u32;
     let first = sets_word(sets, near_word(class, last, &seen, &ways));
     let second = with_pending(lefts_word(lengths, threads), &heads, &tails);
     joined(first, second, waiting_of(slots, &heads, &tails), values)
+}
+
+// The key of the position that this spot is: its first so many words, whatever number of words it fits.
+pub fn key(lengths: &[usize; 6], class: &[usize; 6], masks: &[u8; 96], x: Spot) -> [u64; 27]
+    requires { ⌜ ((code : List ℕ) × (threads : ℕ) × (groups : ℕ) × (p : Program) × (v : Schedule)
+        × Stands code (now lengths) (now class) threads groups x p v) ⌝ }
+    ensures { λ r. ⌜ ((code : List ℕ) (threads groups n : ℕ) (p : Program) (v : Schedule)
+        → Stands code (now (lengths .entry)) (now (class .entry)) threads groups x p v → Live code (now (lengths .entry)) (now (masks .entry))
+        → length (wordsOf (keyOf p v (endOf p v))) ≤ n → n ≤ 27 → take n r ≡ wordKey n p v (endOf p v)) ⌝ }
+{
+    let place = x.place;
+    let threads = place.threads;
+    let memory = place.memory;
+    let values = values_of(lengths, masks, threads, memory);
+    words_of(lengths, class, x, values)
 }

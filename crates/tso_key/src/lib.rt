@@ -13,5 +13,5 @@ mod keys;
 
 pub use going::first_spot;
 pub use going::way_behind;
-pub use keys::words_of;
+pub use keys::key;
 pub use spot::Spot;

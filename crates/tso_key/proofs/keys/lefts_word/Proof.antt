@@ -40,7 +40,7 @@ loop-again c =
     let s = c .left in (
       omega (arith, l .inv .0),
       fives-more (λ i. getD (a .lengths .now) i 0 - getD (a .t2) i idle .at) [] (l .t) (l .word) (s .result) t (l .inv .0) (l .inv .1) (s .ensures .0),
-      fives-room 6 (l .t) (l .word) (s .result) t (l .inv .0) (l .inv .2) (s .ensures .1),
+      fives-room 6 (l .t) (l .word) (s .result) t (l .inv .0) (l .inv .2) (omega (arith, s .ensures .1)),
     )
 
 returns : tie.Need-returns Inv-loop μ-loop

@@ -8,7 +8,8 @@ use Rattle.spec_tso.specs.State.{withoutQueues}
 use Rattle.spec_tso.specs.Graph.{endOf}
 use Rattle.theory_sc_key.specs.Key.{valuesOf}
 use Rattle.theory_tso_key.specs.Words.{join, stored}
-use Rattle.tso_key.specs.Carried.{queuesTo, leftAt}
+use Rattle.states_key.specs.Gathered.{leftAt}
+use Rattle.tso_key.specs.Carried.{queuesTo}
 use Rattle.tso_key.proofs.Whole.{shaped, short-held, ends-held, sixteen-held, slots-held, stored-held, first-held, second-held, places-word, words-held}
 use Rattle.tso_key.proofs.keys.words_of.Statement.{statement}
 use Rattle.tso_key.proofs.keys.words_of.Tie as tie
