@@ -2,6 +2,10 @@
 
 // Count and violation: tarczolin_count_with, tarczolin_violation_with.
 mod by_states;
+// The same under total store order: tarczolin_tso_count_with, tarczolin_tso_violation_with.
+mod tso;
 
 pub use by_states::tarczolin_count_with;
 pub use by_states::tarczolin_violation_with;
+pub use tso::tarczolin_tso_count_with;
+pub use tso::tarczolin_tso_violation_with;

@@ -100,7 +100,13 @@ fn is_near(
 }
 
 // The threads that thread t is near.
-fn near_set(class: &[usize; 6], last: [LastWrite; 8], words: &[u64; 6], ways: &[u32; 6], t: usize) -> u8
+fn near_set(
+    class: &[usize; 6],
+    last: [LastWrite; 8],
+    words: &[u64; 6],
+    ways: &[u32; 6],
+    t: usize,
+) -> u8
     requires { ⌜ t < 6 ⌝ }
     ensures { λ r. ⌜ ((groups : ℕ) (p : Program) → Lined (now (class .entry)) groups p
         → r ≡ setOf (carriedNear p last (now (words .entry)) (now (ways .entry)) t) 6) ⌝ }
