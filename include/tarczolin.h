@@ -211,6 +211,8 @@ uint64_t tarczolin_tso_start(const uint8_t *file, size_t file_len, uint8_t *out,
 uint64_t tarczolin_tso_continue(const uint8_t *file, size_t file_len, const uint8_t *schedule, size_t schedule_len, uint8_t *out, size_t out_len);
 uint64_t tarczolin_tso_violation(const uint8_t *file, size_t file_len, uint8_t *out, size_t out_len);
 uint64_t tarczolin_tso_count(const uint8_t *file, size_t file_len, uint64_t *listed, uint64_t *failing);
+uint64_t tarczolin_tso_count_with(const uint8_t *file, size_t file_len, uint64_t *listed, uint64_t *failing, uint64_t *scratch, size_t scratch_len);
+uint64_t tarczolin_tso_violation_with(const uint8_t *file, size_t file_len, uint8_t *out, size_t out_len, uint64_t *scratch, size_t scratch_len);
 uint64_t tarczolin_tso_rows(const uint8_t *file, size_t file_len, uint8_t *out, size_t out_len);
 uint64_t tarczolin_tso_rows_after(const uint8_t *file, size_t file_len, const uint8_t *schedule, size_t schedule_len, uint8_t *out, size_t out_len);
 

@@ -50,6 +50,7 @@ CALLS = {
     **LISTING, **{f'tso_{name}': arguments for name, arguments in LISTING.items()},
     'count_with': _FILE + _COUNTS + _SCRATCH, 'violation_with': _FILE + _OUT + _SCRATCH,
     'kth': _FILE + [c_uint64] + _OUT + _SCRATCH, 'rank': _FILE + _FILE + [POINTER(c_uint64)] + _SCRATCH,
+    'tso_count_with': _FILE + _COUNTS + _SCRATCH, 'tso_violation_with': _FILE + _OUT + _SCRATCH,
     'check': _FILE, 'judge': _FILE + _FILE + _OUT, 'covers': _FILE + _FILE + _OUT, 'force': _FILE + [c_uint8],
     'force_with': _FILE + [c_uint8] + _SCRATCH,
     'robust': _FILE + _OUT,

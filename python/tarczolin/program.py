@@ -336,13 +336,13 @@ class Program:
         return answer
 
     def _by_states(self, name: str, memory: int, *arguments: object, subject: str = 'program') -> Answer:
-        """A call that remembers states in memory, no more than can be of use, where the model has one."""
-        if self.model != 'sc':
-            return self._call(name, *arguments, subject=subject)
+        """A call that remembers states in memory, no more than can be of use."""
         return self._call(f'{name}_with', *arguments, self._scratch(memory), subject=subject)
 
     def _scratch(self, memory: int) -> Any:
         places = prod(1 + sum(one.is_access() for one in code) for code in self.code.threads)
+        if self.model == 'tso':
+            places *= prod(1 + sum(one.kind == _frames.STORE for one in code) for code in self.code.threads)
         return scratch(min(memory // 8, EACH * places))
 
     def _done(self, answer: Answer, subject: str = 'program') -> None:

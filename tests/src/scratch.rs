@@ -4,7 +4,7 @@ use crate::calls::Answer;
 use crate::random::Random;
 
 /// Lengths that have something about them: none, too short for any key, just long enough for one, and more.
-pub const SHORT: [usize; 6] = [0, 1, 20, 21, 64, 1_000];
+pub const SHORT: [usize; 7] = [0, 1, 20, 21, 29, 64, 1_000];
 pub const LONG: usize = 1_000_000;
 
 /// So many words on each side of a scratch belong to somebody else.

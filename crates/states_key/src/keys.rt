@@ -18,7 +18,7 @@ ghost use Rattle.states_key.specs.Stands.{Stands};
 ghost use Rattle.states_key.specs.Gathered.{leftAt};
 
 // How many of n instructions are left to a thread that stands at one of them or behind.
-fn left(at: usize, n: usize) -> u64
+pub fn left(at: usize, n: usize) -> u64
     requires { ⌜ (at < n → n ≤ 16) ⌝ }
     ensures { λ r. ⌜ (r ≡ n - at) × (r ≤ 16) ⌝ }
 {
@@ -44,7 +44,7 @@ pub(crate) fn first_word(lengths: &[usize; 6], threads: [ThreadState; 6], late: 
 }
 
 // Two values as one word.
-fn pair(a: u32, b: u32) -> u64
+pub fn pair(a: u32, b: u32) -> u64
     ensures { λ r. ⌜ r ≡ a + 2 ^ 32 * b ⌝ }
 {
     (a as u64) + 0x1_0000_0000 * (b as u64)

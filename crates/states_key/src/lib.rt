@@ -17,5 +17,8 @@ pub use going::first_spot;
 pub use going::mark_way;
 pub use going::way_behind;
 pub use keys::key;
+pub use keys::left;
+pub use keys::pair;
 pub use seen::seen_key;
 pub use spot::Spot;
+pub use values::values_of;

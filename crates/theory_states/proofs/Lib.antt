@@ -15,6 +15,8 @@ pub mod Passing
 pub mod Memory
 -- numbers in words of 64 bits, added up in a loop, and put into a table
 pub mod Wrapped
+-- with one next byte, and over the next bytes in turn, as code goes
+pub mod Turns
 -- counting with a true table gives the numbers, and a true table
 pub mod Counted
 -- so does the search for the first failing schedule, with true marks

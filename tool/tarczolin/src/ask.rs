@@ -123,21 +123,21 @@ impl Rows {
     }
 }
 
-/// The first listed schedule that fails, or none. Under sequential consistency states are remembered in the scratch.
+/// The first listed schedule that fails, or none. States are remembered in the scratch.
 pub fn violation(model: Model, file: &[u8], scratch: &mut [u64]) -> Result<Option<Schedule>, Refusal> {
     schedule(|out| match model {
         Model::Sc => library::violation_with(file, out, scratch),
-        Model::Tso => tso::violation(file, out),
+        Model::Tso => tso::violation_with(file, out, scratch),
     })
 }
 
-/// How many schedules are listed, and how many of these fail. Under sequential consistency states are remembered in the scratch.
+/// How many schedules are listed, and how many of these fail. States are remembered in the scratch.
 pub fn count(model: Model, file: &[u8], scratch: &mut [u64]) -> Result<Counts, Refusal> {
     let mut counts = Counts::default();
     let Counts { listed, failing } = &mut counts;
     length(match model {
         Model::Sc => library::count_with(file, listed, failing, scratch),
-        Model::Tso => tso::count(file, listed, failing),
+        Model::Tso => tso::count_with(file, listed, failing, scratch),
     })?;
     Ok(counts)
 }

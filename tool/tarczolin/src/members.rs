@@ -23,7 +23,7 @@ impl Members {
     /// The list of an accepted file.
     pub fn of(file: &[u8], program: &Program, memory: Memory) -> Members {
         assert!(program.model == Model::Sc, "no call finds a place of a list under total store order");
-        Members { file: file.to_vec(), scratch: memory.lent(program) }
+        Members { file: file.to_vec(), scratch: memory.lent(Model::Sc, program) }
     }
 
     /// How many there are, and how many of these fail.

@@ -3,6 +3,7 @@
 use crate::ask::{self, Force};
 use crate::machine::Machine;
 use crate::memory::Memory;
+use crate::model::Model;
 use crate::program::{file, Comparison, Frame, Instruction, Operand, Program};
 use crate::schedule::Schedule;
 
@@ -26,7 +27,7 @@ impl Game {
     /// Who can force its end where a machine stands and it is the hostile side's turn?
     fn asked(&mut self, program: &Program, machine: &Machine) -> Force {
         let rest = rest(program, machine);
-        let words = self.memory.words(&Program::of_accepted(&rest)).min(self.scratch.len());
+        let words = self.memory.words(Model::Sc, &Program::of_accepted(&rest)).min(self.scratch.len());
         ask::force(&rest, self.set, &mut self.scratch[..words]).expect("what is left of a program is a program")
     }
 
@@ -58,7 +59,8 @@ const FAILS: Instruction = Instruction::Assert { test: Comparison::Equal, r: 0, 
 /// The file of the program that begins where a machine stands. It has no more instructions: each register that is not 0 was given its value by one.
 fn rest(program: &Program, machine: &Machine) -> Vec<u8> {
     let (memory, registers) = machine.values();
-    let mut frames: Vec<Frame> = (0..).zip(memory).filter(|(_, value)| *value != 0).map(|(l, value)| Frame::Start(l, value)).collect();
+    let mut frames: Vec<Frame> =
+        (0..).zip(memory).filter(|(_, value)| *value != 0).map(|(l, value)| Frame::Start(l, value)).collect();
     for ((t, at), registers) in program.numbers().zip(machine.places()).zip(registers) {
         frames.push(Frame::Thread);
         if machine.failure(t).is_some() {
@@ -76,7 +78,7 @@ fn rest(program: &Program, machine: &Machine) -> Vec<u8> {
 
 /// A full play in which the winner follows its strategy: it takes its first step that keeps the win, the loser its first step.
 pub fn play(program: &Program, set: u8, memory: Memory) -> Schedule {
-    let mut game = Game { set, memory, scratch: memory.lent(program) };
+    let mut game = Game { set, memory, scratch: memory.lent(Model::Sc, program) };
     let mut machine = Machine::new(program);
     let mut schedule = Schedule::default();
     let winner = game.asked(program, &machine) != Force::Friendly;

@@ -135,7 +135,8 @@ impl<'a> Walk<'a> {
     /// The first of the whole list that fails, with its place.
     fn first_failing(&self) -> Option<(u64, Listed)> {
         let (file, program, memory) = (self.list.file, self.list.program, self.choice.memory);
-        let found = waiting(|| ask::violation(Model::Sc, file, &mut memory.lent(program))).expect("the file is accepted");
+        let found =
+            waiting(|| ask::violation(Model::Sc, file, &mut memory.lent(Model::Sc, program))).expect("the file is accepted");
         let mut members = Members::of(file, program, memory);
         found.map(|schedule| {
             let standing = waiting(|| members.standing(&schedule)).expect("a listed schedule is full");

@@ -10,6 +10,7 @@ use crate::error::Error;
 use crate::execution::Execution;
 use crate::json::{list, Json};
 use crate::memory::Memory;
+use crate::model::Model;
 use crate::near::hint;
 use crate::play::play;
 use crate::program::Program;
@@ -59,7 +60,7 @@ fn forced(question: &Question, threads: &str, wanted: bool, memory: Memory) -> R
     let source = question.source()?;
     let program = &source.program;
     let set = set(program, threads)?;
-    let answer = waiting(|| ask::force(&source.file, set, &mut memory.lent(program)));
+    let answer = waiting(|| ask::force(&source.file, set, &mut memory.lent(Model::Sc, program)));
     let answer = answer.map_err(|r| refusal::of_threads(&source.name, &source.file, program.threads.len(), r))?;
     let (words, side, step) = told(program, answer);
     let end = if side == "hostile" { End::Violation } else { End::Answered };

@@ -56,7 +56,7 @@ fn violation(question: &Question, source: &Accepted, piece: &Piece, showing: Sho
     let model = piece.model;
     let list = List::of(source, false);
     let found = if piece.is_one_call() {
-        let call = move |file: &[u8]| ask::violation(model, file, &mut showing.memory.lent(&Program::of_accepted(file)));
+        let call = move |file: &[u8]| ask::violation(model, file, &mut showing.memory.lent(model, &Program::of_accepted(file)));
         piece::answered(&list, call).map(|found| found.expect("the file is accepted"))
     } else {
         by_rows(&list, piece)
