@@ -70,7 +70,7 @@ module _ (p : Program) (w : WellFormed p) (v : Schedule) (σ : State) (r : Reach
   left-of : (t : ℕ) → Suffix (threadOf σ t .local .rest) (codeOf p t)
   left-of t = subst (λ (ρ : State). Suffix (threadOf ρ t .local .rest) (codeOf p t)) (sym (r .0)) (rest-code p v (r .1) t)
 
-  heads-small : Everywhere (λ n. n < 64) (lateSet p v ∷ leftOf σ)
+  pub heads-small : Everywhere (λ n. n < 64) (lateSet p v ∷ leftOf σ)
   unfolding codeOf
   heads-small = (
     late-below p v,
