@@ -1,6 +1,4 @@
 -- The laws, in the order in which they rest on each other.
--- the eight values, one by one
-pub mod Values
 -- the test of two outcomes
 pub mod Same
 -- outcomes looked for in the list

@@ -38,7 +38,7 @@ pub struct Setup {
     pub spot: Spot,
 }
 
-fn made(program: Compiled) -> Setup
+pub fn made(program: Compiled) -> Setup
     requires { ⌜ WellFormed (programOf program) ⌝ }
     ensures { λ r. ⌜ Made program r ⌝ }
 {

@@ -36,7 +36,7 @@ pub struct First {
 }
 
 // None.
-fn nothing() -> First
+pub fn nothing() -> First
     ensures { λ r. ⌜ (r .steps ≤ 24) × (foundOf r ≡ none) ⌝ }
 {
     First {

@@ -20,7 +20,7 @@ ghost use Rattle.spec_sc.specs.Graph.{endOf};
 ghost use Rattle.states_key.specs.Stands.{Stands};
 
 // The spot behind a step of thread t.
-pub(crate) fn advanced(code: &Code, lengths: &[usize; 6], x: Spot, t: u8) -> Spot
+pub fn advanced(code: &Code, lengths: &[usize; 6], x: Spot, t: u8) -> Spot
     requires { ⌜ ((class : List ℕ) × (threads : ℕ) × (groups : ℕ) × (p : Program) × (v : Schedule)
         × Stands (now code) (now lengths) class threads groups x p v × (enabled (endOf p v) t ≡ true)) ⌝ }
     ensures { λ r. ⌜ ((class : List ℕ) (threads groups : ℕ) (p : Program) (v : Schedule)
