@@ -92,13 +92,12 @@ module _ (p : Program) (w : WellFormed p) (f : Frame) (rows : List ℕ) (wide : 
       passed-over p w (isNew rows (f .known)) (f .width) v a steps counted going (λ j c. said (f .slots) 0 (drop (f .cut) m) j ≡ some c) marks [] (ap (said (f .slots) 0 (drop (f .cut) m)) (sym e) ∙ s)
 
   -- a key behind which none was found may be marked
-  pub marked-new : (m m' d k : List ℕ) → k ≡ outcomeKey (f .width) p v (endOf p v) → none ≡ headOf (passingBehind (isNew rows (f .known)) p steps v)
-      → Honest (f .slots) k [] (drop (f .cut) m) d → drop (f .cut) m' ≡ d → Swept p f rows m → Swept p f rows m'
-  marked-new m m' d k e nowhere honest behind marks =
+  pub marked-new : (m m' k : List ℕ) → k ≡ outcomeKey (f .width) p v (endOf p v) → none ≡ headOf (passingBehind (isNew rows (f .known)) p steps v)
+      → Honest (f .slots) k [] (drop (f .cut) m) (drop (f .cut) m') → Swept p f rows m → Swept p f rows m'
+  marked-new m m' k e nowhere honest marks =
       may-mark p w (isNew rows (f .known)) (f .width) v a steps counted going wide
       (λ j c. said (f .slots) 0 (drop (f .cut) m) j ≡ some c) (λ j c. said (f .slots) 0 (drop (f .cut) m') j ≡ some c) nowhere []
-      (subst (λ (l : List ℕ). Honest (f .slots) (outcomeKey (f .width) p v (endOf p v)) [] (drop (f .cut) m) l) (sym behind)
-      (subst (λ (j : List ℕ). Honest (f .slots) j [] (drop (f .cut) m) d) e honest)) marks
+      (subst (λ (j : List ℕ). Honest (f .slots) j [] (drop (f .cut) m) (drop (f .cut) m')) e honest) marks
 
 -- ---- over the next steps in turn
 -- what is left to the loop: none with a step before t is the first; and the marks stay true
