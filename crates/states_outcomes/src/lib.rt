@@ -14,3 +14,4 @@ mod first;
 pub use first::first_new;
 pub use known::Frame;
 pub use known::row_of;
+pub use sweeping::unmark;

@@ -7,16 +7,19 @@ use states_memory::Shape;
 use states_memory::is_marked;
 use states_memory::mark;
 use states_walk::First;
+use table::clear;
 ghost use mathlib.Core.Path.{_≡_};
 ghost use mathlib.Core.Bool.{true};
 ghost use mathlib.Core.Option.{some};
-ghost use mathlib.Core.List.{[]};
-ghost use Prim.Native.Nat.{_*_, _≤_};
+ghost use mathlib.Core.List.{List, []};
+ghost use Prim.Native.Nat.{ℕ, _*_, _≤_};
 ghost use lib.ListN.{length, take, drop};
+ghost use Rattle.spec_file.specs.Program.{Program};
 ghost use Rattle.table.specs.Places.{said};
 ghost use Rattle.table.specs.Answers.{Honest};
+ghost use Rattle.states_outcomes.specs.declared.known.Frame.{Frame};
 ghost use Rattle.states_outcomes.specs.Rows.{isNew};
-ghost use Rattle.states_outcomes.specs.Swept.{Kept};
+ghost use Rattle.states_outcomes.specs.Swept.{Swept, Kept};
 
 // Where nobody may step: the prefix, if its outcome is not known.
 pub(crate) fn ending(x: Spot, failed: bool, lent: &[u64], frame: Frame) -> First
@@ -63,4 +66,13 @@ pub(crate) fn sweep(lent: &mut [u64], frame: Frame, key: [u64; 18])
         slots: frame.slots,
     };
     mark(&mut lent[cut..], shape, &key[..width]);
+}
+
+// Takes all marks away: behind `cut` the table says nothing.
+pub fn unmark(lent: &mut [u64], cut: usize)
+    requires { ⌜ cut ≤ length (now lent) ⌝ }
+    ensures kept { λ r. ⌜ Kept cut (now (lent .entry)) (now (lent .exit)) ⌝ }
+    ensures nothing { λ r. ⌜ ((p : Program) (f : Frame) (rows : List ℕ) → f .cut ≡ cut → Swept p f rows (now (lent .exit))) ⌝ }
+{
+    clear(&mut lent[cut..]);
 }

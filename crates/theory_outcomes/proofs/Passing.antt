@@ -6,7 +6,7 @@ use mathlib.Core.Bool.{Bool, true, false, true≢false}
 use mathlib.Core.Option.{Option, none, some}
 use mathlib.Core.List.{List, [], _∷_, _++_, List·Memᴰ}
 use native.Mathlib.Omega.{arith}
-use lib.ListN.{length}
+use lib.ListN.{length, length-map}
 use Rattle.spec_file.specs.Program.{Program}
 use Rattle.spec_file.specs.WellFormed.{WellFormed}
 use Rattle.spec_schedules.specs.Lists.{filter, find, headOf}
@@ -19,11 +19,13 @@ use Rattle.spec_schedules.proofs.Runs.{full-allowed}
 use Rattle.spec_model.specs.Alike.{listOf}
 use Rattle.spec_model.specs.Search.{sought}
 use Rattle.spec_model.proofs.TheList.{list-exact}
-use Rattle.spec_sc.specs.State.{State, SC, start}
+use Rattle.spec_sc.specs.State.{State, SC, start, memoryOf, valueOf}
 use Rattle.spec_sc.specs.Graph.{endOf}
 use Rattle.spec_sc.specs.Sequential.{sc}
 use Rattle.spec_sc.proofs.Laws.{sc-laws}
 use Rattle.spec_sc.proofs.Lawful.{lawful, start-24}
+use Rattle.spec_sc.proofs.Start.{start-cells}
+use Rattle.spec_sc.proofs.Steps.{run-cells}
 use Rattle.spec_covers.specs.declared.outcome.Outcome.{Outcome}
 use Rattle.spec_covers.specs.Covers.{outcomeOf}
 use Rattle.theory_search.specs.Found.{foundFrom}
@@ -77,14 +79,19 @@ module _ (p : Program) (w : WellFormed p) (v : Schedule) (σ : State) (r : Reach
         clean-known SC lawful 6 (givenUp p) (Reached SC (start p)) on (endsBy SC (passes test)) (endsSo SC (passes test)) (ends-law SC (passes test) lawful (givenUp p) (Reached SC (start p)))
         (comesSo test p) agree k v σ r h (ends-going SC (passes test) σ e) (sym (head-nil (foundFrom SC 6 (givenUp p) (comesSo test p) k none v σ) (sifted ∙ z)))
 
--- ---- marks
-module _ (p : Program) (w : WellFormed p) (test : Outcome → Bool) (n : ℕ) where
-  -- a table that says nothing
-  pub passes-nothing : (Says : List ℕ → List ℕ → Type 0) → ((k c : List ℕ) → Says k c → ⊥) → NonePasses test p n Says
-  passes-nothing Says h = clean-none SC lawful 6 (givenUp p) (endsBy SC (passes test)) (Reached SC (start p)) (outcomeKey n p) Says Says h
+-- memory has eight values behind any steps
+pub memory-eight : (p : Program) → WellFormed p → (u : Schedule) → length (memoryOf (endOf p u)) ≡ 8
+unfolding memoryOf
+memory-eight p w u = length-map (endOf p u .cells) valueOf ∙ run-cells u (start p) ∙ start-cells p w
 
+-- ---- marks
+-- a table that says nothing
+pub passes-nothing : (p : Program) (test : Outcome → Bool) (n : ℕ) (Says : List ℕ → List ℕ → Type 0) → ((k c : List ℕ) → Says k c → ⊥) → NonePasses test p n Says
+passes-nothing p test n Says h = clean-none SC lawful 6 (givenUp p) (endsBy SC (passes test)) (Reached SC (start p)) (outcomeKey n p) Says Says h
+
+module _ (p : Program) (w : WellFormed p) (test : Outcome → Bool) (n : ℕ) where
   -- MARKS STAY TRUE while fewer pass
-  pub passes-fewer : (fewer : Outcome → Bool) → ((o : Outcome) → fewer o ≡ true → test o ≡ true) → (Says : List ℕ → List ℕ → Type 0) → NonePasses test p n Says → NonePasses fewer p n Says
+  pub passes-fewer : (fewer : Outcome → Bool) → ((o : Outcome) → length (o .memory) ≡ 8 → fewer o ≡ true → test o ≡ true) → (Says : List ℕ → List ℕ → Type 0) → NonePasses test p n Says → NonePasses fewer p n Says
   passes-fewer fewer less Says marks x met c s = go (ended SC (x .1)) refl
     where
       at-end : (o : Outcome → Bool) → ended SC (x .1) ≡ true → numbers SC 6 (givenUp p) (endsBy SC (passes o)) (x .0) (x .1) .failing ≡ 0
@@ -94,7 +101,7 @@ module _ (p : Program) (w : WellFormed p) (test : Outcome → Bool) (n : ℕ) wh
       comes u q = in-end (ended SC (endOf p u)) refl q
         where
           in-end : (b : Bool) → ended SC (endOf p u) ≡ b → comesSo fewer p u ≡ true → comesSo test p u ≡ true
-          in-end true e q = ends-at SC (passes test) (endOf p u) e ∙ less _ (sym (ends-at SC (passes fewer) (endOf p u) e) ∙ q)
+          in-end true e q = ends-at SC (passes test) (endOf p u) e ∙ less _ (memory-eight p w u) (sym (ends-at SC (passes fewer) (endOf p u) e) ∙ q)
           in-end false e q = absurd (true≢false (sym q ∙ ends-going SC (passes fewer) (endOf p u) e))
 
       go : (b : Bool) → ended SC (x .1) ≡ b → numbers SC 6 (givenUp p) (endsBy SC (passes fewer)) (x .0) (x .1) .failing ≡ 0
