@@ -19,3 +19,7 @@ pub mod BatchWalks
 pub mod Marking
 -- the answer by batches
 pub mod ByBatches
+-- outcomes gathered row by row: all of them, and what goes beyond
+pub mod Gathered
+-- the answer with a scratch
+pub mod Lent

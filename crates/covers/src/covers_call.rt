@@ -1,7 +1,7 @@
 // The call: whether the first program covers the second, or the first listed schedule of the second with an outcome that the first lacks.
 use crate::collecting::collect;
 use crate::gathering::first_beyond;
-use crate::gathering::gathered;
+use crate::gathering::outcomes_of;
 use crate::lacking::first_lacking;
 use file_decoder::Compiled;
 use file_rows::put_front;
@@ -81,7 +81,7 @@ fn compared_with(first: Compiled, second: Compiled, out: &mut [u8], scratch: &mu
         return CoversAnswer::RefusedOutput(22, 0);
     }
     let cut = scratch.len() / 4;
-    let g = gathered(first, cut, scratch);
+    let g = outcomes_of(first, cut, scratch);
     if !g.all {
         clear(scratch);
         let answer = compared(first, second, out);

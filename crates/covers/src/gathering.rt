@@ -48,7 +48,7 @@ fn note(program: Compiled, r: First, k: usize, cut: usize, lent: &mut [u64])
 }
 
 // All outcomes of the program as rows before `cut`, where there is room for one more.
-pub(crate) fn gathered(program: Compiled, cut: usize, lent: &mut [u64]) -> Gathering
+pub(crate) fn outcomes_of(program: Compiled, cut: usize, lent: &mut [u64]) -> Gathering
     requires { ⌜ WellFormed (programOf program) × (cut ≤ length (now lent)) ⌝ }
     ensures words { λ r. ⌜ (length (now (lent .exit)) ≡ length (now (lent .entry))) × (9 * r .known ≤ cut) ⌝ }
     ensures rows { λ r. ⌜ (r .all ≡ true → Exactly (programOf program) (take cut (now (lent .exit))) (r .known)) ⌝ }
