@@ -44,14 +44,11 @@ fn put_steps(out: &mut [u8], schedule: [u8; STEPS], n: usize)
 
 // The answer to two accepted programs by their lists: the second's list is walked once, the first's once for each batch of the second's outcomes.
 fn compared(first: Compiled, second: Compiled, out: &mut [u8]) -> CoversAnswer
-    requires { ⌜ WellFormed (programOf first) × WellFormed (programOf second) ⌝ }
+    requires { ⌜ WellFormed (programOf first) × WellFormed (programOf second) × (24 ≤ length (now out)) ⌝ }
     ensures { λ r. ⌜ ((file other : List ℕ) → decode file ≡ accepted (programOf first) → decode other ≡ accepted (programOf second)
         → (a : Answer) × Comparison file other (length (now (out .entry))) a × (r ≡ coversAnswerOf a)
         × (now (out .exit) ≡ outputAfter a (now (out .entry)))) ⌝ }
 {
-    if out.len() < STEPS {
-        return CoversAnswer::RefusedOutput(22, 0);
-    }
     let mut cursor = beginning();
     while !is_end(cursor) {
         let c = collect(second, cursor);

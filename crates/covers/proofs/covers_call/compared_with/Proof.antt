@@ -20,6 +20,9 @@ returns c = λ file other one two.
     short-with file other (a .out .now) (a .out .now) (a .scratch .now) (a .scratch .now) _ (answered-short file other (a .out .now) _ _ one two ((c .if1) .taken)) ((c .if1) .taken) refl
 
 -- by the lists
+compared-requires : tie.Need-compared-requires
+compared-requires c κs = (c .before .before .before .before .before .before .before .before .before .before .before .before .before .before .pre .0, c .before .before .before .before .before .before .before .before .before .before .before .before .before .before .pre .1, c .before .before .before .before .before .before .before .before .before .before .before .if1 .left)
+
 returns-2 : tie.Need-returns-2
 returns-2 c = λ file other one two.
     let a = (c .before .before .before .before .before .before .before .before .before .before .before .before .before .before .before .before .before .args) in
@@ -54,4 +57,4 @@ returns-4 c = λ file other one two.
     ((c .before .before .before .before .before .before .before .before .before .clear2) .ensures .0 ∙ ap (λ (n : ℕ). replicate n 0) (r .ensures .0 .0 ∙ (c .before .before .before .before .before .before .before .before .before .before .before .before .before .before .before .before .before .before .before .outcomes-of) .ensures .0 .0))
 
 pub compared-with-spec : {M : Type 1} → statement M
-compared-with-spec = tie.close (tie.spec returns (λ c κs. search needs) (λ c κs. search needs) (λ c κs. search needs) (λ c. search needs) (λ c. search needs) returns-2 (λ c κs. search needs) (λ c κs. search needs) (λ c. search needs) returns-3 (λ c κs. search needs) (λ c. search needs) (λ c. search needs) returns-4)
+compared-with-spec = tie.close (tie.spec returns (λ c κs. search needs) (λ c κs. search needs) compared-requires (λ c. search needs) (λ c. search needs) returns-2 (λ c κs. search needs) (λ c κs. search needs) (λ c. search needs) returns-3 (λ c κs. search needs) (λ c. search needs) (λ c. search needs) returns-4)
