@@ -22,7 +22,7 @@
  *    65536   tarczolin_tso_rows_after
  *    81920   tarczolin_force, tarczolin_force_with
  *    98304   tarczolin_serve
- *   135168   tarczolin_covers
+ *   135168   tarczolin_covers, tarczolin_covers_with
  *
  * Program files and graph texts are lines of hexadecimal, each ended by 0a; A to F are read as a to f, and what is written is
  * lower case. A line that begins with # is a remark: it may hold any byte but 0a, says nothing, and counts as a line in every
@@ -181,6 +181,12 @@ uint64_t tarczolin_rows_after(const uint8_t *file, size_t file_len, const uint8_
  * output of under 24 bytes, kind 3, also where the answer would be covered. Covered and a refusal change no byte. The two files
  * may be the same bytes. */
 uint64_t tarczolin_covers(const uint8_t *first, size_t first_len, const uint8_t *second, size_t second_len, uint8_t *out, size_t out_len);
+
+/* The same with a scratch, in which outcomes of the first program and states of both are remembered. Answer and output are exactly those of
+ * tarczolin_covers, whatever the scratch's length and content, 0 words too; only the time depends on it: where the outcomes of the first
+ * have room in a fourth of it, nine words each, no list is walked. The scratch shares no byte with any other buffer. An answer, covered
+ * too, leaves zeros in all of its words; a refusal leaves it as it was. Its length is counted in words of 8 bytes. */
+uint64_t tarczolin_covers_with(const uint8_t *first, size_t first_len, const uint8_t *second, size_t second_len, uint8_t *out, size_t out_len, uint64_t *scratch, size_t scratch_len);
 
 /* Who can force the failure of an assertion? Two sides divide the threads: bit t of the set says that thread t is the hostile
  * side's; an empty set and all threads are allowed. They step alternately, hostile first, each one of its own threads not yet

@@ -77,6 +77,9 @@ module _ (p : Program) (w : WellFormed p) (v : Schedule) (σ : State) (r : Reach
       let b = everywhere-getD (λ c. length c ≤ 16) (p .threads) t [] (w .sixteen) (omega arith) in
       omega (arith, a, b)) (range 0 6)
 
+  pub heads-small : Everywhere (λ n. n < 64) (lateSet p v ∷ leftOf σ)
+  heads-small = (late-below p v, left-small)
+
   near-small : Everywhere (λ n. n < 64) (nearSets p σ)
   near-small = mapped-all (λ n. n < 64) (λ t. setOf (near p σ t) 6) (λ t. set-below (near p σ t) 6) (range 0 6)
 
@@ -103,7 +106,7 @@ module _ (p : Program) (w : WellFormed p) (v : Schedule) (σ : State) (r : Reach
   pub words-below : Everywhere (λ n. n < 2 ^ 64) (wordsOf (keyOf p v σ))
   unfolding wordsOf range
   words-below = (
-    (let a = six-bits-below (lateSet p v ∷ leftOf σ) (late-below p v, left-small) in omega (arith, a)),
+    (let a = six-bits-below (lateSet p v ∷ leftOf σ) heads-small in omega (arith, a)),
     ((let a = six-bits-below (nearSets p σ) near-small in omega (arith, a)), pairs-below (valuesOf σ) values-small),
   )
 

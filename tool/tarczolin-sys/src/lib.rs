@@ -146,6 +146,16 @@ pub fn covers(first: &[u8], second: &[u8], out: &mut [u8]) -> Covers {
     })
 }
 
+/// As `covers`, by states: outcomes of the first program and states of both are remembered in the scratch, as `count_with` does.
+pub fn covers_with(first: &[u8], second: &[u8], out: &mut [u8], scratch: &mut [u64]) -> Covers {
+    let [one, other] = [first, second].map(|file| (file.as_ptr(), file.len()));
+    let (lent, words) = (scratch.as_mut_ptr(), scratch.len());
+    // safe: the call reads only the bytes of the first two slices and writes only bytes of the third and words of the fourth
+    Covers::of_word(unsafe {
+        raw::tarczolin_covers_with(one.0, one.1, other.0, other.1, out.as_mut_ptr(), out.len(), lent, words)
+    })
+}
+
 /// Who can force its end, where the hostile side has the threads in the set, bit t for thread t? Answered where the hostile side can: 0
 /// where it has no step before the first one, else its least first step that keeps the win, plus 1. None where the friendly side can.
 pub fn force(file: &[u8], set: u8) -> Answer {

@@ -180,10 +180,10 @@ pub fn judge(file: &[u8], graph: &[u8]) -> Result<Option<Schedule>, Refusal> {
 }
 
 /// The first listed schedule of the second program with an outcome that the first lacks, or none where it is covered. Which file
-/// is refused does not stand in the refusal: the first is asked about first.
-pub fn covers(first: &[u8], second: &[u8]) -> Result<Option<Schedule>, Refusal> {
+/// is refused does not stand in the refusal: the first is asked about first. Outcomes and states are remembered in the scratch.
+pub fn covers(first: &[u8], second: &[u8], scratch: &mut [u64]) -> Result<Option<Schedule>, Refusal> {
     let mut out = [0; SCHEDULE];
-    match library::covers(first, second, &mut out) {
+    match library::covers_with(first, second, &mut out, scratch) {
         Covers::Covered => Ok(None),
         Covers::Lacking(length) => Ok(Some(Schedule::of_output(&out[..length as usize]))),
         Covers::Refused(number, place) | Covers::SecondRefused(number, place) => Err(Refusal { number, place }),
