@@ -14,6 +14,7 @@ use crate::jobs::List;
 use crate::json::{list as json_list, object, Json};
 use crate::matching::matched;
 use crate::memory::Memory;
+use crate::model::Model;
 use crate::outcome::Final;
 use crate::output;
 use crate::program::Names;
@@ -47,7 +48,7 @@ fn compared(questions: [&Question; 2], first: &Accepted, by_number: bool) -> Res
     let matched = matched(first, &second, by_number);
     let matched = matched.map_err(|message| Error::Unfit { name: second.name.clone(), message })?;
     let programs = [first.moved(&|l| l, &matched.names), second.moved(&|l| matched.to[l as usize], &matched.names)];
-    let lent = programs.iter().map(|accepted| Memory::default().lent(&accepted.program));
+    let lent = programs.iter().map(|accepted| Memory::default().lent(Model::Sc, &accepted.program));
     let mut scratch = lent.max_by_key(Vec::len).unwrap_or_default();
     let found = waiting(|| ask::covers(&programs[0].file, &programs[1].file, &mut scratch)).expect("both files are accepted");
     match found {
