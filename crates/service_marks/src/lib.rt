@@ -10,6 +10,7 @@ mod changing;
 mod before;
 
 pub use before::first_refusal;
+pub use before::open_refusal;
 pub use before::program_of;
 pub use changing::forgotten;
 pub use changing::marked;

@@ -6,8 +6,8 @@ use Rattle.spec_service.specs.Record.{reading}
 use Rattle.spec_service.specs.Call.{forSeat}
 use Rattle.service_record.proofs.Given.{next-small}
 use Rattle.service_serve.proofs.Giving.{gave-kept, gave-output, ended-kept, ended-output}
-use Rattle.service_serve.proofs.four.serve_to.Statement.{statement}
-use Rattle.service_serve.proofs.four.serve_to.Tie as tie
+use Rattle.service_serve.proofs.taken.serve_to.Statement.{statement}
+use Rattle.service_serve.proofs.taken.serve_to.Tie as tie
 
 put-front-requires : tie.Need-put-front-requires
 put-front-requires c κs =
@@ -26,7 +26,7 @@ returns c =
     let n = c .before .before .before .before .before .wide in
     let o = forSeat (reading (a .c)) in (
       gave-kept (a .k) (a .c) (s .result) (x .result) o (x .ensures) (s .ensures o (x .ensures)) f (n .result) (n .ensures .0),
-      (refl, gave-output (a .k) (a .c) (s .result) (x .result) o (x .ensures) f (n .result) (n .ensures .0) (a .out .now) _ (c .before .before .put-front .ensures)),
+      gave-output (a .k) (a .c) (s .result) (x .result) o (x .ensures) f (n .result) (n .ensures .0) (a .out .now) _ (c .before .before .put-front .ensures),
     )
 
 returns-2 : tie.Need-returns-2
@@ -37,7 +37,7 @@ returns-2 c =
     let f = c .if1 .left in
     let o = forSeat (reading (a .c)) in (
       ended-kept (a .k) (a .c) (s .result) (x .result) o (x .ensures) (s .ensures o (x .ensures)) f,
-      (refl, ended-output (a .k) (a .c) (s .result) (x .result) o (x .ensures) f (a .out .now)),
+      ended-output (a .k) (a .c) (s .result) (x .result) o (x .ensures) f (a .out .now),
     )
 
 pub serve-to-spec : {M : Type 1} → statement M
