@@ -61,7 +61,17 @@ pub fn rank(program: Compiled, schedule: &[u8], table: &mut [u64]) -> u64
         slots: slots(table.len(), m.width, 2),
     };
     clear(table);
-    let n = rank_behind(&code, &lengths, &class, &left, &masks, shape, x, table, schedule);
+    let n = rank_behind(
+        &code,
+        &lengths,
+        &class,
+        &left,
+        &masks,
+        shape,
+        x,
+        table,
+        schedule,
+    );
     clear(table);
     n
 }
