@@ -111,8 +111,6 @@ fn of_list(most: &mut Most, random: &mut Random, file: &[u8], other: &[u8]) {
     let mut scratch = vec![7; 5_000];
     most.of("tarczolin_violation_with", || _ = calls::violation_with(file, &mut [0; SCHEDULE], &mut scratch));
     most.of("tarczolin_count_with", || _ = calls::count_with(file, &mut 0, &mut 0, &mut scratch));
-    most.of("tarczolin_kth", || _ = calls::kth(file, 3, &mut [0; SCHEDULE], &mut scratch));
-    most.of("tarczolin_rank", || _ = calls::rank(file, &steps, &mut 0, &mut scratch));
     let mut rows = vec![0; 9 * ROW];
     most.of("tarczolin_rows", || _ = calls::rows(file, &mut rows));
     most.of("tarczolin_rows_after", || _ = calls::rows_after(file, &steps, &mut rows));
