@@ -26,7 +26,12 @@ pub extern "C" fn tarczolin_kth(file: &[u8], k: u64, out: &mut [u8], scratch: &m
 // Kind 1, with how many listed schedules are smaller than the full one given in the word and zeros in the scratch; kind 3 with number and
 // place, and both the word and the scratch unchanged.
 #[no_mangle]
-pub extern "C" fn tarczolin_rank(file: &[u8], schedule: &[u8], rank: &mut u64, scratch: &mut [u64]) -> u64
+pub extern "C" fn tarczolin_rank(
+    file: &[u8],
+    schedule: &[u8],
+    rank: &mut u64,
+    scratch: &mut [u64],
+) -> u64
     ensures answer { λ w. ⌜ w ≡ wordOf (rankReply (rankFile sc (now (file .entry)) (now (schedule .entry)))) ⌝ }
     ensures rank { λ w. ⌜ now (rank .exit) ≡ rankLater (rankFile sc (now (file .entry)) (now (schedule .entry))) (now (rank .entry)) ⌝ }
     ensures scratch { λ w. ⌜ now (scratch .exit) ≡ rankScratch (rankFile sc (now (file .entry)) (now (schedule .entry))) (now (scratch .entry)) ⌝ }

@@ -54,7 +54,17 @@ pub fn rank(program: Compiled, schedule: &[u8], table: &mut [u64]) -> u64
     let x = m.spot;
     let shape = shape_of(m.width, m.accesses, table.len(), 2);
     clear(table);
-    let n = rank_behind(&code, &lengths, &class, &left, &masks, shape, x, table, schedule);
+    let n = rank_behind(
+        &code,
+        &lengths,
+        &class,
+        &left,
+        &masks,
+        shape,
+        x,
+        table,
+        schedule,
+    );
     clear(table);
     n
 }

@@ -68,7 +68,14 @@ fn smaller(
 }
 
 // Whether the search gives up a step of b, which may step.
-fn gives_up(code: &Code, lengths: &[usize; 6], class: &[usize; 6], left: &[u8; 192], x: Spot, b: u8) -> bool
+fn gives_up(
+    code: &Code,
+    lengths: &[usize; 6],
+    class: &[usize; 6],
+    left: &[u8; 192],
+    x: Spot,
+    b: u8,
+) -> bool
     requires { ⌜ ((threads : ℕ) × (groups : ℕ) × (p : Program) × (v : Schedule)
         × Stands (now code) (now lengths) (now class) threads groups x p v × (enabled (endOf p v) b ≡ true))
         × Left (now code) (now lengths) (now left) ⌝ }
