@@ -20,7 +20,7 @@
  *    65536   tarczolin_count_with, tarczolin_violation_with, tarczolin_kth, tarczolin_rank
  *    65536   tarczolin_tso_start, tarczolin_tso_continue, tarczolin_tso_violation, tarczolin_tso_count, tarczolin_tso_rows,
  *    65536   tarczolin_tso_rows_after
- *    81920   tarczolin_force, tarczolin_force_with
+ *    86016   tarczolin_force, tarczolin_force_with
  *    98304   tarczolin_serve
  *   135168   tarczolin_covers, tarczolin_covers_with
  *
