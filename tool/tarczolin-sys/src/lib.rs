@@ -9,6 +9,7 @@ mod closed;
 mod covers;
 mod interrupt;
 mod raw;
+mod scratch;
 mod served;
 pub mod tso;
 pub mod users;
@@ -18,6 +19,7 @@ pub use caller::{Caller, Mark, FILE, MARKS, NAME};
 pub use closed::{standard_input_was_closed, standard_output_was_closed};
 pub use covers::Covers;
 pub use interrupt::{note_interrupts, was_interrupted};
+pub use scratch::{Scratch, Seen};
 pub use served::Served;
 
 /// A schedule needs an output of so many bytes.

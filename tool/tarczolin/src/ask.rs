@@ -1,7 +1,7 @@
 //! The library's calls with answers to keep: each lends an output that is long enough and takes the answer out of it.
 use crate::model::Model;
 use crate::schedule::Schedule;
-use tarczolin_sys::{self as library, across, tso, Answer, Covers, GRAPH, SCHEDULE};
+use tarczolin_sys::{self as library, across, tso, Answer, Covers, Scratch, GRAPH, SCHEDULE};
 
 /// A refusal: its number and its place.
 #[derive(Clone, Copy, Debug, PartialEq, Eq)]
@@ -124,19 +124,19 @@ impl Rows {
 }
 
 /// The first listed schedule that fails, or none. Under sequential consistency states are remembered in the scratch.
-pub fn violation(model: Model, file: &[u8], scratch: &mut [u64]) -> Result<Option<Schedule>, Refusal> {
+pub fn violation(model: Model, file: &[u8], scratch: &Scratch) -> Result<Option<Schedule>, Refusal> {
     schedule(|out| match model {
-        Model::Sc => library::violation_with(file, out, scratch),
+        Model::Sc => scratch.violation(file, out),
         Model::Tso => tso::violation(file, out),
     })
 }
 
 /// How many schedules are listed, and how many of these fail. Under sequential consistency states are remembered in the scratch.
-pub fn count(model: Model, file: &[u8], scratch: &mut [u64]) -> Result<Counts, Refusal> {
+pub fn count(model: Model, file: &[u8], scratch: &Scratch) -> Result<Counts, Refusal> {
     let mut counts = Counts::default();
     let Counts { listed, failing } = &mut counts;
     length(match model {
-        Model::Sc => library::count_with(file, listed, failing, scratch),
+        Model::Sc => scratch.count(file, listed, failing),
         Model::Tso => tso::count(file, listed, failing),
     })?;
     Ok(counts)

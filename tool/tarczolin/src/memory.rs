@@ -2,6 +2,7 @@
 use crate::error::Error;
 use crate::program::Program;
 use std::ffi::OsStr;
+use tarczolin_sys::Scratch;
 
 /// At most so many bytes where nothing else is said.
 const MOST: usize = 16 << 20;
@@ -34,13 +35,14 @@ impl Memory {
     }
 
     /// What is lent for a program: as much of it as can be had.
-    pub fn lent(self, program: &Program) -> Vec<u64> {
-        let (mut words, mut lent) = (self.words(program), Vec::new());
-        while lent.try_reserve_exact(words).is_err() {
-            words /= 2;
+    pub fn lent(self, program: &Program) -> Scratch {
+        let mut words = self.words(program);
+        loop {
+            match Scratch::new(words) {
+                Some(scratch) => return scratch,
+                None => words /= 2,
+            }
         }
-        lent.resize(words, 0);
-        lent
     }
 }
 
@@ -58,9 +60,9 @@ mod tests {
         let four = program("01 110000 110000 01 110000 01 ");
         let most = program(&format!("01 {}", "110000 ".repeat(4)).repeat(6));
         let all = Memory::default();
-        assert_eq!([&one, &four, &most].map(|program| all.lent(program).len()), [320, 6 * 320, MOST / 8]);
-        assert_eq!(Memory::of_word("--memory", OsStr::new("1001")).unwrap().lent(&most).len(), 125);
-        assert_eq!(Memory::of_word("--memory", OsStr::new("0")).unwrap().lent(&most).len(), 0);
+        assert_eq!([&one, &four, &most].map(|program| all.lent(program).words()), [320, 6 * 320, MOST / 8]);
+        assert_eq!(Memory::of_word("--memory", OsStr::new("1001")).unwrap().lent(&most).words(), 125);
+        assert_eq!(Memory::of_word("--memory", OsStr::new("0")).unwrap().lent(&most).words(), 0);
         assert!(Memory::of_word("--memory", OsStr::new("16M")).is_err());
     }
 }

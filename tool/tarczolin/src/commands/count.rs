@@ -12,8 +12,9 @@ use crate::jobs::List;
 use crate::json::{list as json_list, object, Json};
 use crate::memory::Memory;
 use crate::model::Model;
-use crate::program::{apart, Program};
+use crate::program::apart;
 use std::collections::BTreeMap;
+use tarczolin_sys::Scratch;
 
 pub const CLASSES: Opt = Opt {
     name: "--classes",
@@ -79,13 +80,13 @@ fn counted(question: &Question, piece: &Piece, asking: Asking) -> Result<End, Er
 
 /// The counts by one call of the library, or what was found until Ctrl-C.
 fn called(list: &List, model: Model, memory: Memory) -> Result<Counts, Box<piece::Found>> {
-    let call = move |file: &[u8]| ask::count(model, file, &mut memory.lent(&Program::of_accepted(file)));
-    piece::answered(list, call).map(|counts| counts.expect("the file is accepted"))
+    let call = move |file: &[u8], scratch: &Scratch| ask::count(model, file, scratch);
+    piece::answered(list, memory.lent(list.program), call).map(|counts| counts.expect("the file is accepted"))
 }
 
 /// How many executions all listed ones stand for: so many are listed of the file without its `02` lines.
 fn all_executions(source: &Accepted, memory: Memory) -> u64 {
-    let counts = ask::count(Model::Sc, &apart(&source.file), &mut memory.lent(&source.program));
+    let counts = ask::count(Model::Sc, &apart(&source.file), &memory.lent(&source.program));
     counts.expect("an accepted file is one without its 02 lines too").listed
 }
 

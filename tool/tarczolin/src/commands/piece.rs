@@ -11,7 +11,9 @@ use crate::progress::{self, Progress};
 use crate::schedule::Schedule;
 use std::io;
 use std::sync::mpsc::{channel, Receiver, RecvTimeoutError};
+use std::sync::Arc;
 use std::time::Duration;
+use tarczolin_sys::Scratch;
 
 /// At most so many jobs.
 pub const JOBS: u64 = 256;
@@ -70,10 +72,13 @@ impl Piece {
 }
 
 /// Walks a list and tells progress; `each` gets the parts in order, until it cannot write.
-pub fn walk(list: &List, jobs: usize, mut each: impl FnMut(&Part) -> io::Result<()>) -> Found {
+pub fn walk(list: &List, jobs: usize, each: impl FnMut(&Part) -> io::Result<()>) -> Found {
+    walk_and_tell(list, jobs, Progress::default(), each)
+}
+
+fn walk_and_tell(list: &List, jobs: usize, mut progress: Progress, mut each: impl FnMut(&Part) -> io::Result<()>) -> Found {
     tarczolin_sys::note_interrupts();
     let mut found = Found::default();
-    let mut progress = Progress::default();
     let done = jobs::parts(list, jobs, |part| {
         found.counts += part.counts;
         found.last = part.last.or(found.last);
@@ -90,21 +95,27 @@ pub fn walk(list: &List, jobs: usize, mut each: impl FnMut(&Part) -> io::Result<
     found
 }
 
-/// The answer of one call of the library on the file of a list. Where it takes a while the rows of the list are walked beside it, only to
-/// tell how far that is; what was walked is given back where Ctrl-C came before the answer. With progress off the call stands alone.
-pub fn answered<T: Send + 'static>(list: &List, call: impl FnOnce(&[u8]) -> T + Send + 'static) -> Result<T, Box<Found>> {
+/// The answer of one call of the library on the file of a list, with memory lent to it. Where it takes a while the rows of the list are
+/// walked beside it, only to tell how far that is, and how full the memory; what was walked is given back where Ctrl-C came before the
+/// answer. With progress off the call stands alone.
+pub fn answered<T: Send + 'static>(
+    list: &List,
+    scratch: Scratch,
+    call: impl FnOnce(&[u8], &Scratch) -> T + Send + 'static,
+) -> Result<T, Box<Found>> {
     if progress::every().is_none() {
-        return Ok(call(list.file));
+        return Ok(call(list.file, &scratch));
     }
+    let scratch = Arc::new(scratch);
     tarczolin_sys::note_interrupts();
     let (done, wait) = channel();
-    let file = list.file.to_vec();
-    std::thread::spawn(move || done.send(call(&file)));
+    let (file, lent) = (list.file.to_vec(), scratch.clone());
+    std::thread::spawn(move || done.send(call(&file, &lent)));
     if let Some(answer) = soon(&wait) {
         return Ok(answer);
     }
     let mut answer = None;
-    let found = walk(list, 1, |_| {
+    let found = walk_and_tell(list, 1, Progress::beside(scratch), |_| {
         answer = wait.try_recv().ok();
         answer.as_ref().map_or(Ok(()), |_| Err(io::Error::other("answered")))
     });
