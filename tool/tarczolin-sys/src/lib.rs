@@ -10,6 +10,7 @@ mod covers;
 mod idle;
 mod interrupt;
 mod raw;
+mod scratch;
 mod served;
 pub mod tso;
 pub mod users;
@@ -20,6 +21,7 @@ pub use closed::{standard_input_was_closed, standard_output_was_closed};
 pub use covers::Covers;
 pub use idle::only_when_idle;
 pub use interrupt::{note_interrupts, was_interrupted};
+pub use scratch::{Scratch, Seen};
 pub use served::Served;
 
 /// A schedule needs an output of so many bytes.

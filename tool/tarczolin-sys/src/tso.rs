@@ -30,7 +30,7 @@ extern "C" {
     ) -> u64;
     fn tarczolin_tso_violation(file: *const u8, file_len: usize, out: *mut u8, out_len: usize) -> u64;
     fn tarczolin_tso_count(file: *const u8, file_len: usize, listed: *mut u64, failing: *mut u64) -> u64;
-    fn tarczolin_tso_count_with(
+    pub(crate) fn tarczolin_tso_count_with(
         file: *const u8,
         file_len: usize,
         listed: *mut u64,
@@ -38,7 +38,7 @@ extern "C" {
         scratch: *mut u64,
         scratch_len: usize,
     ) -> u64;
-    fn tarczolin_tso_violation_with(
+    pub(crate) fn tarczolin_tso_violation_with(
         file: *const u8,
         file_len: usize,
         out: *mut u8,

@@ -1,7 +1,7 @@
 //! The library's calls with answers to keep: each lends an output that is long enough and takes the answer out of it.
 use crate::model::Model;
 use crate::schedule::Schedule;
-use tarczolin_sys::{self as library, across, tso, Answer, Covers, GRAPH, SCHEDULE};
+use tarczolin_sys::{self as library, across, tso, Answer, Covers, Scratch, GRAPH, SCHEDULE};
 
 /// A refusal: its number and its place.
 #[derive(Clone, Copy, Debug, PartialEq, Eq)]
@@ -129,6 +129,25 @@ pub fn violation(model: Model, file: &[u8], scratch: &mut [u64]) -> Result<Optio
         Model::Sc => library::violation_with(file, out, scratch),
         Model::Tso => tso::violation_with(file, out, scratch),
     })
+}
+
+/// The same, in memory that another thread may look at.
+pub fn violation_in(model: Model, file: &[u8], scratch: &Scratch) -> Result<Option<Schedule>, Refusal> {
+    schedule(|out| match model {
+        Model::Sc => scratch.violation(file, out),
+        Model::Tso => scratch.tso_violation(file, out),
+    })
+}
+
+/// The same as `count`, in memory that another thread may look at.
+pub fn count_in(model: Model, file: &[u8], scratch: &Scratch) -> Result<Counts, Refusal> {
+    let mut counts = Counts::default();
+    let Counts { listed, failing } = &mut counts;
+    length(match model {
+        Model::Sc => scratch.count(file, listed, failing),
+        Model::Tso => scratch.tso_count(file, listed, failing),
+    })?;
+    Ok(counts)
 }
 
 /// How many schedules are listed, and how many of these fail. States are remembered in the scratch.

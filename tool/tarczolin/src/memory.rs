@@ -3,6 +3,7 @@ use crate::error::Error;
 use crate::model::Model;
 use crate::program::{Instruction, Program};
 use std::ffi::OsStr;
+use tarczolin_sys::Scratch;
 
 /// At most so many bytes where nothing else is said.
 const MOST: usize = 16 << 20;
@@ -42,6 +43,17 @@ impl Memory {
     /// Is there none at all?
     pub fn is_none(self) -> bool {
         self.0 == 0
+    }
+
+    /// The same as what is lent, where another thread may look how full it is.
+    pub fn looked_at(self, model: Model, program: &Program) -> Scratch {
+        let mut words = self.words(model, program);
+        loop {
+            match Scratch::new(words) {
+                Some(scratch) => return scratch,
+                None => words /= 2,
+            }
+        }
     }
 
     /// What is lent for a program: as much of it as can be had.

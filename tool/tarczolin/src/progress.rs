@@ -3,7 +3,9 @@
 use crate::ask::Counts;
 use std::io::{stderr, stdout, IsTerminal, Write};
 use std::sync::mpsc::{channel, RecvTimeoutError};
+use std::sync::Arc;
 use std::time::{Duration, Instant};
+use tarczolin_sys::{Scratch, Seen};
 
 /// How often it is told, on a terminal and elsewhere.
 const DRAWN: Duration = Duration::from_millis(200);
@@ -18,6 +20,8 @@ pub struct Progress {
     /// Standard output goes to a terminal too: its lines need the place.
     lines: bool,
     shown: bool,
+    /// The memory of a call that goes on beside the walk.
+    scratch: Option<Arc<Scratch>>,
 }
 
 impl Default for Progress {
@@ -30,6 +34,7 @@ impl Default for Progress {
             terminal: stderr().is_terminal(),
             lines: stdout().is_terminal(),
             shown: false,
+            scratch: None,
         }
     }
 }
@@ -55,22 +60,30 @@ pub fn every() -> Option<Duration> {
     Some(given.and_then(|text| text.parse().ok()).map_or(SAID, Duration::from_millis))
 }
 
-/// The line of progress; the share stands there where it is known.
-fn line(counts: Counts, seconds: f64, share: Option<Share>) -> String {
+/// The line of progress; the share stands there where it is known, and how full the memory of a call is where it remembers states.
+fn line(counts: Counts, seconds: f64, share: Option<Share>, seen: Option<Seen>) -> String {
     let rate = counts.listed as f64 / seconds;
     let share = match share {
         None => String::new(),
         Some(Share::OfList(share)) => format!(", {:.1} % of the list", share * 100.0),
         Some(Share::OfRange(share)) => format!(", {:.1} % of the range", share * 100.0),
     };
-    format!("{} listed, {} failing, {rate:.0} a second{share}", counts.listed, counts.failing)
+    let states = seen.filter(|seen| seen.states > 0).map_or(String::new(), |Seen { states, share }| {
+        format!("; {states} states remembered, {:.1} % of the memory for them", share * 100.0)
+    });
+    format!("{} listed, {} failing, {rate:.0} a second{share}{states}", counts.listed, counts.failing)
 }
 
 impl Progress {
+    /// Beside a call that remembers states in this memory.
+    pub fn beside(scratch: Arc<Scratch>) -> Progress {
+        Progress { scratch: Some(scratch), ..Progress::default() }
+    }
+
     /// Tells how far the list is, now and then; the share is asked for only then.
     pub fn tell(&mut self, counts: Counts, share: impl FnOnce() -> Option<Share>) {
-        let began = self.began;
-        self.say(|| line(counts, began.elapsed().as_secs_f64(), share()));
+        let (began, scratch) = (self.began, self.scratch.clone());
+        self.say(|| line(counts, began.elapsed().as_secs_f64(), share(), scratch.map(|scratch| scratch.seen())));
     }
 
     /// Says something now and then, which is asked for only then.
@@ -138,9 +151,11 @@ mod tests {
     #[test]
     fn listed_failing_rate_and_share() {
         let wanted = "3000 listed, 7 failing, 2000 a second";
-        let told = |share| line(Counts { listed: 3000, failing: 7 }, 1.5, share);
-        assert_eq!(told(Some(Share::OfRange(0.125))), format!("{wanted}, 12.5 % of the range"));
-        assert_eq!(told(Some(Share::OfList(1.0))), format!("{wanted}, 100.0 % of the list"));
-        assert_eq!(told(None), wanted);
+        let told = |share, seen| line(Counts { listed: 3000, failing: 7 }, 1.5, share, seen);
+        assert_eq!(told(Some(Share::OfRange(0.125)), None), format!("{wanted}, 12.5 % of the range"));
+        assert_eq!(told(Some(Share::OfList(1.0)), None), format!("{wanted}, 100.0 % of the list"));
+        assert_eq!(told(None, Some(Seen { states: 0, share: 0.0 })), wanted);
+        let seen = Some(Seen { states: 12, share: 0.25 });
+        assert_eq!(told(None, seen), format!("{wanted}; 12 states remembered, 25.0 % of the memory for them"));
     }
 }

@@ -146,6 +146,23 @@ fn interrupted_between_files() {
     assert!(status == Some(2) && err.ends_with("not begun: examples/whole.hex\n"), "{err}");
 }
 
+/// A call by states tells how many it remembers, and how full its memory is. Every access keeps the history, so that no two states are one.
+#[test]
+fn progress_by_states() {
+    let thread = |t: usize| format!("01 12000000{:08x} {}", 1 << t, "1200000100000000 ".repeat(3));
+    let file = lines(&(0..6).map(thread).collect::<String>());
+    for words in [["count", "-", "--memory", "1000000"], ["violation", "-", "--memory", "1000000"]] {
+        let (status, _, err) = interrupted_with("50", &words, &file);
+        assert_eq!(status, Some(2), "{err}");
+        let told = |line: &&str| line.contains(" states remembered, ") && line.ends_with(" % of the memory for them");
+        let line = err.lines().filter(told).last().unwrap_or_else(|| panic!("{err}"));
+        let before = |words: &str| line.split_once(words).unwrap().0.split_whitespace().last().unwrap().parse::<f64>().unwrap();
+        let (states, share) = (before(" states remembered"), before(" % of the memory"));
+        // a slot has four to twenty words
+        assert!(states > 100.0 && share <= 100.0 && share * 1_250.0 <= states * 20.0 + 1_250.0, "{line}");
+    }
+}
+
 /// Joining tells how far it is too.
 #[test]
 fn progress_of_join() {

@@ -11,8 +11,9 @@ use crate::jobs::{Done, List};
 use crate::json::{list as json_list, object, Json};
 use crate::memory::Memory;
 use crate::model::Model;
-use crate::program::{apart, Program};
+use crate::program::apart;
 use std::collections::BTreeMap;
+use tarczolin_sys::Scratch;
 
 pub const CLASSES: Opt = Opt {
     name: "--classes",
@@ -80,8 +81,8 @@ fn counted(question: &Question, piece: &Piece, asking: Asking) -> Result<End, Er
 
 /// The counts by one call of the library, or what was found until Ctrl-C.
 fn called(list: &List, model: Model, memory: Memory) -> Result<Counts, Box<piece::Found>> {
-    let call = move |file: &[u8]| ask::count(model, file, &mut memory.lent(model, &Program::of_accepted(file)));
-    piece::answered(list, call).map(|counts| counts.expect("the file is accepted"))
+    let call = move |file: &[u8], scratch: &Scratch| ask::count_in(model, file, scratch);
+    piece::answered(list, model, memory, call).map(|counts| counts.expect("the file is accepted"))
 }
 
 /// How many executions all listed ones stand for: so many are listed of the file without its `02` lines.

@@ -1,21 +1,23 @@
 //! Members of a list at chosen places, by one walk where the list is short, else by a call for each.
 use super::piece;
-use crate::ask::{Counts, Listed};
+use crate::ask::{self, Counts, Listed};
 use crate::error::Error;
 use crate::jobs::List;
 use crate::members::Members;
 use crate::memory::Memory;
+use crate::model::Model;
 use crate::progress::Progress;
 use std::collections::BTreeMap;
+use tarczolin_sys::Scratch;
 
 /// A list of no more members than this is soon walked.
 pub const SHORT: u64 = 1_000_000;
 
 /// The counts of a whole list under sequential consistency, by one call of the library; Ctrl-C is an error.
 pub fn counts(list: &List, memory: Memory) -> Result<Counts, Error> {
-    let program = list.program.clone();
-    let call = move |file: &[u8]| Members::of(file, &program, memory).counts();
-    piece::answered(list, call).map_err(|found| Error::Interrupted(found.counts))
+    let call = move |file: &[u8], scratch: &Scratch| ask::count_in(Model::Sc, file, scratch);
+    let counts = piece::answered(list, Model::Sc, memory, call).map_err(|found| Error::Interrupted(found.counts))?;
+    Ok(counts.expect("the file is accepted"))
 }
 
 /// How long a list is under sequential consistency, and its members at the places that are chosen by that, in the order in which they are

@@ -14,7 +14,9 @@ use crate::progress::{self, Progress};
 use crate::schedule::Schedule;
 use std::io;
 use std::sync::mpsc::{channel, Receiver, RecvTimeoutError};
+use std::sync::Arc;
 use std::time::Duration;
+use tarczolin_sys::Scratch;
 
 /// At most so many jobs.
 pub const JOBS: u64 = 256;
@@ -85,10 +87,19 @@ pub fn walk(list: &List, jobs: usize, memory: Memory, each: impl FnMut(&Part) ->
 }
 
 /// The same, with what knows how much is done.
-pub fn walk_with(list: &List, jobs: usize, mut done: Done, mut each: impl FnMut(&Part) -> io::Result<()>) -> Found {
+pub fn walk_with(list: &List, jobs: usize, done: Done, each: impl FnMut(&Part) -> io::Result<()>) -> Found {
+    walk_and_tell(list, jobs, done, Progress::default(), each)
+}
+
+fn walk_and_tell(
+    list: &List,
+    jobs: usize,
+    mut done: Done,
+    mut progress: Progress,
+    mut each: impl FnMut(&Part) -> io::Result<()>,
+) -> Found {
     tarczolin_sys::note_interrupts();
     let mut found = Found::default();
-    let mut progress = Progress::default();
     let handed = jobs::parts(list, jobs, |part| {
         found.counts += part.counts;
         found.last = part.last.or(found.last);
@@ -104,21 +115,30 @@ pub fn walk_with(list: &List, jobs: usize, mut done: Done, mut each: impl FnMut(
     found
 }
 
-/// The answer of one call of the library on the file of a list. Where it takes a while the rows of the list are walked beside it, only to
-/// tell how far that is; what was walked is given back where Ctrl-C came before the answer. With progress off the call stands alone.
-pub fn answered<T: Send + 'static>(list: &List, call: impl FnOnce(&[u8]) -> T + Send + 'static) -> Result<T, Box<Found>> {
+/// The answer of one call of the library on the file of a list, with memory lent to it. Where it takes a while the rows of the list are
+/// walked beside it, only to tell how far that is, and how full the memory; what was walked is given back where Ctrl-C came before the
+/// answer. With progress off the call stands alone.
+pub fn answered<T: Send + 'static>(
+    list: &List,
+    model: Model,
+    memory: Memory,
+    call: impl FnOnce(&[u8], &Scratch) -> T + Send + 'static,
+) -> Result<T, Box<Found>> {
+    let scratch = memory.looked_at(model, list.program);
     if progress::every().is_none() {
-        return Ok(call(list.file));
+        return Ok(call(list.file, &scratch));
     }
+    let scratch = Arc::new(scratch);
     tarczolin_sys::note_interrupts();
     let (done, wait) = channel();
-    let file = list.file.to_vec();
-    std::thread::spawn(move || done.send(call(&file)));
+    let (file, lent) = (list.file.to_vec(), scratch.clone());
+    std::thread::spawn(move || done.send(call(&file, &lent)));
     if let Some(answer) = soon(&wait) {
         return Ok(answer);
     }
     let mut answer = None;
-    let found = walk_with(list, 1, Done::by_range(list), |_| {
+    let progress = if model == Model::Sc { Progress::beside(scratch) } else { Progress::default() };
+    let found = walk_and_tell(list, 1, Done::by_range(list), progress, |_| {
         answer = wait.try_recv().ok();
         answer.as_ref().map_or(Ok(()), |_| Err(io::Error::other("answered")))
     });

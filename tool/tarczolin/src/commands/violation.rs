@@ -15,11 +15,11 @@ use crate::jobs::List;
 use crate::json::{list as json_list, Json};
 use crate::memory::Memory;
 use crate::model::Model;
-use crate::program::Program;
 use crate::schedule::Schedule;
 use crate::show::{columns, By};
 use crate::switches::{fewest, switches};
 use std::io;
+use tarczolin_sys::Scratch;
 
 pub const FEWEST: Opt = Opt {
     name: "--fewest",
@@ -56,8 +56,8 @@ fn violation(question: &Question, source: &Accepted, piece: &Piece, showing: Sho
     let model = piece.model;
     let list = List::of(source, false);
     let found = if piece.is_one_call() {
-        let call = move |file: &[u8]| ask::violation(model, file, &mut showing.memory.lent(model, &Program::of_accepted(file)));
-        piece::answered(&list, call).map(|found| found.expect("the file is accepted"))
+        let call = move |file: &[u8], scratch: &Scratch| ask::violation_in(model, file, scratch);
+        piece::answered(&list, model, showing.memory, call).map(|found| found.expect("the file is accepted"))
     } else {
         by_rows(&list, piece)
     };
