@@ -202,10 +202,11 @@ class Program:
         possible = answer.kind == ANSWERED
         return Judgement(possible, out.raw[:answer.value] if possible else None)
 
-    def covers(self, new: 'Program', by: str = 'name') -> Covering:
+    def covers(self, new: 'Program', by: str = 'name', memory: int = MEMORY) -> Covering:
         """Whether each end of the other program, its final memory and whether it fails, is one of this program.
 
-        Locations are the same by name where they have names, else by number, or by number in any case (`by='number'`).
+        Locations are the same by name where they have names, else by number, or by number in any case (`by='number'`). Ends and states
+        are remembered as for `count`.
         """
         self._only_sc('covers')
         new._only_sc('covers')
@@ -213,7 +214,7 @@ class Program:
             raise ValueError(f'locations are the same by name or by number, not by {by!r}')
         other = _frames.moved(new.file, matched(self.code, new.code, by))
         out = room(SCHEDULE)
-        answer = call('covers', self.file, other, out)
+        answer = call('covers_with', self.file, other, out, scratch(max(self._words(memory), new._words(memory))))
         if answer.kind != ANSWERED:
             self._done(answer)
             return Covering(True, None)
@@ -269,8 +270,12 @@ class Program:
         """A call that remembers states in memory, no more than can be of use, where the model has one."""
         if self.model != 'sc':
             return self._call(name, *arguments)
+        return self._call(f'{name}_with', *arguments, scratch(self._words(memory)))
+
+    def _words(self, memory: int) -> int:
+        """How many words of memory can be of use for states of this program."""
         places = prod(1 + sum(one.is_access() for one in code) for code in self.code.threads)
-        return self._call(f'{name}_with', *arguments, scratch(min(memory // 8, EACH * places)))
+        return min(memory // 8, EACH * places)
 
     def _done(self, answer: Answer, subject: str = 'program') -> None:
         """Raises what an answer refuses: the file's own refusals come first."""
