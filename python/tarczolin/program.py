@@ -193,7 +193,7 @@ class Program:
         """
         self._only_sc('rank')
         rank = c_uint64()
-        self._call('rank', _steps(schedule), byref(rank), self._scratch(memory), subject='schedule')
+        self._call('rank', _steps(schedule), byref(rank), scratch(self._words(memory)), subject='schedule')
         return rank.value
 
     def sample(self, n: int, seed: int, memory: int = MEMORY) -> List[Execution]:
@@ -217,7 +217,7 @@ class Program:
             # a word would hold another number; no list has so many
             return None
         out = room(SCHEDULE)
-        answer = self._call('kth', k, out, self._scratch(memory))
+        answer = self._call('kth', k, out, scratch(self._words(memory)))
         return out.raw[:answer.value] if answer.kind == ANSWERED else None
 
     def count(self, memory: int = MEMORY) -> Count:
@@ -270,10 +270,11 @@ class Program:
         possible = answer.kind == ANSWERED
         return Judgement(possible, out.raw[:answer.value] if possible else None)
 
-    def covers(self, new: 'Program', by: str = 'name') -> Covering:
+    def covers(self, new: 'Program', by: str = 'name', memory: int = MEMORY) -> Covering:
         """Whether each end of the other program, its final memory and whether it fails, is one of this program.
 
-        Locations are the same by name where they have names, else by number, or by number in any case (`by='number'`).
+        Locations are the same by name where they have names, else by number, or by number in any case (`by='number'`). Ends and states
+        are remembered as for `count`.
         """
         self._only_sc('covers')
         new._only_sc('covers')
@@ -281,7 +282,7 @@ class Program:
             raise ValueError(f'locations are the same by name or by number, not by {by!r}')
         other = _frames.moved(new.file, matched(self.code, new.code, by))
         out = room(SCHEDULE)
-        answer = call('covers', self.file, other, out)
+        answer = call('covers_with', self.file, other, out, scratch(max(self._words(memory), new._words(memory))))
         if answer.kind != ANSWERED:
             self._done(answer)
             return Covering(True, None)
@@ -337,13 +338,14 @@ class Program:
 
     def _by_states(self, name: str, memory: int, *arguments: object, subject: str = 'program') -> Answer:
         """A call that remembers states in memory, no more than can be of use."""
-        return self._call(f'{name}_with', *arguments, self._scratch(memory), subject=subject)
+        return self._call(f'{name}_with', *arguments, scratch(self._words(memory)), subject=subject)
 
-    def _scratch(self, memory: int) -> Any:
+    def _words(self, memory: int) -> int:
+        """How many words of memory can be of use for states of this program."""
         places = prod(1 + sum(one.is_access() for one in code) for code in self.code.threads)
         if self.model == 'tso':
             places *= prod(1 + sum(one.kind == _frames.STORE for one in code) for code in self.code.threads)
-        return scratch(min(memory // 8, EACH * places))
+        return min(memory // 8, EACH * places)
 
     def _done(self, answer: Answer, subject: str = 'program') -> None:
         """Raises what an answer refuses: the file's own refusals come first."""
