@@ -22,7 +22,9 @@
  *    65536   tarczolin_tso_rows_after
  *    86016   tarczolin_force, tarczolin_force_with
  *    98304   tarczolin_serve
+ *   110592   tarczolin_tso_count_with
  *   135168   tarczolin_covers, tarczolin_covers_with
+ *   151552   tarczolin_tso_violation_with
  *
  * Program files and graph texts are lines of hexadecimal, each ended by 0a; A to F are read as a to f, and what is written is
  * lower case. A line that begins with # is a remark: it may hold any byte but 0a, says nothing, and counts as a line in every

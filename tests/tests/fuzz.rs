@@ -146,6 +146,7 @@ fn ask_in_store_order(random: &mut Random, file: &[u8], beside: &[u8]) {
         held(random, [file], out, [tso::SCHEDULE, 32], false, |[f], out| tso::start(f, out));
         held(random, [file, beside], out, [tso::SCHEDULE, 32], true, |[f, s], out| tso::continue_from(f, s, out));
         held(random, [file], out, [tso::SCHEDULE, 32], true, |[f], out| tso::violation(f, out));
+        held(random, [file], out, [tso::SCHEDULE, 32], true, |[f], out| tso::violation_with(f, out, &mut vec![3; 500]));
         let (mut listed, mut failing) = (7, 9);
         match tso::count(file, &mut listed, &mut failing) {
             Answer::Answered(0) => assert!(failing <= listed && listed > 0),

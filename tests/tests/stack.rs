@@ -128,6 +128,9 @@ fn of_store_order(most: &mut Most, random: &mut Random, file: &[u8]) {
     most.of("tarczolin_tso_continue", || _ = tso::continue_from(file, &steps, &mut [0; tso::SCHEDULE]));
     most.of("tarczolin_tso_violation", || _ = tso::violation(file, &mut [0; tso::SCHEDULE]));
     most.of("tarczolin_tso_count", || _ = tso::count(file, &mut 0, &mut 0));
+    let mut scratch = vec![7; 5_000];
+    most.of("tarczolin_tso_violation_with", || _ = tso::violation_with(file, &mut [0; tso::SCHEDULE], &mut scratch));
+    most.of("tarczolin_tso_count_with", || _ = tso::count_with(file, &mut 0, &mut 0, &mut scratch));
     let mut rows = vec![0; 9 * tso::ROW];
     most.of("tarczolin_tso_rows", || _ = tso::rows(file, &mut rows));
     most.of("tarczolin_tso_rows_after", || _ = tso::rows_after(file, &steps, &mut rows));

@@ -107,7 +107,7 @@ fn as_lent(file: &[u8]) -> usize {
 /// A ring: each thread stores to a location of its own and loads its neighbour's, twice.
 fn ring(threads: usize) -> String {
     let thread = |t: usize| {
-        format!("01 10{t:02x}0000000001 1100{0:02x} 10{t:02x}0000000002 1101{0:02x} 250100fffffffe ", (t + 1) % threads)
+        format!("01 10{t:02x}0000000001 1100{0:02x} 10{t:02x}0000000002 1101{0:02x} 2501007fffffff ", (t + 1) % threads)
     };
     (0..threads).map(thread).collect()
 }

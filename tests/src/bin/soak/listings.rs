@@ -122,7 +122,7 @@ fn ask_list(random: &mut Random, tally: &Tally, file: &[u8], list: &Result<Vec<L
     tally.call("count");
     let counts = list.as_ref().map(|list| listing::count(list)).map_err(|refusal| *refusal);
     held_count(random, file, counts, calls::count);
-    ask_by_states(random, tally, file, list);
+    ask_by_states(random, tally, file, list, false);
     let out = random.below(40 * ROW);
     let rows = list.as_ref().map(|list| listing::rows(list, None, out)).map_err(|refusal| *refusal);
     tally.call("rows");
@@ -130,19 +130,22 @@ fn ask_list(random: &mut Random, tally: &Tally, file: &[u8], list: &Result<Vec<L
 }
 
 /// Count and violation with a scratch of some length and any content: zeros behind an answer, itself behind a refusal.
-fn ask_by_states(random: &mut Random, tally: &Tally, file: &[u8], list: &Result<Vec<Listed>, Refusal>) {
-    let words = random.pick(&[0, 1, 7, 20, 21, 64, 300, 1_000]);
+fn ask_by_states(random: &mut Random, tally: &Tally, file: &[u8], list: &Result<Vec<Listed>, Refusal>, in_tso: bool) {
+    let schedule = if in_tso { tso::SCHEDULE } else { SCHEDULE };
+    let count_with = if in_tso { tso::count_with } else { calls::count_with };
+    let violation_with = if in_tso { tso::violation_with } else { calls::violation_with };
+    let words = random.pick(&[0, 1, 7, 20, 21, 29, 64, 300, 1_000]);
     let before: Vec<u64> = (0..words).map(|_| random.word()).collect();
     let later = |answer| if matches!(answer, Answer::Refused(..)) { before.clone() } else { vec![0; words] };
     let mut scratch = before.clone();
     let counts = list.as_ref().map(|list| listing::count(list)).map_err(|refusal| *refusal);
-    tally.call("count_with");
-    held_count(random, file, counts, |file, listed, failing| calls::count_with(file, listed, failing, &mut scratch));
+    tally.call(if in_tso { "tso_count_with" } else { "count_with" });
+    held_count(random, file, counts, |file, listed, failing| count_with(file, listed, failing, &mut scratch));
     assert_eq!(scratch, later(number(counts.map(|_| 0))), "the scratch: {}", file.escape_ascii());
-    let (mut scratch, out) = (before.clone(), output(random, SCHEDULE));
-    let first = found(list, out, SCHEDULE, listing::violation);
-    tally.call("violation_with");
-    held(random, [file], out, &first, |[f], out| calls::violation_with(f, out, &mut scratch));
+    let (mut scratch, out) = (before.clone(), output(random, schedule));
+    let first = found(list, out, schedule, listing::violation);
+    tally.call(if in_tso { "tso_violation_with" } else { "violation_with" });
+    held(random, [file], out, &first, |[f], out| violation_with(f, out, &mut scratch));
     assert_eq!(scratch, later(shown(&first).0), "the scratch: {}", file.escape_ascii());
     let (mut scratch, out) = (before.clone(), output(random, SCHEDULE));
     let end = list.as_ref().map_or(0, Vec::len);
@@ -236,6 +239,7 @@ fn ask_in_store_order(random: &mut Random, tally: &Tally, file: &[u8]) {
     tally.call("tso_count");
     let counts = list.as_ref().map(|list| listing::count(list)).map_err(|refusal| *refusal);
     held_count(random, file, counts, tso::count);
+    ask_by_states(random, tally, file, list, true);
     let out = random.below(40 * tso::ROW);
     let rows = list.as_ref().map(|list| oracle_tso::listing::rows(list, None, out)).map_err(|refusal| *refusal);
     tally.call("tso_rows");

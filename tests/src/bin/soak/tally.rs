@@ -2,7 +2,7 @@
 use std::sync::atomic::{AtomicU64, Ordering};
 
 /// The calls, without the word in front of their names.
-const NAMES: [&str; 32] = [
+const NAMES: [&str; 34] = [
     "check",
     "graph",
     "class",
@@ -26,6 +26,8 @@ const NAMES: [&str; 32] = [
     "tso_continue",
     "tso_violation",
     "tso_count",
+    "tso_count_with",
+    "tso_violation_with",
     "tso_rows",
     "tso_rows_after",
     "open",
