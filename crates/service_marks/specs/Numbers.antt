@@ -9,7 +9,7 @@ unfoldable pub slotNumber : Option ℕ → ℕ
 slotNumber none = 8
 slotNumber (some i) = i
 
--- the number that refuses a call for an open caller k of a list of n records, by whether it is open; 0 where none does
+-- the number that refuses a call for caller k of a list of n records, who must be open, by whether it is; 0 where none does
 unfoldable pub openRefusal : ℕ → ℕ → Bool → ℕ
 openRefusal n k o = cond (eqb n 4) (cond (ltb 3 k) 42 (cond o 0 44)) 22
 

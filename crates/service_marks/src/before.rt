@@ -1,4 +1,4 @@
-// What comes before the marks in all three calls.
+// What comes first in a call for an open caller: its refusals, and the record's program.
 use file_decoder::Compiled;
 use service_record::is_open;
 use spec_service::Caller;
@@ -23,7 +23,7 @@ pub(crate) fn name_fits(n: usize) -> bool
     n <= 8
 }
 
-// What refuses a call for caller k, open with this record, of a list of n records: 22, 42, 44 in this order, or 0.
+// What refuses a call for caller k, who must be open and has this record, of a list of n records: 22, 42, 44 in this order, or 0.
 pub fn open_refusal(n: usize, c: Caller, k: usize) -> u8
     ensures { λ r. ⌜ r ≡ openRefusal n k (isOpen (reading c)) ⌝ }
 {

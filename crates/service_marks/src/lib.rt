@@ -6,7 +6,7 @@ mod bearing;
 mod slots;
 // The records that the calls leave.
 mod changing;
-// What comes before the marks: the refusals of all three calls, and the record's program.
+// What comes before the marks: the refusals of calls for an open caller, and the record's program.
 mod before;
 
 pub use before::first_refusal;
