@@ -39,10 +39,16 @@ const NAMES: [&str; 34] = [
     "forget",
 ];
 
-#[derive(Default)]
 pub struct Tally {
     calls: [AtomicU64; NAMES.len()],
     programs: AtomicU64,
+}
+
+impl Default for Tally {
+    /// No calls yet.
+    fn default() -> Tally {
+        Tally { calls: std::array::from_fn(|_| AtomicU64::new(0)), programs: AtomicU64::new(0) }
+    }
 }
 
 impl Tally {
