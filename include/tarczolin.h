@@ -21,7 +21,7 @@
  *    65536   tarczolin_tso_start, tarczolin_tso_continue, tarczolin_tso_violation, tarczolin_tso_count, tarczolin_tso_rows,
  *    65536   tarczolin_tso_rows_after
  *    86016   tarczolin_force, tarczolin_force_with
- *    98304   tarczolin_serve
+ *    98304   tarczolin_serve, tarczolin_robust
  *   110592   tarczolin_tso_count_with
  *   135168   tarczolin_covers, tarczolin_covers_with
  *   151552   tarczolin_tso_violation_with

@@ -134,7 +134,7 @@ fn random_programs() {
         let asked = asked(&UNDER_SC, &file, (orders <= 500).then(|| listing::list(&program)));
         alike += !program.alike.is_empty() as usize;
         failing += asked.first.is_some() as usize;
-        long += (asked.counts.0 > 200) as usize;
+        long += (asked.counts.0 > 20) as usize;
         scratches.hold(&UNDER_SC, &mut random, &file, &Ok(asked), k % 40 == 0);
     }
     assert!(!share::whole() || (alike > 6_000 && failing > 3_000 && long > 100), "{alike} alike, {failing} fail, {long} long");
@@ -219,7 +219,7 @@ fn random_programs_under_tso() {
         let asked = asked(&UNDER_TSO, &file, list);
         alike += !program.alike.is_empty() as usize;
         failing += asked.first.is_some() as usize;
-        long += (asked.counts.0 > 200) as usize;
+        long += (asked.counts.0 > 20) as usize;
         scratches.hold(&UNDER_TSO, &mut random, &file, &Ok(asked), k % 40 == 0);
     }
     let enough = alike > 3_000 && failing > 1_500 && long > 20 && listed > 3_000;
@@ -258,7 +258,7 @@ fn refused_files_under_tso() {
             scratches.hold(&UNDER_TSO, &mut random, &file, &Err(refusal), k % 100 == 0);
         }
     }
-    let many = lines(&format!("01 {}", "110000 ".repeat(17)));
+    let many = lines(&format!("01 {} 01 {}", "110000 ".repeat(9), "110000 ".repeat(8)));
     scratches.hold(&UNDER_TSO, &mut random, &many, &Err(Refusal { number: 41, place: 0 }), true);
     assert!(!share::whole() || refused > 150, "{refused}");
 }

@@ -119,6 +119,9 @@ fn of_list(most: &mut Most, random: &mut Random, file: &[u8], other: &[u8]) {
     most.of("tarczolin_rows_after", || _ = calls::rows_after(file, &steps, &mut rows));
     most.of("tarczolin_covers", || _ = calls::covers(file, other, &mut [0; SCHEDULE]));
     most.of("tarczolin_covers", || _ = calls::covers(other, file, &mut [0; SCHEDULE]));
+    let mut scratch = vec![7; 5_000];
+    most.of("tarczolin_covers_with", || _ = calls::covers_with(file, other, &mut [0; SCHEDULE], &mut scratch));
+    most.of("tarczolin_covers_with", || _ = calls::covers_with(other, file, &mut [0; SCHEDULE], &mut scratch));
 }
 
 fn of_store_order(most: &mut Most, random: &mut Random, file: &[u8]) {
@@ -130,6 +133,7 @@ fn of_store_order(most: &mut Most, random: &mut Random, file: &[u8]) {
     most.of("tarczolin_tso_count", || _ = tso::count(file, &mut 0, &mut 0));
     let mut scratch = vec![7; 5_000];
     most.of("tarczolin_tso_violation_with", || _ = tso::violation_with(file, &mut [0; tso::SCHEDULE], &mut scratch));
+    most.of("tarczolin_robust", || _ = calls::across::robust(file, &mut [0; tso::SCHEDULE]));
     most.of("tarczolin_tso_count_with", || _ = tso::count_with(file, &mut 0, &mut 0, &mut scratch));
     let mut rows = vec![0; 9 * tso::ROW];
     most.of("tarczolin_tso_rows", || _ = tso::rows(file, &mut rows));
