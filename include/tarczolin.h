@@ -14,17 +14,20 @@
  *
  *    12288   tarczolin_check
  *    20480   tarczolin_graph, tarczolin_class, tarczolin_tso_graph, tarczolin_tso_class
- *    24576   tarczolin_judge, tarczolin_open, tarczolin_ask, tarczolin_close
- *    36864   tarczolin_set, tarczolin_return, tarczolin_forget
+ *    24576   tarczolin_judge, tarczolin_open, tarczolin_close, tarczolin_forget
+ *    28672   tarczolin_ask
+ *    36864   tarczolin_set, tarczolin_return
  *    40960   tarczolin_start, tarczolin_continue, tarczolin_violation, tarczolin_count, tarczolin_rows, tarczolin_rows_after
- *    65536   tarczolin_count_with, tarczolin_violation_with, tarczolin_kth, tarczolin_rank
+ *    61440   tarczolin_serve
  *    65536   tarczolin_tso_start, tarczolin_tso_continue, tarczolin_tso_violation, tarczolin_tso_count, tarczolin_tso_rows,
  *    65536   tarczolin_tso_rows_after
- *    86016   tarczolin_force, tarczolin_force_with
- *    98304   tarczolin_serve, tarczolin_robust
- *   110592   tarczolin_tso_count_with
- *   135168   tarczolin_covers, tarczolin_covers_with
- *   151552   tarczolin_tso_violation_with
+ *    77824   tarczolin_robust
+ *    90112   tarczolin_count_with, tarczolin_kth, tarczolin_rank, tarczolin_force, tarczolin_force_with
+ *    94208   tarczolin_violation_with
+ *   110592   tarczolin_covers_with
+ *   126976   tarczolin_tso_count_with
+ *   139264   tarczolin_covers
+ *   167936   tarczolin_tso_violation_with
  *
  * Program files and graph texts are lines of hexadecimal, each ended by 0a; A to F are read as a to f, and what is written is
  * lower case. A line that begins with # is a remark: it may hold any byte but 0a, says nothing, and counts as a line in every
