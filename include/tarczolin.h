@@ -22,7 +22,7 @@
  *    65536   tarczolin_tso_rows_after
  *    73728   tarczolin_force
  *    98304   tarczolin_serve
- *   135168   tarczolin_covers, tarczolin_covers_with
+ *   139264   tarczolin_covers, tarczolin_covers_with
  *
  * Program files and graph texts are lines of hexadecimal, each ended by 0a; A to F are read as a to f, and what is written is
  * lower case. A line that begins with # is a remark: it may hold any byte but 0a, says nothing, and counts as a line in every

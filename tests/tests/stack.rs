@@ -116,6 +116,8 @@ fn of_list(most: &mut Most, random: &mut Random, file: &[u8], other: &[u8]) {
     most.of("tarczolin_rows_after", || _ = calls::rows_after(file, &steps, &mut rows));
     most.of("tarczolin_covers", || _ = calls::covers(file, other, &mut [0; SCHEDULE]));
     most.of("tarczolin_covers", || _ = calls::covers(other, file, &mut [0; SCHEDULE]));
+    most.of("tarczolin_covers_with", || _ = calls::covers_with(file, other, &mut [0; SCHEDULE], &mut scratch));
+    most.of("tarczolin_covers_with", || _ = calls::covers_with(other, file, &mut [0; SCHEDULE], &mut scratch));
 }
 
 fn of_store_order(most: &mut Most, random: &mut Random, file: &[u8]) {
