@@ -64,7 +64,11 @@ pub fn held_covers(random: &mut Random, files: [&[u8]; 2], output: usize, found:
         held_by(random, files, output, shown, |[first, second], out| calls::covers_with(first, second, out, &mut scratch));
         let answered = matches!(found, Covers::Covered | Covers::Lacking(_));
         let later = if answered { vec![0; words] } else { before };
-        assert!(scratch == later, "the scratch of {words} words behind {shown:?}: {:?}", files.map(|f| f.escape_ascii().to_string()));
+        assert!(
+            scratch == later,
+            "the scratch of {words} words behind {shown:?}: {:?}",
+            files.map(|f| f.escape_ascii().to_string())
+        );
     }
 }
 
