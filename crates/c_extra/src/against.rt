@@ -39,7 +39,12 @@ pub extern "C" fn tarczolin_covers(first: &[u8], second: &[u8], out: &mut [u8]) 
 // The same with a lent scratch, which makes it quicker: however long it is and whatever it holds, the answer is the same. Kinds 1 and 2 leave
 // zeros in it, kinds 3 and 4 leave it as it was.
 #[no_mangle]
-pub extern "C" fn tarczolin_covers_with(first: &[u8], second: &[u8], out: &mut [u8], scratch: &mut [u64]) -> u64
+pub extern "C" fn tarczolin_covers_with(
+    first: &[u8],
+    second: &[u8],
+    out: &mut [u8],
+    scratch: &mut [u64],
+) -> u64
     ensures { λ w. ⌜ ((a : Answer) × Comparison (now (first .entry)) (now (second .entry)) (length (now (out .entry))) a
         × (w ≡ wordOf (coversReply a)) × (now (out .exit) ≡ outputAfter a (now (out .entry)))
         × (now (scratch .exit) ≡ coversScratch a (now (scratch .entry)))) ⌝ }

@@ -68,7 +68,12 @@ fn compared(first: Compiled, second: Compiled, out: &mut [u8]) -> CoversAnswer
 }
 
 // The answer to two accepted programs by states, where the first's outcomes have room in a quarter of the scratch, and else by their lists.
-fn compared_with(first: Compiled, second: Compiled, out: &mut [u8], scratch: &mut [u64]) -> CoversAnswer
+fn compared_with(
+    first: Compiled,
+    second: Compiled,
+    out: &mut [u8],
+    scratch: &mut [u64],
+) -> CoversAnswer
     requires { ⌜ WellFormed (programOf first) × WellFormed (programOf second) ⌝ }
     ensures { λ r. ⌜ ((file other : List ℕ) → decode file ≡ accepted (programOf first) → decode other ≡ accepted (programOf second)
         → (a : Answer) × Comparison file other (length (now (out .entry))) a × (r ≡ coversAnswerOf a)

@@ -15,7 +15,13 @@ ghost use Rattle.states_live.specs.Live.{Live};
 ghost use Rattle.states_key.specs.Stands.{Stands};
 
 // The key of the position that this spot is, where something has failed or not.
-pub(crate) fn outcome_key(lengths: &[usize; 6], class: &[usize; 6], masks: &[u8; 96], x: Spot, failed: bool) -> [u64; 18]
+pub(crate) fn outcome_key(
+    lengths: &[usize; 6],
+    class: &[usize; 6],
+    masks: &[u8; 96],
+    x: Spot,
+    failed: bool,
+) -> [u64; 18]
     requires { ⌜ ((code : List ℕ) × (threads : ℕ) × (groups : ℕ) × (p : Program) × (v : Schedule)
         × Stands code (now lengths) (now class) threads groups x p v) ⌝ }
     ensures { λ r. ⌜ ((code : List ℕ) (threads groups n : ℕ) (p : Program) (v : Schedule)

@@ -19,9 +19,10 @@ returns : tie.Need-returns
 returns c =
     let a = c .before .before .before .before .before .before .args in
     let fits = c .before .before .before .before .before .before .pre .1 in
-    let mark = c .before .before .mark in
-    (rest-kept (a .frame .cut) (a .lent .now) (mark .last .0) fits (mark .ensures .0),
-    rest-honest (a .frame .slots) (a .frame .cut) (take (a .frame .width) (a .t3)) (a .lent .now) (mark .last .0) fits (mark .ensures .1))
+    let mark = c .before .before .mark in (
+      rest-kept (a .frame .cut) (a .lent .now) (mark .last .0) fits (mark .ensures .0),
+      rest-honest (a .frame .slots) (a .frame .cut) (take (a .frame .width) (a .t3)) (a .lent .now) (mark .last .0) fits (mark .ensures .1),
+    )
 
 pub sweep-spec : {M : Type 1} → statement M
 sweep-spec = tie.close (tie.spec (λ c. search needs) (λ c. search needs) (λ c. search needs) (λ c. search needs) (λ c. search needs) slice-aggregate-mark (λ c κs. search needs) (λ c. search needs) returns)
