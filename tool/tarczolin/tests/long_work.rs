@@ -155,7 +155,7 @@ fn progress_by_states() {
         let (status, _, err) = interrupted_with("50", &words, &file);
         assert_eq!(status, Some(2), "{err}");
         let told = |line: &&str| line.contains(" states remembered, ") && line.ends_with(" % of the memory for them");
-        let line = err.lines().filter(told).next_back().unwrap_or_else(|| panic!("{err}"));
+        let line = err.lines().rfind(told).unwrap_or_else(|| panic!("{err}"));
         let before = |words: &str| line.split_once(words).unwrap().0.split_whitespace().last().unwrap().parse::<f64>().unwrap();
         let (states, share) = (before(" states remembered"), before(" % of the memory"));
         // a slot has four to twenty words
