@@ -14,15 +14,20 @@
  *
  *    12288   tarczolin_check
  *    20480   tarczolin_graph, tarczolin_class, tarczolin_tso_graph, tarczolin_tso_class
- *    24576   tarczolin_judge, tarczolin_open, tarczolin_ask, tarczolin_close
- *    36864   tarczolin_set, tarczolin_return, tarczolin_forget
+ *    24576   tarczolin_judge, tarczolin_open, tarczolin_close, tarczolin_forget
+ *    28672   tarczolin_ask
+ *    36864   tarczolin_set, tarczolin_return
  *    40960   tarczolin_start, tarczolin_continue, tarczolin_violation, tarczolin_count, tarczolin_rows, tarczolin_rows_after
- *    65536   tarczolin_count_with, tarczolin_violation_with
+ *    61440   tarczolin_serve
  *    65536   tarczolin_tso_start, tarczolin_tso_continue, tarczolin_tso_violation, tarczolin_tso_count, tarczolin_tso_rows,
  *    65536   tarczolin_tso_rows_after
- *    73728   tarczolin_force
- *    98304   tarczolin_serve
- *   135168   tarczolin_covers
+ *    77824   tarczolin_robust
+ *    90112   tarczolin_count_with, tarczolin_kth, tarczolin_rank, tarczolin_force, tarczolin_force_with
+ *    94208   tarczolin_violation_with
+ *   110592   tarczolin_covers_with
+ *   126976   tarczolin_tso_count_with
+ *   139264   tarczolin_covers
+ *   167936   tarczolin_tso_violation_with
  *
  * Program files and graph texts are lines of hexadecimal, each ended by 0a; A to F are read as a to f, and what is written is
  * lower case. A line that begins with # is a remark: it may hold any byte but 0a, says nothing, and counts as a line in every
@@ -156,6 +161,16 @@ uint64_t tarczolin_count(const uint8_t *file, size_t file_len, uint64_t *listed,
 uint64_t tarczolin_count_with(const uint8_t *file, size_t file_len, uint64_t *listed, uint64_t *failing, uint64_t *scratch, size_t scratch_len);
 uint64_t tarczolin_violation_with(const uint8_t *file, size_t file_len, uint8_t *out, size_t out_len, uint64_t *scratch, size_t scratch_len);
 
+/* The listed schedule number k, from 0, with a scratch as tarczolin_count_with has it. Answered as by tarczolin_start; the list has not so many:
+ * kind 2, exactly from its length on. Refused: the program's (1 to 8, 40); 22. No more and a refusal change no byte of the output; an
+ * answer, no more too, leaves zeros in all words of the scratch, a refusal leaves it as it was. */
+uint64_t tarczolin_kth(const uint8_t *file, size_t file_len, uint64_t k, uint8_t *out, size_t out_len, uint64_t *scratch, size_t scratch_len);
+
+/* How many listed schedules are smaller than the full one given, which need not be listed: of the listed one number k this is k. Answered: kind 1
+ * and the rest 0. Refused: the program's (1 to 8, 40); 20 and 21 of the schedule, as by tarczolin_graph. `rank` keeps its value on refusal, and
+ * lies in no other buffer; the scratch as by tarczolin_kth. */
+uint64_t tarczolin_rank(const uint8_t *file, size_t file_len, const uint8_t *schedule, size_t schedule_len, uint64_t *rank, uint64_t *scratch, size_t scratch_len);
+
 /* Many listed schedules at a time, as rows of 26 bytes: the number of steps, 1 where the schedule fails and 0 where it
  * does not, and the steps, with zeros behind them up to 24. Answered: as many rows as the output has room for stand in
  * front of it: the first listed schedules, or the first of those greater than the given one (which need not be listed nor
@@ -172,14 +187,25 @@ uint64_t tarczolin_rows_after(const uint8_t *file, size_t file_len, const uint8_
  * may be the same bytes. */
 uint64_t tarczolin_covers(const uint8_t *first, size_t first_len, const uint8_t *second, size_t second_len, uint8_t *out, size_t out_len);
 
+/* The same with a scratch, in which outcomes of the first program and states of both are remembered. Answer and output are exactly those of
+ * tarczolin_covers, whatever the scratch's length and content, 0 words too; only the time depends on it: where the outcomes of the first
+ * have room in a fourth of it, nine words each, no list is walked. The scratch shares no byte with any other buffer. An answer, covered
+ * too, leaves zeros in all of its words; a refusal leaves it as it was. Its length is counted in words of 8 bytes. */
+uint64_t tarczolin_covers_with(const uint8_t *first, size_t first_len, const uint8_t *second, size_t second_len, uint8_t *out, size_t out_len, uint64_t *scratch, size_t scratch_len);
+
 /* Who can force the failure of an assertion? Two sides divide the threads: bit t of the set says that thread t is the hostile
  * side's; an empty set and all threads are allowed. They step alternately, hostile first, each one of its own threads not yet
  * ended; a side with none left passes. Exactly one side can force its end, whatever the other does. The hostile side can force
  * that the full schedule fails: kind 1, with 0 where it has no step before the first one, else its least first step that keeps
  * the win, plus 1; tarczolin_violation then reports a schedule. The friendly side can force that it does not fail: kind 2.
  * Refused, in this order: the program's (1 to 8, 40); 48, the set names a thread that is not there, at the lowest such number, 6 and
- * 7 too. The file is only read. The time grows with the number of plays. */
+ * 7 too. The file is only read. The time grows with the number of plays.
+ *
+ * With a scratch, in which it is remembered who wins where, the answer is exactly the same, whatever the scratch's length and content, 0
+ * words too; only the time depends on it. The scratch shares no byte with the file. Kinds 1 and 2 leave zeros in all of its words; a
+ * refusal leaves it as it was. Its length is counted in words of 8 bytes. */
 uint64_t tarczolin_force(const uint8_t *file, size_t file_len, uint8_t set);
+uint64_t tarczolin_force_with(const uint8_t *file, size_t file_len, uint8_t set, uint64_t *scratch, size_t scratch_len);
 
 /* The listing under total store order, by the x86-TSO machine of Owens, Sarkar and Sewell: each thread has a queue of pending stores. A
  * step byte t does thread t's next access, the byte 0x10 + t moves its oldest pending store to memory, also after the thread has ended
@@ -196,6 +222,8 @@ uint64_t tarczolin_tso_start(const uint8_t *file, size_t file_len, uint8_t *out,
 uint64_t tarczolin_tso_continue(const uint8_t *file, size_t file_len, const uint8_t *schedule, size_t schedule_len, uint8_t *out, size_t out_len);
 uint64_t tarczolin_tso_violation(const uint8_t *file, size_t file_len, uint8_t *out, size_t out_len);
 uint64_t tarczolin_tso_count(const uint8_t *file, size_t file_len, uint64_t *listed, uint64_t *failing);
+uint64_t tarczolin_tso_count_with(const uint8_t *file, size_t file_len, uint64_t *listed, uint64_t *failing, uint64_t *scratch, size_t scratch_len);
+uint64_t tarczolin_tso_violation_with(const uint8_t *file, size_t file_len, uint8_t *out, size_t out_len, uint64_t *scratch, size_t scratch_len);
 uint64_t tarczolin_tso_rows(const uint8_t *file, size_t file_len, uint8_t *out, size_t out_len);
 uint64_t tarczolin_tso_rows_after(const uint8_t *file, size_t file_len, const uint8_t *schedule, size_t schedule_len, uint8_t *out, size_t out_len);
 

@@ -49,7 +49,10 @@ LISTING = {
 CALLS = {
     **LISTING, **{f'tso_{name}': arguments for name, arguments in LISTING.items()},
     'count_with': _FILE + _COUNTS + _SCRATCH, 'violation_with': _FILE + _OUT + _SCRATCH,
+    'kth': _FILE + [c_uint64] + _OUT + _SCRATCH, 'rank': _FILE + _FILE + [POINTER(c_uint64)] + _SCRATCH,
+    'tso_count_with': _FILE + _COUNTS + _SCRATCH, 'tso_violation_with': _FILE + _OUT + _SCRATCH,
     'check': _FILE, 'judge': _FILE + _FILE + _OUT, 'covers': _FILE + _FILE + _OUT, 'force': _FILE + [c_uint8],
+    'force_with': _FILE + [c_uint8] + _SCRATCH, 'covers_with': _FILE + _FILE + _OUT + _SCRATCH,
     'robust': _FILE + _OUT,
     'open': _SHARED + [c_size_t] + _FILE, 'ask': _SHARED + [c_size_t], 'serve': _SHARED + _OUT, 'close': _SHARED + [c_size_t],
     'set': _SHARED + [c_size_t] + _FILE, 'return': _SHARED + [c_size_t] + _FILE, 'forget': _SHARED + [c_size_t] + _FILE,

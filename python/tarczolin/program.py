@@ -5,12 +5,14 @@ import os
 from ctypes import byref, c_uint64
 from dataclasses import dataclass
 from functools import cached_property
+from itertools import islice
 from math import prod
-from typing import Dict, Iterable, Iterator, List, NamedTuple, Optional, Tuple, Union
+from typing import Any, Dict, Iterable, Iterator, List, NamedTuple, Optional, Tuple, Union
 
 from . import _frames
 from ._library import ANSWERED, GRAPH, REFUSED, SCHEDULE, SECOND_REFUSED, TSO_SCHEDULE, Answer, call, room, scratch
 from ._matching import matched
+from ._random import Numbers
 from .errors import Refused, Unfit, line_at
 from .execution import Execution
 from .text import Note, imported, is_file, translated
@@ -137,11 +139,28 @@ class Program:
         """What the file says, taken apart: for names and final values."""
         return _frames.decoded(self.file)
 
-    def executions(self, after: Optional[Schedule] = None) -> Iterator[Execution]:
-        """The listed executions in order, one of each class; or those behind a schedule, which need not be listed nor full."""
+    def executions(self, after: Optional[Schedule] = None, start: int = 0, stop: Optional[int] = None) -> Iterator[Execution]:
+        """The listed executions in order, one of each class; or those behind a schedule, which need not be listed nor full.
+
+        `start` and `stop` choose by number, from 0, as a slice does: under sequential consistency the first of them is found at once
+        (`kth`), under total store order those in front of it are walked over.
+        """
+        if start < 0 or (stop is not None and stop < 0):
+            raise ValueError('start and stop are numbers from 0 on')
+        if after is not None and (start > 0 or stop is not None):
+            raise ValueError('executions are chosen by a schedule or by numbers, not by both')
+        most = None if stop is None else max(stop - start, 0)
+        if start == 0 or most == 0:
+            return islice(self._behind(None if after is None else _steps(after)), most)
+        if self.model != 'sc':
+            return islice(self._behind(None), start, stop)
+        before = self._number(start - 1, MEMORY)
+        return iter(()) if before is None else islice(self._behind(before), most)
+
+    def _behind(self, last: Optional[bytes]) -> Iterator[Execution]:
+        """The listed executions behind a schedule, or all."""
         size = 2 + self._size
         rows = room(PAGE * size)
-        last = None if after is None else _steps(after)
         while True:
             answer = self._call('rows', rows) if last is None else self._call('rows_after', last, rows)
             page = rows.raw[:answer.value * size]
@@ -151,6 +170,55 @@ class Program:
                 yield Execution(self, steps, page[at + 1] == 1)
             if answer.value < PAGE:
                 return
+
+    def kth(self, k: int, memory: int = MEMORY) -> Optional[Execution]:
+        """The listed execution number k, from 0, of a list of any length; None where the list has not so many.
+
+        Asked of a program under sequential consistency. States are remembered as for `count`.
+        """
+        steps = self._number(k, memory)
+        if steps is None:
+            return None
+        # a full schedule is the only one that begins as it does without its last step: the first row behind that is its own
+        row = room(2 + SCHEDULE)
+        answer = self._call('rows_after', steps[:-1], row) if steps else self._call('rows', row)
+        if answer.value != 1 or row.raw[2:2 + row.raw[0]] != steps:
+            raise RuntimeError(f'the row of {steps.hex()} is not its own')
+        return Execution(self, steps, row.raw[1] == 1)
+
+    def rank(self, schedule: Schedule, memory: int = MEMORY) -> int:
+        """How many listed executions are smaller than a full schedule. It is listed itself exactly where `kth` of that is it.
+
+        Asked of a program under sequential consistency. States are remembered as for `count`.
+        """
+        self._only_sc('rank')
+        rank = c_uint64()
+        self._call('rank', _steps(schedule), byref(rank), scratch(self._words(memory)), subject='schedule')
+        return rank.value
+
+    def sample(self, n: int, seed: int, memory: int = MEMORY) -> List[Execution]:
+        """n listed executions, each drawn from the whole list and as likely as any other, so that one may come more than once.
+
+        The same seed, a number below 2^64, draws the same, as `tarczolin sample` does. Asked of a program under sequential consistency.
+        """
+        self._only_sc('sample')
+        if n < 0:
+            raise ValueError(f'so many as {n} cannot be drawn')
+        listed, numbers = self.count(memory).listed, Numbers(seed)
+        drawn = [self.kth(numbers.below(listed), memory) for _ in range(n)]
+        return [one for one in drawn if one is not None]
+
+    def _number(self, k: int, memory: int) -> Optional[bytes]:
+        """The schedule of the listed execution number k."""
+        self._only_sc('kth')
+        if k < 0:
+            raise ValueError(f'numbers are from 0 on, and {k} is none')
+        if k >= 1 << 64:
+            # a word would hold another number; no list has so many
+            return None
+        out = room(SCHEDULE)
+        answer = self._call('kth', k, out, scratch(self._words(memory)))
+        return out.raw[:answer.value] if answer.kind == ANSWERED else None
 
     def count(self, memory: int = MEMORY) -> Count:
         """How many schedules are listed, and how many of these fail; under total store order modulo 2^64.
@@ -202,10 +270,11 @@ class Program:
         possible = answer.kind == ANSWERED
         return Judgement(possible, out.raw[:answer.value] if possible else None)
 
-    def covers(self, new: 'Program', by: str = 'name') -> Covering:
+    def covers(self, new: 'Program', by: str = 'name', memory: int = MEMORY) -> Covering:
         """Whether each end of the other program, its final memory and whether it fails, is one of this program.
 
-        Locations are the same by name where they have names, else by number, or by number in any case (`by='number'`).
+        Locations are the same by name where they have names, else by number, or by number in any case (`by='number'`). Ends and states
+        are remembered as for `count`.
         """
         self._only_sc('covers')
         new._only_sc('covers')
@@ -213,7 +282,7 @@ class Program:
             raise ValueError(f'locations are the same by name or by number, not by {by!r}')
         other = _frames.moved(new.file, matched(self.code, new.code, by))
         out = room(SCHEDULE)
-        answer = call('covers', self.file, other, out)
+        answer = call('covers_with', self.file, other, out, scratch(max(self._words(memory), new._words(memory))))
         if answer.kind != ANSWERED:
             self._done(answer)
             return Covering(True, None)
@@ -234,12 +303,14 @@ class Program:
         fails = bool(Execution(self, schedule, False).failed())
         return Robustness(False, Execution(self, schedule, fails))
 
-    def force(self, hostile: Iterable[Union[int, str]]) -> Force:
-        """Which side can force its end, where these threads, by number or name, are hostile and step in turn with the others."""
+    def force(self, hostile: Iterable[Union[int, str]], memory: int = MEMORY) -> Force:
+        """Which side can force its end, where these threads, by number or name, are hostile and step in turn with the others.
+
+        States are remembered as for `count`.
+        """
         self._only_sc('force')
         threads = [self._thread(one) for one in hostile]
-        answer = call('force', self.file, sum({1 << thread for thread in threads}))
-        self._done(answer, 'threads')
+        answer = self._by_states('force', memory, sum({1 << thread for thread in threads}), subject='threads')
         if answer.kind != ANSWERED:
             return Force('friendly', None)
         return Force('hostile', answer.value - 1 if answer.value else None)
@@ -265,12 +336,16 @@ class Program:
         self._done(answer, subject)
         return answer
 
-    def _by_states(self, name: str, memory: int, *arguments: object) -> Answer:
-        """A call that remembers states in memory, no more than can be of use, where the model has one."""
-        if self.model != 'sc':
-            return self._call(name, *arguments)
+    def _by_states(self, name: str, memory: int, *arguments: object, subject: str = 'program') -> Answer:
+        """A call that remembers states in memory, no more than can be of use."""
+        return self._call(f'{name}_with', *arguments, scratch(self._words(memory)), subject=subject)
+
+    def _words(self, memory: int) -> int:
+        """How many words of memory can be of use for states of this program."""
         places = prod(1 + sum(one.is_access() for one in code) for code in self.code.threads)
-        return self._call(f'{name}_with', *arguments, scratch(min(memory // 8, EACH * places)))
+        if self.model == 'tso':
+            places *= prod(1 + sum(one.kind == _frames.STORE for one in code) for code in self.code.threads)
+        return min(memory // 8, EACH * places)
 
     def _done(self, answer: Answer, subject: str = 'program') -> None:
         """Raises what an answer refuses: the file's own refusals come first."""

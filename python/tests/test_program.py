@@ -177,6 +177,7 @@ class Asked(unittest.TestCase):
         program = Program.read(EXAMPLES / 'queue-broken.asm')
         self.assertEqual(program.force(['first', 'second']), Force('hostile', 0))
         self.assertEqual(program.force([0, 1]), Force('hostile', 0))
+        self.assertEqual([program.force([0, 1], memory=memory) for memory in (0, 1000)], 2 * [Force('hostile', 0)])
         self.assertEqual(program.force(['consumer']), Force('friendly', None))
         # a hostile side without a first step before the failure
         self.assertEqual(Program('01\n23000000000001\n').force([]), Force('hostile', None))

@@ -58,6 +58,18 @@ pub fn held_covers(random: &mut Random, files: [&[u8]; 2], output: usize, found:
         Covers::Output => (calls::Covers::Refused(22, 0), &[][..]),
     };
     held_by(random, files, output, shown, |[first, second], out| calls::covers(first, second, out));
+    for words in [0, 1, 40, 400, 4_000] {
+        let before: Vec<u64> = (0..words).map(|_| random.word()).collect();
+        let mut scratch = before.clone();
+        held_by(random, files, output, shown, |[first, second], out| calls::covers_with(first, second, out, &mut scratch));
+        let answered = matches!(found, Covers::Covered | Covers::Lacking(_));
+        let later = if answered { vec![0; words] } else { before };
+        assert!(
+            scratch == later,
+            "the scratch of {words} words behind {shown:?}: {:?}",
+            files.map(|f| f.escape_ascii().to_string())
+        );
+    }
 }
 
 /// The same with the answer, and the bytes in front of the output, given.

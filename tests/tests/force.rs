@@ -8,6 +8,7 @@ use tarczolin_tests::oracle::machine::Machine;
 use tarczolin_tests::oracle::Refusal;
 use tarczolin_tests::random::program::{frames_parted, Size, SMALL};
 use tarczolin_tests::random::{damage, Random};
+use tarczolin_tests::scratch::{Scratch, LONG, SHORT};
 use tarczolin_tests::share;
 
 /// The answer that the oracle's stands for.
@@ -16,6 +17,13 @@ fn shown(found: &Result<Forced, Refusal>) -> Answer {
         Ok(Forced::Hostile(step)) => Answer::Answered(step.map_or(0, |t| t as u64 + 1)),
         Ok(Forced::Friendly) => Answer::None,
         Err(refusal) => Answer::Refused(refusal.number, refusal.place),
+    }
+}
+
+/// Holds the call with scratches of these lengths, filled with random words, to the oracle.
+fn held_with(random: &mut Random, lengths: &[usize], file: &[u8], set: u8, found: &Result<Forced, Refusal>) {
+    for &words in lengths {
+        Scratch::new(random, words).held(shown(found), |scratch| calls::force_with(file, set, scratch), file);
     }
 }
 
@@ -33,7 +41,11 @@ fn held(file: &[u8], set: u8, found: &Result<Forced, Refusal>) {
 fn known(words: &str, set: u8, answer: Answer) {
     let file = lines(words);
     assert_eq!(calls::force(&file, set), answer, "{words} by {set:02x}");
-    held(&file, set, &force(&file, set));
+    let found = force(&file, set);
+    held(&file, set, &found);
+    let mut random = Random::new(set as u64);
+    held_with(&mut random, &SHORT, &file, set, &found);
+    held_with(&mut random, &[LONG], &file, set, &found);
 }
 
 const LOAD_ASSERT: &str = "01 110000 23000000000000";
@@ -113,6 +125,13 @@ fn library_and_recursion_agree_on_every_set() {
         for set in 0..=255 {
             let found = force(&file, set);
             held(&file, set, &found);
+            // of the sets that name too much some are enough
+            if found.is_ok() || set % 16 == 0 {
+                held_with(&mut random, &SHORT, &file, set, &found);
+            }
+            if set == 0b101 && k % 10 == 0 {
+                held_with(&mut random, &[LONG], &file, set, &found);
+            }
             *seen
                 .entry(match found {
                     Ok(Forced::Hostile(None)) => "hostile, passing",
@@ -145,6 +164,7 @@ fn library_recursion_and_strategies_agree() {
             assert_eq!(answer == Forced::Friendly, other, "exactly one side can force");
             assert_eq!(answer, forced(&program, set));
             held(&file, set, &Ok(answer));
+            held_with(&mut random, &[64], &file, set, &Ok(answer));
             hostile += (answer != Forced::Friendly) as usize;
             friendly += (answer == Forced::Friendly) as usize;
             // neither the set of all threads nor none, and something fails: who steps when matters
@@ -173,7 +193,29 @@ fn damaged_files_are_refused_first() {
         };
         *numbers.entry(found.unwrap_err().number).or_default() += 1;
         held(&file, set, &found);
+        held_with(&mut random, &[21], &file, set, &found);
     }
     println!("{numbers:?}");
     assert!(!share::whole() || (numbers.len() >= 8 && numbers[&48] > 100), "{numbers:?}");
+}
+
+/// Large games, which nobody plays to the end without remembering: the answer does not depend on how much is remembered.
+#[test]
+fn large_games_by_scratches_of_different_lengths() {
+    let mut random = Random::new(0x24);
+    let size = Size { threads: 6, instructions: 6, accesses: 24, locations: 2, ..SMALL };
+    let (mut large, mut small) = (vec![0; 1 << 18], vec![0; 1 << 14]);
+    let (mut hostile, mut friendly) = (0, 0);
+    for _ in 0..share::of(200) {
+        let file = text(&frames_parted(&mut random, size));
+        let all = (1u8 << decode(&file).unwrap().threads.len()) - 1;
+        for set in [0, all, random.byte() & all] {
+            let answer = calls::force_with(&file, set, &mut large);
+            assert_eq!(calls::force_with(&file, set, &mut small), answer, "{} by {set:02x}", file.escape_ascii());
+            hostile += matches!(answer, Answer::Answered(_)) as usize;
+            friendly += (answer == Answer::None) as usize;
+        }
+    }
+    println!("large games: hostile {hostile}, friendly {friendly}");
+    assert!(!share::whole() || (hostile > 50 && friendly > 50), "{hostile} {friendly}");
 }

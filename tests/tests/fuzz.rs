@@ -124,7 +124,10 @@ fn ask_all(random: &mut Random, file: &[u8], beside: &[u8]) {
         held(random, [file, beside], out, [SCHEDULE, 24], true, |[f, s], out| calls::continue_from(f, s, out));
         held(random, [file], out, [SCHEDULE, 24], true, |[f], out| calls::violation(f, out));
         held(random, [file], out, [SCHEDULE, 24], true, |[f], out| calls::violation_with(f, out, &mut vec![3; 500]));
+        let number = if random.one_in(4) { random.word() } else { random.below(40) as u64 };
+        held(random, [file], out, [SCHEDULE, 24], true, |[f], out| calls::kth(f, number, out, &mut vec![3; 500]));
         counts(random, file);
+        ranks(random, file, beside);
         rows(random, file, beside);
         against(random, file, beside);
     }
@@ -143,6 +146,7 @@ fn ask_in_store_order(random: &mut Random, file: &[u8], beside: &[u8]) {
         held(random, [file], out, [tso::SCHEDULE, 32], false, |[f], out| tso::start(f, out));
         held(random, [file, beside], out, [tso::SCHEDULE, 32], true, |[f, s], out| tso::continue_from(f, s, out));
         held(random, [file], out, [tso::SCHEDULE, 32], true, |[f], out| tso::violation(f, out));
+        held(random, [file], out, [tso::SCHEDULE, 32], true, |[f], out| tso::violation_with(f, out, &mut vec![3; 500]));
         let (mut listed, mut failing) = (7, 9);
         match tso::count(file, &mut listed, &mut failing) {
             Answer::Answered(0) => assert!(failing <= listed && listed > 0),
@@ -222,6 +226,22 @@ fn counts(random: &mut Random, file: &[u8]) {
         other => panic!("{other:?} is no answer of count"),
     }
     assert_eq!((words[0], words[3]), (before[0], before[3]));
+}
+
+/// Rank changes its word when it answers, by a number no greater than the count, and not when it refuses.
+fn ranks(random: &mut Random, file: &[u8], schedule: &[u8]) {
+    let before: [u64; 3] = std::array::from_fn(|_| random.word());
+    let (mut words, mut scratch) = (before, vec![random.word(); random.below(600)]);
+    let (mut listed, mut failing) = (0, 0);
+    match calls::rank(file, schedule, &mut words[1], &mut scratch) {
+        Answer::Answered(0) => {
+            assert_eq!(calls::count(file, &mut listed, &mut failing), Answer::Answered(0));
+            assert!(words[1] <= listed && scratch.iter().all(|word| *word == 0));
+        }
+        Answer::Refused(1..=8 | 40 | 20 | 21, _) => assert_eq!(words, before),
+        other => panic!("{other:?} is no answer of rank"),
+    }
+    assert_eq!((words[0], words[2]), (before[0], before[2]));
 }
 
 /// Two parts of one buffer that may overlap, as file and as what stands beside it.

@@ -111,11 +111,17 @@ fn of_list(most: &mut Most, random: &mut Random, file: &[u8], other: &[u8]) {
     let mut scratch = vec![7; 5_000];
     most.of("tarczolin_violation_with", || _ = calls::violation_with(file, &mut [0; SCHEDULE], &mut scratch));
     most.of("tarczolin_count_with", || _ = calls::count_with(file, &mut 0, &mut 0, &mut scratch));
+    let number = random.below(9) as u64;
+    most.of("tarczolin_kth", || _ = calls::kth(file, number, &mut [0; SCHEDULE], &mut scratch));
+    most.of("tarczolin_rank", || _ = calls::rank(file, &steps, &mut 0, &mut scratch));
     let mut rows = vec![0; 9 * ROW];
     most.of("tarczolin_rows", || _ = calls::rows(file, &mut rows));
     most.of("tarczolin_rows_after", || _ = calls::rows_after(file, &steps, &mut rows));
     most.of("tarczolin_covers", || _ = calls::covers(file, other, &mut [0; SCHEDULE]));
     most.of("tarczolin_covers", || _ = calls::covers(other, file, &mut [0; SCHEDULE]));
+    let mut scratch = vec![7; 5_000];
+    most.of("tarczolin_covers_with", || _ = calls::covers_with(file, other, &mut [0; SCHEDULE], &mut scratch));
+    most.of("tarczolin_covers_with", || _ = calls::covers_with(other, file, &mut [0; SCHEDULE], &mut scratch));
 }
 
 fn of_store_order(most: &mut Most, random: &mut Random, file: &[u8]) {
@@ -125,6 +131,10 @@ fn of_store_order(most: &mut Most, random: &mut Random, file: &[u8]) {
     most.of("tarczolin_tso_continue", || _ = tso::continue_from(file, &steps, &mut [0; tso::SCHEDULE]));
     most.of("tarczolin_tso_violation", || _ = tso::violation(file, &mut [0; tso::SCHEDULE]));
     most.of("tarczolin_tso_count", || _ = tso::count(file, &mut 0, &mut 0));
+    let mut scratch = vec![7; 5_000];
+    most.of("tarczolin_tso_violation_with", || _ = tso::violation_with(file, &mut [0; tso::SCHEDULE], &mut scratch));
+    most.of("tarczolin_robust", || _ = calls::across::robust(file, &mut [0; tso::SCHEDULE]));
+    most.of("tarczolin_tso_count_with", || _ = tso::count_with(file, &mut 0, &mut 0, &mut scratch));
     let mut rows = vec![0; 9 * tso::ROW];
     most.of("tarczolin_tso_rows", || _ = tso::rows(file, &mut rows));
     most.of("tarczolin_tso_rows_after", || _ = tso::rows_after(file, &steps, &mut rows));
@@ -167,6 +177,7 @@ fn of_users(most: &mut Most, random: &mut Random, files: &[Vec<u8>], rounds: usi
 
 /// Two sides of one thread each step in turn: one play. Where all threads are on one side, that side steps and the other passes.
 fn of_force(most: &mut Most) {
+    let mut scratch = vec![7; 5_000];
     for words in [
         format!("01 {} 23000000000001 01 {}", "110000 ".repeat(12), "10010000000001 ".repeat(12)),
         format!("01 {} 23000000000001", "110000 ".repeat(15)),
@@ -175,6 +186,7 @@ fn of_force(most: &mut Most) {
         let file = lines(&words);
         for set in 0..1 << decode(&file).expect("accepted").threads.len() {
             most.of("tarczolin_force", || _ = calls::force(&file, set));
+            most.of("tarczolin_force_with", || _ = calls::force_with(&file, set, &mut scratch));
         }
     }
 }
@@ -208,7 +220,9 @@ fn no_call_needs_more_than_the_header_says() {
         of_list(&mut most, &mut random, &file, &other);
         of_store_order(&mut most, &mut random, &file);
         let set = random.byte();
+        let mut scratch = vec![7; 5_000];
         most.of("tarczolin_force", || _ = calls::force(&file, set));
+        most.of("tarczolin_force_with", || _ = calls::force_with(&file, set, &mut scratch));
     }
     of_users(&mut most, &mut random, &deep, share::of(6_000));
     let told = told();

@@ -9,6 +9,7 @@ ghost use lib.ListN.{length};
 ghost use Rattle.spec_covers.specs.Answer.{Answer, Comparison, outputAfter};
 ghost use Rattle.spec_calls.specs.Word.{wordOf};
 ghost use Rattle.spec_calls.specs.Against.{coversReply};
+ghost use Rattle.spec_outcomes.specs.Scratch.{coversScratch};
 ghost use Rattle.c_extra.specs.Against.{againstReply};
 
 // The word of an answer.
@@ -33,4 +34,20 @@ pub extern "C" fn tarczolin_covers(first: &[u8], second: &[u8], out: &mut [u8]) 
         × (w ≡ wordOf (coversReply a)) × (now (out .exit) ≡ outputAfter a (now (out .entry)))) ⌝ }
 {
     against_word(covers::covers(first, second, out))
+}
+
+// The same with a lent scratch, which makes it quicker: however long it is and whatever it holds, the answer is the same. Kinds 1 and 2 leave
+// zeros in it, kinds 3 and 4 leave it as it was.
+#[no_mangle]
+pub extern "C" fn tarczolin_covers_with(
+    first: &[u8],
+    second: &[u8],
+    out: &mut [u8],
+    scratch: &mut [u64],
+) -> u64
+    ensures { λ w. ⌜ ((a : Answer) × Comparison (now (first .entry)) (now (second .entry)) (length (now (out .entry))) a
+        × (w ≡ wordOf (coversReply a)) × (now (out .exit) ≡ outputAfter a (now (out .entry)))
+        × (now (scratch .exit) ≡ coversScratch a (now (scratch .entry)))) ⌝ }
+{
+    against_word(covers::covers_with(first, second, out, scratch))
 }

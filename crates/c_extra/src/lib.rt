@@ -2,11 +2,13 @@
 
 // How large a class is: tarczolin_class.
 mod class;
-// One program against another: tarczolin_covers.
+// One program against another: tarczolin_covers, tarczolin_covers_with.
 mod against;
-// Who can force the failure: tarczolin_force.
+// Who can force the failure: tarczolin_force, tarczolin_force_with.
 mod forcing;
 
 pub use against::tarczolin_covers;
+pub use against::tarczolin_covers_with;
 pub use class::tarczolin_class;
 pub use forcing::tarczolin_force;
+pub use forcing::tarczolin_force_with;

@@ -1,6 +1,4 @@
 -- The laws, in the order in which they rest on each other.
--- the eight values, one by one
-pub mod Values
 -- the test of two outcomes
 pub mod Same
 -- outcomes looked for in the list
@@ -21,3 +19,7 @@ pub mod BatchWalks
 pub mod Marking
 -- the answer by batches
 pub mod ByBatches
+-- outcomes gathered row by row: all of them, and what goes beyond
+pub mod Gathered
+-- the answer with a scratch
+pub mod Lent

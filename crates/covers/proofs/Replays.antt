@@ -21,7 +21,7 @@ use Rattle.machine_replay.specs.Carried.{HoldsRun}
 use Rattle.machine_replay.proofs.Verdicts.{verdict-refused}
 use Rattle.spec_covers.specs.declared.outcome.Outcome.{Outcome}
 use Rattle.spec_covers.specs.Covers.{outcomeOf}
-use Rattle.covers.proofs.Values.{values-memory}
+use Rattle.states_outcomes.proofs.Values.{values-memory}
 
 abbrev outcome : List ℕ → Bool → Outcome
 outcome m f = record { memory = m; fails = f }

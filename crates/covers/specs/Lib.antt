@@ -5,3 +5,5 @@ pub mod Same
 pub mod AnswerOf
 -- batches of different outcomes; for the code
 pub mod Batches
+-- all outcomes of a program in rows; for the code
+pub mod Gathered

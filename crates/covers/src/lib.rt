@@ -8,6 +8,8 @@ mod batch;
 mod collecting;
 // Outcomes that the first program lacks.
 mod lacking;
+// All outcomes of a program, and what goes beyond them, by states.
+mod gathering;
 // The call.
 mod covers_call;
 
@@ -16,3 +18,5 @@ pub use batch::Found;
 pub use collecting::Collected;
 pub use covers_call::CoversAnswer;
 pub use covers_call::covers;
+pub use covers_call::covers_with;
+pub use gathering::Gathering;

@@ -3,3 +3,7 @@
 pub mod Names
 -- the promise
 pub mod Forcing
+-- the game before its first step
+pub mod Starting
+-- where all threads are hostile
+pub mod FirstFailing

@@ -1,21 +1,43 @@
 // Who can force the failure, asked of a program file and a set.
 use file_decoder::Compiled;
+use file_rows::Code;
 use force_moves::friendly_move;
 use force_moves::has_step;
 use force_moves::is_silent;
 use force_moves::least_winning;
 use force_moves::tails_of;
-use listing::ListAnswer;
-use listing_model::Model;
+use machine::Machine;
 use machine::started;
 use search_place::is_in;
-use spec_file::STEPS;
+use states_live::live_masks;
+use states_live::width;
+use states_memory::Shape;
+use states_walk::First;
+use states_walk::first_failing;
+use table::clear;
+use table::slots;
 ghost use mathlib.Core.Path.{_≡_};
+ghost use mathlib.Core.Bool.{true};
+ghost use mathlib.Core.List.{[]};
+ghost use Prim.Native.Nat.{ℕ, _<_, _≤_};
+ghost use lib.ListN.{length, replicate};
+ghost use Rattle.spec_file.specs.Program.{Program};
 ghost use Rattle.spec_file.specs.WellFormed.{WellFormed};
-ghost use Rattle.spec_file.specs.Decode.{accepted, decode};
+ghost use Rattle.spec_schedules.specs.Lists.{headOf};
+ghost use Rattle.spec_schedules.specs.Sets.{has};
+ghost use Rattle.spec_model.specs.Search.{sought};
+ghost use Rattle.spec_sc.specs.Sequential.{sc};
 ghost use Rattle.file_decoder.specs.Compiled.{programOf};
+ghost use Rattle.states_walk.specs.FoundOf.{foundOf};
+ghost use Rattle.theory_game.specs.OneSide.{byFailing};
+ghost use Rattle.spec_force.specs.Game.{hostile};
 ghost use Rattle.spec_force.specs.Forced.{Answer, ForcedIn, Forced};
+ghost use Rattle.spec_calls.specs.Scratch.{forceScratch};
+ghost use Rattle.force_moves.specs.Standing.{Standing, Playing};
 ghost use Rattle.force.specs.Answered.{answerOf, FirstMissing};
+
+// A table of fewer words holds too few states to be worth it.
+const FEW: usize = 256;
 
 pub enum ForceAnswer {
     // The hostile side can: 0 where it has no step before the first one, else its least first step that keeps the win, plus 1.
@@ -42,60 +64,151 @@ fn missing(set: u8, threads: usize) -> u8
     8
 }
 
-// The game of an accepted program: at most 24 steps and 25 passes, of which the first step or pass is the hostile side's.
-fn decided(program: Compiled, set: u8) -> ForceAnswer
-    requires { ⌜ WellFormed (programOf program) ⌝ }
-    ensures { λ r. ⌜ ((a : Answer) × ForcedIn set (programOf program) a × (r ≡ answerOf a)) ⌝ }
+// The game from this machine on, where it is the hostile side's turn: at most 24 steps and 25 passes.
+fn settled(
+    code: &Code,
+    lengths: &[usize; 6],
+    tails: &[usize; 6],
+    masks: &[u8; 96],
+    set: u8,
+    shape: Shape,
+    m: Machine,
+    table: &mut [u64],
+) -> ForceAnswer
+    requires { ⌜ ((threads : ℕ) × (p : Program) × Standing (now code) (now lengths) (now tails) threads m p []) × (shape .width ≤ 18) ⌝ }
+    ensures words { λ r. ⌜ length (now (table .exit)) ≡ length (now (table .entry)) ⌝ }
+    ensures answer { λ r. ⌜ ((threads : ℕ) (p : Program)
+        → Playing (now (code .entry)) (now (lengths .entry)) (now (tails .entry)) (now (masks .entry)) threads set shape hostile m
+        (now (table .entry)) 49 p []
+        → (a : Answer) × ForcedIn set p a × (r ≡ answerOf a)) ⌝ }
 {
-    let code = program.code;
-    let lengths = program.lengths;
-    let tails = tails_of(&code, &lengths, program.threads);
-    let starting = program.starting;
-    let m = started(&code, &lengths, program.threads, starting);
-    if has_step(&lengths, m, set, true) {
-        let t = least_winning(&code, &lengths, &tails, set, m);
+    if has_step(lengths, m, set, true) {
+        let t = least_winning(code, lengths, tails, masks, set, shape, m, table);
         if t < 6 {
             return ForceAnswer::Hostile(t + 1);
         }
         return ForceAnswer::Friendly;
     }
-    if friendly_move(&code, &lengths, &tails, set, m, 48) {
+    let r = friendly_move(code, lengths, tails, masks, set, shape, m, table, 48);
+    if r {
         return ForceAnswer::Friendly;
     }
     ForceAnswer::Hostile(0)
 }
 
-// Whether no assertion can be reached from the start.
-fn asserts_nothing(program: Compiled) -> bool
+// The game of an accepted program with a lent table, which is cleared first, whatever it holds, and left with zeros.
+fn decided(program: Compiled, set: u8, table: &mut [u64]) -> ForceAnswer
     requires { ⌜ WellFormed (programOf program) ⌝ }
+    ensures answer { λ r. ⌜ ((a : Answer) × ForcedIn set (programOf program) a × (r ≡ answerOf a)) ⌝ }
+    ensures zeros { λ r. ⌜ now (table .exit) ≡ replicate (length (now (table .entry))) 0 ⌝ }
 {
     let code = program.code;
     let lengths = program.lengths;
     let tails = tails_of(&code, &lengths, program.threads);
+    let masks = live_masks(&code, &lengths);
+    let n = width(&masks);
+    let shape = Shape {
+        width: n,
+        slots: slots(table.len(), n, 1),
+        deep: 0,
+    };
     let starting = program.starting;
-    is_silent(&tails, started(&code, &lengths, program.threads, starting))
+    let m = started(&code, &lengths, program.threads, starting);
+    clear(table);
+    let r = settled(&code, &lengths, &tails, &masks, set, shape, m, table);
+    clear(table);
+    r
 }
 
-// Where no schedule fails the friendly side can; else the game decides. The list is not asked where no assertion can be reached.
-fn played(file: &[u8], program: Compiled, set: u8) -> ForceAnswer
-    requires { ⌜ decode (now file) ≡ accepted (programOf program) ⌝ }
-    ensures { λ r. ⌜ ((a : Answer) × ForcedIn set (programOf program) a × (r ≡ answerOf a)) ⌝ }
+// Whether to ask the list before the game: with a table of few words, and where a hostile thread and an assertion can be reached. Either way the answer is
+// the same.
+fn asks_list(program: Compiled, set: u8, words: usize) -> bool
+    requires { ⌜ WellFormed (programOf program) ⌝ }
 {
-    if asserts_nothing(program) {
-        return decided(program, set);
+    if set == 0 {
+        return false;
     }
-    let mut out = [0u8; STEPS];
-    let v = listing::violation(Model::Sequential, file, &mut out);
-    match v {
-        ListAnswer::NoMore => ForceAnswer::Friendly,
-        ListAnswer::Found(n) => decided(program, set),
-        ListAnswer::Refused(n, k) => decided(program, set),
+    if FEW <= words {
+        return false;
     }
+    let code = program.code;
+    let lengths = program.lengths;
+    let tails = tails_of(&code, &lengths, program.threads);
+    let starting = program.starting;
+    !is_silent(&tails, started(&code, &lengths, program.threads, starting))
 }
 
-// Who can force its end where the hostile side has the threads in the set: bit t for thread t.
-pub fn force(file: &[u8], set: u8) -> ForceAnswer
-    ensures { λ r. ⌜ ((a : Answer) × Forced (now (file .entry)) set a × (r ≡ answerOf a)) ⌝ }
+// Who can force, with a lent table, whatever it holds; it is left with zeros. Where the list is asked and no schedule fails the friendly side can.
+fn played(program: Compiled, set: u8, table: &mut [u64]) -> ForceAnswer
+    requires { ⌜ WellFormed (programOf program) ⌝ }
+    ensures answer { λ r. ⌜ ((a : Answer) × ForcedIn set (programOf program) a × (r ≡ answerOf a)) ⌝ }
+    ensures zeros { λ r. ⌜ now (table .exit) ≡ replicate (length (now (table .entry))) 0 ⌝ }
+{
+    if !asks_list(program, set, table.len()) {
+        let r = decided(program, set, table);
+        return r;
+    }
+    let v = first_failing(program, table);
+    if !v.found {
+        return ForceAnswer::Friendly;
+    }
+    let r = decided(program, set, table);
+    r
+}
+
+// Whether each of so many threads is in the set.
+fn owns_all(set: u8, threads: usize) -> bool
+    ensures { λ r. ⌜ (r ≡ true → (t : ℕ) → t < threads → has set t ≡ true) ⌝ }
+{
+    if 8 < threads {
+        return false;
+    }
+    let mut k = 0u8;
+    while k < 8 {
+        if !is_in(set, k) {
+            if (k as usize) < threads {
+                return false;
+            }
+        }
+        k += 1;
+    }
+    true
+}
+
+// What the first listed schedule that fails says where all threads are hostile: its first byte is the least first step.
+fn by_first(v: First) -> ForceAnswer
+    requires { ⌜ ((p : Program) × WellFormed p × (foundOf v ≡ headOf (sought sc true p))) ⌝ }
+    ensures { λ r. ⌜ r ≡ answerOf (byFailing (foundOf v)) ⌝ }
+{
+    if !v.found {
+        return ForceAnswer::Friendly;
+    }
+    if v.steps == 0 {
+        return ForceAnswer::Hostile(0);
+    }
+    let schedule = v.schedule;
+    ForceAnswer::Hostile(schedule[0] + 1)
+}
+
+// Who can force, by the list where all threads are hostile, else by the game; with a table as `played`.
+fn answered(program: Compiled, set: u8, table: &mut [u64]) -> ForceAnswer
+    requires { ⌜ WellFormed (programOf program) ⌝ }
+    ensures answer { λ r. ⌜ ((a : Answer) × ForcedIn set (programOf program) a × (r ≡ answerOf a)) ⌝ }
+    ensures zeros { λ r. ⌜ now (table .exit) ≡ replicate (length (now (table .entry))) 0 ⌝ }
+{
+    if !owns_all(set, program.threads) {
+        let r = played(program, set, table);
+        return r;
+    }
+    let v = first_failing(program, table);
+    by_first(v)
+}
+
+// Who can force its end where the hostile side has the threads in the set, bit t for thread t, with a table in the scratch, whatever that holds; where the
+// answer is no refusal it is left with zeros.
+pub fn force_with(file: &[u8], set: u8, scratch: &mut [u64]) -> ForceAnswer
+    ensures { λ r. ⌜ ((a : Answer) × Forced (now (file .entry)) set a × (r ≡ answerOf a)
+        × (now (scratch .exit) ≡ forceScratch a (now (scratch .entry)))) ⌝ }
 {
     let d = file_decoder::decode(file);
     let v = d.verdict;
@@ -107,7 +220,17 @@ pub fn force(file: &[u8], set: u8) -> ForceAnswer
             if k < 8 {
                 return ForceAnswer::Refused(48, k as usize);
             }
-            played(file, p, set)
+            let r = answered(p, set, scratch);
+            r
         }
     }
+}
+
+// The same with a scratch in which no state fits.
+pub fn force(file: &[u8], set: u8) -> ForceAnswer
+    ensures { λ r. ⌜ ((a : Answer) × Forced (now (file .entry)) set a × (r ≡ answerOf a)) ⌝ }
+{
+    let mut none = [0u64; 1];
+    let r = force_with(file, set, &mut none);
+    r
 }

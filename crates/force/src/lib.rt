@@ -5,3 +5,4 @@ mod answering;
 
 pub use answering::ForceAnswer;
 pub use answering::force;
+pub use answering::force_with;

@@ -7,3 +7,5 @@ pub mod TailLaws
 pub mod Steps
 -- the two moves
 pub mod Moves
+-- a play with a table
+pub mod Turns

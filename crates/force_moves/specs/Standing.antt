@@ -2,6 +2,7 @@
 use Prim.Native.Nat.{ℕ, _<_, _≤_}
 use mathlib.Core.Path.{_≡_}
 use mathlib.Core.Bool.{Bool, true, false}
+use mathlib.Core.Option.{some}
 use mathlib.Core.List.{List}
 use lib.ListN.{length, getD, drop}
 use Rattle.spec_file.specs.Program.{Program}
@@ -17,6 +18,12 @@ use Rattle.spec_force.specs.Game.{Side, hostile, friendly}
 use Rattle.spec_force.proofs.Value.{keepsBy, value}
 use Rattle.spec_force.proofs.Silent.{Harmless}
 use Rattle.spec_force.specs.Forced.{gameOf}
+use Rattle.theory_sc_key.specs.Key.{Wide}
+use Rattle.theory_game.specs.Wins.{Enough}
+use Rattle.theory_game.specs.Winners.{Winners}
+use Rattle.table.specs.Places.{said}
+use Rattle.states_live.specs.Live.{Live}
+use Rattle.states_memory.specs.declared.tally.Shape.{Shape}
 
 -- a side as a flag
 unfoldable pub sideOf : Bool → Side
@@ -34,6 +41,18 @@ pub record Standing (code lengths tails : List ℕ) (threads : ℕ) (m : Machine
   pub ends : Tails code lengths threads tails
   pub allowed : Allowed SC (start p) v
   pub holds : Holds code lengths m (endOf p v)
+
+-- what a table of so many slots, whose keys have so many words, says of a program's plays is right
+abbrev pub Known : ℕ → Program → Shape → List ℕ → Type 0
+Known set p shape table = Winners set p (shape .width) (λ k c. said (shape .slots) 1 table k ≡ some c)
+
+-- it is x's turn there, with enough steps and passes left; with these live registers of its rows, and a table that says nothing false
+pub record Playing (code lengths tails masks : List ℕ) (threads set : ℕ) (shape : Shape) (x : Side) (m : Machine) (table : List ℕ) (left : ℕ) (p : Program) (v : Schedule) : Type 0 where
+  pub standing : Standing code lengths tails threads m p v
+  pub live : Live code lengths masks
+  pub wide : Wide (shape .width) p
+  pub enough : Enough (gameOf set) left x (endOf p v)
+  pub known : Known set p shape table
 
 -- t is a first step of the hostile side behind which it wins
 abbrev pub keepsFirst : ℕ → Program → ℕ → Bool

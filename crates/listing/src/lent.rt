@@ -1,17 +1,12 @@
-// Count and violation with a lent scratch: by states under sequential consistency, by the walk of the list under total store order. However long the
-// scratch is and whatever it holds, they answer the same.
+// Count and violation with a lent scratch, by states. However long the scratch is and whatever it holds, they answer the same.
 use crate::calling::ListAnswer;
-use crate::calling::next_listed;
 use crate::counting::CountAnswer;
 use crate::counting::Tally;
-use crate::counting::counts;
 use file_decoder::Compiled;
-use judge::put;
-use listing_cursor::beginning;
+use file_rows::put_front;
 use listing_model::Model;
 use listing_model::width;
 use listing_replay::admitted;
-use table::clear;
 ghost use Prim.Native.Nat.{_≤_};
 ghost use mathlib.Core.Path.{_≡_};
 ghost use mathlib.Core.Bool.{true, false, cond};
@@ -25,10 +20,21 @@ ghost use Rattle.spec_model.specs.Answers.{countOf};
 ghost use Rattle.spec_model.specs.OnFile.{countFile, violationFile};
 ghost use Rattle.spec_model.specs.Search.{sought};
 ghost use Rattle.spec_sc.specs.Sequential.{sc};
+ghost use Rattle.spec_tso.specs.TotalStoreOrder.{tso};
 ghost use Rattle.spec_calls.specs.Scratch.{zeros, countScratch, violationScratch};
 ghost use Rattle.listing_model.specs.ModelOf.{modelOf};
 ghost use Rattle.listing.specs.AnswerOf.{listAnswerOf, violationAnswerOf};
 ghost use Rattle.listing.specs.CountWord.{countAnswerOf};
+
+// The numbers that a walk by states adds up.
+fn numbers_of(n: states_memory::Tally) -> Tally
+    ensures { λ r. ⌜ (r .listed ≡ n .listed) × (r .failing ≡ n .failing) ⌝ }
+{
+    Tally {
+        listed: n.listed as usize,
+        failing: n.failing as usize,
+    }
+}
 
 // How many are listed, and how many of these fail, of a listed program.
 fn counts_with(model: Model, program: Compiled, scratch: &mut [u64]) -> Tally
@@ -38,17 +44,8 @@ fn counts_with(model: Model, program: Compiled, scratch: &mut [u64]) -> Tally
     ensures later { λ r. ⌜ now (scratch .exit) ≡ zeros (now (scratch .entry)) ⌝ }
 {
     match model {
-        Model::Sequential => {
-            let n = states_walk::counted(program, scratch);
-            Tally {
-                listed: n.listed as usize,
-                failing: n.failing as usize,
-            }
-        }
-        Model::TotalStoreOrder => {
-            clear(scratch);
-            counts(model, program)
-        }
+        Model::Sequential => numbers_of(states_walk::counted(program, scratch)),
+        Model::TotalStoreOrder => numbers_of(tso_states::counted(program, scratch)),
     }
 }
 
@@ -65,7 +62,24 @@ fn first_by_states(program: Compiled, out: &mut [u8], scratch: &mut [u64]) -> Li
     }
     let schedule = r.schedule;
     let n = r.steps;
-    put(out, schedule, n);
+    put_front(out, &schedule, n);
+    ListAnswer::Found(n)
+}
+
+// The same under total store order.
+fn first_by_queues(program: Compiled, out: &mut [u8], scratch: &mut [u64]) -> ListAnswer
+    requires { ⌜ Admitted tso (programOf program) × (48 ≤ length (now out)) ⌝ }
+    ensures answer { λ r. ⌜ r ≡ listAnswerOf (answerTo false (headOf (sought tso true (programOf program)))) ⌝ }
+    ensures output { λ r. ⌜ now (out .exit) ≡ content (answerTo false (headOf (sought tso true (programOf program)))) (now (out .entry)) ⌝ }
+    ensures later { λ r. ⌜ now (scratch .exit) ≡ zeros (now (scratch .entry)) ⌝ }
+{
+    let r = tso_states::first_failing(program, scratch);
+    if !r.found {
+        return ListAnswer::NoMore;
+    }
+    let schedule = r.schedule;
+    let n = r.steps;
+    put_front(out, &schedule, n);
     ListAnswer::Found(n)
 }
 
@@ -84,10 +98,7 @@ fn first_with(model: Model, program: Compiled, out: &mut [u8], scratch: &mut [u6
     }
     match model {
         Model::Sequential => first_by_states(program, out, scratch),
-        Model::TotalStoreOrder => {
-            clear(scratch);
-            next_listed(model, program, beginning(), true, out)
-        }
+        Model::TotalStoreOrder => first_by_queues(program, out, scratch),
     }
 }
 

@@ -75,6 +75,10 @@ module _ (code lengths class : List ℕ) (threads groups : ℕ) (x : Place) (p :
     found = λ failures s. refl;
   }
 
+  pub starts-at : (r : Runner) (reached : Reached code lengths class threads groups x p v) (held : RunnerOf x t r) → running-start r reached held .prefix ≡ v
+  unfolding running-start
+  starts-at r reached held = refl
+
   -- ---- along the run
   module _ (r : Runner) (run : Running code lengths class threads groups x p v t r) where
     abbrev y : Place
@@ -154,6 +158,10 @@ module _ (code lengths class : List ℕ) (threads groups : ℕ) (x : Place) (p :
               ∙ last-apart p (run .reached .loaded .wellFormed) w (run .reached .allowed) t (alone (run .settled s) .0) failures (y .steps)
               (reached-room code lengths class threads groups y p w (run .reached) t ok) (alone (run .settled s) .1);
         }
+
+        pub steps-to : running-step .prefix ≡ run .prefix ++ (t ∷ [])
+        unfolding running-step
+        steps-to = refl
 
     -- ---- at its end
     module _ (six : t < 6) (over : getD lengths t 0 ≤ r .thread .at) (reached : Reached code lengths class threads groups x p v) where

@@ -3,3 +3,5 @@
 pub mod PlainWalk
 -- a call for one caller with bytes, whatever core it asks
 pub mod BytesWalk
+-- a call of `asks` in a walk
+pub mod AskingWalk

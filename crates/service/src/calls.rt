@@ -4,14 +4,15 @@ use service_one::ask_one;
 use service_one::close_one;
 use service_one::forget_one;
 use service_one::open_one;
-use service_one::place_of;
 use service_one::put_record;
 use service_one::record_at;
 use service_one::record_of;
 use service_one::reply_of;
 use service_one::return_one;
 use service_one::set_one;
-use service_serve::serve_four;
+use service_record::asks;
+use service_serve::serve_one;
+use service_serve::turn;
 use spec_service::Caller;
 use spec_service::Reply;
 ghost use mathlib.Core.Path.{_≡_};
@@ -67,12 +68,14 @@ pub fn serve(callers: &mut [Caller], last: &mut u64, out: &mut [u8]) -> Reply
         (shared (now (callers .exit)) (now (last .exit))) (now (out .exit)) ⌝ }
 {
     let n = callers.len();
-    let a = record_at(callers, 0);
-    let b = record_at(callers, 1);
-    let c = record_at(callers, 2);
-    let d = record_at(callers, 3);
-    let o = serve_four(n, a, b, c, d, last, out);
-    let k = place_of(o);
+    let room = out.len();
+    let a = asks(record_at(callers, 0));
+    let b = asks(record_at(callers, 1));
+    let c = asks(record_at(callers, 2));
+    let d = asks(record_at(callers, 3));
+    let k = turn(n, room, a, b, c, d, last);
+    let x = record_at(callers, k);
+    let o = serve_one(k, x, out);
     let r = record_of(o);
     put_record(callers, k, r);
     reply_of(o)

@@ -5,7 +5,7 @@ use mathlib.Core.Bool.{Bool, true, false, cond, true≢false, false≢true, _&&_
 use mathlib.Core.Option.{Option, none, some}
 use mathlib.Core.List.{List}
 use native.Mathlib.Omega.{arith}
-use borrow.Author.Tests.{lt-ltb, le-ltb, lt-leb, le-leb, eq-eqb, ne-eqb, ltb-true, ltb-false, leb-true}
+use borrow.Author.Tests.{lt-ltb, le-ltb, lt-leb, le-leb, eq-eqb, ne-eqb, eqb-true, ltb-true, ltb-false, leb-true}
 use lib.Dec.{eqb, leb, ltb}
 use lib.ListN.{take}
 use Rattle.spec_file.specs.Program.{Program}
@@ -22,7 +22,7 @@ use Rattle.spec_service.specs.Record.{placeOf, seated, reading}
 use Rattle.spec_service.specs.Call.{byProgram}
 use Rattle.spec_service.specs.Marks.{nameFits}
 use Rattle.service_record.proofs.Opened.{read-long, read-file, read-refused, read-accepted}
-use Rattle.service_marks.specs.Numbers.{refusalOf}
+use Rattle.service_marks.specs.Numbers.{openRefusal, refusalOf}
 
 -- ---- the length of a name
 pub fits-few : (n : ℕ) → n < 1 → false ≡ nameFits n
@@ -42,19 +42,46 @@ fits-most n e = go (leb 1 n) (leb n 8) refl e
     go true false q h = absurd (false≢true h)
     go false b q h = absurd (false≢true h)
 
--- ---- the first refusal
-module _ (n k : ℕ) (o f : Bool) where
-  pub refused-22 : (n ≡ 4 → ⊥) → 22 ≡ refusalOf n k o f
-  unfolding refusalOf
+-- ---- the refusal of a call for an open caller
+module _ (n k : ℕ) (o : Bool) where
+  pub refused-22 : (n ≡ 4 → ⊥) → 22 ≡ openRefusal n k o
+  unfolding openRefusal
   refused-22 d = rw (ne-eqb n 4 d)
 
-  pub refused-42 : n ≡ 4 → 3 < k → 42 ≡ refusalOf n k o f
-  unfolding refusalOf
+  pub refused-42 : n ≡ 4 → 3 < k → 42 ≡ openRefusal n k o
+  unfolding openRefusal
   refused-42 e l = rw (eq-eqb n 4 e, lt-ltb 3 k l)
 
-  pub refused-44 : n ≡ 4 → k ≤ 3 → o ≡ false → 44 ≡ refusalOf n k o f
-  unfolding refusalOf
+  pub refused-44 : n ≡ 4 → k ≤ 3 → o ≡ false → 44 ≡ openRefusal n k o
+  unfolding openRefusal
   refused-44 e l q = rw (eq-eqb n 4 e, le-ltb 3 k l, q)
+
+  pub refused-not : n ≡ 4 → k ≤ 3 → o ≡ true → 0 ≡ openRefusal n k o
+  unfolding openRefusal
+  refused-not e l q = rw (eq-eqb n 4 e, le-ltb 3 k l, q)
+
+  -- nothing is refused: four records, and a caller of them that is open
+  pub open-passed : openRefusal n k o ≡ 0 → (n ≡ 4) × (k ≤ 3) × (o ≡ true)
+  unfolding openRefusal
+  open-passed e = go (eqb n 4) (ltb 3 k) o refl refl refl e
+    where
+      go : (t u o′ : Bool) → eqb n 4 ≡ t → ltb 3 k ≡ u → o ≡ o′ → _≡_ {A = ℕ} (cond t (cond u 42 (cond o′ 0 44)) 22) 0 → (n ≡ 4) × (k ≤ 3) × (o ≡ true)
+      go true false true a b c h = (eqb-true n 4 a, ltb-false 3 k b, c)
+      go true false false a b c h = absurd (omega (arith, h))
+      go true true o′ a b c h = absurd (omega (arith, h))
+      go false u o′ a b c h = absurd (omega (arith, h))
+
+-- ---- the refusal of a call on marks
+module _ (n k : ℕ) (o f : Bool) where
+  pub refused-early : (w : ℕ) → w ≡ openRefusal n k o → (w ≡ 0 → ⊥) → w ≡ refusalOf n k o f
+  unfolding openRefusal refusalOf
+  refused-early w e d = go (eqb n 4) (ltb 3 k) o e
+    where
+      go : (t u o′ : Bool) → w ≡ cond t (cond u 42 (cond o′ 0 44)) 22 → w ≡ cond t (cond u 42 (cond o′ (cond f 0 45) 44)) 22
+      go true false true z = absurd (d z)
+      go true false false z = z
+      go true true o′ z = z
+      go false u o′ z = z
 
   pub refused-45 : n ≡ 4 → k ≤ 3 → o ≡ true → f ≡ false → 45 ≡ refusalOf n k o f
   unfolding refusalOf

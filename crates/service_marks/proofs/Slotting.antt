@@ -58,7 +58,7 @@ any-front f (x ∷ l) d zero k h b e = absurd (omega (arith, h))
 any-front f (x ∷ l) d (suc i) zero h b e = rw (e, any)
 any-front f (x ∷ l) d (suc i) (suc k) h b e = any-cons f x (take i l) ∙ either (f x) (any f (take i l)) (any-front f l d i k (omega (arith, h)) (omega (arith, b)) e)
 
--- none of the first k does
+-- none of the first k members passes the test
 abbrev pub NoneOf : {A : Type 0} → (A → Bool) → List A → A → ℕ → Type 0
 NoneOf f l d k = (j : ℕ) → j < k → f (getD l j d) ≡ false
 

@@ -1,4 +1,4 @@
-// What comes before the marks in all three calls.
+// What comes first in a call for an open caller: its refusals, and the record's program.
 use file_decoder::Compiled;
 use service_record::is_open;
 use spec_service::Caller;
@@ -11,7 +11,7 @@ ghost use Rattle.spec_service.specs.Seat.{isOpen};
 ghost use Rattle.spec_service.specs.Record.{reading};
 ghost use Rattle.spec_service.specs.Call.{byProgram};
 ghost use Rattle.spec_service.specs.Marks.{nameFits};
-ghost use Rattle.service_marks.specs.Numbers.{refusalOf};
+ghost use Rattle.service_marks.specs.Numbers.{openRefusal, refusalOf};
 
 // Whether a name has 1 to 8 bytes.
 pub(crate) fn name_fits(n: usize) -> bool
@@ -23,9 +23,9 @@ pub(crate) fn name_fits(n: usize) -> bool
     n <= 8
 }
 
-// Of a list of n records, for caller k with this record, and a name of so many bytes: 22, 42, 44, 45 in this order, or 0.
-pub fn first_refusal(n: usize, c: Caller, k: usize, bytes: usize) -> u8
-    ensures { λ r. ⌜ r ≡ refusalOf n k (isOpen (reading c)) (nameFits bytes) ⌝ }
+// What refuses a call for caller k, who must be open and has this record, of a list of n records: 22, 42, 44 in this order, or 0.
+pub fn open_refusal(n: usize, c: Caller, k: usize) -> u8
+    ensures { λ r. ⌜ r ≡ openRefusal n k (isOpen (reading c)) ⌝ }
 {
     if n != 4 {
         return 22;
@@ -34,12 +34,23 @@ pub fn first_refusal(n: usize, c: Caller, k: usize, bytes: usize) -> u8
         return 42;
     }
     if is_open(c) {
-        if name_fits(bytes) {
-            return 0;
-        }
-        return 45;
+        return 0;
     }
     44
+}
+
+// What refuses a call on marks, with a name of so many bytes: 22, 42, 44, 45 in this order, or 0.
+pub fn first_refusal(n: usize, c: Caller, k: usize, bytes: usize) -> u8
+    ensures { λ r. ⌜ r ≡ refusalOf n k (isOpen (reading c)) (nameFits bytes) ⌝ }
+{
+    let w = open_refusal(n, c, k);
+    if w != 0 {
+        return w;
+    }
+    if name_fits(bytes) {
+        return 0;
+    }
+    45
 }
 
 // The program of an open record.

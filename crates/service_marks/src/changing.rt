@@ -17,7 +17,7 @@ ghost use Rattle.file_decoder.specs.Compiled.{programOf};
 ghost use Rattle.spec_service.specs.Record.{noMark, withMarks, returned};
 ghost use Rattle.spec_service.specs.Marks.{isSome, bears, lastHanded, newMark, emptied, markForgotten};
 
-// A mark; nothing where it bears this name.
+// A mark as it is, or a free one where it bears this name.
 fn without(p: Compiled, name: &[u8], m: Mark) -> Mark
     requires { ⌜ WellFormed (programOf p) ⌝ }
     ensures { λ r. ⌜ r ≡ cond (bears (programOf p) (now (name .entry)) m) noMark m ⌝ }
@@ -83,7 +83,7 @@ fn new_mark(p: Compiled, name: &[u8], c: Caller) -> Mark
     }
 }
 
-// A mark is set at i under this name, and no other of this name is left.
+// The record with a mark set at i under this name, and no other of this name left.
 pub fn marked(p: Compiled, name: &[u8], c: Caller, i: usize) -> Caller
     requires { ⌜ WellFormed (programOf p) × (length (now name) ≤ 8) × (i < 8) ⌝ }
     ensures { λ r. ⌜ r ≡ withMarks c (set (emptied (programOf p) (now (name .entry)) (c .marks)) i
@@ -98,7 +98,7 @@ pub fn marked(p: Compiled, name: &[u8], c: Caller, i: usize) -> Caller
     r
 }
 
-// The name is forgotten.
+// The record with the name forgotten.
 pub fn forgotten(p: Compiled, name: &[u8], c: Caller) -> Caller
     requires { ⌜ WellFormed (programOf p) ⌝ }
     ensures { λ r. ⌜ r ≡ markForgotten (programOf p) (now (name .entry)) c ⌝ }
@@ -110,7 +110,7 @@ pub fn forgotten(p: Compiled, name: &[u8], c: Caller) -> Caller
     r
 }
 
-// The place is that of mark i, it asks where it asked, and all else stays.
+// The record with the place of mark i; it asks where it asked, and all else stays.
 pub fn returned_to(c: Caller, i: usize) -> Caller
     requires { ⌜ i < 8 ⌝ }
     ensures { λ r. ⌜ r ≡ returned c (getD (c .marks) i noMark) ⌝ }
@@ -120,7 +120,6 @@ pub fn returned_to(c: Caller, i: usize) -> Caller
     let schedule = m.schedule;
     let mut r = c;
     r.place = m.place;
-    r.asking = c.asking;
     r.steps = m.steps;
     r.schedule = schedule;
     r

@@ -6,10 +6,11 @@ mod bearing;
 mod slots;
 // The records that the calls leave.
 mod changing;
-// What comes before the marks: the refusals of all three calls, and the record's program.
+// What comes before the marks: the refusals of calls for an open caller, and the record's program.
 mod before;
 
 pub use before::first_refusal;
+pub use before::open_refusal;
 pub use before::program_of;
 pub use changing::forgotten;
 pub use changing::marked;

@@ -1,9 +1,10 @@
 -- What open, ask and close do, way by way of the code.
 use Prim.Native.Nat.{ℕ, _≤_, _<_}
 use mathlib.Core.Path.{_≡_, refl, sym, ap, subst, _∙_}
-use mathlib.Core.Bool.{Bool, true, false, cond}
+use mathlib.Core.Bool.{Bool, true, false, cond, not}
 use mathlib.Core.List.{List}
 use borrow.Author.Tests.{lt-ltb, le-ltb, eq-eqb, ne-eqb}
+use lib.Dec.{eqb, ltb}
 use lib.ListN.{length, getD, set}
 use lib.Seq.{set-getD}
 use Rattle.spec_file.specs.Program.{Program}
@@ -14,6 +15,8 @@ use Rattle.spec_service.specs.Seat.{isOpen}
 use Rattle.spec_service.specs.Record.{reading, fresh, opened, asked}
 use Rattle.spec_service.specs.Call.{Call, open-for, ask-for, close-for, Answer, done, refused, Shared, seatOf, checked, openedBy, openAnswer, openOnly, lastRead, answerTo, callersDone, callersAfter, lastAfter, after}
 use Rattle.spec_service.proofs.Seats.{after-refused}
+use Rattle.service_marks.specs.Numbers.{openRefusal}
+use Rattle.service_marks.proofs.Foremost.{open-passed}
 use Rattle.service_one.specs.declared.answer.Kept.{Kept}
 use Rattle.spec_service.specs.declared.reply.Reply.the-variants.{Done, Refused}
 use Rattle.spec_service.specs.Reply.{replyOf, shared, Does}
@@ -30,7 +33,7 @@ read-small n l = rw (le-ltb 3 n l)
 -- ---- what is left behind an answer, where this record is put back at k
 module _ (call : Call) (cs : List Caller) (k m : ℕ) (o : Kept) where
   -- a refusal: the record is put back as it was
-  pub away : (r : Caller) (n p : ℕ) → r ≡ getD cs k fresh → o ≡ record { at = k; caller = r; reply = Refused n p } → answerTo call (shared cs m) ≡ refused n p
+  pub away : (r : Caller) (n p : ℕ) → r ≡ getD cs k fresh → o ≡ record { caller = r; reply = Refused n p } → answerTo call (shared cs m) ≡ refused n p
       → Does call (shared cs m) (o .reply) (shared (set cs k (o .caller)) m)
   unfolding replyOf
   away r n p q e a = (
@@ -39,7 +42,7 @@ module _ (call : Call) (cs : List Caller) (k m : ℕ) (o : Kept) where
   )
 
   -- done: this record is put back, and the last caller is as it is read
-  pub back : (x : Caller) (m′ : ℕ) → o ≡ record { at = k; caller = x; reply = Done } → m′ ≡ lastRead m → answerTo call (shared cs m) ≡ done → set cs k x ≡ callersDone call cs
+  pub back : (x : Caller) (m′ : ℕ) → o ≡ record { caller = x; reply = Done } → m′ ≡ lastRead m → answerTo call (shared cs m) ≡ done → set cs k x ≡ callersDone call cs
       → Does call (shared cs m) (o .reply) (shared (set cs k (o .caller)) m′)
   unfolding replyOf after callersAfter lastAfter
   back x m′ e l a s = (
@@ -92,22 +95,26 @@ module _ (cs : List Caller) (k : ℕ) where
       unfolding openedBy
       open-done p b d = free b ∙ ap openedBy d
 
-  pub only-22 : (length cs ≡ 4 → ⊥) → openOnly cs k ≡ refused 22 0
-  unfolding openOnly
-  only-22 d = not-four d _
+  -- ask and close, by the number that refuses them
+  module _ (n w : ℕ) (s : length cs ≡ n) (r : Caller) (q : r ≡ getD cs k fresh) (e : w ≡ openRefusal n k (isOpen (reading r))) where
+    pub only-early : (w ≡ 0 → ⊥) → openOnly cs k ≡ refused w 0
+    unfolding openOnly checked openRefusal seatOf
+    only-early d =
+        subst (λ (c : Caller). checked cs k (cond (isOpen (reading c)) done (refused 44 0)) ≡ refused w 0) q
+        (go (eqb (length cs) 4) (ltb 3 k) (isOpen (reading r)) (e ∙ ap (λ (j : ℕ). openRefusal j k (isOpen (reading r))) (sym s)))
+      where
+        go : (t u o : Bool) → w ≡ cond t (cond u 42 (cond o 0 44)) 22
+            → cond (not t) (refused 22 0) (cond u (refused 42 0) (cond o done (refused 44 0))) ≡ refused w 0
+        go false u o z = ap (λ (j : ℕ). refused j 0) (sym z)
+        go true true o z = ap (λ (j : ℕ). refused j 0) (sym z)
+        go true false false z = ap (λ (j : ℕ). refused j 0) (sym z)
+        go true false true z = absurd (d z)
 
-  pub only-42 : length cs ≡ 4 → 3 < k → openOnly cs k ≡ refused 42 0
-  unfolding openOnly
-  only-42 e l = above e l _
-
-  module _ (e : length cs ≡ 4) (l : k ≤ 3) (r : Caller) (q : r ≡ getD cs k fresh) where
-    pub only-done : true ≡ isOpen (reading r) → openOnly cs k ≡ done
+    pub only-done : w ≡ 0 → openOnly cs k ≡ done
     unfolding openOnly
-    only-done b = past e l _ ∙ ap (λ (x : Bool). cond x done (refused 44 0)) (seat r true q b)
-
-    pub only-44 : false ≡ isOpen (reading r) → openOnly cs k ≡ refused 44 0
-    unfolding openOnly
-    only-44 b = past e l _ ∙ ap (λ (x : Bool). cond x done (refused 44 0)) (seat r false q b)
+    only-done z =
+        let g = open-passed n k (isOpen (reading r)) (sym e ∙ z) in
+        past (s ∙ g .0) (g .1) _ ∙ ap (λ (x : Bool). cond x done (refused 44 0)) (seat r true q (sym (g .2)))
 
 -- ---- the calls
 pub opens : (cs : List Caller) (k m : ℕ) (f : List ℕ) (a : Answer) → openAnswer cs k f ≡ a → answerTo (open-for k f) (shared cs m) ≡ a

@@ -12,5 +12,5 @@ pub mod Shown
 pub mod Looking
 -- calls of `put_record`
 pub mod Putting
--- calls of `record_of`, `reply_of` and `place_of`
+-- calls of `record_of` and `reply_of`
 pub mod Parts

@@ -1,4 +1,4 @@
--- The rules of calls of `record_of`, `reply_of` and `place_of` by a walk.
+-- The rules of calls of `record_of` and `reply_of` by a walk.
 use mathlib.Core.Path.{_≡_, refl}
 use Prim.Native.Nat.{ℕ}
 use mathlib.Core.List.{List, [], _∷_}
@@ -35,8 +35,6 @@ use Rattle.service_one.proofs.answer.record_of as record-of
 use Rattle.service_one.proofs.answer.record_of.Symbol.{name as #record-of}
 use Rattle.service_one.proofs.answer.reply_of as reply-of
 use Rattle.service_one.proofs.answer.reply_of.Symbol.{name as #reply-of}
-use Rattle.service_one.proofs.answer.place_of as place-of
-use Rattle.service_one.proofs.answer.place_of.Symbol.{name as #place-of}
 
 module _ {M : Type 1} (𝓤 : URA M) (H : Heap 𝓤) (A : Atoms 𝓤) (mem : Memory → SProp 𝓤) (run : Routine → Fun 𝓤) where
   abbrev pub RecordOf : Contract 𝓤
@@ -44,9 +42,6 @@ module _ {M : Type 1} (𝓤 : URA M) (H : Heap 𝓤) (A : Atoms 𝓤) (mem : Mem
 
   abbrev pub ReplyOf : Contract 𝓤
   ReplyOf = tripleOf 𝓤 H A reply-of.signature (reply-of.spec 𝓤 H A mem run)
-
-  abbrev pub PlaceOf : Contract 𝓤
-  PlaceOf = tripleOf 𝓤 H A place-of.signature (place-of.spec 𝓤 H A mem run)
 
   module _ (o : Kept) (v : Val) where
     abbrev pub to-record : RecordOf .Ghost
@@ -66,15 +61,6 @@ module _ {M : Type 1} (𝓤 : URA M) (H : Heap 𝓤) (A : Atoms 𝓤) (mem : Mem
 
     reply-is : (r : Reply) → ent 𝓤 (ensured 𝓤 H A reply-of.ended (reply-of.clauses 𝓤 H A mem run) tt (o, tt) tt r) (fact 𝓤 (r ≡ o .reply))
     reply-is r = exE 𝓤 _ (λ ws. snd∗ 𝓤 (sem 𝓤 H A (lasts reply-of.ended tt (o, tt) ws)) (fact 𝓤 (r ≡ o .reply)))
-
-    abbrev pub to-place : PlaceOf .Ghost
-    to-place = ((tt, tt, tt, (o, tt), (v ∷ [], tt)), tt)
-
-    goes-place : Given 𝓤 H A → Is K′.the-row o (v ∷ []) → ent 𝓤 (emp 𝓤) (PlaceOf .pre to-place)
-    goes-place W is = qed W [] ∵ nothing ! $ owned ! K′.the-row (Is K′.the-row) (LL.makes K′.the-type K′′.the-plain 𝓤 H A) o _ is $ fjoin ! $ nothing ! $ join ! $ frame ! $ done !
-
-    place-is : (r : ℕ) → ent 𝓤 (ensured 𝓤 H A place-of.ended (place-of.clauses 𝓤 H A mem run) tt (o, tt) tt r) (fact 𝓤 (r ≡ o .at))
-    place-is r = exE 𝓤 _ (λ ws. snd∗ 𝓤 (sem 𝓤 H A (lasts place-of.ended tt (o, tt) ws)) (fact 𝓤 (r ≡ o .at)))
 
 module _ {M : Type 1} {𝓤 : URA M} {H : Heap 𝓤} {A : Atoms 𝓤} {K : Type 0} {W : Given 𝓤 H A} {C : Calls 𝓤 H} {Λ : Loops 𝓤 H} {E : Env 𝓤 H} {qp : Post 𝓤 H} {Γ : List (Item 𝓤)} where
   pub takes-record : K → (mem : Memory → SProp 𝓤) (run : Routine → Fun 𝓤) → FmC 𝓤 H (W .laws) C → Triple 𝓤 (C #record-of) (RecordOf 𝓤 H A mem run) → {xs : List Opd} {d : Place} {rest : Body}
@@ -100,15 +86,3 @@ module _ {M : Type 1} {𝓤 : URA M} {H : Heap 𝓤} {A : Atoms 𝓤} {K : Type 
       use1 W (later (some (λ (r : Reply). (‵ ftrue ⊛ ‵ (Y.the-row .own r (w ∷ []))) ⊛ raw (ensured 𝓤 H A reply-of.ended (reply-of.clauses 𝓤 H A mem run) tt (o, tt) tt r)))) (id⊢ 𝓤 _) $ await t tt $ pick t (λ r.
       split t $ move t (1 ∷ []) $ use1 W (raw (fact 𝓤 (r ≡ o .reply))) (reply-is 𝓤 H A mem run o v r) $ heard t (r ≡ o .reply) (λ e. split t $ drop t $
       peeks t Y.the-row (Is Y.the-row) (shows 𝓤 H A Y.the-row) r (w ∷ []) (λ is′. drop t $ next r w e is′))))
-
-  pub takes-place : K → (mem : Memory → SProp 𝓤) (run : Routine → Fun 𝓤) → FmC 𝓤 H (W .laws) C → Triple 𝓤 (C #place-of) (PlaceOf 𝓤 H A mem run) → {xs : List Opd} {d : Place} {rest : Body}
-      (o : Kept) (v : Val) → Is K′.the-row o (v ∷ [])
-      → Opds K W (raw (PlaceOf 𝓤 H A mem run .pre (to-place 𝓤 H A mem run o v)) ∷ Γ) E xs (v ∷ [])
-      → ((r : ℕ) (w : Val) → r ≡ o .at → Is usize r (w ∷ []) → Seq K W Γ (lands C Λ E d w rest qp))
-      → Seq K W Γ (runs C Λ E (seq (call #place-of xs d) rest) qp)
-  takes-place t mem run fm known o v is os next =
-      use0 W (raw (PlaceOf 𝓤 H A mem run .pre (to-place 𝓤 H A mem run o v))) (goes-place 𝓤 H A mem run o v W is) $
-      calls-at t fm (PlaceOf 𝓤 H A mem run) known (to-place 𝓤 H A mem run o v) os (λ w.
-      use1 W (later (some (λ (r : ℕ). (‵ ftrue ⊛ ‵ (usize .own r (w ∷ []))) ⊛ raw (ensured 𝓤 H A place-of.ended (place-of.clauses 𝓤 H A mem run) tt (o, tt) tt r)))) (id⊢ 𝓤 _) $ await t tt $ pick t (λ r.
-      split t $ move t (1 ∷ []) $ use1 W (raw (fact 𝓤 (r ≡ o .at))) (place-is 𝓤 H A mem run o v r) $ heard t (r ≡ o .at) (λ e. split t $ drop t $
-      peeks t usize (Is usize) (shows 𝓤 H A usize) r (w ∷ []) (λ is′. drop t $ next r w e is′))))

@@ -1,19 +1,12 @@
-// What a call answers, and what it keeps: a record, and where it stands in the list.
+// What a call answers, and the record that it leaves.
 use spec_service::Caller;
 use spec_service::Reply;
 ghost use mathlib.Core.Path.{_≡_};
 
-// The record to be put back, the place in the list where it goes, and the answer.
+// The record to be put back, and the answer.
 pub struct Kept {
-    pub at: usize,
     pub caller: Caller,
     pub reply: Reply,
-}
-
-pub fn place_of(o: Kept) -> usize
-    ensures { λ r. ⌜ r ≡ o .at ⌝ }
-{
-    o.at
 }
 
 pub fn record_of(o: Kept) -> Caller

@@ -10,7 +10,6 @@ mod single;
 mod named;
 
 pub use answer::Kept;
-pub use answer::place_of;
 pub use answer::record_of;
 pub use answer::reply_of;
 pub use lent::put_record;

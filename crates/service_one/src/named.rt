@@ -26,16 +26,16 @@ pub fn set_one(n: usize, c: Caller, last: &mut u64, k: usize, name: &[u8]) -> Ke
 {
     let w = first_refusal(n, c, k, name.len());
     if w != 0 {
-        return turned_away(k, c, w);
+        return turned_away(c, w);
     }
     let p = program_of(c);
     let marks = c.marks;
     let i = slot_for(p, name, marks);
     if 7 < i {
-        return turned_away(k, c, 47);
+        return turned_away(c, 47);
     }
     settle(last);
-    put_back(k, marked(p, name, c, i))
+    put_back(marked(p, name, c, i))
 }
 
 // Return: 46 where the name is unknown. The record stands where the mark does, and asks where it asked.
@@ -46,16 +46,16 @@ pub fn return_one(n: usize, c: Caller, last: &mut u64, k: usize, name: &[u8]) ->
 {
     let w = first_refusal(n, c, k, name.len());
     if w != 0 {
-        return turned_away(k, c, w);
+        return turned_away(c, w);
     }
     let p = program_of(c);
     let marks = c.marks;
     let i = slot_of(p, name, marks);
     if 7 < i {
-        return turned_away(k, c, 46);
+        return turned_away(c, 46);
     }
     settle(last);
-    put_back(k, returned_to(c, i))
+    put_back(returned_to(c, i))
 }
 
 // Forget: 46 where the name is unknown.
@@ -66,14 +66,14 @@ pub fn forget_one(n: usize, c: Caller, last: &mut u64, k: usize, name: &[u8]) ->
 {
     let w = first_refusal(n, c, k, name.len());
     if w != 0 {
-        return turned_away(k, c, w);
+        return turned_away(c, w);
     }
     let p = program_of(c);
     let marks = c.marks;
     let i = slot_of(p, name, marks);
     if 7 < i {
-        return turned_away(k, c, 46);
+        return turned_away(c, 46);
     }
     settle(last);
-    put_back(k, forgotten(p, name, c))
+    put_back(forgotten(p, name, c))
 }

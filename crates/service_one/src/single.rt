@@ -1,6 +1,7 @@
 // Open, ask and close on one record, which the list has at k, of a list of n records.
 use crate::answer::Kept;
 use file_decoder::Verdict;
+use service_marks::open_refusal;
 use service_record::asked;
 use service_record::fresh_record;
 use service_record::is_open;
@@ -16,22 +17,20 @@ ghost use Rattle.spec_service.specs.Call.{open-for, ask-for, close-for, lastRea
 ghost use Rattle.spec_service.specs.Reply.{shared, Does};
 
 // A refusal at place 0: the record is put back as it was.
-pub(crate) fn turned_away(k: usize, c: Caller, number: u8) -> Kept
-    ensures { λ r. ⌜ r ≡ record { at = k; caller = c; reply = Reply.Refused number 0 } ⌝ }
+pub(crate) fn turned_away(c: Caller, number: u8) -> Kept
+    ensures { λ r. ⌜ r ≡ record { caller = c; reply = Reply.Refused number 0 } ⌝ }
 {
     Kept {
-        at: k,
         caller: c,
         reply: Reply::Refused(number, 0),
     }
 }
 
 // Done: this record is put back.
-pub(crate) fn put_back(k: usize, c: Caller) -> Kept
-    ensures { λ r. ⌜ r ≡ record { at = k; caller = c; reply = Reply.Done } ⌝ }
+pub(crate) fn put_back(c: Caller) -> Kept
+    ensures { λ r. ⌜ r ≡ record { caller = c; reply = Reply.Done } ⌝ }
 {
     Kept {
-        at: k,
         caller: c,
         reply: Reply::Done,
     }
@@ -61,25 +60,24 @@ pub fn open_one(n: usize, c: Caller, last: &mut u64, k: usize, file: &[u8]) -> K
         (shared (set cs k (r .caller)) (now (last .exit)))) ⌝ }
 {
     if n != 4 {
-        return turned_away(k, c, 22);
+        return turned_away(c, 22);
     }
     if 3 < k {
-        return turned_away(k, c, 42);
+        return turned_away(c, 42);
     }
     if is_open(c) {
-        return turned_away(k, c, 43);
+        return turned_away(c, 43);
     }
     let a = file_decoder::decode(file);
     let v = a.verdict;
     match v {
         Verdict::Refused(number, place) => Kept {
-            at: k,
             caller: c,
             reply: Reply::Refused(number, place),
         },
         Verdict::Accepted => {
             settle(last);
-            put_back(k, opened_with(file))
+            put_back(opened_with(file))
         }
     }
 }
@@ -90,17 +88,12 @@ pub fn ask_one(n: usize, c: Caller, last: &mut u64, k: usize) -> Kept
         (shared cs (now (last .entry))) (r .reply)
         (shared (set cs k (r .caller)) (now (last .exit)))) ⌝ }
 {
-    if n != 4 {
-        return turned_away(k, c, 22);
+    let w = open_refusal(n, c, k);
+    if w != 0 {
+        return turned_away(c, w);
     }
-    if 3 < k {
-        return turned_away(k, c, 42);
-    }
-    if is_open(c) {
-        settle(last);
-        return put_back(k, asked(c));
-    }
-    turned_away(k, c, 44)
+    settle(last);
+    put_back(asked(c))
 }
 
 // Close: the record is emptied.
@@ -109,15 +102,10 @@ pub fn close_one(n: usize, c: Caller, last: &mut u64, k: usize) -> Kept
         (shared cs (now (last .entry))) (r .reply)
         (shared (set cs k (r .caller)) (now (last .exit)))) ⌝ }
 {
-    if n != 4 {
-        return turned_away(k, c, 22);
+    let w = open_refusal(n, c, k);
+    if w != 0 {
+        return turned_away(c, w);
     }
-    if 3 < k {
-        return turned_away(k, c, 42);
-    }
-    if is_open(c) {
-        settle(last);
-        return put_back(k, fresh_record());
-    }
-    turned_away(k, c, 44)
+    settle(last);
+    put_back(fresh_record())
 }

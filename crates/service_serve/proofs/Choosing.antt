@@ -1,107 +1,138 @@
--- Who is served next, way by way of the code.
-use Prim.Native.Nat.{ℕ, _+_, _%_, _≤_, _<_}
-use mathlib.Core.Path.{_≡_, refl, sym, ap, _∙_}
+-- Whose turn it is, way by way of the code.
+use Prim.Native.Nat.{ℕ, zero, suc, _+_, _-_, _%_, _≤_, _<_}
+use mathlib.Core.Path.{_≡_, refl, sym, ap, fun-ext, _∙_}
 use mathlib.Core.Bool.{Bool, true, false}
 use mathlib.Core.Option.{Option, none, some}
-use mathlib.Core.List.{List, [], _∷_}
-use native.Mathlib.Nat.{mod-lt}
+use mathlib.Core.List.{List, [], _∷_, map}
 use native.Mathlib.Omega.{arith}
-use borrow.Author.Tests.{lt-ltb, le-ltb}
-use lib.Dec.{lit<}
-use lib.ListN.{length, getD}
-use Rattle.spec_schedules.specs.Lists.{find}
+use borrow.Author.Tests.{lt-ltb, le-ltb, eq-eqb, ne-eqb}
+use lib.ListN.{length, getD, List·getD-eq-default}
+use Rattle.spec_schedules.specs.Lists.{range, find}
+use Rattle.spec_schedules.specs.Order.{Schedule}
+use Rattle.spec_schedules.proofs.Lists.{find-yes, find-no}
+use Rattle.spec_schedules.proofs.Loops.{find-none-left, find-here, find-later}
 use Rattle.spec_service.specs.declared.caller.Caller.{Caller}
 use Rattle.spec_service.specs.Seat.{asks}
 use Rattle.spec_service.specs.Record.{reading, fresh}
-use Rattle.spec_service.specs.Call.{seatOf, lastRead, inTurn, nextAsking}
-use Rattle.service_serve.specs.Kept.{numberOf}
-use Rattle.service_serve.specs.Kept.{Four}
+use Rattle.spec_service.specs.Call.{Answer, idle, refused, seatOf, lastRead, inTurn, nextAsking, forSeat, handedTo, servedTo, serveAnswer, lastAfter}
+use Rattle.spec_service.proofs.Readings.{reading-fresh}
+use Rattle.spec_service.proofs.Rotation.{turn-small}
+use Rattle.service_serve.specs.Turn.{Asking, numberOf, turnOf}
 
 -- ---- the search, one caller after another
-find-yes : (f : ℕ → Bool) (k : ℕ) (ks : List ℕ) → f k ≡ true → find f (k ∷ ks) ≡ some k
+find-mapped : {A B : Type 0} (f : B → Bool) (h : A → B) (l : List A) (d : A) → find (λ x. f (h x)) l ≡ some d → find f (map h l) ≡ some (h d)
 unfolding find
-find-yes f k ks e = rw (e, find)
-
-find-no : (f : ℕ → Bool) (k : ℕ) (ks : List ℕ) → f k ≡ false → find f (k ∷ ks) ≡ find f ks
-unfolding find
-find-no f k ks e = rw (e, find)
-
-find-nil : (f : ℕ → Bool) → find f [] ≡ none
-unfolding find
-find-nil f = refl
-
--- what is found among numbers below 4 is below 4
-abbrev Small : List ℕ → Type 0
-Small [] = Unit {0}
-Small (x ∷ xs) = (x < 4) × Small xs
-
-find-small : (f : ℕ → Bool) (l : List ℕ) (k : ℕ) → Small l → find f l ≡ some k → k < 4
-unfolding find
-find-small f [] k s h = let z : _≡_ {A = ℕ} 0 1 = cc in absurd (omega arith)
-find-small f (x ∷ xs) k s h = by (f x) refl (λ e. find-small f xs k (s .1) e)
+find-mapped f h [] d e = absurd (let z : _≡_ {A = ℕ} 0 1 = cc in omega arith)
+find-mapped f h (x ∷ l) d e = go (f (h x)) refl (λ q. find-mapped f h l d q)
   where
-    by : (b : Bool) → f x ≡ b → (find f xs ≡ some k → k < 4) → k < 4
-    by true q later = let j : some x ≡ some k = sym (find-yes f x xs q) ∙ h in let i : x ≡ k = cc in omega (arith, i, s .0)
-    by false q later = later (sym (find-no f x xs q) ∙ h)
+    go : (b : Bool) → f (h x) ≡ b → (find (λ y. f (h y)) l ≡ some d → find f (map h l) ≡ some (h d)) → find f (h x ∷ map h l) ≡ some (h d)
+    go true q ih = let w = sym (find-yes (λ y. f (h y)) x l q) ∙ e in let z : x ≡ d = cc in find-yes f (h x) (map h l) q ∙ ap (λ y. some (h y)) z
+    go false q ih = find-no f (h x) (map h l) q ∙ ih (sym (find-no (λ y. f (h y)) x l q) ∙ e)
 
-module _ (cs : List Caller) (m : ℕ) where
-  -- the caller so many places after the last one
-  abbrev pub behind-last : ℕ → ℕ
-  behind-last d = (lastRead m + d) % 4
+find-unmapped : {A B : Type 0} (f : B → Bool) (h : A → B) (l : List A) → find (λ x. f (h x)) l ≡ none → find f (map h l) ≡ none
+unfolding find
+find-unmapped f h [] e = refl
+find-unmapped f h (x ∷ l) e = go (f (h x)) refl (λ q. find-unmapped f h l q)
+  where
+    go : (b : Bool) → f (h x) ≡ b → (find (λ y. f (h y)) l ≡ none → find f (map h l) ≡ none) → find f (h x ∷ map h l) ≡ none
+    go true q ih = let w = sym (find-yes (λ y. f (h y)) x l q) ∙ e in absurd (let z : _≡_ {A = ℕ} 0 1 = cc in omega arith)
+    go false q ih = find-no f (h x) (map h l) q ∙ ih (sym (find-no (λ y. f (h y)) x l q) ∙ e)
 
-  -- whether it asks
-  abbrev pub Says : ℕ → Bool → Type 0
-  Says d v = asks (seatOf cs (behind-last d)) ≡ v
+module _ (f : ℕ → Bool) (n : ℕ) where
+  -- whether the caller so many places after caller n passes
+  abbrev pub passes-after : ℕ → Bool
+  passes-after = λ d. f ((n + d) % 4)
 
-  -- as the code finds out
-  pub tested : (n k d : ℕ) (r : Caller) (b v : Bool) → n ≡ lastRead m → k ≡ (n + d) % 4 → r ≡ getD cs k fresh → b ≡ asks (reading r) → b ≡ v → Says d v
-  unfolding seatOf
-  tested n k d r b v e₁ e₂ e₃ e₄ e₅ =
-      ap (λ (i : ℕ). asks (reading (getD cs i fresh))) (sym (number-of n k d e₁ e₂)) ∙ ap (λ (x : Caller). asks (reading x)) (sym e₃) ∙ sym e₄ ∙ e₅
+  -- what is left decides
+  abbrev pub LeftFrom : ℕ → Type 0
+  LeftFrom i = find passes-after (range 1 4) ≡ find passes-after (range i (5 - i))
+
+  pub found-later : (i k : ℕ) → k ≡ (n + i) % 4 → LeftFrom i → i ≤ 4 → f k ≡ false → LeftFrom (i + 1)
+  found-later i k q left h y =
+      let u : 5 - i - 1 ≡ 5 - (i + 1) = omega arith in
+      left ∙ find-later passes-after i (5 - i) (omega (arith, h)) (ap f (sym q) ∙ y) ∙ ap (λ (j : ℕ). find passes-after (range (i + 1) j)) u
+
+  module _ (m : ℕ) (e : n ≡ lastRead m) where
+    turns : inTurn m ≡ map (λ d. (n + d) % 4) (range 1 4)
+    unfolding inTurn range
+    turns = ap (λ (j : ℕ). map (λ d. (j + d) % 4) (range 1 4)) (sym e)
+
+    pub found-here : (i k : ℕ) → k ≡ (n + i) % 4 → LeftFrom i → i ≤ 4 → f k ≡ true → k ≡ numberOf (find f (inTurn m))
+    unfolding numberOf
+    found-here i k q left h y =
+        q ∙ sym (ap numberOf (ap (find f) turns ∙ find-mapped f (λ d. (n + d) % 4) (range 1 4) i (left ∙ find-here passes-after i (5 - i) (omega (arith, h)) (ap f (sym q) ∙ y))))
+
+    pub found-none : (i : ℕ) → LeftFrom i → 4 < i → 4 ≡ numberOf (find f (inTurn m))
+    unfolding numberOf
+    found-none i left h = sym (ap numberOf (ap (find f) turns ∙ find-unmapped f (λ d. (n + d) % 4) (range 1 4) (left ∙ find-none-left passes-after i (5 - i) (omega (arith, h)))))
+
+-- ---- the four of a list
+module _ (cs : List Caller) (a b c d : Bool) (four : length cs ≡ 4) (which : Asking cs a b c d) where
+  asking-at : (k : ℕ) → getD (a ∷ b ∷ c ∷ d ∷ []) k false ≡ asks (seatOf cs k)
+  unfolding seatOf asks
+  asking-at zero = which .0
+  asking-at (suc zero) = which .1
+  asking-at (suc (suc zero)) = which .2
+  asking-at (suc (suc (suc zero))) = which .3
+  asking-at (suc (suc (suc (suc k)))) =
+      sym (ap (λ (r : Caller). asks (reading r)) (List·getD-eq-default cs fresh {n = suc (suc (suc (suc k)))} (omega (arith, four))) ∙ ap asks reading-fresh)
+
+  next-is : (m : ℕ) → find (λ k. getD (a ∷ b ∷ c ∷ d ∷ []) k false) (inTurn m) ≡ nextAsking cs m
+  unfolding nextAsking
+  next-is m = ap (λ (f : ℕ → Bool). find f (inTurn m)) (fun-ext asking-at)
+
+  module _ (m k : ℕ) (e : k ≡ numberOf (find (λ k. getD (a ∷ b ∷ c ∷ d ∷ []) k false) (inTurn m))) where
+    by-next : k ≡ numberOf (nextAsking cs m)
+    by-next = e ∙ ap numberOf (next-is m)
+
+    small : (j : ℕ) → nextAsking cs m ≡ some j → j < 4
+    unfolding nextAsking
+    small j q = turn-small (λ i. asks (seatOf cs i)) m j q
+
+    pub chosen-some : k ≤ 3 → nextAsking cs m ≡ some k
+    unfolding numberOf
+    chosen-some l = go (nextAsking cs m) refl
+      where
+        go : (o : Option ℕ) → nextAsking cs m ≡ o → nextAsking cs m ≡ some k
+        go none q = let z : k ≡ 4 = by-next ∙ ap numberOf q in absurd (omega (arith, z, l))
+        go (some j) q = q ∙ ap some (sym (by-next ∙ ap numberOf q))
+
+    pub chosen-nobody : 3 < k → nextAsking cs m ≡ none
+    unfolding numberOf
+    chosen-nobody l = go (nextAsking cs m) refl
+      where
+        go : (o : Option ℕ) → nextAsking cs m ≡ o → nextAsking cs m ≡ none
+        go none q = q
+        go (some j) q = let z : k ≡ j = by-next ∙ ap numberOf q in absurd (omega (arith, z, l, small j q))
+
+-- ---- whom a serve is about, and the last caller served behind it
+module _ (cs : List Caller) (m : ℕ) (out : List ℕ) where
+  abbrev pub Turned : ℕ → ℕ → Type 0
+  Turned k m′ = (k ≡ turnOf (serveAnswer cs m out)) × (m′ ≡ lastAfter (serveAnswer cs m out) m)
+
+  turned-by : (a : Answer) (k m′ : ℕ) → serveAnswer cs m out ≡ a → k ≡ turnOf a → m′ ≡ lastAfter a m → Turned k m′
+  turned-by a k m′ e h q = (h ∙ ap turnOf (sym e), q ∙ ap (λ (x : Answer). lastAfter x m) (sym e))
+
+  pub turned-22 : (length cs ≡ 4 → ⊥) → Turned 5 m
+  unfolding serveAnswer turnOf lastAfter
+  turned-22 d = turned-by (refused 22 0) 5 m (rw (ne-eqb (length cs) 4 d)) refl refl
+
+  pub turned-short : length cs ≡ 4 → length out < 24 → Turned 5 m
+  unfolding serveAnswer turnOf lastAfter
+  turned-short e l = turned-by (refused 22 0) 5 m (rw (eq-eqb (length cs) 4 e, lt-ltb (length out) 24 l)) refl refl
+
+  pub served-to : length cs ≡ 4 → 24 ≤ length out → serveAnswer cs m out ≡ servedTo cs (nextAsking cs m)
+  unfolding serveAnswer
+  served-to e l = rw (eq-eqb (length cs) 4 e, le-ltb (length out) 24 l)
+
+  pub turned-idle : length cs ≡ 4 → 24 ≤ length out → nextAsking cs m ≡ none → (m′ : ℕ) → m′ ≡ lastRead m → Turned 4 m′
+  unfolding servedTo turnOf lastAfter
+  turned-idle e l q m′ h = turned-by idle 4 m′ (served-to e l ∙ ap (servedTo cs) q) refl h
+
+  pub turned-to : length cs ≡ 4 → 24 ≤ length out → (k : ℕ) → nextAsking cs m ≡ some k → (m′ : ℕ) → m′ ≡ k → Turned k m′
+  unfolding servedTo turnOf lastAfter handedTo
+  turned-to e l k q m′ h = turned-by (handedTo k (forSeat (seatOf cs k))) k m′ (served-to e l ∙ ap (servedTo cs) q) (go (forSeat (seatOf cs k)) .0) (h ∙ go (forSeat (seatOf cs k)) .1)
     where
-      number-of : (n k d : ℕ) → n ≡ lastRead m → k ≡ (n + d) % 4 → k ≡ behind-last d
-      number-of n k d e q = q ∙ ap (λ (i : ℕ). (i + d) % 4) e
-
-  pub chosen-1 : Says 1 true → behind-last 1 ≡ numberOf (nextAsking cs m)
-  unfolding nextAsking inTurn numberOf
-  chosen-1 y = sym (ap numberOf (find-yes _ _ _ y))
-
-  pub chosen-2 : Says 1 false → Says 2 true → behind-last 2 ≡ numberOf (nextAsking cs m)
-  unfolding nextAsking inTurn numberOf
-  chosen-2 n₁ y = sym (ap numberOf (find-no _ _ _ n₁ ∙ find-yes _ _ _ y))
-
-  pub chosen-3 : Says 1 false → Says 2 false → Says 3 true → behind-last 3 ≡ numberOf (nextAsking cs m)
-  unfolding nextAsking inTurn numberOf
-  chosen-3 n₁ n₂ y = sym (ap numberOf (find-no _ _ _ n₁ ∙ find-no _ _ _ n₂ ∙ find-yes _ _ _ y))
-
-  pub chosen-4 : Says 1 false → Says 2 false → Says 3 false → Says 4 true → behind-last 4 ≡ numberOf (nextAsking cs m)
-  unfolding nextAsking inTurn numberOf
-  chosen-4 n₁ n₂ n₃ y = sym (ap numberOf (find-no _ _ _ n₁ ∙ find-no _ _ _ n₂ ∙ find-no _ _ _ n₃ ∙ find-yes _ _ _ y))
-
-  pub chosen-none : Says 1 false → Says 2 false → Says 3 false → Says 4 false → 4 ≡ numberOf (nextAsking cs m)
-  unfolding nextAsking inTurn numberOf
-  chosen-none n₁ n₂ n₃ n₄ = sym (ap numberOf (find-no _ _ _ n₁ ∙ find-no _ _ _ n₂ ∙ find-no _ _ _ n₃ ∙ find-no _ _ _ n₄ ∙ find-nil _))
-
-  -- whoever is chosen is one of the four
-  small : (k : ℕ) → nextAsking cs m ≡ some k → k < 4
-  unfolding nextAsking inTurn
-  small k e = find-small _ (behind-last 1 ∷ behind-last 2 ∷ behind-last 3 ∷ behind-last 4 ∷ []) k (below-four 1, (below-four 2, (below-four 3, (below-four 4, tt)))) e
-    where
-      below-four : (d : ℕ) → behind-last d < 4
-      below-four d = mod-lt (lastRead m + d) (lit< tt)
-
-  pub chosen-some : (k : ℕ) → k ≡ numberOf (nextAsking cs m) → k ≤ 3 → nextAsking cs m ≡ some k
-  unfolding numberOf
-  chosen-some k e l = go (nextAsking cs m) refl
-    where
-      go : (o : Option ℕ) → nextAsking cs m ≡ o → nextAsking cs m ≡ some k
-      go none q = let z : k ≡ 4 = e ∙ ap numberOf q in absurd (omega (arith, z, l))
-      go (some j) q = q ∙ ap some (sym (e ∙ ap numberOf q))
-
-  pub chosen-nobody : (k : ℕ) → k ≡ numberOf (nextAsking cs m) → 3 < k → nextAsking cs m ≡ none
-  unfolding numberOf
-  chosen-nobody k e l = go (nextAsking cs m) refl
-    where
-      go : (o : Option ℕ) → nextAsking cs m ≡ o → nextAsking cs m ≡ none
-      go none q = q
-      go (some j) q = let z : k ≡ j = e ∙ ap numberOf q in absurd (omega (arith, z, l, small j q))
+      go : (o : Option Schedule) → (k ≡ turnOf (handedTo k o)) × (k ≡ lastAfter (handedTo k o) m)
+      go none = (refl, refl)
+      go (some s) = (refl, refl)

@@ -1,35 +1,36 @@
--- What a serve does, way by way of the code.
-use Prim.Native.Nat.{ℕ, _+_, _%_, _^_, _≤_, _<_}
-use mathlib.Core.Path.{_≡_, refl, sym, ap, subst, _∙_}
-use mathlib.Core.Bool.{true, false, true≢false}
+-- What a serve answers and leaves, way by way of the code.
+use Prim.Native.Nat.{ℕ, _≤_, _<_}
+use mathlib.Core.Path.{_≡_, refl, sym, ap, _∙_}
+use mathlib.Core.Bool.{Bool, true, false, cond, not, true≢false, false≢true}
 use mathlib.Core.Option.{Option, none, some}
-use mathlib.Core.List.{List, [], _∷_}
-use native.Mathlib.Nat.{le-refl}
+use mathlib.Core.List.{List}
 use native.Mathlib.Omega.{arith}
-use borrow.Author.Tests.{lt-ltb, le-ltb, eq-eqb, ne-eqb}
+use borrow.Author.Tests.{lt-ltb}
+use lib.Dec.{eqb}
 use lib.ListN.{length, getD, set, take, replicate}
-use lib.Seq.{set-out}
+use lib.Seq.{set-getD}
 use Rattle.spec_file.specs.Over.{over}
 use Rattle.spec_file.proofs.Over.{take-over}
 use Rattle.spec_schedules.specs.Order.{Schedule}
+use Rattle.spec_schedules.specs.Calls.{short}
 use Rattle.spec_service.specs.declared.caller.Caller.{Caller}
 use Rattle.spec_service.specs.Record.{reading, fresh, served}
-use Rattle.spec_service.specs.Call.{Call, serve, Answer, done, given, ended, idle, refused, Shared, seatOf, lastRead, nextAsking, forSeat, handedTo, servedTo, serveAnswer, answerTo, callersDone, callersAfter, lastAfter, outputAfter, after}
-use Rattle.spec_service.proofs.Seats.{after-refused}
+use Rattle.spec_service.specs.Call.{serve, Answer, given, ended, idle, refused, seatOf, nextAsking, forSeat, handedTo, servedTo, serveAnswer, answerTo, callersAfter, outputAfter}
+use Rattle.spec_service.proofs.Answers.{serve-answers}
 use Rattle.service_record.specs.declared.next.Next.{Next}
 use Rattle.service_record.specs.Next.{nextOf}
 use Rattle.service_one.specs.declared.answer.Kept.{Kept}
 use Rattle.spec_service.specs.declared.reply.Reply.{Reply}
 use Rattle.spec_service.specs.declared.reply.Reply.the-variants.{Given, Ended, Idle, Refused}
-use Rattle.spec_service.specs.Reply.{replyOf, shared, Served}
-use Rattle.service_serve.specs.Kept.{keptFor, Four}
+use Rattle.spec_service.specs.Reply.{replyOf, shared}
+use Rattle.service_serve.specs.Turn.{turnOf, keptFor}
 
 -- ---- what a caller gets
 module _ (k : ℕ) (c r : Caller) (x : Next) where
-  pub gave-kept : (o : Option Schedule) → x ≡ nextOf o → r ≡ served c o → x .found ≡ true → (n : ℕ) → n ≡ x .steps → record { at = k; caller = r; reply = Given k n } ≡ keptFor k c o
+  pub gave-kept : (o : Option Schedule) → x ≡ nextOf o → r ≡ served c o → x .found ≡ true → (n : ℕ) → n ≡ x .steps → record { caller = r; reply = Given k n } ≡ keptFor k c o
   unfolding nextOf keptFor handedTo replyOf
   gave-kept none e q f n l = absurd (true≢false (sym f ∙ ap (λ (y : Next). y .found) e))
-  gave-kept (some s) e q f n l = let j = l ∙ ap (λ (y : Next). y .steps) e in λ i. record { at = k; caller = q i; reply = Given k (j i) }
+  gave-kept (some s) e q f n l = let j = l ∙ ap (λ (y : Next). y .steps) e in λ i. record { caller = q i; reply = Given k (j i) }
 
   pub gave-output : (o : Option Schedule) → x ≡ nextOf o → x .found ≡ true → (n : ℕ) → n ≡ x .steps → (out out′ : List ℕ) → out′ ≡ over (take n (x .schedule)) out → out′ ≡ outputAfter (handedTo k o) out
   unfolding nextOf handedTo outputAfter
@@ -37,9 +38,9 @@ module _ (k : ℕ) (c r : Caller) (x : Next) where
   gave-output (some s) e f n l out out′ p =
       p ∙ ap (λ (i : ℕ). over (take i (x .schedule)) out) (l ∙ ap (λ (y : Next). y .steps) e) ∙ ap (λ (y : Next). over (take (length s) (y .schedule)) out) e ∙ ap (λ (t : List ℕ). over t out) (take-over s (replicate 24 0))
 
-  pub ended-kept : (o : Option Schedule) → x ≡ nextOf o → r ≡ served c o → x .found ≡ false → record { at = k; caller = r; reply = Ended k } ≡ keptFor k c o
+  pub ended-kept : (o : Option Schedule) → x ≡ nextOf o → r ≡ served c o → x .found ≡ false → record { caller = r; reply = Ended k } ≡ keptFor k c o
   unfolding nextOf keptFor handedTo replyOf
-  ended-kept none e q f = λ i. record { at = k; caller = q i; reply = Ended k }
+  ended-kept none e q f = λ i. record { caller = q i; reply = Ended k }
   ended-kept (some s) e q f = absurd (true≢false (sym (ap (λ (y : Next). y .found) e) ∙ f))
 
   pub ended-output : (o : Option Schedule) → x ≡ nextOf o → x .found ≡ false → (out : List ℕ) → out ≡ outputAfter (handedTo k o) out
@@ -47,67 +48,69 @@ module _ (k : ℕ) (c r : Caller) (x : Next) where
   ended-output none e f out = refl
   ended-output (some s) e f out = absurd (true≢false (sym (ap (λ (y : Next). y .found) e) ∙ f))
 
--- ---- a list of four is its four records
-pub four-list : (cs : List Caller) (a b c d : Caller) → length cs ≡ 4 → Four cs a b c d → a ∷ b ∷ c ∷ d ∷ [] ≡ cs
-four-list [] a b c d e f = absurd (omega (arith, e))
-four-list (w ∷ []) a b c d e f = absurd (omega (arith, e))
-four-list (w ∷ x ∷ []) a b c d e f = absurd (omega (arith, e))
-four-list (w ∷ x ∷ y ∷ []) a b c d e f = absurd (omega (arith, e))
-four-list (w ∷ x ∷ y ∷ z ∷ []) a b c d e f = λ i. f .0 i ∷ f .1 i ∷ f .2 i ∷ f .3 i ∷ []
-four-list (w ∷ x ∷ y ∷ z ∷ v ∷ vs) a b c d e f = absurd (omega (arith, e))
+-- ---- by whom a serve is about
+module _ (cs : List Caller) (m : ℕ) (out : List ℕ) (k : ℕ) (about : k ≡ turnOf (serveAnswer cs m out)) where
+  -- what holds of every answer of a serve
+  every : (P : Answer → Type 0) → P (refused 22 0) → P idle → ((j : ℕ) → j < 4 → P (ended j)) →
+      ((j : ℕ) (s : Schedule) → j < 4 → length s ≤ 24 → 24 ≤ length out → P (given j s)) → P (serveAnswer cs m out)
+  unfolding answerTo
+  every P away nobody end one = serve-answers out P away nobody end one (shared cs m)
 
--- ---- the answers
-module _ (cs : List Caller) (m : ℕ) (out : List ℕ) where
-  pub serve-22 : (length cs ≡ 4 → ⊥) → answerTo (serve out) (shared cs m) ≡ refused 22 0
-  unfolding answerTo serveAnswer
-  serve-22 d = rw (ne-eqb (length cs) 4 d)
+  pub about-nobody : k ≡ 4 → serveAnswer cs m out ≡ idle
+  unfolding turnOf
+  about-nobody e = every (λ a. k ≡ turnOf a → a ≡ idle) (λ q. absurd (omega (arith, e, q))) (λ q. refl) (λ j h q. absurd (omega (arith, e, q, h)))
+      (λ j s h l r q. absurd (omega (arith, e, q, h))) about
 
-  pub serve-short : length cs ≡ 4 → length out < 24 → answerTo (serve out) (shared cs m) ≡ refused 22 0
-  unfolding answerTo serveAnswer
-  serve-short e l = rw (eq-eqb (length cs) 4 e, lt-ltb (length out) 24 l)
+  pub about-refused : (k ≡ 4 → ⊥) → 3 < k → serveAnswer cs m out ≡ refused 22 0
+  unfolding turnOf
+  about-refused ne b = every (λ a. k ≡ turnOf a → a ≡ refused 22 0) (λ q. refl) (λ q. absurd (ne q)) (λ j h q. absurd (omega (arith, b, q, h)))
+      (λ j s h l r q. absurd (omega (arith, b, q, h))) about
 
-  served-to : length cs ≡ 4 → 24 ≤ length out → answerTo (serve out) (shared cs m) ≡ servedTo cs (nextAsking cs m)
-  unfolding answerTo serveAnswer
-  served-to e l = rw (eq-eqb (length cs) 4 e, le-ltb (length out) 24 l)
+  taken : (b d : Bool) (o : Option ℕ) → k ≤ 3 → k ≡ turnOf (cond b (refused 22 0) (cond d (refused 22 0) (servedTo cs o))) →
+      (d ≡ false) × (cond b (refused 22 0) (cond d (refused 22 0) (servedTo cs o)) ≡ handedTo k (forSeat (seatOf cs k)))
+  unfolding turnOf servedTo handedTo
+  taken true d o l e = absurd (omega (arith, l, e))
+  taken false true o l e = absurd (omega (arith, l, e))
+  taken false false none l e = absurd (omega (arith, l, e))
+  taken false false (some j) l e = (refl, sym (ap (λ (i : ℕ). handedTo i (forSeat (seatOf cs i))) (e ∙ go (forSeat (seatOf cs j)))))
+    where
+      go : (o : Option Schedule) → turnOf (handedTo j o) ≡ j
+      go none = refl
+      go (some s) = refl
 
-  pub serve-idle : length cs ≡ 4 → 24 ≤ length out → nextAsking cs m ≡ none → answerTo (serve out) (shared cs m) ≡ idle
-  unfolding servedTo
-  serve-idle e l q = served-to e l ∙ ap (servedTo cs) q
+  pub about-room : k ≤ 3 → length out < 24 → ⊥
+  unfolding serveAnswer
+  about-room l h = false≢true (sym (taken (not (eqb (length cs) 4)) (short 24 out) (nextAsking cs m) l about .0) ∙ lt-ltb (length out) 24 h)
 
-  pub serve-one : length cs ≡ 4 → 24 ≤ length out → (k : ℕ) (r : Caller) → nextAsking cs m ≡ some k → r ≡ getD cs k fresh → answerTo (serve out) (shared cs m) ≡ handedTo k (forSeat (reading r))
-  unfolding servedTo seatOf
-  serve-one e l k r q p = served-to e l ∙ ap (servedTo cs) q ∙ ap (λ (y : Caller). handedTo k (forSeat (reading y))) (sym p)
+  pub about-taken : k ≤ 3 → serveAnswer cs m out ≡ handedTo k (forSeat (seatOf cs k))
+  unfolding serveAnswer
+  about-taken l = taken (not (eqb (length cs) 4)) (short 24 out) (nextAsking cs m) l about .1
 
   -- ---- what is left
-  module _ (o : Kept) where
-    -- nothing is put back where the list has no record
-    gone : (y : Reply) → o ≡ record { at = length cs; caller = fresh; reply = y } → (m′ : ℕ) → shared (set cs (o .at) (o .caller)) m′ ≡ shared cs m′
-    gone y e m′ = ap (λ (z : Kept). shared (set cs (z .at) (z .caller)) m′) e ∙ ap (λ (l : List Caller). shared l m′) (set-out cs (length cs) fresh (le-refl (length cs)))
+  abbrev pub Leaves : Reply → Caller → List ℕ → Type 0
+  Leaves r x out′ = (r ≡ replyOf (serveAnswer cs m out)) × (set cs k x ≡ callersAfter (serve out) (serveAnswer cs m out) cs) × (out′ ≡ outputAfter (serveAnswer cs m out) out)
 
-    pub serve-away : (n p : ℕ) → o ≡ record { at = length cs; caller = fresh; reply = Refused n p } → answerTo (serve out) (shared cs m) ≡ refused n p
-        → Served out (shared cs m) (o .reply) (shared (set cs (o .at) (o .caller)) m) out
-    unfolding replyOf outputAfter
-    serve-away n p e a = (ap (λ (z : Kept). z .reply) e ∙ sym (ap replyOf a), gone (Refused n p) e m ∙ sym (after-refused (serve out) (shared cs m) n p a), sym (ap (λ (y : Answer). outputAfter y out) a))
+  module _ (c : Caller) (own : c ≡ getD cs k fresh) where
+    same : set cs k c ≡ cs
+    same = ap (set cs k) own ∙ set-getD cs k fresh
 
-    pub serve-nobody : (m′ : ℕ) → o ≡ record { at = length cs; caller = fresh; reply = Idle } → m′ ≡ lastRead m → answerTo (serve out) (shared cs m) ≡ idle
-        → Served out (shared cs m) (o .reply) (shared (set cs (o .at) (o .caller)) m′) out
-    unfolding replyOf outputAfter after callersAfter lastAfter
-    serve-nobody m′ e l a = (
-      ap (λ (z : Kept). z .reply) e ∙ sym (ap replyOf a),
-      gone Idle e m′ ∙ ap (λ (i : ℕ). shared cs i) l ∙ ap (λ (y : Answer). record { callers = callersAfter (serve out) y cs; last = lastAfter y m }) (sym a),
-      sym (ap (λ (y : Answer). outputAfter y out) a),
-    )
+    pub leaves-idle : serveAnswer cs m out ≡ idle → Leaves Idle c out
+    unfolding replyOf callersAfter outputAfter
+    leaves-idle e = (sym (ap replyOf e), same ∙ sym (ap (λ (a : Answer). callersAfter (serve out) a cs) e), sym (ap (λ (a : Answer). outputAfter a out) e))
 
-    -- the record of the caller that was served is put back
-    pub serve-given : (k : ℕ) (r : Caller) (x : Option Schedule) (m′ : ℕ) (out′ : List ℕ) → r ≡ getD cs k fresh → o ≡ keptFor k r x → m′ ≡ k → out′ ≡ outputAfter (handedTo k x) out
-        → answerTo (serve out) (shared cs m) ≡ handedTo k x → Served out (shared cs m) (o .reply) (shared (set cs (o .at) (o .caller)) m′) out′
-    unfolding keptFor after handedTo callersAfter lastAfter
-    serve-given k r x m′ out′ q e l p a = (
-      ap (λ (z : Kept). z .reply) e ∙ sym (ap replyOf a),
-      ap (λ (z : Kept). shared (set cs (z .at) (z .caller)) m′) e ∙ (λ i. shared (set cs k (served (q i) x)) (l i)) ∙ left x ∙ ap (λ (y : Answer). record { callers = callersAfter (serve out) y cs; last = lastAfter y m }) (sym a),
-      p ∙ sym (ap (λ (y : Answer). outputAfter y out) a),
-    )
+    pub leaves-refused : serveAnswer cs m out ≡ refused 22 0 → Leaves (Refused 22 0) c out
+    unfolding replyOf callersAfter outputAfter
+    leaves-refused e = (sym (ap replyOf e), same ∙ sym (ap (λ (a : Answer). callersAfter (serve out) a cs) e), sym (ap (λ (a : Answer). outputAfter a out) e))
+
+    pub leaves-taken : k ≤ 3 → (o : Kept) (out′ : List ℕ) → o ≡ keptFor k c (forSeat (reading c)) → out′ ≡ outputAfter (handedTo k (forSeat (reading c))) out → Leaves (o .reply) (o .caller) out′
+    unfolding keptFor seatOf callersAfter handedTo
+    leaves-taken l o out′ e q =
+        let a : serveAnswer cs m out ≡ handedTo k (forSeat (reading c)) = about-taken l ∙ ap (λ (r : Caller). handedTo k (forSeat (reading r))) (sym own) in (
+          ap (λ (z : Kept). z .reply) e ∙ sym (ap replyOf a),
+          ap (λ (z : Kept). set cs k (z .caller)) e ∙ ap (λ (r : Caller). set cs k (served r (forSeat (reading c)))) own ∙ left (forSeat (reading c)) ∙ sym (ap (λ (z : Answer). callersAfter (serve out) z cs) a),
+          q ∙ sym (ap (λ (z : Answer). outputAfter z out) a),
+        )
       where
-        left : (y : Option Schedule) → shared (set cs k (served (getD cs k fresh) y)) k ≡ record { callers = callersAfter (serve out) (handedTo k y) cs; last = lastAfter (handedTo k y) m }
+        left : (x : Option Schedule) → set cs k (served (getD cs k fresh) x) ≡ callersAfter (serve out) (handedTo k x) cs
         left none = refl
         left (some s) = refl

@@ -1,3 +1,3 @@
 -- What a reader of this crate must believe beside `spec_service` and `service_one`.
--- what a serve keeps of a record
-pub mod Kept
+-- whom a serve is about, and what it keeps of the record
+pub mod Turn

@@ -1,8 +1,9 @@
-// Serve on four records by value.
+// Serve by one record: whose turn it is, by which of the four ask, and what the caller gets whose record this is.
 
-// The next asking caller, in order after the last one served.
+// Whose turn it is: the next asking caller after the last one served.
 mod order;
-// Serve, on four records.
-mod four;
+// What the caller gets whose turn it is.
+mod taken;
 
-pub use four::serve_four;
+pub use order::turn;
+pub use taken::serve_one;

@@ -1,19 +1,25 @@
-// Who is served next.
+// Whose turn it is.
 use service_one::last_read;
-use service_record::asks;
-use service_record::fresh_record;
+use service_one::settle;
+use spec_file::STEPS;
 use spec_service::Caller;
 ghost use mathlib.Core.Path.{_≡_};
-ghost use mathlib.Core.List.{[], _∷_};
-ghost use Prim.Native.Nat.{_+_, _%_, _≤_};
-ghost use lib.ListN.{getD};
-ghost use Rattle.spec_service.specs.Record.{fresh};
-ghost use Rattle.spec_service.specs.Call.{nextAsking};
-ghost use Rattle.service_serve.specs.Kept.{numberOf};
+ghost use mathlib.Core.Bool.{false};
+ghost use mathlib.Core.List.{List, [], _∷_};
+ghost use Prim.Native.Nat.{ℕ, _+_, _%_, _≤_};
+ghost use lib.ListN.{length, getD};
+ghost use Rattle.spec_schedules.specs.Lists.{find};
+ghost use Rattle.spec_service.specs.Call.{inTurn, serveAnswer, lastAfter};
+ghost use Rattle.service_serve.specs.Turn.{Asking, numberOf, turnOf};
 
-// The record of this number.
-pub(crate) fn of_four(a: Caller, b: Caller, c: Caller, d: Caller, k: usize) -> Caller
-    ensures { λ r. ⌜ r ≡ getD (a ∷ b ∷ c ∷ d ∷ []) k fresh ⌝ }
+// No caller's number: nobody asks, or the serve is refused.
+pub(crate) const NOBODY: usize = 4;
+
+pub(crate) const REFUSED: usize = 5;
+
+// What is said of caller k, where this is said of the four.
+fn of_four(a: bool, b: bool, c: bool, d: bool, k: usize) -> bool
+    ensures { λ r. ⌜ r ≡ getD (a ∷ b ∷ c ∷ d ∷ []) k false ⌝ }
 {
     if k == 0 {
         return a;
@@ -27,7 +33,7 @@ pub(crate) fn of_four(a: Caller, b: Caller, c: Caller, d: Caller, k: usize) -> C
     if k == 3 {
         return d;
     }
-    fresh_record()
+    false
 }
 
 // The caller so many places after this one, 0 after 3.
@@ -38,26 +44,40 @@ fn place_after(last: u64, d: u64) -> usize
     ((last + d) % 4) as usize
 }
 
-// The next asking caller after the last one served, which is at most 3; 4 where nobody asks.
-pub(crate) fn next_asking(a: Caller, b: Caller, c: Caller, d: Caller, last: u64) -> usize
-    ensures { λ r. ⌜ r ≡ numberOf (nextAsking (a ∷ b ∷ c ∷ d ∷ []) last) ⌝ }
+// The next asking caller after the last one served, which is at most 3, where these ask; NOBODY where none does.
+fn next_asking(a: bool, b: bool, c: bool, d: bool, last: u64) -> usize
+    ensures { λ r. ⌜ r ≡ numberOf (find (λ k. getD (a ∷ b ∷ c ∷ d ∷ []) k false) (inTurn last)) ⌝ }
 {
     let n = last_read(last);
-    let i = place_after(n, 1);
-    if asks(of_four(a, b, c, d, i)) {
-        return i;
+    let mut i = 1;
+    while i <= 4 {
+        let k = place_after(n, i);
+        if of_four(a, b, c, d, k) {
+            return k;
+        }
+        i += 1;
     }
-    let j = place_after(n, 2);
-    if asks(of_four(a, b, c, d, j)) {
-        return j;
+    NOBODY
+}
+
+// Whom a serve is about, of a list of n records of which these ask, with an output of so many bytes; that caller is then the last one served.
+// NOBODY where none asks, REFUSED where 22 refuses the serve.
+pub fn turn(n: usize, room: usize, a: bool, b: bool, c: bool, d: bool, last: &mut u64) -> usize
+    ensures { λ r. ⌜ ((cs : List Caller) (out : List ℕ) → length cs ≡ n → length out ≡ room → Asking cs a b c d →
+        (r ≡ turnOf (serveAnswer cs (now (last .entry)) out))
+        × (now (last .exit) ≡ lastAfter (serveAnswer cs (now (last .entry)) out) (now (last .entry)))) ⌝ }
+{
+    if n != 4 {
+        return REFUSED;
     }
-    let k = place_after(n, 3);
-    if asks(of_four(a, b, c, d, k)) {
-        return k;
+    if room < STEPS {
+        return REFUSED;
     }
-    let l = place_after(n, 4);
-    if asks(of_four(a, b, c, d, l)) {
-        return l;
+    let k = next_asking(a, b, c, d, *last);
+    if 3 < k {
+        settle(last);
+        return NOBODY;
     }
-    4
+    *last = k as u64;
+    k
 }

@@ -11,8 +11,12 @@ pub mod Against
 pub mod Composed
 -- who wins by the recursion can force: exactly one side can
 pub mod Determined
+-- all threads of one side
+pub mod OneSide
 -- what decides a game at once
 pub mod Decided
+-- the set of all threads, and that of none
+pub mod Whole
 -- a failed assertion does, and so does a state from which no assertion can be reached
 pub mod Early
 -- the answer: it exists by the recursion, and is the only one

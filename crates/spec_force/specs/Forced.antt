@@ -39,6 +39,13 @@ pub record LeastFirst (set : ℕ) (p : Program) (t : ℕ) : Type 0 where
 abbrev pub Names : ℕ → Program → Type 0
 Names set p = (k : ℕ) → k < 8 → has set k ≡ true → k < length (p .threads)
 
+-- every thread of the program is in the set, and none is
+abbrev pub AllIn : ℕ → Program → Type 0
+AllIn set p = (t : ℕ) → t < length (p .threads) → has set t ≡ true
+
+abbrev pub NoneIn : ℕ → Program → Type 0
+NoneIn set p = (t : ℕ) → t < length (p .threads) → has set t ≡ false
+
 -- k is the lowest number in the set that names no thread
 pub record LowestMissing (set : ℕ) (p : Program) (k : ℕ) : Type 0 where
   pub eight : k < 8

@@ -18,7 +18,7 @@ ghost use Rattle.states_key.specs.Stands.{Stands};
 ghost use Rattle.states_key.specs.Gathered.{leftAt};
 
 // How many of n instructions are left to a thread that stands at one of them or behind.
-fn left(at: usize, n: usize) -> u64
+pub fn left(at: usize, n: usize) -> u64
     requires { ⌜ (at < n → n ≤ 16) ⌝ }
     ensures { λ r. ⌜ (r ≡ n - at) × (r ≤ 16) ⌝ }
 {
@@ -29,7 +29,7 @@ fn left(at: usize, n: usize) -> u64
 }
 
 // The first word: its highest bit, and six bits each for the late set and what is left of each thread.
-fn first_word(lengths: &[usize; 6], threads: [ThreadState; 6], late: u8) -> u64
+pub(crate) fn first_word(lengths: &[usize; 6], threads: [ThreadState; 6], late: u8) -> u64
     requires { ⌜ (late < 64) × ((t : ℕ) → t < 6 → getD threads t idle .at < getD (now lengths) t 0 → getD (now lengths) t 0 ≤ 16) ⌝ }
     ensures { λ r. ⌜ r ≡ 2 ^ 63 + digits 64 (λ n. n) (late ∷ leftAt (now (lengths .entry)) threads) ⌝ }
 {
@@ -44,14 +44,14 @@ fn first_word(lengths: &[usize; 6], threads: [ThreadState; 6], late: u8) -> u64
 }
 
 // Two values as one word.
-fn pair(a: u32, b: u32) -> u64
+pub fn pair(a: u32, b: u32) -> u64
     ensures { λ r. ⌜ r ≡ a + 2 ^ 32 * b ⌝ }
 {
     (a as u64) + 0x1_0000_0000 * (b as u64)
 }
 
 // Two words, and the values by two.
-fn packed(first: u64, second: u64, values: [u32; 32]) -> [u64; 18]
+pub(crate) fn packed(first: u64, second: u64, values: [u32; 32]) -> [u64; 18]
     ensures { λ r. ⌜ r ≡ first ∷ second ∷ pairs values ⌝ }
 {
     let mut words = [0u64; 18];

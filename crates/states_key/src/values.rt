@@ -61,7 +61,7 @@ fn put_memory(values: &mut [u32; 32], n: usize, memory: [u32; 8])
 }
 
 // All of them, with zeros behind.
-pub(crate) fn values_of(
+pub fn values_of(
     lengths: &[usize; 6],
     masks: &[u8; 96],
     threads: [ThreadState; 6],

@@ -6,7 +6,12 @@ mod tally;
 mod numbers;
 // Keys that are only marked.
 mod marks;
+// Keys with a flag.
+mod flags;
 
+pub use flags::Flag;
+pub use flags::keep_flag;
+pub use flags::recall_flag;
 pub use marks::is_marked;
 pub use marks::mark;
 pub use numbers::Recalled;

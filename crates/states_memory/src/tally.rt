@@ -9,10 +9,11 @@ pub struct Tally {
     pub failing: u64,
 }
 
-// How many words a key has, and how many slots the table.
+// How many words a key has, how many slots the table, and behind how many steps no key is looked up any more.
 pub struct Shape {
     pub width: usize,
     pub slots: usize,
+    pub deep: usize,
 }
 
 // Both together.

@@ -50,6 +50,12 @@ pub found-some : (r : First) → r .found ≡ true → some (take (r .steps) (r 
 unfolding foundOf
 found-some r e = sym (rw e refl)
 
+-- the head of a list of one, or of none
+pub head-if : (b : Bool) (s : Schedule) → cond b (some s) none ≡ headOf (cond b (s ∷ []) [])
+unfolding headOf
+head-if true s = refl
+head-if false s = refl
+
 -- ---- with one next step
 module _ (p : Program) (steps : ℕ) (v : Schedule) (t : ℕ) where
   pub asleep-first : tried p v t ≡ true → Asleep p v t true → (o : Option Schedule) → o ≡ none → o ≡ headOf (foundWith true p steps none v t)

@@ -24,6 +24,8 @@ use Rattle.theory_sc.specs.LateSet.{lateSet}
 use Rattle.theory_sc.specs.Sleepers.{sleepers}
 use Rattle.theory_sc.specs.Search.{givenUp}
 use Rattle.theory_sc.proofs.Search.{up-asleep, up-not}
+use Rattle.search_place.specs.Reached.{Reached as At}
+use Rattle.search_place.specs.declared.place.Place.{Place}
 use Rattle.search_place.proofs.ReachedStep.{reached-room}
 use Rattle.search_walk.specs.Tried.{tried}
 use Rattle.search_walk.proofs.TriedSteps.{tried-enabled, tried-on-time, tried-alone, untried}
@@ -60,28 +62,38 @@ module _ (p : Program) (v : Schedule) (t : ℕ) where
   awake-cut is e = up-not p v t (tried-on-time p v t is) (tried-alone p v t is) (eqb-true _ 0 (not-false _ e))
 
   -- none are: what is behind it, where all fail if the step did
+  pub awake-charged : tried p v t ≡ true → Asleep false → (b : Bool) → b ≡ breaks (endOf p v) t → (l f : ℕ) → Wrapped (charged b (numbersAt p (v ++ (t ∷ [])))) l f
+      → Wrapped (numbersBy p v t) l f
+  awake-charged is e b eb l f w =
+      let q = by-live SC 6 (givenUp p) breaks (N p) v (endOf p v) t (tried-enabled p v t is) (awake-cut is e)
+      ∙ ap₂ (λ (c : Bool) (τ : State). charged c (N p (v ++ (t ∷ [])) τ)) (sym eb) (sym (run-snoc SC (start p) v t)) in
+      (w .0 ∙ ap (λ (m : Numbers). m .listed % 2 ^ 64) (sym q), w .1 ∙ ap (λ (m : Numbers). m .failing % 2 ^ 64) (sym q))
+
   pub awake-numbers : tried p v t ≡ true → Asleep false → (b : Bool) → b ≡ breaks (endOf p v) t → (l f l' f' : ℕ) → Wrapped (numbersAt p (v ++ (t ∷ []))) l f
       → l' ≡ l → f' ≡ cond b l f → Wrapped (numbersBy p v t) l' f'
   awake-numbers is e b eb l f l' f' w el ef =
-      let q = by-live SC 6 (givenUp p) breaks (N p) v (endOf p v) t (tried-enabled p v t is) (awake-cut is e)
-      ∙ ap₂ (λ (c : Bool) (τ : State). charged c (N p (v ++ (t ∷ [])) τ)) (sym eb) (sym (run-snoc SC (start p) v t)) in
       let r = charged-wrapped b (numbersAt p (v ++ (t ∷ []))) l f f' w ef in
-      (el ∙ r .0 ∙ ap (λ (m : Numbers). m .listed % 2 ^ 64) (sym q), r .1 ∙ ap (λ (m : Numbers). m .failing % 2 ^ 64) (sym q))
+      awake-charged is e b eb l' f' (el ∙ r .0, r .1)
 
   pub untried-numbers : tried p v t ≡ false → numbersBy p v t ≡ nothing
   untried-numbers e = ⊎-elim (λ (m : enabled (endOf p v) t ≡ false). by-not SC 6 (givenUp p) breaks (N p) v (endOf p v) t m)
       (λ (m : (enabled (endOf p v) t ≡ true) × (givenUp p v (endOf p v) t ≡ true)). by-cut SC 6 (givenUp p) breaks (N p) v (endOf p v) t (m .0) (m .1)) (untried p v t e)
 
+  -- behind its step, at the place y, the step failed exactly if its thread has
+  pub reached-failed : (code lengths class : List ℕ) (threads groups : ℕ) (y : Place) → At code lengths class threads groups y p (v ++ (t ∷ [])) → enabled (endOf p v) t ≡ true
+      → (u : ℕ) → u ≡ t → getD (y .threads) u idle .failed ≡ breaks (endOf p v) t
+  unfolding breaks advanced
+  reached-failed code lengths class threads groups y next ok u e =
+      ap (λ (i : ℕ). getD (y .threads) i idle .failed) e
+      ∙ sym (next .holds .threads t (enabled-small (endOf p v) t ok) .failed)
+      ∙ ap (λ (τ : State). threadOf τ t .local .failed) (run-snoc SC (start p) v t)
+      ∙ ap (λ (h : Thread). h .local .failed) (thread-own (endOf p v) t (enabled-range (endOf p v) t ok))
+
   -- behind its step, at the spot y
   module _ (code lengths class : List ℕ) (threads groups : ℕ) (y : Spot) (next : Stands code lengths class threads groups y p (v ++ (t ∷ []))) (ok : enabled (endOf p v) t ≡ true) where
     -- the step failed exactly if its thread has
     pub step-failed : (u : ℕ) → u ≡ t → getD (y .threads) u idle .failed ≡ breaks (endOf p v) t
-    unfolding breaks advanced
-    step-failed u e =
-        ap (λ (i : ℕ). getD (y .threads) i idle .failed) e
-        ∙ sym (next .reached .holds .threads t (enabled-small (endOf p v) t ok) .failed)
-        ∙ ap (λ (τ : State). threadOf τ t .local .failed) (run-snoc SC (start p) v t)
-        ∙ ap (λ (h : Thread). h .local .failed) (thread-own (endOf p v) t (enabled-range (endOf p v) t ok))
+    step-failed u e = reached-failed code lengths class threads groups (placeOf y) (next .reached) ok u e
 
     -- one step fewer is left
     pub step-less : (x : Spot) → Stands code lengths class threads groups x p v → 24 - y .steps < 24 - x .steps

@@ -3,6 +3,7 @@ use crate::counting::behind;
 use crate::seeking::First;
 use crate::seeking::first_behind;
 use file_decoder::Compiled;
+use file_rows::Code;
 use machine::some_failed;
 use search_place::begun;
 use search_place::known_lines;
@@ -29,16 +30,58 @@ ghost use Rattle.spec_sc.specs.Sequential.{sc};
 ghost use Rattle.states_walk.specs.FoundOf.{foundOf};
 ghost use Rattle.states_walk.specs.Made.{Made};
 
-// What a walk needs of a program: its classes, what is left to its rows, their live registers, how wide a key is, and where it starts.
+// What a walk needs of a program: its classes, what is left to its rows, their live registers, how wide a key is, how many accesses there
+// are, and where it starts.
 pub struct Setup {
     pub class: [usize; 6],
     pub left: [u8; 192],
     pub masks: [u8; 96],
     pub width: usize,
+    pub accesses: usize,
     pub spot: Spot,
 }
 
-fn made(program: Compiled) -> Setup
+// Where fewer accesses are left no key is made.
+const FEW: usize = 4;
+
+// How many rows hold an access.
+fn accesses(code: &Code) -> usize {
+    let mut n = 0;
+    let mut row = 0;
+    while row < 96 {
+        if code[row * 16] / 4 == 4 {
+            n += 1;
+        }
+        row += 1;
+    }
+    n
+}
+
+// A table of so many words whose entries have so many behind the key, for a program with keys of this width and so many accesses.
+pub fn shape_of(width: usize, accesses: usize, words: usize, entry: usize) -> Shape
+    ensures { λ r. ⌜ r .width ≡ width ⌝ }
+{
+    let n = slots(words, width, entry);
+    Shape {
+        width: width,
+        slots: n,
+        deep: depth(n, accesses),
+    }
+}
+
+// Behind so many steps no key is made: a step is an access, so fewer than four are left. None is made where the table has no slot.
+fn depth(slots: usize, accesses: usize) -> usize {
+    if slots == 0 {
+        return 0;
+    }
+    if accesses < FEW {
+        return 0;
+    }
+    accesses - FEW + 1
+}
+
+// Makes ready.
+pub fn made(program: Compiled) -> Setup
     requires { ⌜ WellFormed (programOf program) ⌝ }
     ensures { λ r. ⌜ Made program r ⌝ }
 {
@@ -57,6 +100,7 @@ fn made(program: Compiled) -> Setup
         left: left,
         masks: masks,
         width: n,
+        accesses: accesses(&code),
         spot: spot,
     }
 }
@@ -75,10 +119,7 @@ pub fn counted(program: Compiled, table: &mut [u64]) -> Tally
     let masks = m.masks;
     let x = m.spot;
     let threads = x.threads;
-    let shape = Shape {
-        width: m.width,
-        slots: slots(table.len(), m.width, 2),
-    };
+    let shape = shape_of(m.width, m.accesses, table.len(), 2);
     clear(table);
     let n = behind(&code, &lengths, &class, &left, &masks, shape, x, table);
     clear(table);
@@ -98,10 +139,7 @@ pub fn first_failing(program: Compiled, table: &mut [u64]) -> First
     let left = m.left;
     let masks = m.masks;
     let x = m.spot;
-    let shape = Shape {
-        width: m.width,
-        slots: slots(table.len(), m.width, 0),
-    };
+    let shape = shape_of(m.width, m.accesses, table.len(), 0);
     clear(table);
     let r = first_behind(&code, &lengths, &class, &left, &masks, shape, x, table);
     clear(table);

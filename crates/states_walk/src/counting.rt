@@ -1,9 +1,12 @@
 // How many listed schedules there are behind a prefix, and how many of these fail behind it, modulo 2^64. What is known of a key is looked up
-// before the search goes on behind it, and kept after.
+// before the search goes on behind it, and kept after, unless few steps are left: then the search takes less time than a key.
+use crate::alone::ran_out;
 use crate::stepping::advanced;
 use file_lines::wide;
 use file_rows::Code;
 use search_rules::some_asleep;
+use search_tail::last_runner;
+use search_tail::runner_at;
 use search_walk::is_tried;
 use states_key::Spot;
 use states_key::key;
@@ -14,6 +17,7 @@ use states_memory::charged;
 use states_memory::keep;
 use states_memory::recall;
 ghost use mathlib.Core.Path.{_≡_};
+ghost use mathlib.Core.Logic.{_≢_};
 ghost use mathlib.Core.Bool.{true};
 ghost use mathlib.Core.List.{List};
 ghost use Prim.Native.Nat.{ℕ, _<_, _≤_};
@@ -29,8 +33,18 @@ ghost use Rattle.states_key.specs.Stands.{Stands};
 ghost use Rattle.theory_states.specs.Wrapped.{Wrapped};
 ghost use Rattle.states_walk.specs.Known.{Numbered, numbersAt, numbersBy};
 
+// One schedule, which does not fail.
+fn one() -> Tally
+    ensures { λ r. ⌜ (r .listed ≡ 1) × (r .failing ≡ 0) ⌝ }
+{
+    Tally {
+        listed: 1,
+        failing: 0,
+    }
+}
+
 // Of those with t, which is tried, as the next step.
-fn visit(
+pub fn visit(
     code: &Code,
     lengths: &[usize; 6],
     class: &[usize; 6],
@@ -60,8 +74,53 @@ fn visit(
         };
     }
     let k = y.threads[wide(t)];
+    let s = last_runner(y.live, false);
+    if s < 6 {
+        let r = runner_at(y.threads[wide(s)], y.memory, y.schedule, y.steps, k.failed);
+        let end = ran_out(code, lengths, r, s);
+        return charged(end.failed, one());
+    }
+    if shape.deep <= y.steps {
+        let few = summed(code, lengths, class, left, masks, shape, y, table);
+        return charged(k.failed, few);
+    }
     let n = behind(code, lengths, class, left, masks, shape, y, table);
     charged(k.failed, n)
+}
+
+// Of all next steps, where some thread has not ended.
+fn summed(
+    code: &Code,
+    lengths: &[usize; 6],
+    class: &[usize; 6],
+    left: &[u8; 192],
+    masks: &[u8; 96],
+    shape: Shape,
+    x: Spot,
+    table: &mut [u64],
+) -> Tally
+    requires { ⌜ ((threads : ℕ) × (groups : ℕ) × (p : Program) × (v : Schedule)
+        × Stands (now code) (now lengths) (now class) threads groups x p v)
+        × Left (now code) (now lengths) (now left) × Live (now code) (now lengths) (now masks) × (shape .width ≤ 18) × (x .live ≢ 0) ⌝ }
+    ensures words { λ r. ⌜ length (now (table .exit)) ≡ length (now (table .entry)) ⌝ }
+    ensures numbers { λ r. ⌜ ((threads groups : ℕ) (p : Program) (v : Schedule)
+        → Stands (now (code .entry)) (now (lengths .entry)) (now (class .entry)) threads groups x p v → Wide (shape .width) p
+        → Numbered p (shape .width) (shape .slots) (now (table .entry))
+        → Wrapped (numbersAt p v) (r .listed) (r .failing) × Numbered p (shape .width) (shape .slots) (now (table .exit))) ⌝ }
+{
+    let mut sum = Tally {
+        listed: 0,
+        failing: 0,
+    };
+    let mut t = 0;
+    while t < 6 {
+        if is_tried(class, &x.words, x.live, x.late, t) {
+            let n = visit(code, lengths, class, left, masks, shape, x, table, t);
+            sum = added(sum, n);
+        }
+        t += 1;
+    }
+    sum
 }
 
 // Of all behind the steps taken.
@@ -85,10 +144,10 @@ pub(crate) fn behind(
         → Wrapped (numbersAt p v) (r .listed) (r .failing) × Numbered p (shape .width) (shape .slots) (now (table .exit))) ⌝ }
 {
     if x.live == 0 {
-        return Tally {
-            listed: 1,
-            failing: 0,
-        };
+        return one();
+    }
+    if shape.deep <= x.steps {
+        return summed(code, lengths, class, left, masks, shape, x, table);
     }
     let k = key(lengths, class, masks, x);
     let width = shape.width;
@@ -99,18 +158,7 @@ pub(crate) fn behind(
             failing: known.failing,
         };
     }
-    let mut sum = Tally {
-        listed: 0,
-        failing: 0,
-    };
-    let mut t = 0;
-    while t < 6 {
-        if is_tried(class, &x.words, x.live, x.late, t) {
-            let n = visit(code, lengths, class, left, masks, shape, x, table, t);
-            sum = added(sum, n);
-        }
-        t += 1;
-    }
+    let sum = summed(code, lengths, class, left, masks, shape, x, table);
     keep(table, shape, &k[..width], sum);
     sum
 }

@@ -2,6 +2,8 @@
 
 // A step of the search.
 mod stepping;
+// The last running thread.
+mod alone;
 // How many are listed, and how many of these fail.
 mod counting;
 // The first that fails.
@@ -9,6 +11,12 @@ mod seeking;
 // Both of a decoded program, with a lent table.
 mod answering;
 
+pub use answering::Setup;
 pub use answering::counted;
 pub use answering::first_failing;
+pub use answering::made;
+pub use answering::shape_of;
+pub use counting::visit;
 pub use seeking::First;
+pub use seeking::nothing;
+pub use stepping::advanced;

@@ -1,8 +1,13 @@
 // The first listed schedule behind a prefix that fails. A key behind which nothing fails is marked, and passed over where nothing has failed yet.
+use crate::alone::ran_out;
 use crate::stepping::advanced;
+use file_lines::wide;
 use file_rows::Code;
 use machine::some_failed;
 use search_rules::some_asleep;
+use search_tail::Runner;
+use search_tail::last_runner;
+use search_tail::runner_at;
 use search_walk::is_tried;
 use spec_file::STEPS;
 use states_key::Spot;
@@ -11,11 +16,12 @@ use states_memory::Shape;
 use states_memory::is_marked;
 use states_memory::mark;
 ghost use mathlib.Core.Path.{_≡_};
-ghost use mathlib.Core.Bool.{true, false};
+ghost use mathlib.Core.Logic.{_≢_};
+ghost use mathlib.Core.Bool.{true, false, cond};
 ghost use mathlib.Core.Option.{none, some};
 ghost use mathlib.Core.List.{List, []};
 ghost use Prim.Native.Nat.{ℕ, _<_, _≤_};
-ghost use lib.ListN.{length};
+ghost use lib.ListN.{length, take};
 ghost use Rattle.spec_file.specs.Program.{Program};
 ghost use Rattle.spec_schedules.specs.Lists.{headOf};
 ghost use Rattle.spec_schedules.specs.Order.{Schedule};
@@ -36,7 +42,7 @@ pub struct First {
 }
 
 // None.
-fn nothing() -> First
+pub fn nothing() -> First
     ensures { λ r. ⌜ (r .steps ≤ 24) × (foundOf r ≡ none) ⌝ }
 {
     First {
@@ -46,14 +52,26 @@ fn nothing() -> First
     }
 }
 
-// Whether a key is passed over.
-fn is_passed(table: &[u64], shape: Shape, key: &[u64], failed: bool) -> bool
-    ensures { λ r. ⌜ (r ≡ true → (failed ≡ false) × (said (shape .slots) 0 (now (table .entry)) (now (key .entry)) ≡ some [])) ⌝ }
+// The schedule of a run to the end, if something has failed.
+fn first_of(end: Runner) -> First
+    ensures { λ r. ⌜ (r .steps ≡ end .steps) × (foundOf r ≡ cond (end .failed) (some (take (end .steps) (end .schedule))) none) ⌝ }
+{
+    let schedule = end.schedule;
+    First {
+        found: end.failed,
+        steps: end.steps,
+        schedule: schedule,
+    }
+}
+
+// Whether what is known of a key is asked for behind so many steps: nothing has failed, and the search would take more time than the key.
+fn is_keyed(shape: Shape, steps: usize, failed: bool) -> bool
+    ensures { λ r. ⌜ (r ≡ true → failed ≡ false) ⌝ }
 {
     if failed {
         return false;
     }
-    is_marked(table, shape, key)
+    steps < shape.deep
 }
 
 // Of those with t, which is tried, as the next step.
@@ -85,7 +103,53 @@ fn first_with(
         let r = nothing();
         return r;
     }
+    let s = last_runner(y.live, false);
+    if s < 6 {
+        let failed = some_failed(threads);
+        let last = runner_at(y.threads[wide(s)], y.memory, y.schedule, y.steps, failed);
+        let end = ran_out(code, lengths, last, s);
+        let r = first_of(end);
+        return r;
+    }
+    if shape.deep <= y.steps {
+        let r = first_among(code, lengths, class, left, masks, shape, y, table);
+        return r;
+    }
     let r = first_behind(code, lengths, class, left, masks, shape, y, table);
+    r
+}
+
+// Of all next steps, where some thread has not ended.
+fn first_among(
+    code: &Code,
+    lengths: &[usize; 6],
+    class: &[usize; 6],
+    left: &[u8; 192],
+    masks: &[u8; 96],
+    shape: Shape,
+    x: Spot,
+    table: &mut [u64],
+) -> First
+    requires { ⌜ ((threads : ℕ) × (groups : ℕ) × (p : Program) × (v : Schedule)
+        × Stands (now code) (now lengths) (now class) threads groups x p v)
+        × Left (now code) (now lengths) (now left) × Live (now code) (now lengths) (now masks) × (shape .width ≤ 18) × (x .live ≢ 0) ⌝ }
+    ensures words { λ r. ⌜ (length (now (table .exit)) ≡ length (now (table .entry))) × (r .steps ≤ 24) ⌝ }
+    ensures first { λ r. ⌜ ((threads groups : ℕ) (p : Program) (v : Schedule)
+        → Stands (now (code .entry)) (now (lengths .entry)) (now (class .entry)) threads groups x p v → Wide (shape .width) p
+        → Marked p (shape .width) (shape .slots) (now (table .entry))
+        → (foundOf r ≡ headOf (foundBehind true p (x .steps) none v)) × Marked p (shape .width) (shape .slots) (now (table .exit))) ⌝ }
+{
+    let mut t = 0;
+    while t < 6 {
+        if is_tried(class, &x.words, x.live, x.late, t) {
+            let r = first_with(code, lengths, class, left, masks, shape, x, table, t);
+            if r.found {
+                return r;
+            }
+        }
+        t += 1;
+    }
+    let r = nothing();
     r
 }
 
@@ -109,7 +173,8 @@ pub(crate) fn first_behind(
         → Marked p (shape .width) (shape .slots) (now (table .entry))
         → (foundOf r ≡ headOf (foundBehind true p (x .steps) none v)) × Marked p (shape .width) (shape .slots) (now (table .exit))) ⌝ }
 {
-    let failed = some_failed(x.threads);
+    let threads = x.threads;
+    let failed = some_failed(threads);
     if x.live == 0 {
         let schedule = x.schedule;
         return First {
@@ -118,24 +183,18 @@ pub(crate) fn first_behind(
             schedule: schedule,
         };
     }
+    if !is_keyed(shape, x.steps, failed) {
+        let r = first_among(code, lengths, class, left, masks, shape, x, table);
+        return r;
+    }
     let k = key(lengths, class, masks, x);
     let width = shape.width;
-    if is_passed(table, shape, &k[..width], failed) {
+    if is_marked(table, shape, &k[..width]) {
         let r = nothing();
         return r;
     }
-    let mut t = 0;
-    while t < 6 {
-        if is_tried(class, &x.words, x.live, x.late, t) {
-            let r = first_with(code, lengths, class, left, masks, shape, x, table, t);
-            if r.found {
-                return r;
-            }
-        }
-        t += 1;
-    }
-    let r = nothing();
-    if failed {
+    let r = first_among(code, lengths, class, left, masks, shape, x, table);
+    if r.found {
         return r;
     }
     mark(table, shape, &k[..width]);

@@ -19,32 +19,31 @@ ghost use Rattle.spec_sc.specs.State.{enabled};
 ghost use Rattle.spec_sc.specs.Graph.{endOf};
 ghost use Rattle.states_key.specs.Stands.{Stands};
 
-// The spot behind a step of thread t.
-pub(crate) fn advanced(code: &Code, lengths: &[usize; 6], x: Spot, t: u8) -> Spot
+// The spot behind a step of thread t, made in the copy that is passed: a copy takes longer than a step.
+pub fn advanced(code: &Code, lengths: &[usize; 6], mut x: Spot, t: u8) -> Spot
     requires { ⌜ ((class : List ℕ) × (threads : ℕ) × (groups : ℕ) × (p : Program) × (v : Schedule)
         × Stands (now code) (now lengths) class threads groups x p v × (enabled (endOf p v) t ≡ true)) ⌝ }
     ensures { λ r. ⌜ ((class : List ℕ) (threads groups : ℕ) (p : Program) (v : Schedule)
         → Stands (now (code .entry)) (now (lengths .entry)) class threads groups x p v
         → Stands (now (code .entry)) (now (lengths .entry)) class threads groups r p (v ++ (t ∷ []))) ⌝ }
 {
-    let mut y = x;
-    let n = y.steps;
+    let n = x.steps;
     let u = wide(t);
-    let m = lean_step(code, lengths, y.threads[u], y.memory, t);
+    let m = lean_step(code, lengths, x.threads[u], x.memory, t);
     let k = m.thread;
-    y.threads[u] = k;
+    x.threads[u] = k;
     let values = m.memory;
-    y.memory = values;
-    y.schedule[n] = t;
-    y.steps = n + 1;
-    let stamp = mark_location(&mut y.stamps, m.location, m.wrote, n);
-    mark_thread(&mut y.words, t, stamp, m.wrote);
-    mark_way(&mut y.ways, t, m.location);
+    x.memory = values;
+    x.schedule[n] = t;
+    x.steps = n + 1;
+    let stamp = mark_location(&mut x.stamps, m.location, m.wrote, n);
+    mark_thread(&mut x.words, t, stamp, m.wrote);
+    mark_way(&mut x.ways, t, m.location);
     let mut late = 0u8;
-    for w in 0..late_bound(y.late, t) {
-        late += late_bit(code, lengths, y.threads[wide(w)], m, w, y.late, t);
+    for w in 0..late_bound(x.late, t) {
+        late += late_bit(code, lengths, x.threads[wide(w)], m, w, x.late, t);
     }
-    y.late = late;
-    y.live = live_behind(y.live, t, k.at < lengths[u]);
-    y
+    x.late = late;
+    x.live = live_behind(x.live, t, k.at < lengths[u]);
+    x
 }

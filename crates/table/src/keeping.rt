@@ -10,7 +10,7 @@ ghost use Rattle.table.specs.Said.{saidAt};
 ghost use Rattle.table.specs.Answers.{Put};
 
 // Writes words over those from here on.
-fn write(table: &mut [u64], at: usize, words: &[u64])
+pub fn write(table: &mut [u64], at: usize, words: &[u64])
     requires { ⌜ at + length (now words) ≤ length (now table) ⌝ }
     ensures { λ r. ⌜ now (table .exit) ≡ paste (now (table .entry)) at (now (words .entry)) (length (now (words .entry))) ⌝ }
 {

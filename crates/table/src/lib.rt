@@ -9,6 +9,7 @@ mod keeping;
 
 pub use keeping::clear;
 pub use keeping::put;
+pub use keeping::write;
 pub use looking::Found;
 pub use looking::look;
 pub use placing::place;

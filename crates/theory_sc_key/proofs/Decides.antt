@@ -35,7 +35,7 @@ use Rattle.theory_states.specs.SameKey.{Decides}
 use Rattle.theory_sc_key.specs.Registers.{live, Like}
 use Rattle.theory_sc_key.specs.View.{SameView, breaks}
 use Rattle.theory_sc_key.specs.Nearness.{near, nearSets}
-use Rattle.theory_sc_key.specs.Key.{leftOf, liveAt, registerAt, valuesOf, keyOf, pairs, wordsOf, padded, wordKey, Wide}
+use Rattle.theory_sc_key.specs.Key.{leftOf, liveAt, registerAt, valuesOf, seenWith, keyOf, pairs, wordsOf, padded, wordKey, Wide}
 use Rattle.theory_sc_key.proofs.View.{seen-back}
 use Rattle.theory_sc_key.proofs.Traced.{traces}
 use Rattle.theory_sc_key.proofs.NearTest.{near-true}
@@ -70,15 +70,15 @@ module _ (p : Program) (w : WellFormed p) (v : Schedule) (σ : State) (r : Reach
   left-of : (t : ℕ) → Suffix (threadOf σ t .local .rest) (codeOf p t)
   left-of t = subst (λ (ρ : State). Suffix (threadOf ρ t .local .rest) (codeOf p t)) (sym (r .0)) (rest-code p v (r .1) t)
 
-  heads-small : Everywhere (λ n. n < 64) (lateSet p v ∷ leftOf σ)
+  left-small : Everywhere (λ n. n < 64) (leftOf σ)
   unfolding codeOf
-  heads-small = (
-    late-below p v,
-    mapped-all (λ n. n < 64) (λ t. length (threadOf σ t .local .rest)) (λ t.
-        let a = suffix-length (threadOf σ t .local .rest) (codeOf p t) (left-of t) in
-        let b = everywhere-getD (λ c. length c ≤ 16) (p .threads) t [] (w .sixteen) (omega arith) in
-        omega (arith, a, b)) (range 0 6),
-  )
+  left-small = mapped-all (λ n. n < 64) (λ t. length (threadOf σ t .local .rest)) (λ t.
+      let a = suffix-length (threadOf σ t .local .rest) (codeOf p t) (left-of t) in
+      let b = everywhere-getD (λ c. length c ≤ 16) (p .threads) t [] (w .sixteen) (omega arith) in
+      omega (arith, a, b)) (range 0 6)
+
+  pub heads-small : Everywhere (λ n. n < 64) (lateSet p v ∷ leftOf σ)
+  heads-small = (late-below p v, left-small)
 
   near-small : Everywhere (λ n. n < 64) (nearSets p σ)
   near-small = mapped-all (λ n. n < 64) (λ t. setOf (near p σ t) 6) (λ t. set-below (near p σ t) 6) (range 0 6)
@@ -114,24 +114,24 @@ module _ (p : Program) (w : WellFormed p) (v : Schedule) (σ : State) (r : Reach
   unfolding wordsOf padded
   words-first n e = omega arith
 
--- ---- of two positions with equal words
-module _ (p : Program) (w : WellFormed p) (v : Schedule) (σ : State) (x : Schedule) (τ : State) (a : Reached SC (start p) v σ) (b : Reached SC (start p) x τ) (n : ℕ)
-    (same : wordKey n p v σ ≡ wordKey n p x τ) where
-  heads : lateSet p v ∷ leftOf σ ≡ lateSet p x ∷ leftOf τ
+-- ---- of two positions with equal words: numbers in front, sets behind, and what is seen of the state
+module _ (p : Program) (w : WellFormed p) (v : Schedule) (σ : State) (x : Schedule) (τ : State) (a : Reached SC (start p) v σ) (b : Reached SC (start p) x τ) (n h k : ℕ) (f g : List ℕ)
+    (hs : h < 64) (ks : k < 64) (same : padded n (wordsOf (seenWith h f σ)) ≡ padded n (wordsOf (seenWith k g τ))) where
+  heads : h ∷ leftOf σ ≡ k ∷ leftOf τ
   unfolding wordsOf padded range
   heads =
-      let e : 2 ^ 63 + six-bits (lateSet p v ∷ leftOf σ) ≡ 2 ^ 63 + six-bits (lateSet p x ∷ leftOf τ) = cc in
-      six-bits-once (lateSet p v ∷ leftOf σ) (lateSet p x ∷ leftOf τ) refl (heads-small p w v σ a) (heads-small p w x τ b) (omega arith)
+      let e : 2 ^ 63 + six-bits (h ∷ leftOf σ) ≡ 2 ^ 63 + six-bits (k ∷ leftOf τ) = cc in
+      six-bits-once (h ∷ leftOf σ) (k ∷ leftOf τ) refl (hs, left-small p w v σ a) (ks, left-small p w x τ b) (omega arith)
 
-  late-same : lateSet p v ≡ lateSet p x
-  late-same = let e = heads in cc
+  pub front-same : h ≡ k
+  front-same = let e = heads in cc
 
   left-same : leftOf σ ≡ leftOf τ
   left-same = let e = heads in cc
 
-  nearness-same : nearSets p σ ≡ nearSets p τ
-  unfolding wordsOf padded range
-  nearness-same = let e : six-bits (nearSets p σ) ≡ six-bits (nearSets p τ) = cc in six-bits-once (nearSets p σ) (nearSets p τ) refl (near-small p w v σ a) (near-small p w x τ b) e
+  sets-same : six-bits f ≡ six-bits g
+  unfolding wordsOf padded
+  sets-same = cc
 
   -- the same code is left
   rest-same : (t : ℕ) → threadOf σ t .local .rest ≡ threadOf τ t .local .rest
@@ -161,9 +161,9 @@ module _ (p : Program) (w : WellFormed p) (v : Schedule) (σ : State) (x : Sched
       let many : length (valuesOf σ) ≡ length (valuesOf τ) =
       length-append (map (registerAt σ) (filter (liveAt σ) (range 0 24))) (memoryOf σ) ∙ ap₂ _+_ registers-length (eight p w v σ a ∙ sym (eight p w x τ b))
       ∙ sym (length-append (map (registerAt τ) (filter (liveAt τ) (range 0 24))) (memoryOf τ)) in
-      let tails : pairs (valuesOf σ) ++ replicate (n - length (wordsOf (keyOf p v σ))) 0 ≡ pairs (valuesOf τ) ++ replicate (n - length (wordsOf (keyOf p x τ))) 0 = cc in
+      let tails : pairs (valuesOf σ) ++ replicate (n - length (wordsOf (seenWith h f σ))) 0 ≡ pairs (valuesOf τ) ++ replicate (n - length (wordsOf (seenWith k g τ))) 0 = cc in
       pairs-once (valuesOf σ) (valuesOf τ) many (values-small p w v σ a) (values-small p w x τ b)
-      (front-once (pairs (valuesOf σ)) (pairs (valuesOf τ)) (replicate (n - length (wordsOf (keyOf p v σ))) 0) (replicate (n - length (wordsOf (keyOf p x τ))) 0) (pairs-length (valuesOf σ) (valuesOf τ) many) tails .0)
+      (front-once (pairs (valuesOf σ)) (pairs (valuesOf τ)) (replicate (n - length (wordsOf (seenWith h f σ))) 0) (replicate (n - length (wordsOf (seenWith k g τ))) 0) (pairs-length (valuesOf σ) (valuesOf τ) many) tails .0)
 
   parts : (map (registerAt σ) (filter (liveAt σ) (range 0 24)) ≡ map (registerAt τ) (filter (liveAt τ) (range 0 24))) × (memoryOf σ ≡ memoryOf τ)
   parts = front-once (map (registerAt σ) (filter (liveAt σ) (range 0 24))) (map (registerAt τ) (filter (liveAt τ) (range 0 24))) (memoryOf σ) (memoryOf τ) registers-length values-same
@@ -202,12 +202,24 @@ module _ (p : Program) (w : WellFormed p) (v : Schedule) (σ : State) (x : Sched
           let z = ap (λ (k : Thread). length (k .local .registers)) (missing σ t (omega (arith, g))) in
           out r (omega (arith, z))
 
-  view-same : SameView σ τ
+  pub view-same : SameView σ τ
   unfolding cellOf memoryOf valueOf freshCell
   view-same = record { threads = local-like; values = λ l. at σ l ∙ ap (λ (vs : List ℕ). getD vs l 0) (parts .1) ∙ sym (at τ l) }
     where
       at : (ρ : State) (l : ℕ) → cellOf ρ l .value ≡ getD (memoryOf ρ) l 0
       at ρ l = sym (List·getD-map valueOf (ρ .cells) l (freshCell 0))
+
+-- ---- of two positions that the search meets with equal words
+module _ (p : Program) (w : WellFormed p) (v : Schedule) (σ : State) (x : Schedule) (τ : State) (a : Reached SC (start p) v σ) (b : Reached SC (start p) x τ) (n : ℕ)
+    (same : wordKey n p v σ ≡ wordKey n p x τ) where
+  seen : SameView σ τ
+  seen = view-same p w v σ x τ a b n (lateSet p v) (lateSet p x) (nearSets p σ) (nearSets p τ) (late-below p v) (late-below p x) same
+
+  nearness-same : nearSets p σ ≡ nearSets p τ
+  unfolding range
+  nearness-same =
+      six-bits-once (nearSets p σ) (nearSets p τ) refl (near-small p w v σ a) (near-small p w x τ b)
+      (sets-same p w v σ x τ a b n (lateSet p v) (lateSet p x) (nearSets p σ) (nearSets p τ) (late-below p v) (late-below p x) same)
 
   near-same : (t u : ℕ) → near p σ t u ≡ near p τ t u
   near-same t u = equal-tests (near p σ t u) (near p τ t u)
@@ -230,10 +242,10 @@ module _ (p : Program) (w : WellFormed p) (v : Schedule) (σ : State) (x : Sched
       let T = traces p w x τ b in record {
         left = a;
         right = b;
-        view = view-same;
-        late = late-same;
-        there = near-over p w σ τ S T view-same near-same;
-        back = near-over p w τ σ T S (seen-back σ τ view-same) (λ t u. sym (near-same t u));
+        view = seen;
+        late = front-same p w v σ x τ a b n (lateSet p v) (lateSet p x) (nearSets p σ) (nearSets p τ) (late-below p v) (late-below p x) same;
+        there = near-over p w σ τ S T seen near-same;
+        back = near-over p w τ σ T S (seen-back σ τ seen) (λ t u. sym (near-same t u));
       }
 
 -- THE KEY DECIDES, with zeros behind it up to any width

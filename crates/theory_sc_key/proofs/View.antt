@@ -161,9 +161,9 @@ module _ (p : Program) (v : Schedule) (σ : State) (w : Schedule) (τ : State) (
       ap₂ (λ (s : ℕ) (c : Bool). has s t || c) late (ap₂ (λ (x : Bool) (n : ℕ). x || not (eqb n 0)) twins asleep)
 
 -- ---- `breaks` SAYS WHICH STEPS FAIL
-pub breaks-law : (p : Program) → Breaks SC (givenUp p) (Reached SC (start p)) fails breaks
+pub fails-behind : (p : Program) (v : Schedule) (σ : State) → Reached SC (start p) v σ → (t : ℕ) → enabled σ t ≡ true → fails (step σ t) ≡ (fails σ || breaks σ t)
 unfolding breaks failedOf advanced
-breaks-law p v σ r t ok c = equal-tests (fails (step σ t)) (fails σ || breaks σ t) there back
+fails-behind p v σ r t ok = equal-tests (fails (step σ t)) (fails σ || breaks σ t) there back
   where
     own : threadOf (step σ t) t .local ≡ next (threadOf σ t .local) (cellOf σ (place σ t) .value)
     own = ap (λ (h : Thread). h .local) (thread-own σ t (enabled-range σ t ok))
@@ -180,3 +180,6 @@ breaks-law p v σ r t ok c = equal-tests (fails (step σ t)) (fails σ || breaks
         (λ (f : fails σ ≡ true). subst (λ (ρ : State). fails (step ρ t) ≡ true) (sym (r .0))
         (stays-failed p v t (r .1) (subst (λ (ρ : State). enabled ρ t ≡ true) (r .0) ok) (subst (λ (ρ : State). fails ρ ≡ true) (r .0) f)))
         (λ (f : breaks σ t ≡ true). fails-of (step σ t) t (ap (λ (h : Local). h .failed) own ∙ f)) (either (fails σ) (breaks σ t) e)
+
+pub breaks-law : (p : Program) → Breaks SC (givenUp p) (Reached SC (start p)) fails breaks
+breaks-law p v σ r t ok c = fails-behind p v σ r t ok

@@ -35,8 +35,12 @@ registerAt σ i = getD (threadOf σ (i / 4) .local .registers) (i % 4) 0
 abbrev pub valuesOf : State → List ℕ
 valuesOf σ = map (registerAt σ) (filter (liveAt σ) (range 0 24)) ++ memoryOf σ
 
+-- what is seen of a state, with a set in front and sets for the threads
+abbrev pub seenWith : ℕ → List ℕ → State → Key
+seenWith set sets σ = record { late = set; left = leftOf σ; nearness = sets; values = valuesOf σ }
+
 abbrev pub keyOf : Program → Schedule → State → Key
-keyOf p v σ = record { late = lateSet p v; left = leftOf σ; nearness = nearSets p σ; values = valuesOf σ }
+keyOf p v σ = seenWith (lateSet p v) (nearSets p σ) σ
 
 -- ---- BY WORDS of 64 bits
 -- two values a word

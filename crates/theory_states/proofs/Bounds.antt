@@ -53,3 +53,7 @@ module _ (M : System) (top : ℕ) (some-byte : 0 < top) (cut : Schedule → M .S
           let s = sum-within (top ^ k) (numbersBy M top cut breaks f v σ) (λ t. by-within (top ^ k) f v σ t (ih t)) top 0 in
           let q : top ^ suc k ≡ top * top ^ k = pow-succ' top k in
           subst (Within (top ^ suc k)) (sym (from-branches M top cut breaks k v σ e)) (omega (arith, s .0, q), s .1)
+
+  -- with one next byte
+  pub with-within : (k : ℕ) (v : Schedule) (σ : M .State) (t : ℕ) → numbersBy M top cut breaks (λ w τ. numbersFrom M top cut breaks k w τ) v σ t .listed ≤ top ^ k
+  with-within k v σ t = by-within (top ^ k) (λ w τ. numbersFrom M top cut breaks k w τ) v σ t (from-within k (v ++ (t ∷ [])) (M .step σ t)) .0

@@ -15,11 +15,15 @@ pub mod Passing
 pub mod Memory
 -- numbers in words of 64 bits, added up in a loop, and put into a table
 pub mod Wrapped
+-- with one next byte, and over the next bytes in turn, as code goes
+pub mod Turns
 -- counting with a true table gives the numbers, and a true table
 pub mod Counted
 -- so does the search for the first failing schedule, with true marks
 pub mod FirstFailing
 -- in any memory model: the count of the list, and its first failing member, with a table
 pub mod OnList
--- the member number k, and how many are above a schedule, by numbers alone
+-- the member number k, by numbers alone
 pub mod Kth
+-- how many are smaller than a schedule, by numbers alone
+pub mod Ranked

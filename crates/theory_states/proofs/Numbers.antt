@@ -96,6 +96,11 @@ module _ (M : System) (top : ℕ) (cut : Schedule → M .State → ℕ → Bool)
             ∙ sum-same (numbersBy M top cut breaks (f k) v σ) (numbersBy M top cut breaks (f j) v σ) (λ t. by-agree (f k) (f j) v σ t (ih t)) top 0
             ∙ sym (from-branches j v σ e)
 
+    -- with one next byte
+    pub with-enough : (k : ℕ) (v : Schedule) (σ : M .State) (t : ℕ) → M .size σ ≤ suc k → numbersBy M top cut breaks (λ w τ. numbersFrom M top cut breaks k w τ) v σ t ≡ numbersWith M top cut breaks v σ t
+    with-enough k v σ t a = by-agree (λ w τ. numbersFrom M top cut breaks k w τ) (λ w τ. numbers M top cut breaks w τ) v σ t
+        (λ q. let h = lawful .falls σ t q in enough k (M .size (M .step σ t)) (v ++ (t ∷ [])) (M .step σ t) (omega (arith, h, a)) (omega arith))
+
     -- ---- the numbers: nobody may step; somebody may
     pub numbers-ended : (v : Schedule) (σ : M .State) → ended M σ ≡ true → numbers M top cut breaks v σ ≡ one
     numbers-ended v σ e = from-ended (M .size σ) v σ e
@@ -106,5 +111,4 @@ module _ (M : System) (top : ℕ) (cut : Schedule → M .State → ℕ → Bool)
         enough n (suc n) v σ (omega arith) (omega arith)
         ∙ from-branches n v σ e
         ∙ sum-same (numbersBy M top cut breaks (λ w τ. numbersFrom M top cut breaks n w τ) v σ) (numbersWith M top cut breaks v σ)
-        (λ t. by-agree (λ w τ. numbersFrom M top cut breaks n w τ) (λ w τ. numbers M top cut breaks w τ) v σ t
-        (λ q. let h = lawful .falls σ t q in enough n (M .size (M .step σ t)) (v ++ (t ∷ [])) (M .step σ t) (omega (arith, h)) (omega arith))) top 0
+        (λ t. with-enough n v σ t (omega arith)) top 0

@@ -17,7 +17,7 @@ use Rattle.theory_states.proofs.Memory.{nothing-true, put-true}
 
 -- ---- adding up
 -- one number more, on what was cut off already
-add-on : (l a part rest k : ℕ) → a ≡ part % 2 ^ 64 → k ≡ (l + a) % 2 ^ 64 → (k + rest) % 2 ^ 64 ≡ (l + (part + rest)) % 2 ^ 64
+pub add-on : (l a part rest k : ℕ) → a ≡ part % 2 ^ 64 → k ≡ (l + a) % 2 ^ 64 → (k + rest) % 2 ^ 64 ≡ (l + (part + rest)) % 2 ^ 64
 add-on l a part rest k ea ek =
     let p : l + a + rest ≡ a + (l + rest) = omega arith in
     let q : part + (l + rest) ≡ l + (part + rest) = omega arith in
@@ -25,7 +25,7 @@ add-on l a part rest k ea ek =
     ∙ ap (λ (x : ℕ). (x + (l + rest)) % 2 ^ 64) ea ∙ mod-add-mod part (2 ^ 64) (l + rest) ∙ ap (λ (x : ℕ). x % 2 ^ 64) q
 
 -- nothing is left to add
-last-on : (l rest whole : ℕ) → rest ≡ 0 → l < 2 ^ 64 → (l + rest) % 2 ^ 64 ≡ whole % 2 ^ 64 → l ≡ whole % 2 ^ 64
+pub last-on : (l rest whole : ℕ) → rest ≡ 0 → l < 2 ^ 64 → (l + rest) % 2 ^ 64 ≡ whole % 2 ^ 64 → l ≡ whole % 2 ^ 64
 last-on l rest whole e h c = let q : l ≡ l + rest = omega (arith, e) in sym (mod-eq-of-lt h) ∙ ap (λ (x : ℕ). x % 2 ^ 64) q ∙ c
 
 pub completes-start : (whole : Numbers) → Completes whole whole 0 0

@@ -15,3 +15,5 @@ pub mod Counted
 pub mod FirstFailing
 -- the member number k of a list
 pub mod Kth
+-- how many of a list are smaller than a schedule
+pub mod Ranked

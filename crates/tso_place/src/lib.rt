@@ -13,3 +13,4 @@ mod going;
 pub use going::advanced;
 pub use going::begun;
 pub use place::Place;
+pub use reading::digit;

@@ -21,7 +21,7 @@ fn lone(t: u8) -> u64
 }
 
 // An access of thread t, which reads this write or nothing.
-pub(crate) fn digit(t: u8, reads: bool, e: LastWrite) -> u64
+pub fn digit(t: u8, reads: bool, e: LastWrite) -> u64
     ensures { λ r. ⌜ (r ≡ cond reads (sourceDigit t (eventOf e)) 1) × (r ≤ 400) ⌝ }
 {
     if !reads {

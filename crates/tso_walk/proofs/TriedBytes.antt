@@ -1,6 +1,7 @@
 -- Which next bytes are tried, and what is found with one that is not.
 use Prim.Native.Nat.{ℕ}
 use mathlib.Core.Path.{_≡_, refl, sym, ap, _∙_}
+use mathlib.Core.Logic.{_⊎_, inl, inr, ⊎-elim}
 use mathlib.Core.Bool.{Bool, true, false, not, _&&_, _||_, true≢false}
 use mathlib.Core.Option.{Option}
 use mathlib.Core.List.{List, [], _∷_, _++_}
@@ -77,14 +78,19 @@ module _ (p : Program) (v : Schedule) (b : ℕ) where
   unfolding tried
   all-pass m l t f = rw (m, l, t, f)
 
-  -- ---- with one that is not tried nothing is found
-  pub untried-none : (failures : Bool) (steps : ℕ) (o : Option Schedule) → tried p v b ≡ false → foundWith givenUp failures p steps o v b ≡ []
-  untried-none failures steps o e = go (enabled (endOf p v) b) refl comes-late refl has-twin refl (far p v (endOf p v) b) refl
+  -- ---- one that is not tried may not step, or is given up
+  pub untried : tried p v b ≡ false → (enabled (endOf p v) b ≡ false) ⊎ ((enabled (endOf p v) b ≡ true) × (givenUp p v (endOf p v) b ≡ true))
+  untried e = go (enabled (endOf p v) b) refl comes-late refl has-twin refl (far p v (endOf p v) b) refl
     where
       go : (m : Bool) → enabled (endOf p v) b ≡ m → (l : Bool) → comes-late ≡ l → (t : Bool) → has-twin ≡ t → (f : Bool) → far p v (endOf p v) b ≡ f
-          → foundWith givenUp failures p steps o v b ≡ []
-      go false em l el t et f ef = with-ended tso givenUp failures p steps o v b em
-      go true em true el t et f ef = with-given-up tso givenUp failures p steps o v b em (up-late el)
-      go true em false el true et f ef = with-given-up tso givenUp failures p steps o v b em (up-twin et)
-      go true em false el false et true ef = with-given-up tso givenUp failures p steps o v b em (up-far ef)
+          → (enabled (endOf p v) b ≡ false) ⊎ ((enabled (endOf p v) b ≡ true) × (givenUp p v (endOf p v) b ≡ true))
+      go false em l el t et f ef = inl em
+      go true em true el t et f ef = inr (em, up-late el)
+      go true em false el true et f ef = inr (em, up-twin et)
+      go true em false el false et true ef = inr (em, up-far ef)
       go true em false el false et false ef = absurd (true≢false (sym (all-pass em el et ef) ∙ e))
+
+  -- so with it nothing is found
+  pub untried-none : (failures : Bool) (steps : ℕ) (o : Option Schedule) → tried p v b ≡ false → foundWith givenUp failures p steps o v b ≡ []
+  untried-none failures steps o e = ⊎-elim (λ (m : enabled (endOf p v) b ≡ false). with-ended tso givenUp failures p steps o v b m)
+      (λ (m : (enabled (endOf p v) b ≡ true) × (givenUp p v (endOf p v) b ≡ true)). with-given-up tso givenUp failures p steps o v b (m .0) (m .1)) (untried e)

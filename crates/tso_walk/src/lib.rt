@@ -8,3 +8,4 @@ mod walking;
 mod listed;
 
 pub use listed::listed_rows;
+pub use walking::is_over;

@@ -27,7 +27,7 @@ ghost use Rattle.tso_rules.specs.Tried.{tried};
 ghost use Rattle.tso_walk.specs.Rows.{Adds};
 
 // Whether no byte may step any more: none may access, and nothing is left to move.
-fn is_over(s: Sets) -> bool
+pub fn is_over(s: Sets) -> bool
     ensures { λ r. ⌜ ((code lengths class : List ℕ) (threads groups : ℕ) (x : Place) (p : Program) (v : Schedule)
         → Reached code lengths class threads groups x p v → x .sets ≡ s → r ≡ ended TSO (endOf p v)) ⌝ }
 {

@@ -7,8 +7,10 @@ mod answer;
 mod caller;
 mod closed;
 mod covers;
+mod idle;
 mod interrupt;
 mod raw;
+mod scratch;
 mod served;
 pub mod tso;
 pub mod users;
@@ -17,7 +19,9 @@ pub use answer::Answer;
 pub use caller::{Caller, Mark, FILE, MARKS, NAME};
 pub use closed::{standard_input_was_closed, standard_output_was_closed};
 pub use covers::Covers;
+pub use idle::only_when_idle;
 pub use interrupt::{note_interrupts, was_interrupted};
+pub use scratch::{Scratch, Seen};
 pub use served::Served;
 
 /// A schedule needs an output of so many bytes.
@@ -103,6 +107,24 @@ pub fn violation_with(file: &[u8], out: &mut [u8], scratch: &mut [u64]) -> Answe
     })
 }
 
+/// The listed schedule number k, from 0, in front of the output; none exactly where the list has not so many. What is counted behind a
+/// state is remembered in the scratch, as `count_with` does.
+pub fn kth(file: &[u8], k: u64, out: &mut [u8], scratch: &mut [u64]) -> Answer {
+    // safe: the call reads only the bytes of the first slice and writes only bytes of the second and words of the third
+    Answer::of_word(unsafe {
+        raw::tarczolin_kth(file.as_ptr(), file.len(), k, out.as_mut_ptr(), out.len(), scratch.as_mut_ptr(), scratch.len())
+    })
+}
+
+/// How many listed schedules are smaller than this full one, listed or not. The scratch is as that of `kth`.
+pub fn rank(file: &[u8], schedule: &[u8], rank: &mut u64, scratch: &mut [u64]) -> Answer {
+    let (steps, length) = (schedule.as_ptr(), schedule.len());
+    // safe: the call reads only the bytes of the first two slices and writes only the word and words of the third
+    Answer::of_word(unsafe {
+        raw::tarczolin_rank(file.as_ptr(), file.len(), steps, length, rank, scratch.as_mut_ptr(), scratch.len())
+    })
+}
+
 /// The first listed schedules as rows, as many as the output has room for; the answer carries the number of rows.
 pub fn rows(file: &[u8], out: &mut [u8]) -> Answer {
     // safe: the call reads only the bytes of the first slice and writes only bytes of the second
@@ -126,9 +148,25 @@ pub fn covers(first: &[u8], second: &[u8], out: &mut [u8]) -> Covers {
     })
 }
 
+/// As `covers`, by states: outcomes of the first program and states of both are remembered in the scratch, as `count_with` does.
+pub fn covers_with(first: &[u8], second: &[u8], out: &mut [u8], scratch: &mut [u64]) -> Covers {
+    let [one, other] = [first, second].map(|file| (file.as_ptr(), file.len()));
+    let (lent, words) = (scratch.as_mut_ptr(), scratch.len());
+    // safe: the call reads only the bytes of the first two slices and writes only bytes of the third and words of the fourth
+    Covers::of_word(unsafe {
+        raw::tarczolin_covers_with(one.0, one.1, other.0, other.1, out.as_mut_ptr(), out.len(), lent, words)
+    })
+}
+
 /// Who can force its end, where the hostile side has the threads in the set, bit t for thread t? Answered where the hostile side can: 0
 /// where it has no step before the first one, else its least first step that keeps the win, plus 1. None where the friendly side can.
 pub fn force(file: &[u8], set: u8) -> Answer {
     // safe: the call only reads, and only the bytes of the slice
     Answer::of_word(unsafe { raw::tarczolin_force(file.as_ptr(), file.len(), set) })
+}
+
+/// As `force`, by states: who wins where is remembered in the scratch, as `count_with` does.
+pub fn force_with(file: &[u8], set: u8, scratch: &mut [u64]) -> Answer {
+    // safe: the call reads only the bytes of the first slice and writes only words of the second
+    Answer::of_word(unsafe { raw::tarczolin_force_with(file.as_ptr(), file.len(), set, scratch.as_mut_ptr(), scratch.len()) })
 }

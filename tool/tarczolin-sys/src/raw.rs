@@ -46,6 +46,24 @@ extern "C" {
         scratch: *mut u64,
         scratch_len: usize,
     ) -> u64;
+    pub fn tarczolin_kth(
+        file: *const u8,
+        file_len: usize,
+        k: u64,
+        out: *mut u8,
+        out_len: usize,
+        scratch: *mut u64,
+        scratch_len: usize,
+    ) -> u64;
+    pub fn tarczolin_rank(
+        file: *const u8,
+        file_len: usize,
+        schedule: *const u8,
+        schedule_len: usize,
+        rank: *mut u64,
+        scratch: *mut u64,
+        scratch_len: usize,
+    ) -> u64;
     pub fn tarczolin_rows(file: *const u8, file_len: usize, out: *mut u8, out_len: usize) -> u64;
     pub fn tarczolin_rows_after(
         file: *const u8,
@@ -63,5 +81,16 @@ extern "C" {
         out: *mut u8,
         out_len: usize,
     ) -> u64;
+    pub fn tarczolin_covers_with(
+        first: *const u8,
+        first_len: usize,
+        second: *const u8,
+        second_len: usize,
+        out: *mut u8,
+        out_len: usize,
+        scratch: *mut u64,
+        scratch_len: usize,
+    ) -> u64;
     pub fn tarczolin_force(file: *const u8, file_len: usize, set: u8) -> u64;
+    pub fn tarczolin_force_with(file: *const u8, file_len: usize, set: u8, scratch: *mut u64, scratch_len: usize) -> u64;
 }

@@ -30,6 +30,22 @@ extern "C" {
     ) -> u64;
     fn tarczolin_tso_violation(file: *const u8, file_len: usize, out: *mut u8, out_len: usize) -> u64;
     fn tarczolin_tso_count(file: *const u8, file_len: usize, listed: *mut u64, failing: *mut u64) -> u64;
+    pub(crate) fn tarczolin_tso_count_with(
+        file: *const u8,
+        file_len: usize,
+        listed: *mut u64,
+        failing: *mut u64,
+        scratch: *mut u64,
+        scratch_len: usize,
+    ) -> u64;
+    pub(crate) fn tarczolin_tso_violation_with(
+        file: *const u8,
+        file_len: usize,
+        out: *mut u8,
+        out_len: usize,
+        scratch: *mut u64,
+        scratch_len: usize,
+    ) -> u64;
     fn tarczolin_tso_rows(file: *const u8, file_len: usize, out: *mut u8, out_len: usize) -> u64;
     fn tarczolin_tso_rows_after(
         file: *const u8,
@@ -79,6 +95,23 @@ pub fn violation(file: &[u8], out: &mut [u8]) -> Answer {
 pub fn count(file: &[u8], listed: &mut u64, failing: &mut u64) -> Answer {
     // safe: the call reads only the bytes of the slice and writes only the two words
     Answer::of_word(unsafe { tarczolin_tso_count(file.as_ptr(), file.len(), listed, failing) })
+}
+
+/// As `count`, by states: what was counted behind a state is remembered in the scratch, which may have any length and hold anything. An
+/// answer leaves zeros in it, a refusal leaves it as it was.
+pub fn count_with(file: &[u8], listed: &mut u64, failing: &mut u64, scratch: &mut [u64]) -> Answer {
+    // safe: the call reads only the bytes of the first slice and writes only the two words and words of the second
+    Answer::of_word(unsafe {
+        tarczolin_tso_count_with(file.as_ptr(), file.len(), listed, failing, scratch.as_mut_ptr(), scratch.len())
+    })
+}
+
+/// As `violation`, by states: behind which nothing fails is remembered in the scratch, as `count_with` does.
+pub fn violation_with(file: &[u8], out: &mut [u8], scratch: &mut [u64]) -> Answer {
+    // safe: the call reads only the bytes of the first slice and writes only bytes of the second and words of the third
+    Answer::of_word(unsafe {
+        tarczolin_tso_violation_with(file.as_ptr(), file.len(), out.as_mut_ptr(), out.len(), scratch.as_mut_ptr(), scratch.len())
+    })
 }
 
 /// The first listed schedules as rows, as many as the output has room for; the answer carries the number of rows.

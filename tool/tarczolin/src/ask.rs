@@ -1,7 +1,7 @@
 //! The library's calls with answers to keep: each lends an output that is long enough and takes the answer out of it.
 use crate::model::Model;
 use crate::schedule::Schedule;
-use tarczolin_sys::{self as library, across, tso, Answer, Covers, GRAPH, SCHEDULE};
+use tarczolin_sys::{self as library, across, tso, Answer, Covers, Scratch, GRAPH, SCHEDULE};
 
 /// A refusal: its number and its place.
 #[derive(Clone, Copy, Debug, PartialEq, Eq)]
@@ -123,23 +123,54 @@ impl Rows {
     }
 }
 
-/// The first listed schedule that fails, or none. Under sequential consistency states are remembered in the scratch.
+/// The first listed schedule that fails, or none. States are remembered in the scratch.
 pub fn violation(model: Model, file: &[u8], scratch: &mut [u64]) -> Result<Option<Schedule>, Refusal> {
     schedule(|out| match model {
         Model::Sc => library::violation_with(file, out, scratch),
-        Model::Tso => tso::violation(file, out),
+        Model::Tso => tso::violation_with(file, out, scratch),
     })
 }
 
-/// How many schedules are listed, and how many of these fail. Under sequential consistency states are remembered in the scratch.
+/// The same, in memory that another thread may look at.
+pub fn violation_in(model: Model, file: &[u8], scratch: &Scratch) -> Result<Option<Schedule>, Refusal> {
+    schedule(|out| match model {
+        Model::Sc => scratch.violation(file, out),
+        Model::Tso => scratch.tso_violation(file, out),
+    })
+}
+
+/// The same as `count`, in memory that another thread may look at.
+pub fn count_in(model: Model, file: &[u8], scratch: &Scratch) -> Result<Counts, Refusal> {
+    let mut counts = Counts::default();
+    let Counts { listed, failing } = &mut counts;
+    length(match model {
+        Model::Sc => scratch.count(file, listed, failing),
+        Model::Tso => scratch.tso_count(file, listed, failing),
+    })?;
+    Ok(counts)
+}
+
+/// How many schedules are listed, and how many of these fail. States are remembered in the scratch.
 pub fn count(model: Model, file: &[u8], scratch: &mut [u64]) -> Result<Counts, Refusal> {
     let mut counts = Counts::default();
     let Counts { listed, failing } = &mut counts;
     length(match model {
         Model::Sc => library::count_with(file, listed, failing, scratch),
-        Model::Tso => tso::count(file, listed, failing),
+        Model::Tso => tso::count_with(file, listed, failing, scratch),
     })?;
     Ok(counts)
+}
+
+/// The listed schedule of this number, from 0, under sequential consistency; none where the list has not so many.
+pub fn kth(file: &[u8], number: u64, scratch: &mut [u64]) -> Result<Option<Schedule>, Refusal> {
+    schedule(|out| library::kth(file, number, out, scratch))
+}
+
+/// How many listed schedules are smaller than this full one, listed or not, under sequential consistency.
+pub fn rank(file: &[u8], schedule: &[u8], scratch: &mut [u64]) -> Result<u64, Refusal> {
+    let mut rank = 0;
+    length(library::rank(file, schedule, &mut rank, scratch))?;
+    Ok(rank)
 }
 
 /// The text of the graph of a full schedule.
@@ -168,10 +199,10 @@ pub fn judge(file: &[u8], graph: &[u8]) -> Result<Option<Schedule>, Refusal> {
 }
 
 /// The first listed schedule of the second program with an outcome that the first lacks, or none where it is covered. Which file
-/// is refused does not stand in the refusal: the first is asked about first.
-pub fn covers(first: &[u8], second: &[u8]) -> Result<Option<Schedule>, Refusal> {
+/// is refused does not stand in the refusal: the first is asked about first. Outcomes and states are remembered in the scratch.
+pub fn covers(first: &[u8], second: &[u8], scratch: &mut [u64]) -> Result<Option<Schedule>, Refusal> {
     let mut out = [0; SCHEDULE];
-    match library::covers(first, second, &mut out) {
+    match library::covers_with(first, second, &mut out, scratch) {
         Covers::Covered => Ok(None),
         Covers::Lacking(length) => Ok(Some(Schedule::of_output(&out[..length as usize]))),
         Covers::Refused(number, place) | Covers::SecondRefused(number, place) => Err(Refusal { number, place }),
@@ -191,9 +222,9 @@ pub enum Force {
     Friendly,
 }
 
-/// Who can force its end where the hostile side has the threads in the set, bit t for thread t?
-pub fn force(file: &[u8], set: u8) -> Result<Force, Refusal> {
-    Ok(match length(library::force(file, set))? {
+/// Who can force its end where the hostile side has the threads in the set, bit t for thread t? States are remembered in the scratch.
+pub fn force(file: &[u8], set: u8, scratch: &mut [u64]) -> Result<Force, Refusal> {
+    Ok(match length(library::force_with(file, set, scratch))? {
         Some(step) => Force::Hostile(step.checked_sub(1).map(|t| t as u8)),
         None => Force::Friendly,
     })

@@ -73,7 +73,7 @@ impl Search<'_> {
             return Err(self.unfit(format!("not decided: {why}; a greater number behind --limit looks at more")));
         }
         if shown.is_none() && goals.iter().any(|one| one.kind == Kind::NoViolation) {
-            let mut scratch = Memory::default().lent(&source.program);
+            let mut scratch = Memory::default().lent(source.program.model, &source.program);
             let answer = ask::violation(source.program.model, &source.file, &mut scratch).expect("the file is accepted");
             assert_eq!(answer, None, "the library's own answer is that none fails");
         }

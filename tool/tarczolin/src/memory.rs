@@ -1,7 +1,9 @@
 //! Memory that is lent to a call, in which it remembers states. Its answer does not depend on how much that is, only its time.
 use crate::error::Error;
-use crate::program::Program;
+use crate::model::Model;
+use crate::program::{Instruction, Program};
 use std::ffi::OsStr;
+use tarczolin_sys::Scratch;
 
 /// At most so many bytes where nothing else is said.
 const MOST: usize = 16 << 20;
@@ -26,16 +28,37 @@ impl Memory {
         bytes.map(|bytes| Memory(bytes / 8)).ok_or_else(wrong)
     }
 
-    /// No more words than can be of use for a program, so that clearing them costs a small one nothing.
-    fn words(self, program: &Program) -> usize {
-        let accesses = program.threads.iter().map(|code| code.iter().filter(|i| i.access().is_some()).count());
-        let places = accesses.fold(1usize, |all, accesses| all.saturating_mul(accesses + 1));
+    /// No more words than can be of use for a program, so that clearing them costs a small one nothing. Under total store order a thread
+    /// stands at an access, and some of its stores are in memory.
+    pub fn words(self, model: Model, program: &Program) -> usize {
+        let stands = |code: &Vec<Instruction>| {
+            let accesses = code.iter().filter(|i| i.access().is_some()).count();
+            let stores = code.iter().filter(|i| matches!(i, Instruction::Store { .. })).count();
+            (accesses + 1) * if model == Model::Tso { stores + 1 } else { 1 }
+        };
+        let places = program.threads.iter().map(stands).fold(1usize, |all, places| all.saturating_mul(places));
         places.saturating_mul(EACH).min(self.0)
     }
 
+    /// Is there none at all?
+    pub fn is_none(self) -> bool {
+        self.0 == 0
+    }
+
+    /// The same as what is lent, where another thread may look how full it is.
+    pub fn looked_at(self, model: Model, program: &Program) -> Scratch {
+        let mut words = self.words(model, program);
+        loop {
+            match Scratch::new(words) {
+                Some(scratch) => return scratch,
+                None => words /= 2,
+            }
+        }
+    }
+
     /// What is lent for a program: as much of it as can be had.
-    pub fn lent(self, program: &Program) -> Vec<u64> {
-        let (mut words, mut lent) = (self.words(program), Vec::new());
+    pub fn lent(self, model: Model, program: &Program) -> Vec<u64> {
+        let (mut words, mut lent) = (self.words(model, program), Vec::new());
         while lent.try_reserve_exact(words).is_err() {
             words /= 2;
         }
@@ -58,9 +81,11 @@ mod tests {
         let four = program("01 110000 110000 01 110000 01 ");
         let most = program(&format!("01 {}", "110000 ".repeat(4)).repeat(6));
         let all = Memory::default();
-        assert_eq!([&one, &four, &most].map(|program| all.lent(program).len()), [320, 6 * 320, MOST / 8]);
-        assert_eq!(Memory::of_word("--memory", OsStr::new("1001")).unwrap().lent(&most).len(), 125);
-        assert_eq!(Memory::of_word("--memory", OsStr::new("0")).unwrap().lent(&most).len(), 0);
+        assert_eq!([&one, &four, &most].map(|program| all.lent(Model::Sc, program).len()), [320, 6 * 320, MOST / 8]);
+        let stored = program("01 10000000000001 110000 01 110000 ");
+        assert_eq!([Model::Sc, Model::Tso].map(|model| all.lent(model, &stored).len()), [6 * 320, 12 * 320]);
+        assert_eq!(Memory::of_word("--memory", OsStr::new("1001")).unwrap().lent(Model::Sc, &most).len(), 125);
+        assert_eq!(Memory::of_word("--memory", OsStr::new("0")).unwrap().lent(Model::Sc, &most).len(), 0);
         assert!(Memory::of_word("--memory", OsStr::new("16M")).is_err());
     }
 }

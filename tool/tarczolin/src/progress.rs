@@ -1,9 +1,11 @@
-//! Progress on standard error: listed so far, failing so far, how many a second, and the share of the range that is done. On a
+//! Progress on standard error: listed so far, failing so far, how many a second, and the share that is done. On a
 //! terminal one line that changes; else a line every few seconds; none where `TARCZOLIN_PROGRESS` is `off`.
 use crate::ask::Counts;
 use std::io::{stderr, stdout, IsTerminal, Write};
 use std::sync::mpsc::{channel, RecvTimeoutError};
+use std::sync::Arc;
 use std::time::{Duration, Instant};
+use tarczolin_sys::{Scratch, Seen};
 
 /// How often it is told, on a terminal and elsewhere.
 const DRAWN: Duration = Duration::from_millis(200);
@@ -18,6 +20,8 @@ pub struct Progress {
     /// Standard output goes to a terminal too: its lines need the place.
     lines: bool,
     shown: bool,
+    /// The memory of a call that goes on beside the walk.
+    scratch: Option<Arc<Scratch>>,
 }
 
 impl Default for Progress {
@@ -30,8 +34,18 @@ impl Default for Progress {
             terminal: stderr().is_terminal(),
             lines: stdout().is_terminal(),
             shown: false,
+            scratch: None,
         }
     }
+}
+
+/// How much is done, from 0 to 1.
+#[derive(Clone, Copy, Debug, PartialEq)]
+pub enum Share {
+    /// Of the list, exactly: its members are counted.
+    OfList(f64),
+    /// Of the range of all schedules, in which the members do not lie evenly.
+    OfRange(f64),
 }
 
 /// How often progress is told: `TARCZOLIN_PROGRESS` gives a number of milliseconds for where there is no terminal, or is off.
@@ -46,19 +60,36 @@ pub fn every() -> Option<Duration> {
     Some(given.and_then(|text| text.parse().ok()).map_or(SAID, Duration::from_millis))
 }
 
-/// The line of progress; the share stands there where it is known.
-fn line(counts: Counts, seconds: f64, share: Option<f64>) -> String {
+/// The line of progress; the share stands there where it is known, and how full the memory of a call is where it remembers states.
+fn line(counts: Counts, seconds: f64, share: Option<Share>, seen: Option<Seen>) -> String {
     let rate = counts.listed as f64 / seconds;
-    let share = share.map_or(String::new(), |share| format!(", {:.1} % of the range", share * 100.0));
-    format!("{} listed, {} failing, {rate:.0} a second{share}", counts.listed, counts.failing)
+    let share = match share {
+        None => String::new(),
+        Some(Share::OfList(share)) => format!(", {:.1} % of the list", share * 100.0),
+        Some(Share::OfRange(share)) => format!(", {:.1} % of the range", share * 100.0),
+    };
+    let states = seen.filter(|seen| seen.states > 0).map_or(String::new(), |Seen { states, share }| {
+        format!("; {states} states remembered, {:.1} % of the memory for them", share * 100.0)
+    });
+    format!("{} listed, {} failing, {rate:.0} a second{share}{states}", counts.listed, counts.failing)
 }
 
 impl Progress {
+    /// Beside a call that remembers states in this memory.
+    pub fn beside(scratch: Arc<Scratch>) -> Progress {
+        Progress { scratch: Some(scratch), ..Progress::default() }
+    }
+
     /// Tells how far the list is, now and then; the share is asked for only then.
-    pub fn tell(&mut self, counts: Counts, share: impl FnOnce() -> Option<f64>) {
+    pub fn tell(&mut self, counts: Counts, share: impl FnOnce() -> Option<Share>) {
+        let (began, scratch) = (self.began, self.scratch.clone());
+        self.say(|| line(counts, began.elapsed().as_secs_f64(), share(), scratch.map(|scratch| scratch.seen())));
+    }
+
+    /// Says something now and then, which is asked for only then.
+    pub fn say(&mut self, line: impl FnOnce() -> String) {
         if self.every.is_some_and(|every| self.told.elapsed() >= every) {
-            let line = line(counts, self.began.elapsed().as_secs_f64(), share());
-            self.write(&line);
+            self.write(&line());
         }
     }
 
@@ -119,8 +150,12 @@ mod tests {
 
     #[test]
     fn listed_failing_rate_and_share() {
-        let wanted = "3000 listed, 7 failing, 2000 a second, 12.5 % of the range";
-        assert_eq!(line(Counts { listed: 3000, failing: 7 }, 1.5, Some(0.125)), wanted);
-        assert_eq!(line(Counts { listed: 3000, failing: 7 }, 1.5, None), "3000 listed, 7 failing, 2000 a second");
+        let wanted = "3000 listed, 7 failing, 2000 a second";
+        let told = |share, seen| line(Counts { listed: 3000, failing: 7 }, 1.5, share, seen);
+        assert_eq!(told(Some(Share::OfRange(0.125)), None), format!("{wanted}, 12.5 % of the range"));
+        assert_eq!(told(Some(Share::OfList(1.0)), None), format!("{wanted}, 100.0 % of the list"));
+        assert_eq!(told(None, Some(Seen { states: 0, share: 0.0 })), wanted);
+        let seen = Some(Seen { states: 12, share: 0.25 });
+        assert_eq!(told(None, seen), format!("{wanted}; 12 states remembered, 25.0 % of the memory for them"));
     }
 }

@@ -112,7 +112,7 @@ fn pieces_by_slurm() {
 
 #[test]
 fn cuts_and_counts_of_pieces() {
-    for (file, wanted) in [(program(), 5), (lines("01"), 1), (read("examples/whole.hex"), 4)] {
+    for (file, wanted) in [(program(), 5), (lines("01"), 1), (read("examples/whole.hex"), 3)] {
         let cuts = run_with(&["cuts", "-", &wanted.to_string()], &file).out;
         let cuts: Vec<&str> = cuts.lines().collect();
         assert_eq!(cuts.len(), wanted);

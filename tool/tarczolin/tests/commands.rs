@@ -129,7 +129,7 @@ fn bad_usage() {
     turned_away(run(&["judge", "-", "-"]), &["only once"]);
     turned_away(run(&["list", "examples/whole.hex", "--jobs", "0"]), &["--jobs takes a number from 1 to 256, not 0"]);
     turned_away(run(&["list", "examples/whole.hex", "--jobs"]), &["--jobs needs a value"]);
-    turned_away(run(&["list", "examples/whole.hex", "--from", "2"]), &["no option --from"]);
+    turned_away(run(&["list", "examples/whole.hex", "--only", "failing"]), &["no option --only"]);
     turned_away(run(&["show", "examples/whole.hex", "--only", "good"]), &["--only takes the word failing"]);
     turned_away(run(&["check", "no/such/file"]), &["no/such/file"]);
     turned_away(run(&["graph", "examples/whole.hex", "0x"]), &["no schedule"]);

@@ -4,6 +4,7 @@ mod common;
 use common::{run, run_with};
 use tarczolin::ask::{self, Force};
 use tarczolin::machine::Machine;
+use tarczolin::memory::Memory;
 use tarczolin::play::play;
 use tarczolin::program::Program;
 use tarczolin_tests::files::text;
@@ -54,7 +55,7 @@ fn what_stands_behind_hostile() {
 fn a_play_in_two_columns() {
     let shown = "\
 hostile can force the failure: first step 01, T1
-hostile: T1; friendly: T0; a play in which hostile follows its strategy (by plain Rust, which is not proved):
+hostile: T1; friendly: T0; a play in which hostile follows its strategy (the library is asked at each turn):
 execution: schedule 01 00, fails
 #0   T1  store x0 = 1
 #0   T0  load x0 -> r0 = 1             T1 store #0
@@ -74,12 +75,12 @@ registers  T0.r0 = 1
 fn plays_go_by_the_rules() {
     let mut random = Random::new(0x91a7);
     let size = Size { threads: 4, instructions: 5, accesses: 10, ..SMALL };
-    let mut hostile = 0;
+    let (mut hostile, memory) = (0, Memory::default());
     for _ in 0..share::of(600) {
         let file = text(&frames(&mut random, size));
         let program = Program::of_accepted(&file);
         for set in 0..1u8 << program.threads.len() {
-            let schedule = play(&program, set);
+            let schedule = play(&program, set, memory);
             let own = |t: u8| set >> t & 1 == 1;
             let (mut machine, mut turn) = (Machine::new(&program), true);
             for &t in schedule.iter() {
@@ -89,7 +90,7 @@ fn plays_go_by_the_rules() {
                 turn = !turn;
             }
             assert_eq!(machine.going().count(), 0, "{schedule} by {set:02x} is full");
-            let forced = ask::force(&file, set).unwrap();
+            let forced = ask::force(&file, set, &mut []).unwrap();
             assert_eq!(machine.fails(), forced != Force::Friendly, "{schedule} by {set:02x}");
             if let Force::Hostile(Some(first)) = forced {
                 assert_eq!(schedule.first(), Some(&first));

@@ -34,7 +34,7 @@ fn every_answer(at: &str, mut each: impl FnMut(&[&str], &[u8], i32, usize)) -> B
     let [graph, piece] =
         [("graph", &["graph", QUEUE, "00000102020201"][..]), ("piece", &["list", QUEUE])].map(|one| kept(at, one));
     let (no, pair) = (b"400001ffff\n400101ffff\n41000000\n41010100\n", "examples/store-load-pair.hex");
-    let cases: [(&[&str], &[u8], i32, usize); 45] = [
+    let cases: [(&[&str], &[u8], i32, usize); 51] = [
         (&["list", QUEUE], b"", 1, 7),
         (&["count", QUEUE], b"", 1, 1),
         (&["count", QUEUE, "--jobs", "2"], b"", 1, 1),
@@ -62,6 +62,12 @@ fn every_answer(at: &str, mut each: impl FnMut(&[&str], &[u8], i32, usize)) -> B
         (&["graph", QUEUE, "00000102020201"], b"", 0, 1),
         (&["judge", QUEUE, &graph], b"", 0, 1),
         (&["judge", pair, "-"], no, 1, 1),
+        (&["list", QUEUE, "--from", "2", "--to", "4"], b"", 1, 3),
+        (&["show", QUEUE, "--from", "6"], b"", 1, 2),
+        (&["rank", QUEUE, "00000102020201"], b"", 0, 1),
+        (&["rank", pair, "000001011011", "--model", "tso"], b"", 0, 1),
+        (&["rank", QUEUE, "00"], b"", 2, 1),
+        (&["sample", QUEUE, "3", "--seed", "5"], b"", 1, 4),
         (&["cuts", QUEUE, "3"], b"", 0, 1),
         (&["cuts", pair, "3", "--model", "tso"], b"", 0, 1),
         (&["join", &piece], b"", 1, 7),

@@ -56,9 +56,14 @@ fn catches(id: u32) -> bool {
 /// its way. After half a minute it is interrupted in any case.
 fn interrupted_with(progress: &str, words: &[&str], file: &[u8]) -> (Option<i32>, String, String) {
     // with memory for their states these programs would be counted at once
+    interrupted_in("0", progress, words, file, "")
+}
+
+/// The same with so many bytes of memory, and not before standard error has this.
+fn interrupted_in(memory: &str, progress: &str, words: &[&str], file: &[u8], told: &str) -> (Option<i32>, String, String) {
     let mut child = tool(words)
         .env("TARCZOLIN_PROGRESS", progress)
-        .env("TARCZOLIN_MEMORY", "0")
+        .env("TARCZOLIN_MEMORY", memory)
         .stdin(Stdio::piped())
         .stdout(Stdio::piped())
         .stderr(Stdio::piped())
@@ -72,6 +77,7 @@ fn interrupted_with(progress: &str, words: &[&str], file: &[u8]) -> (Option<i32>
         let lines = err.lock().unwrap().iter().filter(|&&c| c == b'\n').count();
         (catches(child.id()) || (one_job && progress == "off"))
             && (words[0] != "list" || !out.lock().unwrap().is_empty())
+            && String::from_utf8_lossy(&err.lock().unwrap()).contains(told)
             && (progress != "50" || lines > 4 || !(one_job || words[0] == "list"))
     };
     std::thread::sleep(Duration::from_millis(700));
@@ -104,6 +110,20 @@ fn interrupted_list_tells_from_where_to_go_on() {
     }
 }
 
+/// Where the members are soon counted, beside the walk, the share is exactly that of the list or of the piece.
+#[test]
+fn the_share_of_the_list() {
+    let counted = run_with(&["count", "-"], &long()).out;
+    let listed: u64 = counted.split(' ').next().unwrap().parse().unwrap();
+    for (words, size) in [(&["list", "-"][..], listed), (&["list", "-", "--from", "50000001"], listed - 50_000_000)] {
+        let (status, _, err) = interrupted_in("16777216", "50", words, &long(), " % of the list\n");
+        let line = err.lines().find(|line| line.ends_with(" % of the list")).unwrap_or_else(|| panic!("{words:?}: {err}"));
+        let walked: u64 = line.strip_prefix("tarczolin: ").unwrap().split(' ').next().unwrap().parse().unwrap();
+        let share = format!(", {:.1} % of the list", walked as f64 / size as f64 * 100.0);
+        assert!(status == Some(2) && line.ends_with(&share), "{words:?}: {line}, {size} in all");
+    }
+}
+
 /// show tells from which place it goes on; a page that is not whole is not written.
 #[test]
 fn interrupted_show() {
@@ -124,6 +144,23 @@ fn interrupted_show() {
 fn interrupted_between_files() {
     let (status, _, err) = interrupted(&["list", "-", "examples/whole.hex"]);
     assert!(status == Some(2) && err.ends_with("not begun: examples/whole.hex\n"), "{err}");
+}
+
+/// A call by states tells how many it remembers, and how full its memory is. Every access keeps the history, so that no two states are one.
+#[test]
+fn progress_by_states() {
+    let thread = |t: usize| format!("01 12000000{:08x} {}", 1 << t, "1200000100000000 ".repeat(3));
+    let file = lines(&(0..6).map(thread).collect::<String>());
+    for words in [["count", "-", "--memory", "1000000"], ["violation", "-", "--memory", "1000000"]] {
+        let (status, _, err) = interrupted_with("50", &words, &file);
+        assert_eq!(status, Some(2), "{err}");
+        let told = |line: &&str| line.contains(" states remembered, ") && line.ends_with(" % of the memory for them");
+        let line = err.lines().rfind(told).unwrap_or_else(|| panic!("{err}"));
+        let before = |words: &str| line.split_once(words).unwrap().0.split_whitespace().last().unwrap().parse::<f64>().unwrap();
+        let (states, share) = (before(" states remembered"), before(" % of the memory"));
+        // a slot has four to twenty words
+        assert!(states > 100.0 && share <= 100.0 && share * 1_250.0 <= states * 20.0 + 1_250.0, "{line}");
+    }
 }
 
 /// Joining tells how far it is too.

@@ -140,10 +140,12 @@ fn schedules_of_the_other_model() {
         "{}",
         ran.err
     );
-    for words in [&["judge", PAIR, "-"][..], &["covers", PAIR, PAIR], &["force", PAIR, "--hostile", "0"]] {
+    let said = "judge, covers, force, sample and users stay with sequential consistency";
+    let force = &["force", PAIR, "--hostile", "0"];
+    for words in [&["judge", PAIR, "-"][..], &["covers", PAIR, PAIR], force, &["sample", PAIR, "1"]] {
         let ran = run(&[words, &["--model", "tso"]].concat());
         assert_eq!((ran.status, ran.out.as_str()), (2, ""), "{words:?}");
-        assert!(ran.err.contains("judge, covers, force and users stay with sequential consistency"), "{words:?}: {}", ran.err);
+        assert!(ran.err.contains(said), "{words:?}: {}", ran.err);
     }
     let long = run(&["check", "examples/accesses-24.hex", "--model", "tso"]);
     assert!(long.status == 2 && long.err.contains("refusal 41: "), "{}", long.err);

@@ -11,6 +11,7 @@ use tarczolin_tests::oracle::machine::run_full;
 use tarczolin_tests::oracle::tso as oracle_tso;
 use tarczolin_tests::oracle::{covers, refused, Refusal};
 use tarczolin_tests::random::{graph, schedule, tso as random_tso, Random};
+use tarczolin_tests::scratch::Scratch;
 
 /// So many schedules and so many graph texts of each program.
 const SCHEDULES: usize = 6;
@@ -40,6 +41,9 @@ pub fn ask(random: &mut Random, tally: &Tally, file: &[u8], other: &[u8]) {
                 Err(r) => Answer::Refused(r.number, r.place),
             };
             assert_eq!(calls::force(file, set), answer, "{} by {set:02x}", file.escape_ascii());
+            tally.call("force_with");
+            let words = random.pick(&[0, 1, 7, 20, 21, 64, 300, 1_000]);
+            Scratch::new(random, words).held(answer, |scratch| calls::force_with(file, set, scratch), file);
         }
     }
     for _ in 0..SCHEDULES {
@@ -118,7 +122,7 @@ fn ask_list(random: &mut Random, tally: &Tally, file: &[u8], list: &Result<Vec<L
     tally.call("count");
     let counts = list.as_ref().map(|list| listing::count(list)).map_err(|refusal| *refusal);
     held_count(random, file, counts, calls::count);
-    ask_by_states(random, tally, file, list);
+    ask_by_states(random, tally, file, list, false);
     let out = random.below(40 * ROW);
     let rows = list.as_ref().map(|list| listing::rows(list, None, out)).map_err(|refusal| *refusal);
     tally.call("rows");
@@ -126,20 +130,47 @@ fn ask_list(random: &mut Random, tally: &Tally, file: &[u8], list: &Result<Vec<L
 }
 
 /// Count and violation with a scratch of some length and any content: zeros behind an answer, itself behind a refusal.
-fn ask_by_states(random: &mut Random, tally: &Tally, file: &[u8], list: &Result<Vec<Listed>, Refusal>) {
-    let words = random.pick(&[0, 1, 7, 20, 21, 64, 300, 1_000]);
+fn ask_by_states(random: &mut Random, tally: &Tally, file: &[u8], list: &Result<Vec<Listed>, Refusal>, in_tso: bool) {
+    let schedule = if in_tso { tso::SCHEDULE } else { SCHEDULE };
+    let count_with = if in_tso { tso::count_with } else { calls::count_with };
+    let violation_with = if in_tso { tso::violation_with } else { calls::violation_with };
+    let words = random.pick(&[0, 1, 7, 20, 21, 29, 64, 300, 1_000]);
     let before: Vec<u64> = (0..words).map(|_| random.word()).collect();
     let later = |answer| if matches!(answer, Answer::Refused(..)) { before.clone() } else { vec![0; words] };
     let mut scratch = before.clone();
     let counts = list.as_ref().map(|list| listing::count(list)).map_err(|refusal| *refusal);
-    tally.call("count_with");
-    held_count(random, file, counts, |file, listed, failing| calls::count_with(file, listed, failing, &mut scratch));
+    tally.call(if in_tso { "tso_count_with" } else { "count_with" });
+    held_count(random, file, counts, |file, listed, failing| count_with(file, listed, failing, &mut scratch));
     assert_eq!(scratch, later(number(counts.map(|_| 0))), "the scratch: {}", file.escape_ascii());
-    let (mut scratch, out) = (before.clone(), output(random, SCHEDULE));
-    let first = found(list, out, SCHEDULE, listing::violation);
-    tally.call("violation_with");
-    held(random, [file], out, &first, |[f], out| calls::violation_with(f, out, &mut scratch));
+    let (mut scratch, out) = (before.clone(), output(random, schedule));
+    let first = found(list, out, schedule, listing::violation);
+    tally.call(if in_tso { "tso_violation_with" } else { "violation_with" });
+    held(random, [file], out, &first, |[f], out| violation_with(f, out, &mut scratch));
     assert_eq!(scratch, later(shown(&first).0), "the scratch: {}", file.escape_ascii());
+    let (mut scratch, out) = (before.clone(), output(random, SCHEDULE));
+    let end = list.as_ref().map_or(0, Vec::len);
+    let k = if random.one_in(6) { random.word() } else { random.below(end + 2) as u64 };
+    let member = found(list, out, SCHEDULE, |list| list.get(usize::try_from(k).ok()?).map(|one| one.schedule.clone()));
+    tally.call("kth");
+    held(random, [file], out, &member, |[f], out| calls::kth(f, k, out, &mut scratch));
+    assert_eq!(scratch, later(shown(&member).0), "the scratch: {}", file.escape_ascii());
+    ask_rank(random, tally, file, list, &before);
+}
+
+/// The number of a schedule: its word changes when it answers, and not when it refuses.
+fn ask_rank(random: &mut Random, tally: &Tally, file: &[u8], list: &Result<Vec<Listed>, Refusal>, before: &[u64]) {
+    let program = decode(file);
+    let steps = schedule_of(random, program.as_ref().ok(), schedule::schedule);
+    let smaller = |list: &Vec<Listed>| list.partition_point(|one| one.schedule < steps) as u64;
+    let full = program.and_then(|program| run_full(&program, &steps).map(|_| ()));
+    let wanted = full.and_then(|()| list.as_ref().map(smaller).map_err(|refusal| *refusal));
+    let (mut scratch, kept) = (before.to_vec(), random.word());
+    let mut rank = kept;
+    tally.call("rank");
+    assert_eq!(calls::rank(file, &steps, &mut rank, &mut scratch), number(wanted.map(|_| 0)), "{}", file.escape_ascii());
+    assert_eq!(rank, wanted.unwrap_or(kept), "{steps:?}: {}", file.escape_ascii());
+    let later = if wanted.is_ok() { vec![0; before.len()] } else { before.to_vec() };
+    assert_eq!(scratch, later, "the scratch: {}", file.escape_ascii());
 }
 
 /// One file against another, and the other against it.
@@ -208,6 +239,7 @@ fn ask_in_store_order(random: &mut Random, tally: &Tally, file: &[u8]) {
     tally.call("tso_count");
     let counts = list.as_ref().map(|list| listing::count(list)).map_err(|refusal| *refusal);
     held_count(random, file, counts, tso::count);
+    ask_by_states(random, tally, file, list, true);
     let out = random.below(40 * tso::ROW);
     let rows = list.as_ref().map(|list| oracle_tso::listing::rows(list, None, out)).map_err(|refusal| *refusal);
     tally.call("tso_rows");

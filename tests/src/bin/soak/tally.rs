@@ -2,7 +2,7 @@
 use std::sync::atomic::{AtomicU64, Ordering};
 
 /// The calls, without the word in front of their names.
-const NAMES: [&str; 29] = [
+const NAMES: [&str; 34] = [
     "check",
     "graph",
     "class",
@@ -13,16 +13,21 @@ const NAMES: [&str; 29] = [
     "count",
     "count_with",
     "violation_with",
+    "kth",
+    "rank",
     "rows",
     "rows_after",
     "covers",
     "force",
+    "force_with",
     "tso_graph",
     "tso_class",
     "tso_start",
     "tso_continue",
     "tso_violation",
     "tso_count",
+    "tso_count_with",
+    "tso_violation_with",
     "tso_rows",
     "tso_rows_after",
     "open",
@@ -34,10 +39,16 @@ const NAMES: [&str; 29] = [
     "forget",
 ];
 
-#[derive(Default)]
 pub struct Tally {
     calls: [AtomicU64; NAMES.len()],
     programs: AtomicU64,
+}
+
+impl Default for Tally {
+    /// No calls yet.
+    fn default() -> Tally {
+        Tally { calls: std::array::from_fn(|_| AtomicU64::new(0)), programs: AtomicU64::new(0) }
+    }
 }
 
 impl Tally {

@@ -19,13 +19,18 @@ impl Live {
     }
 
     /// How many registers are live at once at most, over all threads.
-    pub fn most(&self) -> usize {
+    pub(super) fn most(&self) -> usize {
         self.0.iter().map(|sets| sets.iter().map(|set| set.count_ones() as usize).max().unwrap_or(0)).sum()
     }
 
+    /// The live registers of a thread before one of its instructions, or at its end.
+    pub fn of_thread(&self, t: usize, at: usize) -> u8 {
+        self.0[t][at]
+    }
+
     /// Puts what the live registers of a thread hold behind the values.
-    pub fn put(&self, values: &mut Packed, t: usize, thread: &Thread) {
-        let mut live = self.0[t][thread.next];
+    pub(super) fn put(&self, values: &mut Packed, t: usize, thread: &Thread) {
+        let mut live = self.of_thread(t, thread.next);
         while live != 0 {
             values.put(thread.registers[live.trailing_zeros() as usize % 4]);
             live &= live - 1;

@@ -5,6 +5,7 @@ mod sc;
 mod table;
 mod tso;
 
+pub use live::Live;
 pub use sc::Sc;
 pub use table::Table;
 pub use tso::Tso;

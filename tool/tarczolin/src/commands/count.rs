@@ -1,6 +1,5 @@
 //! count: how many schedules are listed, and how many of these fail; with --classes also how many executions they stand for.
 use super::arguments::Arguments;
-use super::lent::memory;
 use super::opt::Opt;
 use super::piece::{self, Piece};
 use super::reply::{each, Question};
@@ -8,12 +7,13 @@ use crate::accepted::Accepted;
 use crate::ask::{self, Counts};
 use crate::end::End;
 use crate::error::Error;
-use crate::jobs::List;
+use crate::jobs::{Done, List};
 use crate::json::{list as json_list, object, Json};
 use crate::memory::Memory;
 use crate::model::Model;
-use crate::program::{apart, Program};
+use crate::program::apart;
 use std::collections::BTreeMap;
+use tarczolin_sys::Scratch;
 
 pub const CLASSES: Opt = Opt {
     name: "--classes",
@@ -40,7 +40,7 @@ struct Asking {
 pub fn run(arguments: &Arguments) -> Result<End, Error> {
     let piece = Piece::of(arguments)?;
     let by_size = arguments.one_of(BY.name, &[("size", true)], false)?;
-    let asking = Asking { classes: arguments.flag(CLASSES.name), by_size, memory: memory(arguments)? };
+    let asking = Asking { classes: arguments.flag(CLASSES.name), by_size, memory: piece.memory };
     if by_size && !asking.classes {
         return Err(Error::usage("--by size stands beside --classes"));
     }
@@ -68,7 +68,9 @@ fn counted(question: &Question, piece: &Piece, asking: Asking) -> Result<End, Er
         }
     }
     let mut sizes = Sizes::default();
-    let found = piece::walk(&list, piece.jobs, |part| {
+    // of the whole list the count is what is asked for
+    let done = if piece.is_whole() { Done::by_range(&list) } else { Done::counted(&list, asking.memory) };
+    let found = piece::walk_with(&list, piece.jobs, done, |part| {
         part.listed.iter().for_each(|listed| sizes.add(&list, &listed.schedule));
         Ok(())
     });
@@ -79,13 +81,13 @@ fn counted(question: &Question, piece: &Piece, asking: Asking) -> Result<End, Er
 
 /// The counts by one call of the library, or what was found until Ctrl-C.
 fn called(list: &List, model: Model, memory: Memory) -> Result<Counts, Box<piece::Found>> {
-    let call = move |file: &[u8]| ask::count(model, file, &mut memory.lent(&Program::of_accepted(file)));
-    piece::answered(list, call).map(|counts| counts.expect("the file is accepted"))
+    let call = move |file: &[u8], scratch: &Scratch| ask::count_in(model, file, scratch);
+    piece::answered(list, model, memory, call).map(|counts| counts.expect("the file is accepted"))
 }
 
 /// How many executions all listed ones stand for: so many are listed of the file without its `02` lines.
 fn all_executions(source: &Accepted, memory: Memory) -> u64 {
-    let counts = ask::count(Model::Sc, &apart(&source.file), &mut memory.lent(&source.program));
+    let counts = ask::count(Model::Sc, &apart(&source.file), &mut memory.lent(Model::Sc, &source.program));
     counts.expect("an accepted file is one without its 02 lines too").listed
 }
 

@@ -13,6 +13,8 @@ use crate::execution::Execution;
 use crate::jobs::List;
 use crate::json::{list as json_list, object, Json};
 use crate::matching::matched;
+use crate::memory::Memory;
+use crate::model::Model;
 use crate::outcome::Final;
 use crate::output;
 use crate::program::Names;
@@ -46,7 +48,9 @@ fn compared(questions: [&Question; 2], first: &Accepted, by_number: bool) -> Res
     let matched = matched(first, &second, by_number);
     let matched = matched.map_err(|message| Error::Unfit { name: second.name.clone(), message })?;
     let programs = [first.moved(&|l| l, &matched.names), second.moved(&|l| matched.to[l as usize], &matched.names)];
-    let found = waiting(|| ask::covers(&programs[0].file, &programs[1].file)).expect("both files are accepted");
+    let lent = programs.iter().map(|accepted| Memory::default().lent(Model::Sc, &accepted.program));
+    let mut scratch = lent.max_by_key(Vec::len).unwrap_or_default();
+    let found = waiting(|| ask::covers(&programs[0].file, &programs[1].file, &mut scratch)).expect("both files are accepted");
     match found {
         None => {
             let new = ("new", recorded(newer.file).into());
@@ -62,7 +66,7 @@ type Outcome = ([u32; 8], bool);
 /// The outcomes of a list, ascending, and whether Ctrl-C cut it short.
 fn outcomes(list: &List) -> (BTreeSet<Outcome>, bool) {
     let mut all = BTreeSet::new();
-    let found = piece::walk(list, 1, |part| {
+    let found = piece::walk(list, 1, Memory::default(), |part| {
         all.extend(part.listed.iter().map(|listed| (Final::of(list.program, &listed.schedule).memory, listed.fails)));
         Ok(())
     });

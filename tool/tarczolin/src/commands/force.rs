@@ -1,5 +1,6 @@
 //! force: which side can force its end, and one play in which it does.
 use super::arguments::Arguments;
+use super::lent::{memory, MEMORY};
 use super::opt::Opt;
 use super::record;
 use super::reply::{asked, Question, JSON};
@@ -8,6 +9,8 @@ use crate::end::End;
 use crate::error::Error;
 use crate::execution::Execution;
 use crate::json::{list, Json};
+use crate::memory::Memory;
+use crate::model::Model;
 use crate::near::hint;
 use crate::play::play;
 use crate::program::Program;
@@ -18,6 +21,7 @@ use crate::show::{columns, By};
 pub const OPTIONS: &[Opt] = &[
     Opt { name: "--hostile", value: Some("THREADS"), about: "the hostile threads, by number or name: 0,2; '' is no thread" },
     Opt { name: "--play", value: None, about: "one play in which the winner follows its strategy, in two columns" },
+    MEMORY,
     JSON,
 ];
 
@@ -26,7 +30,8 @@ pub fn run(arguments: &Arguments) -> Result<End, Error> {
     let Some(threads) = arguments.option("--hostile")? else {
         return Err(Error::usage("force needs --hostile THREADS, as in --hostile 0,2"));
     };
-    asked(&Question::of("force", arguments, name), |question| forced(question, threads, arguments.flag("--play")))
+    let memory = memory(arguments)?;
+    asked(&Question::of("force", arguments, name), |question| forced(question, threads, arguments.flag("--play"), memory))
 }
 
 /// The set of these threads, by number or by name.
@@ -51,11 +56,11 @@ fn thread(program: &Program, word: &str) -> Result<u8, Error> {
     })
 }
 
-fn forced(question: &Question, threads: &str, wanted: bool) -> Result<End, Error> {
+fn forced(question: &Question, threads: &str, wanted: bool, memory: Memory) -> Result<End, Error> {
     let source = question.source()?;
     let program = &source.program;
     let set = set(program, threads)?;
-    let answer = waiting(|| ask::force(&source.file, set));
+    let answer = waiting(|| ask::force(&source.file, set, &mut memory.lent(Model::Sc, program)));
     let answer = answer.map_err(|r| refusal::of_threads(&source.name, &source.file, program.threads.len(), r))?;
     let (words, side, step) = told(program, answer);
     let end = if side == "hostile" { End::Violation } else { End::Answered };
@@ -63,7 +68,7 @@ fn forced(question: &Question, threads: &str, wanted: bool) -> Result<End, Error
     if !wanted {
         return question.answer(&words, fields, end);
     }
-    let schedule = play(program, set);
+    let schedule = waiting(|| play(program, set, memory));
     let execution = Execution::replayed(&source.file, program, &schedule).expect("a play is a full schedule");
     assert_eq!(execution.fails, side == "hostile", "the winner of the play is the library's");
     let [hostile, forces, first] = fields;
@@ -100,7 +105,7 @@ fn divided(program: &Program, set: u8, winner: &str) -> String {
         }
     };
     format!(
-        "hostile: {}; friendly: {}; a play in which {winner} follows its strategy (by plain Rust, which is not proved):",
+        "hostile: {}; friendly: {}; a play in which {winner} follows its strategy (the library is asked at each turn):",
         of(true),
         of(false)
     )

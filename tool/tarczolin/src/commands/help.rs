@@ -16,8 +16,8 @@ two a step: 00000101. -- ends the options. `tarczolin COMMAND -h` tells a comman
 ";
 
 /// Which commands know which model.
-pub const MODELS: &str = "list, count, violation, show, graph, outcomes, cuts and check take --model tso; test asks under the models that a \
-file speaks of, fences and robust about total store order; judge, covers, force and users stay with sequential consistency. Under total store order a step from 10 to 15 moves the oldest pending store of thread 0 to 5 to memory, and a \
+pub const MODELS: &str = "list, count, violation, show, graph, outcomes, rank, cuts and check take --model tso; test asks under the models that a \
+file speaks of, fences and robust about total store order; judge, covers, force, sample and users stay with sequential consistency. Under total store order a step from 10 to 15 moves the oldest pending store of thread 0 to 5 to memory, and a \
 program has at most 16 accesses.";
 
 /// What the exit status says.

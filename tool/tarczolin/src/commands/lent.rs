@@ -1,4 +1,4 @@
-//! How much memory is lent to count and violation: `--memory`, or else what `TARCZOLIN_MEMORY` says.
+//! How much memory is lent to count, violation and force: `--memory`, or else what `TARCZOLIN_MEMORY` says.
 use super::arguments::Arguments;
 use super::opt::Opt;
 use crate::error::Error;

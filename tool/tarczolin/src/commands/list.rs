@@ -19,7 +19,7 @@ fn listed(question: &Question, piece: &Piece) -> Result<End, Error> {
     let list = piece.list(List::of(&source, true))?;
     let mut out = output::standard();
     let headed = if question.json { Ok(()) } else { out.write_all(question.heading().as_bytes()) };
-    let found = piece::walk(&list, piece.jobs, |part| {
+    let found = piece::walk(&list, piece.jobs, piece.memory, |part| {
         part.listed.iter().try_for_each(|listed| out.write_all(line(question, listed).as_bytes()))
     });
     let Found { counts, cut, .. } = found;

@@ -82,7 +82,7 @@ fn outcomes(question: &Question, source: &Accepted, piece: &Piece, condition: Op
     let condition = condition.map(|text| Condition::of(text, list.program)).transpose();
     let condition = condition.map_err(|message| Error::Condition { name: source.name.clone(), message })?;
     let mut all = Outcomes::default();
-    let found = piece::walk(&list, piece.jobs, |part| {
+    let found = piece::walk(&list, piece.jobs, piece.memory, |part| {
         part.listed.iter().for_each(|listed| all.add(&list, listed));
         Ok(())
     });

@@ -1,44 +1,40 @@
 //! Executions as a page, or each as a drawing of its own.
-use crate::ask::{Counts, Listed};
+use super::chosen::{Walk, Walked};
+use crate::ask::Listed;
 use crate::called::called;
 use crate::end::End;
 use crate::error::Error;
 use crate::execution::Execution;
-use crate::html::{self, Page, Pick};
+use crate::html::{self, LeftOut, Page, Pick};
 use crate::jobs::List;
 use crate::output;
 use std::ffi::OsStr;
 use std::io;
 use std::path::Path;
 
-/// A walk over the chosen executions of a list, which counts the whole of it: what was counted, whether all was written, and
-/// whether Ctrl-C cut it short.
-pub struct Walked {
-    pub counts: Counts,
-    pub written: io::Result<()>,
-    pub cut: bool,
-}
-
 /// An execution of the list, ready to be shown.
 pub fn execution<'a>(list: &'a List, position: u64, listed: &Listed) -> Execution<'a> {
     Execution::of(list.file, list.program, position, listed).expect("a listed schedule of an accepted file is full")
 }
 
-/// What comes onto a page of the list; what is left out is told.
-pub fn of_list<'a>(
-    list: &'a List,
-    name: &'a str,
-    walk: impl FnOnce(&mut dyn FnMut(u64, &Listed) -> io::Result<()>) -> Walked,
-) -> Result<Page<'a>, Error> {
+/// What comes onto a page of the list; what is left out is told. Of a long list no more is looked at than shows what the page holds.
+pub fn of_list<'a>(name: &'a str, walk: &Walk<'a>) -> Result<Page<'a>, Error> {
+    let list = walk.list;
     let mut pick = Pick::default();
-    let Walked { counts: listed, cut, .. } = walk(&mut |position, listed| {
+    let mut stopped = false;
+    let Walked { counts: listed, cut, .. } = walk.walk(&mut |position, listed| {
         pick.add(position, listed);
-        Ok(())
+        stopped = walk.is_enough(&pick);
+        // what stops the walk is nobody's error
+        match stopped {
+            true => Err(io::Error::other("the page is full")),
+            false => Ok(()),
+        }
     });
     if cut {
         return Err(Error::Interrupted(listed));
     }
-    let left_out = pick.left_out();
+    let left_out = if stopped { walk.left_out(&mut pick) } else { pick.left_out() };
     let executions = pick.picked().iter().map(|(position, listed)| execution(list, *position, listed)).collect();
     let page = Page { name, program: list.program, listed: Some(listed), executions, left_out };
     if let Some(left_out) = page.tell_left_out() {
@@ -49,7 +45,7 @@ pub fn of_list<'a>(
 
 /// A page of one execution.
 pub fn of_one<'a>(name: &'a str, execution: Execution<'a>) -> Page<'a> {
-    let (program, left_out) = (execution.program, Counts::default());
+    let (program, left_out) = (execution.program, LeftOut::default());
     Page { name, program, listed: None, executions: vec![execution], left_out }
 }
 

@@ -1,17 +1,22 @@
-//! A piece of the list: what `--after`, `--until` and `--jobs` ask for, walked with progress and until Ctrl-C.
+//! A piece of the list: what `--after`, `--until`, `--from`, `--to` and `--jobs` ask for, walked with progress and until Ctrl-C.
 use super::arguments::Arguments;
+use super::lent::memory;
 use super::models::model;
 use super::opt::Opt;
+use super::places::Places;
 use crate::ask::Counts;
 use crate::error::Error;
-use crate::jobs::{self, List, Part};
+use crate::jobs::{self, Done, List, Part};
+use crate::memory::Memory;
 use crate::model::{is_move, thread, Model, MOVE};
 use crate::output;
 use crate::progress::{self, Progress};
 use crate::schedule::Schedule;
 use std::io;
 use std::sync::mpsc::{channel, Receiver, RecvTimeoutError};
+use std::sync::Arc;
 use std::time::Duration;
+use tarczolin_sys::Scratch;
 
 /// At most so many jobs.
 pub const JOBS: u64 = 256;
@@ -27,7 +32,9 @@ pub struct Piece {
     pub model: Model,
     pub after: Option<Schedule>,
     pub until: Option<Schedule>,
+    pub places: Places,
     pub jobs: usize,
+    pub memory: Memory,
 }
 
 /// What was found of a list: its counts, the last schedule, the first that fails, and whether Ctrl-C cut it short.
@@ -44,12 +51,17 @@ impl Piece {
     pub fn of(arguments: &Arguments) -> Result<Piece, Error> {
         let (model, jobs) = (model(arguments)?, arguments.number("--jobs", JOBS)? as usize);
         let [after, until] = [AFTER, UNTIL].map(|option| arguments.schedule(option.name, model.steps()));
-        Ok(Piece { model, after: after?, until: until?, jobs })
+        Ok(Piece { model, after: after?, until: until?, places: Places::of(arguments)?, jobs, memory: memory(arguments)? })
+    }
+
+    /// Is it the whole list?
+    pub fn is_whole(&self) -> bool {
+        self.after.is_none() && self.until.is_none() && self.places.are_all()
     }
 
     /// Is it the whole list by one job? Then one call of the library answers it.
     pub fn is_one_call(&self) -> bool {
-        self.after.is_none() && self.until.is_none() && self.jobs == 1
+        self.is_whole() && self.jobs == 1
     }
 
     /// The list, no more of it than the piece, whose bounds have no other threads than the program.
@@ -65,46 +77,68 @@ impl Piece {
                 return Err(Error::usage(message));
             }
         }
-        Ok(List { after: self.after, until: self.until, ..list })
+        self.places.of_list(List { after: self.after, until: self.until, ..list }, self.memory)
     }
 }
 
 /// Walks a list and tells progress; `each` gets the parts in order, until it cannot write.
-pub fn walk(list: &List, jobs: usize, mut each: impl FnMut(&Part) -> io::Result<()>) -> Found {
+pub fn walk(list: &List, jobs: usize, memory: Memory, each: impl FnMut(&Part) -> io::Result<()>) -> Found {
+    walk_with(list, jobs, Done::counted(list, memory), each)
+}
+
+/// The same, with what knows how much is done.
+pub fn walk_with(list: &List, jobs: usize, done: Done, each: impl FnMut(&Part) -> io::Result<()>) -> Found {
+    walk_and_tell(list, jobs, done, Progress::default(), each)
+}
+
+fn walk_and_tell(
+    list: &List,
+    jobs: usize,
+    mut done: Done,
+    mut progress: Progress,
+    mut each: impl FnMut(&Part) -> io::Result<()>,
+) -> Found {
     tarczolin_sys::note_interrupts();
     let mut found = Found::default();
-    let mut progress = Progress::default();
-    let done = jobs::parts(list, jobs, |part| {
+    let handed = jobs::parts(list, jobs, |part| {
         found.counts += part.counts;
         found.last = part.last.or(found.last);
         found.first_failing = found.first_failing.or(part.first_failing);
         found.cut = part.cut;
         progress.give_way();
         each(&part)?;
-        let last = found.last;
-        progress.tell(found.counts, || last.map(|last| jobs::share(list.program, &last)));
+        progress.tell(found.counts, || found.last.map(|last| done.share(found.counts.listed, &last)));
         Ok(())
     });
     progress.hide();
-    found.written = done.err();
+    found.written = handed.err();
     found
 }
 
-/// The answer of one call of the library on the file of a list. Where it takes a while the rows of the list are walked beside it, only to
-/// tell how far that is; what was walked is given back where Ctrl-C came before the answer. With progress off the call stands alone.
-pub fn answered<T: Send + 'static>(list: &List, call: impl FnOnce(&[u8]) -> T + Send + 'static) -> Result<T, Box<Found>> {
+/// The answer of one call of the library on the file of a list, with memory lent to it. Where it takes a while the rows of the list are
+/// walked beside it, only to tell how far that is, and how full the memory; what was walked is given back where Ctrl-C came before the
+/// answer. With progress off the call stands alone.
+pub fn answered<T: Send + 'static>(
+    list: &List,
+    model: Model,
+    memory: Memory,
+    call: impl FnOnce(&[u8], &Scratch) -> T + Send + 'static,
+) -> Result<T, Box<Found>> {
+    let scratch = memory.looked_at(model, list.program);
     if progress::every().is_none() {
-        return Ok(call(list.file));
+        return Ok(call(list.file, &scratch));
     }
+    let scratch = Arc::new(scratch);
     tarczolin_sys::note_interrupts();
     let (done, wait) = channel();
-    let file = list.file.to_vec();
-    std::thread::spawn(move || done.send(call(&file)));
+    let (file, lent) = (list.file.to_vec(), scratch.clone());
+    std::thread::spawn(move || done.send(call(&file, &lent)));
     if let Some(answer) = soon(&wait) {
         return Ok(answer);
     }
     let mut answer = None;
-    let found = walk(list, 1, |_| {
+    let progress = if model == Model::Sc { Progress::beside(scratch) } else { Progress::default() };
+    let found = walk_and_tell(list, 1, Done::by_range(list), progress, |_| {
         answer = wait.try_recv().ok();
         answer.as_ref().map_or(Ok(()), |_| Err(io::Error::other("answered")))
     });

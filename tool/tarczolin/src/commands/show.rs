@@ -1,28 +1,29 @@
 //! show: executions in two columns, as a page, or drawn. Totals and exit status are those of the whole list.
 use super::arguments::{may_be_schedule, Arguments};
+use super::chosen::{self, Walk, Walked};
+use super::lent::memory;
 use super::models::model;
-use super::pages::{self, Walked};
+use super::pages;
 use super::piece;
+use super::places::Places;
 use super::record;
 use super::reply::{asked, each, Question};
-use crate::ask::{Counts, Listed};
+use crate::ask::Counts;
 use crate::called::called;
 use crate::end::End;
 use crate::error::Error;
 use crate::execution::Execution;
-use crate::jobs::{self, List};
+use crate::jobs::List;
 use crate::model::Model;
-use crate::progress::Progress;
 use crate::show::{columns, By};
 use crate::{input, output, refusal};
 use std::ffi::OsStr;
-use std::io::{self, Write};
+use std::io::Write;
 
 /// Which executions are shown, and how.
 pub struct Choice<'a> {
     model: Model,
-    from: u64,
-    failing_only: bool,
+    chosen: chosen::Choice,
     by: By,
     html: Option<&'a OsStr>,
     svg: Option<&'a OsStr>,
@@ -30,10 +31,10 @@ pub struct Choice<'a> {
 
 impl<'a> Choice<'a> {
     fn of(arguments: &'a Arguments) -> Result<Choice<'a>, Error> {
+        let failing_only = arguments.one_of("--only", &[("failing", true)], false)?;
         Ok(Choice {
             model: model(arguments)?,
-            from: arguments.number("--from", u64::MAX)?,
-            failing_only: arguments.one_of("--only", &[("failing", true)], false)?,
+            chosen: chosen::Choice { places: Places::of(arguments)?, failing_only, memory: memory(arguments)? },
             by: arguments.one_of("--by", &[("time", By::Time), ("thread", By::Thread)], By::Time)?,
             html: arguments.path("--html"),
             svg: arguments.path("--svg"),
@@ -48,8 +49,8 @@ pub fn run(arguments: &Arguments) -> Result<End, Error> {
     if names.len() > 1 && names[1..].iter().all(|word| may_be_schedule(word)) {
         let (name, schedule) = arguments.file_and_schedule()?;
         let schedule = schedule.ok_or(Error::Words)?;
-        if arguments.flag("--from") || arguments.flag("--only") {
-            return Err(Error::usage("--from and --only choose from the list, and a schedule names one execution"));
+        if ["--from", "--to", "--only"].iter().any(|option| arguments.flag(option)) {
+            return Err(Error::usage("--from, --to and --only choose from the list, and a schedule names one execution"));
         }
         return asked(&Question::of("show", arguments, name), |question| one(question, &choice, &schedule));
     }
@@ -72,11 +73,11 @@ fn shown(question: &Question, choice: &Choice) -> Result<End, Error> {
     overwrites_nothing(question, choice)?;
     let source = question.source_under(choice.model)?;
     let list = List::of(&source, false);
-    let walk = |each: &mut dyn FnMut(u64, &Listed) -> io::Result<()>| walk(&list, choice, each);
+    let walk = Walk::of(&list, choice.chosen, choice.html.is_some() || choice.svg.is_some())?;
     match (choice.html, choice.svg) {
-        (Some(page), _) => pages::page(&pages::of_list(&list, &source.name, walk)?, page),
-        (_, Some(folder)) => pages::drawings(&pages::of_list(&list, &source.name, walk)?, folder),
-        _ => to_standard_output(question, &list, choice),
+        (Some(page), _) => pages::page(&pages::of_list(&source.name, &walk)?, page),
+        (_, Some(folder)) => pages::drawings(&pages::of_list(&source.name, &walk)?, folder),
+        _ => to_standard_output(question, &walk, choice),
     }
 }
 
@@ -95,37 +96,14 @@ fn one(question: &Question, choice: &Choice, schedule: &[u8]) -> Result<End, Err
     }
 }
 
-/// Walks the whole list and counts it; hands each chosen execution with its position to `each`, until that fails or Ctrl-C.
-fn walk(list: &List, choice: &Choice, each: &mut dyn FnMut(u64, &Listed) -> io::Result<()>) -> Walked {
-    tarczolin_sys::note_interrupts();
-    let mut walked = Walked { counts: Counts::default(), written: Ok(()), cut: false };
-    let mut progress = Progress::default();
-    list.walk(None, |listed| {
-        walked.cut = tarczolin_sys::was_interrupted();
-        if walked.cut {
-            return true;
-        }
-        walked.counts.add(listed.fails);
-        let position = walked.counts.listed;
-        if position >= choice.from && (listed.fails || !choice.failing_only) {
-            progress.give_way();
-            walked.written = each(position, listed);
-        }
-        progress.tell(walked.counts, || Some(jobs::share(list.program, &listed.schedule)));
-        walked.written.is_err()
-    });
-    progress.hide();
-    walked
-}
-
-fn to_standard_output(question: &Question, list: &List, choice: &Choice) -> Result<End, Error> {
+fn to_standard_output(question: &Question, walk: &Walk, choice: &Choice) -> Result<End, Error> {
     let mut out = output::standard();
     let mut shown = 0;
     let headed = if question.json { Ok(()) } else { out.write_all(question.heading().as_bytes()) };
-    let Walked { counts, written, cut } = walk(list, choice, &mut |position, listed| {
+    let Walked { counts, place, written, cut } = walk.walk(&mut |position, listed| {
         let blank = if shown > 0 { "\n" } else { "" };
         shown += 1;
-        let execution = pages::execution(list, position, listed);
+        let execution = pages::execution(walk.list, position, listed);
         match question.json {
             true => out.write_all(question.object(record::execution(&execution)).as_bytes()),
             false => write!(out, "{blank}{}", columns(&execution, choice.by)),
@@ -144,7 +122,7 @@ fn to_standard_output(question: &Question, list: &List, choice: &Choice) -> Resu
         out.flush()
     });
     if cut {
-        piece::tell_interrupted(counts, Some(format!("--from {}", counts.listed + 1)));
+        piece::tell_interrupted(counts, Some(format!("--from {}", place + 1)));
     }
     output::ended(written, if cut { End::of_cut(counts.failing) } else { End::of_failing(counts.failing) })
 }

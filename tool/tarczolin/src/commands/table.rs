@@ -6,11 +6,12 @@ use super::lent::MEMORY;
 use super::models::{FOR_MODEL, MODEL};
 use super::opt::Opt;
 use super::piece::{AFTER, JOBS_OPTION, UNTIL};
+use super::places::{FROM, TO};
 use super::reply::JSON;
 use super::violation::FEWEST;
 use super::{
-    asm, check, count, covers, cuts, disasm, fences, force, graph, join, judge, list, litmus, outcomes, robust, show, test,
-    users, violation,
+    asm, check, count, covers, cuts, disasm, fences, force, graph, join, judge, list, litmus, outcomes, rank, robust, sample,
+    show, test, users, violation,
 };
 
 const SHOW: Opt =
@@ -23,20 +24,22 @@ const WHERE: Opt = Opt {
 const REMARKS: Opt = Opt { name: "--remarks", value: None, about: "with the text's names and remark lines, as remarks" };
 const SHOW_OPTIONS: &[Opt] = &[
     MODEL,
-    Opt { name: "--from", value: Some("K"), about: "from place K of the list on" },
+    FROM,
+    TO,
     Opt { name: "--only", value: Some("failing"), about: "only those that fail" },
     Opt { name: "--by", value: Some("time|thread"), about: "the left column by time, or one thread after the other" },
     Opt { name: "--html", value: Some("OUT"), about: "one page with the graphs drawn, into this file; - is standard output" },
     Opt { name: "--svg", value: Some("DIR"), about: "a drawing of each execution, into this folder" },
+    MEMORY,
     JSON,
 ];
 
-pub const COMMANDS: [Command; 20] = [
+pub const COMMANDS: [Command; 22] = [
     Command {
         name: "list",
         words: "FILE..",
         about: "every listed schedule, a line each: 50, 01 if it fails else 00, the steps; last 51 and the two counts",
-        options: &[JOBS_OPTION, MODEL, AFTER, UNTIL, JSON],
+        options: &[JOBS_OPTION, MODEL, AFTER, UNTIL, FROM, TO, MEMORY, JSON],
         example: "tarczolin list examples/whole.hex --jobs 2",
         run: list::run,
     },
@@ -44,7 +47,7 @@ pub const COMMANDS: [Command; 20] = [
         name: "count",
         words: "FILE..",
         about: "how many schedules are listed, and how many of these fail",
-        options: &[CLASSES, BY, MEMORY, JOBS_OPTION, MODEL, AFTER, UNTIL, JSON],
+        options: &[CLASSES, BY, MEMORY, JOBS_OPTION, MODEL, AFTER, UNTIL, FROM, TO, JSON],
         example: "tarczolin count examples/*.hex",
         run: count::run,
     },
@@ -146,10 +149,27 @@ pub const COMMANDS: [Command; 20] = [
         run: judge::run,
     },
     Command {
+        name: "rank",
+        words: "FILE SCHEDULE",
+        about: "the place of a full schedule in the list, or that it is not listed, and how many listed ones are smaller",
+        options: &[MODEL, MEMORY, JSON],
+        example: "tarczolin rank examples/queue-broken.asm 00000102020201",
+        run: rank::run,
+    },
+    Command {
+        name: "sample",
+        words: "FILE N",
+        about: "N members drawn from the whole list, each as likely as any other, with their places; by sequential consistency",
+        options: sample::OPTIONS,
+        example: "tarczolin sample examples/queue-broken.asm 3 --seed 7",
+        run: sample::run,
+    },
+    Command {
         name: "cuts",
         words: "FILE N",
-        about: "N full schedules that cut the list into pieces, for list --after A --until B on more than one machine",
-        options: &[MODEL, JSON],
+        about: "N schedules that cut the list into pieces of equal numbers of members, for list --after A --until B on more than one \
+                machine",
+        options: &[cuts::BY, MODEL, MEMORY, JSON],
         example: "tarczolin cuts examples/queue-broken.asm 4",
         run: cuts::run,
     },

@@ -1,7 +1,6 @@
 //! violation: the first listed schedule that fails.
 use super::arguments::Arguments;
 use super::expected::{self, Asking};
-use super::lent::memory;
 use super::opt::Opt;
 use super::piece::{self, Found, Piece};
 use super::record;
@@ -16,11 +15,11 @@ use crate::jobs::List;
 use crate::json::{list as json_list, Json};
 use crate::memory::Memory;
 use crate::model::Model;
-use crate::program::Program;
 use crate::schedule::Schedule;
 use crate::show::{columns, By};
 use crate::switches::{fewest, switches};
 use std::io;
+use tarczolin_sys::Scratch;
 
 pub const FEWEST: Opt = Opt {
     name: "--fewest",
@@ -33,13 +32,12 @@ const WHY_NOTE: &str = "traced back from the assertion by plain Rust, which is n
 pub fn run(arguments: &Arguments) -> Result<End, Error> {
     let piece = Piece::of(arguments)?;
     let asking = Asking::of(arguments, piece.jobs)?;
-    let memory = memory(arguments)?;
     let fewest = arguments.one_of(FEWEST.name, &[("switches", true)], false)?;
     each("violation", arguments, |question| {
         let source = question.source_under(piece.model)?;
         let expectations = source.expectations()?;
         expected::note_others(question, &source, &expectations, piece.model)?;
-        let showing = Showing { show: arguments.flag("--show"), fewest, limit: asking.limit, memory };
+        let showing = Showing { show: arguments.flag("--show"), fewest, limit: asking.limit, memory: piece.memory };
         let end = violation(question, &source, &piece, showing)?;
         Ok(end.max(expected::tell(question, &source, &expectations, asking)?))
     })
@@ -58,10 +56,10 @@ fn violation(question: &Question, source: &Accepted, piece: &Piece, showing: Sho
     let model = piece.model;
     let list = List::of(source, false);
     let found = if piece.is_one_call() {
-        let call = move |file: &[u8]| ask::violation(model, file, &mut showing.memory.lent(&Program::of_accepted(file)));
-        piece::answered(&list, call).map(|found| found.expect("the file is accepted"))
+        let call = move |file: &[u8], scratch: &Scratch| ask::violation_in(model, file, scratch);
+        piece::answered(&list, model, showing.memory, call).map(|found| found.expect("the file is accepted"))
     } else {
-        by_rows(&list, piece.jobs)
+        by_rows(&list, piece)
     };
     let found = match found {
         Ok(found) => found,
@@ -121,8 +119,8 @@ fn beside(question: &Question, source: &Accepted, piece: &Piece, first: &Schedul
 }
 
 /// The first one that fails, by rows: their parts come in order, so the first part that has one has the first of all.
-fn by_rows(list: &List, jobs: usize) -> Result<Option<Schedule>, Box<Found>> {
-    let found = piece::walk(list, jobs, |part| match part.first_failing {
+fn by_rows(list: &List, piece: &Piece) -> Result<Option<Schedule>, Box<Found>> {
+    let found = piece::walk(list, piece.jobs, piece.memory, |part| match part.first_failing {
         Some(_) => Err(io::Error::other("found")),
         None => Ok(()),
     });

@@ -11,7 +11,7 @@ mod section;
 use crate::execution::Execution;
 
 pub use page::Page;
-pub use pick::Pick;
+pub use pick::{LeftOut, Pick};
 
 /// The drawing of one execution, as a file of its own.
 pub fn drawing(execution: &Execution) -> String {

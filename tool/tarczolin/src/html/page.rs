@@ -1,6 +1,6 @@
 //! A page: what it tells of a program's list, the program, and its executions.
 use super::escape::escaped;
-use super::pick::MOST;
+use super::pick::{LeftOut, MOST};
 use super::{drawing, section};
 use crate::ask::Counts;
 use crate::execution::Execution;
@@ -17,7 +17,7 @@ pub struct Page<'a> {
     /// The executions that the page shows, in its order.
     pub executions: Vec<Execution<'a>>,
     /// How many were chosen to be shown and have no place.
-    pub left_out: Counts,
+    pub left_out: LeftOut,
 }
 
 impl Page<'_> {
@@ -49,9 +49,12 @@ impl Page<'_> {
 
     /// How many were chosen and have no place, in words; none where all have one.
     pub fn tell_left_out(&self) -> Option<String> {
-        let Counts { listed, failing } = self.left_out;
-        let why = format!("it holds at most {MOST}, the failing ones first; --from and --only failing choose others");
-        (listed > 0).then(|| format!("{listed} more, {failing} failing, are left out of the page: {why}"))
+        let LeftOut { listed, failing, looked_at } = self.left_out;
+        let failing = failing.map_or(String::new(), |failing| format!(", {failing} failing,"));
+        let looked_at = looked_at.map_or(String::new(), |number| format!(" of {number} that were looked at"));
+        let others = "--from, --to and --only failing choose others";
+        let why = format!("it holds at most {MOST}, the failing ones first{looked_at}; {others}");
+        (listed > 0).then(|| format!("{listed} more{failing} are left out of the page: {why}"))
     }
 
     pub fn text(&self) -> String {

@@ -64,6 +64,11 @@ impl<'a> List<'a> {
         List { file: &source.file, program: &source.program, schedules, after: None, until: None }
     }
 
+    /// No piece of it: nothing lies behind the schedule of no step up to that schedule.
+    pub fn none(self) -> List<'a> {
+        List { after: Some(Schedule::default()), until: Some(Schedule::default()), ..self }
+    }
+
     /// Is this schedule behind the piece?
     pub fn is_past(&self, schedule: &Schedule) -> bool {
         self.until.is_some_and(|until| *schedule > until)

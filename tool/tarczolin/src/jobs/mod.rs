@@ -1,5 +1,6 @@
 //! The list in pieces on threads. A piece is what lies behind one full schedule up to another; the library lists what is
 //! behind any schedule, listed or not, so the pieces one after the other are the whole list.
+mod done;
 mod list;
 mod pool;
 mod share;
@@ -8,8 +9,8 @@ mod split;
 use std::io;
 use tarczolin_sys::was_interrupted;
 
+pub use done::Done;
 pub use list::{List, Part};
-pub use share::share;
 pub use split::{bounds, cuts};
 
 /// Hands the list, part by part and in order, to `each`, worked out by so many jobs. Ctrl-C ends it behind the part at hand,

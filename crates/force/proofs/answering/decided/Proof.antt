@@ -1,97 +1,41 @@
--- `decided` tries the hostile side's first steps, or lets it pass.
+-- `decided` makes the game ready, and clears the table before and after.
 use borrow.Author.Needs.{needs}
-use native.Mathlib.Omega.{arith}
-use mathlib.Core.Path.{refl, sym, _∙_}
-use mathlib.Core.Option.{none, some}
-use mathlib.Core.List.{[]}
+use mathlib.Core.Path.{ap, _∙_}
+use Prim.Native.Nat.{ℕ}
+use lib.ListN.{length, replicate, length-replicate}
 use Rattle.file_decoder.specs.Compiled.{programOf}
-use Rattle.spec_sc.specs.State.{start}
 use Rattle.machine.proofs.HeldStart.{loaded-compiled, starting-compiled}
-use Rattle.spec_force.specs.Forced.{hostile-can, friendly-can}
-use Rattle.spec_force.proofs.Answers.{steps-forced, steps-lost, pass-won, pass-lost}
-use Rattle.force.specs.Answered.{answerOf}
-use Rattle.force_moves.specs.Standing.{sideOf}
 use Rattle.force_moves.proofs.Steps.{standing-start}
-use Rattle.force.proofs.Forcing.{pass-friendly, pass-hostile}
+use Rattle.force.proofs.Starting.{playing-start}
 use Rattle.force.proofs.answering.decided.Statement.{statement}
 use Rattle.force.proofs.answering.decided.Tie as tie
 
 tails-of-requires : tie.Need-tails-of-requires
-tails-of-requires c κs = let entry = c .before .before .before .before in (programOf (entry .args .program), loaded-compiled (entry .args .program) (entry .pre))
+tails-of-requires c κs =
+    (programOf ((c .before .before .before .before .before .args) .program), loaded-compiled ((c .before .before .before .before .before .args) .program) (c .before .before .before .before .before .pre))
 
 started-requires : tie.Need-started-requires
-started-requires c κs = let entry = c .before .before .before .before .before .before .before .before in (programOf (entry .args .program), loaded-compiled (entry .args .program) (entry .pre))
+started-requires c κs =
+    (programOf ((c .before .before .before .before .before .before .before .before .before .before .before .before .before .before .before .args) .program), loaded-compiled ((c .before .before .before .before .before .before .before .before .before .before .before .before .before .before .before .args) .program) (c .before .before .before .before .before .before .before .before .before .before .before .before .before .before .before .pre))
 
-least-winning-requires : tie.Need-least-winning-requires
-least-winning-requires c κs =
-    let program = c .before .before .before .before .before .before .before .before .before .before .before .before .before .before .before .args .program in
-    let w = c .before .before .before .before .before .before .before .before .before .before .before .before .before .before .before .pre in
+settled-requires : tie.Need-settled-requires
+settled-requires c κs =
+    let program = (c .before .before .before .before .before .before .before .before .before .before .before .before .before .before .before .before .before .before .before .before .before .before .before .before .before .args) .program in
     let p = programOf program in
-    let held = c .before .before .before .before .before .before .started .ensures .1 p (loaded-compiled program w) (starting-compiled program) in
-    let standing = standing-start (program .code) (program .lengths) (c .before .before .before .before .before .before .before .before .before .before .tails-of .result) (program .threads) (c .before .before .before .before .before .before .started .result) p (loaded-compiled program w) (c .before .before .before .before .before .before .before .before .before .before .tails-of .ensures) held in
-    (program .threads, p, standing)
+    let loaded = loaded-compiled program (c .before .before .before .before .before .before .before .before .before .before .before .before .before .before .before .before .before .before .before .before .before .before .before .before .before .pre) in
+    let standing = standing-start (program .code) (program .lengths) ((c .before .before .before .before .before .before .before .before .before .before .before .before .before .before .before .before .before .before .before .tails-of) .result) (program .threads) ((c .before .before .before .before .before .before .before .before .before .started) .result) p loaded ((c .before .before .before .before .before .before .before .before .before .before .before .before .before .before .before .before .before .before .before .tails-of) .ensures) ((c .before .before .before .before .before .before .before .before .before .started) .ensures .1 p loaded (starting-compiled program)) in
+    ((program .threads, p, standing), (c .before .before .before .before .before .before .before .before .before .before .before .before .before .before .width) .ensures .0)
 
 returns : tie.Need-returns
-unfolding answerOf sideOf
 returns c =
-    let program = c .before .before .before .before .before .before .before .before .before .before .before .before .before .before .before .before .before .args .program in
-    let w = c .before .before .before .before .before .before .before .before .before .before .before .before .before .before .before .before .before .pre in
+    let program = (c .before .before .before .before .before .before .before .before .before .before .before .before .before .before .before .before .before .before .before .before .before .before .before .before .before .before .before .before .before .before .before .before .args) .program in
     let p = programOf program in
-    let held = c .before .before .before .before .before .before .before .before .started .ensures .1 p (loaded-compiled program w) (starting-compiled program) in
-    let standing = standing-start (program .code) (program .lengths) (c .before .before .before .before .before .before .before .before .before .before .before .before .tails-of .result) (program .threads) (c .before .before .before .before .before .before .before .before .started .result) p (loaded-compiled program w) (c .before .before .before .before .before .before .before .before .before .before .before .before .tails-of .ensures) held in
-    let set = c .before .before .before .before .before .before .before .before .before .before .before .before .before .before .before .before .before .args .set in
-    let able = c .before .before .before .before .before .before .has-step .ensures (program .code) (start p) held in
-    let first = c .before .least-winning .ensures (program .threads) p standing in
-    let t = c .before .least-winning .result in
-    (hostile-can (some t), steps-forced set p w t (c .if2 .taken) (sym able ∙ c .before .before .before .before .before .if1 .taken) (first .found (c .if2 .taken)) (first .below), refl)
-
-returns-2 : tie.Need-returns-2
-unfolding answerOf sideOf
-returns-2 c =
-    let program = c .before .before .before .before .before .before .before .before .before .before .before .before .before .before .before .before .before .args .program in
-    let w = c .before .before .before .before .before .before .before .before .before .before .before .before .before .before .before .before .before .pre in
-    let p = programOf program in
-    let held = c .before .before .before .before .before .before .before .before .started .ensures .1 p (loaded-compiled program w) (starting-compiled program) in
-    let standing = standing-start (program .code) (program .lengths) (c .before .before .before .before .before .before .before .before .before .before .before .before .tails-of .result) (program .threads) (c .before .before .before .before .before .before .before .before .started .result) p (loaded-compiled program w) (c .before .before .before .before .before .before .before .before .before .before .before .before .tails-of .ensures) held in
-    let set = c .before .before .before .before .before .before .before .before .before .before .before .before .before .before .before .before .before .args .set in
-    let able = c .before .before .before .before .before .before .has-step .ensures (program .code) (start p) held in
-    let first = c .before .least-winning .ensures (program .threads) p standing in
-    (friendly-can, steps-lost set p w (sym able ∙ c .before .before .before .before .before .if1 .taken) (λ u b. first .below u (omega (arith, b, c .if2 .left))), refl)
-
-friendly-move-requires : tie.Need-friendly-move-requires
-friendly-move-requires c κs =
-    let program = c .before .before .before .before .before .before .before .before .before .before .before .before .before .before .before .args .program in
-    let w = c .before .before .before .before .before .before .before .before .before .before .before .before .before .before .before .pre in
-    let p = programOf program in
-    let held = c .before .before .before .before .before .before .started .ensures .1 p (loaded-compiled program w) (starting-compiled program) in
-    let standing = standing-start (program .code) (program .lengths) (c .before .before .before .before .before .before .before .before .before .before .tails-of .result) (program .threads) (c .before .before .before .before .before .before .started .result) p (loaded-compiled program w) (c .before .before .before .before .before .before .before .before .before .before .tails-of .ensures) held in
-    (program .threads, p, [], standing)
-
-returns-3 : tie.Need-returns-3
-unfolding answerOf sideOf
-returns-3 c =
-    let program = c .before .before .before .before .before .before .before .before .before .before .before .before .before .before .before .before .before .args .program in
-    let w = c .before .before .before .before .before .before .before .before .before .before .before .before .before .before .before .before .before .pre in
-    let p = programOf program in
-    let held = c .before .before .before .before .before .before .before .before .started .ensures .1 p (loaded-compiled program w) (starting-compiled program) in
-    let standing = standing-start (program .code) (program .lengths) (c .before .before .before .before .before .before .before .before .before .before .before .before .tails-of .result) (program .threads) (c .before .before .before .before .before .before .before .before .started .result) p (loaded-compiled program w) (c .before .before .before .before .before .before .before .before .before .before .before .before .tails-of .ensures) held in
-    let set = c .before .before .before .before .before .before .before .before .before .before .before .before .before .before .before .before .before .args .set in
-    let able = c .before .before .before .before .before .before .has-step .ensures (program .code) (start p) held in
-    let moved = c .before .friendly-move in
-    (friendly-can, pass-lost set p w (sym able ∙ c .before .before .before .before .before .if1 .left) (pass-friendly set p (moved .result) (moved .ensures (program .threads) p [] standing) (c .if3 .taken)), refl)
-
-returns-4 : tie.Need-returns-4
-unfolding answerOf sideOf
-returns-4 c =
-    let program = c .before .before .before .before .before .before .before .before .before .before .before .before .before .before .before .before .before .args .program in
-    let w = c .before .before .before .before .before .before .before .before .before .before .before .before .before .before .before .before .before .pre in
-    let p = programOf program in
-    let held = c .before .before .before .before .before .before .before .before .started .ensures .1 p (loaded-compiled program w) (starting-compiled program) in
-    let standing = standing-start (program .code) (program .lengths) (c .before .before .before .before .before .before .before .before .before .before .before .before .tails-of .result) (program .threads) (c .before .before .before .before .before .before .before .before .started .result) p (loaded-compiled program w) (c .before .before .before .before .before .before .before .before .before .before .before .before .tails-of .ensures) held in
-    let set = c .before .before .before .before .before .before .before .before .before .before .before .before .before .before .before .before .before .args .set in
-    let able = c .before .before .before .before .before .before .has-step .ensures (program .code) (start p) held in
-    let moved = c .before .friendly-move in
-    (hostile-can none, pass-won set p w (sym able ∙ c .before .before .before .before .before .if1 .left) (pass-hostile set p (moved .result) (moved .ensures (program .threads) p [] standing) (c .if3 .left)), refl)
+    let loaded = loaded-compiled program (c .before .before .before .before .before .before .before .before .before .before .before .before .before .before .before .before .before .before .before .before .before .before .before .before .before .before .before .before .before .before .before .before .pre) in
+    let standing = standing-start (program .code) (program .lengths) ((c .before .before .before .before .before .before .before .before .before .before .before .before .before .before .before .before .before .before .before .before .before .before .before .before .before .before .tails-of) .result) (program .threads) ((c .before .before .before .before .before .before .before .before .before .before .before .before .before .before .before .before .started) .result) p loaded ((c .before .before .before .before .before .before .before .before .before .before .before .before .before .before .before .before .before .before .before .before .before .before .before .before .before .before .tails-of) .ensures) ((c .before .before .before .before .before .before .before .before .before .before .before .before .before .before .before .before .started) .ensures .1 p loaded (starting-compiled program)) in (
+      (c .before .before .before .before .before .before .settled) .ensures .1 (program .threads) p
+          (playing-start _ _ _ _ (program .threads) _ _ _ _ p standing ((c .before .before .before .before .before .before .before .before .before .before .before .before .before .before .before .before .before .before .before .before .before .before .before .live-masks) .ensures) ((c .before .before .before .before .before .before .before .before .before .before .before .before .before .before .before .before .before .before .before .before .before .width) .ensures .1 (program .code) (program .lengths) (program .threads) p loaded ((c .before .before .before .before .before .before .before .before .before .before .before .before .before .before .before .before .before .before .before .before .before .before .before .live-masks) .ensures)) ((c .before .before .before .before .before .before .before .before .before .before .before .before .before .before .clear) .ensures .1)),
+      (c .before .before .clear2) .ensures .0 ∙ ap (λ (n : ℕ). replicate n 0) ((c .before .before .before .before .before .before .settled) .ensures .0 ∙ ap length ((c .before .before .before .before .before .before .before .before .before .before .before .before .before .before .clear) .ensures .0) ∙ length-replicate {A = ℕ} (length ((c .before .before .before .before .before .before .before .before .before .before .before .before .before .before .before .before .before .before .before .before .before .before .before .before .before .before .before .before .before .before .before .before .args) .table .now)) 0),
+    )
 
 pub decided-spec : {M : Type 1} → statement M
-decided-spec = tie.close (tie.spec tails-of-requires started-requires (λ c κs. search needs) least-winning-requires (λ c. search needs) returns returns-2 friendly-move-requires returns-3 returns-4)
+decided-spec = tie.close (tie.spec tails-of-requires (λ c κs. search needs) (λ c κs. search needs) (λ c κs. search needs) started-requires (λ c κs. search needs) settled-requires (λ c κs. search needs) (λ c. search needs) returns)

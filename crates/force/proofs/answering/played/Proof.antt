@@ -1,33 +1,33 @@
--- `played` asks for a violation first: where there is none the friendly side can force.
+-- `played` may ask the list first: where none of it fails the friendly side can force. Each call leaves zeros in the table.
 use borrow.Author.Needs.{needs}
-use native.Mathlib.Omega.{arith}
-use mathlib.Core.Path.{refl, sym, _∙_}
-use lib.ListN.{replicate}
-use Rattle.spec_file.proofs.AcceptedWellFormed.{accepted-well-formed}
+use borrow.Author.Tests.{not-true}
+use Prim.Native.Nat.{ℕ}
+use mathlib.Core.Path.{refl, sym, ap, _∙_}
+use lib.ListN.{length, replicate, length-replicate}
 use Rattle.file_decoder.specs.Compiled.{programOf}
+use Rattle.states_walk.proofs.FirstFound.{found-none}
 use Rattle.spec_force.specs.Forced.{friendly-can, friendly-forces}
 use Rattle.force.specs.Answered.{answerOf}
 use Rattle.force.proofs.Forcing.{no-violation}
 use Rattle.force.proofs.answering.played.Statement.{statement}
 use Rattle.force.proofs.answering.played.Tie as tie
 
-asserts-nothing-requires : tie.Need-asserts-nothing-requires
-asserts-nothing-requires c κs = let entry = c .before in accepted-well-formed (entry .args .file .now) (programOf (entry .args .program)) (entry .pre)
-
-decided-requires : tie.Need-decided-requires
-decided-requires c κs = let entry = c .before .before .before in accepted-well-formed (entry .args .file .now) (programOf (entry .args .program)) (entry .pre)
-
-decided-requires-2 : tie.Need-decided-requires-2
-decided-requires-2 c κs = let entry = c .before .before .before .before .before .before .before .before .before in accepted-well-formed (entry .args .file .now) (programOf (entry .args .program)) (entry .pre)
-
-decided-requires-3 : tie.Need-decided-requires-3
-decided-requires-3 c κs = let entry = c .before .before .before .before .before .before .before .before .before in accepted-well-formed (entry .args .file .now) (programOf (entry .args .program)) (entry .pre)
-
 returns-2 : tie.Need-returns-2
 unfolding answerOf
 returns-2 c =
-    let entry = c .before .before .before .before .before .before .before .before in
-    (friendly-can, friendly-forces (no-violation (entry .args .file .now) (programOf (entry .args .program)) (entry .pre) (entry .args .set) (replicate 24 0) (omega arith) (sym (c .before .before .before .violation .ensures .0) ∙ c .enum-told .given .1)), refl)
+    let entry = c .before .before .before .before .before .before .before .before .before in
+    let first = c .before .before .before .before .first-failing in
+    let none-fails = sym (found-none (first .result) (not-true _ (c .if2 .taken)) ∙ first .ensures .0 .1) in
+    ((friendly-can, friendly-forces (no-violation (entry .args .set) (programOf (entry .args .program)) (entry .pre) none-fails), refl), first .ensures .1)
+
+returns-3 : tie.Need-returns-3
+returns-3 c =
+    let table = c .before .before .before .before .before .before .before .before .before .before .before .before .before .args .table .now in
+    let first = c .before .before .before .before .before .before .before .before .first-failing in
+    let decided = c .before .before .decided2 in
+    (decided .ensures .0, decided .ensures .1 ∙ ap (λ (n : ℕ). replicate n 0) (ap length (first .ensures .1) ∙ length-replicate {A = ℕ} (length table) 0))
 
 pub played-spec : {M : Type 1} → statement M
-played-spec = tie.close (tie.spec asserts-nothing-requires decided-requires (λ c. c .decided .ensures) (λ c. search needs) (λ c κs. search needs) (λ c. search needs) (λ c. search needs) decided-requires-2 (λ c. search needs) decided-requires-3 returns-2 (λ c. c .decided2 .ensures) (λ c. c .decided3 .ensures))
+played-spec =
+    tie.close
+    (tie.spec (λ c κs. search needs) (λ c κs. search needs) (λ c. search needs) (λ c. search needs) (λ c κs. search needs) (λ c. search needs) returns-2 (λ c κs. search needs) (λ c. search needs) returns-3)

@@ -19,16 +19,19 @@ returns c =
     let e = first-none _ ((c .before .before .before .before .before .before .before .before .args) .out .now) (found-none (r .result) (not-true _ ((c .if1) .taken)) ∙ r .ensures .0 .1) in
     (e .0, (e .1, r .ensures .1))
 
-put-requires : tie.Need-put-requires
-put-requires c κs = ((c .before .before .before .before .before .before .first-failing) .ensures .0 .0, (c .before .before .before .before .before .before .before .before .before .before .pre) .1)
+put-front-requires : tie.Need-put-front-requires
+put-front-requires c κs =
+    let r = (c .before .before .before .before .before .before .before .first-failing) in
+    let size : length (r .result .schedule) ≡ 24 = search needs in
+    (omega (arith, r .ensures .0 .0, size), omega (arith, r .ensures .0 .0, (c .before .before .before .before .before .before .before .before .before .before .before .pre) .1))
 
 returns-2 : tie.Need-returns-2
 returns-2 c =
-    let r = (c .before .before .before .before .before .before .before .before .before .first-failing) in
+    let r = (c .before .before .before .before .before .before .before .before .before .before .first-failing) in
     let size : length (r .result .schedule) ≡ 24 = search needs in
-    let e = first-some _ ((c .before .before .before .before .before .before .before .before .before .before .before .before .before .args) .out .now) (take (r .result .steps) (r .result .schedule)) (r .result .steps) (found-some (r .result) (not-false _ ((c .before .before .before .before .before .if1) .left)) ∙ r .ensures .0 .1)
+    let e = first-some _ ((c .before .before .before .before .before .before .before .before .before .before .before .before .before .before .args) .out .now) (take (r .result .steps) (r .result .schedule)) (r .result .steps) (found-some (r .result) (not-false _ ((c .before .before .before .before .before .before .if1) .left)) ∙ r .ensures .0 .1)
     (length-take-le (r .result .steps) (r .result .schedule) (omega (arith, r .ensures .0 .0, size))) in
-    (e .0, ((c .before .before .put) .ensures ∙ e .1, r .ensures .1))
+    (e .0, ((c .before .before .put-front) .ensures ∙ e .1, r .ensures .1))
 
 pub first-by-states-spec : {M : Type 1} → statement M
-first-by-states-spec = tie.close (tie.spec first-failing-requires (λ c. search needs) returns put-requires (λ c. search needs) (λ c. search needs) returns-2)
+first-by-states-spec = tie.close (tie.spec first-failing-requires (λ c. search needs) returns (λ c. search needs) put-front-requires (λ c. search needs) (λ c. search needs) returns-2)

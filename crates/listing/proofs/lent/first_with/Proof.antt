@@ -8,7 +8,6 @@ use lib.ListN.{length}
 use borrow.Author.Tests.{lt-ltb, le-ltb}
 use Rattle.file_decoder.specs.Compiled.{programOf}
 use Rattle.spec_schedules.specs.Lists.{headOf}
-use Rattle.spec_schedules.specs.Order.{Schedule}
 use Rattle.spec_schedules.specs.Calls.{Answer, answerTo, short, content}
 use Rattle.spec_schedules.proofs.Offered.{content-refused}
 use Rattle.spec_calls.proofs.Answered.{answer-short}
@@ -39,8 +38,13 @@ first-by-states-requires c κs =
       subst (λ (m : Model). modelOf m .need ≤ length out) told (subst (λ (n : ℕ). n ≤ length out) ((c .before .before .before .before .before .width) .ensures) ((c .before .before .before .before .if1) .left)),
     )
 
-next-listed-requires : tie.Need-next-listed-requires
-next-listed-requires c κs = (c .before .before .before .before .before .before .before .before .before .before .before .before .pre)
+first-by-queues-requires : tie.Need-first-by-queues-requires
+first-by-queues-requires c κs =
+    let told = (c .before .before .enum-told2) .given .1 in
+    let out = (c .before .before .before .before .before .before .before .before .args) .out .now in (
+      subst (λ (m : Model). Admitted (modelOf m) (programOf ((c .before .before .before .before .before .before .before .before .args) .program))) told (c .before .before .before .before .before .before .before .before .pre),
+      subst (λ (m : Model). modelOf m .need ≤ length out) told (subst (λ (n : ℕ). n ≤ length out) ((c .before .before .before .before .before .width) .ensures) ((c .before .before .before .before .if1) .left)),
+    )
 
 returns-2 : tie.Need-returns-2
 returns-2 c =
@@ -50,21 +54,20 @@ returns-2 c =
     let r = (c .before .before .before .before .first-by-states) in
     let told = sym ((c .before .before .before .before .before .before .before .enum-told) .given .1) in
     let long : short (modelOf (args .model) .need) out ≡ false = le-ltb (length out) (modelOf (args .model) .need) (subst (λ (n : ℕ). n ≤ length out) ((c .before .before .before .before .before .before .before .before .before .before .width) .ensures) ((c .before .before .before .before .before .before .before .before .before .if1) .left)) in
-    let e : answerTo false (headOf (sought (modelOf (args .model)) true p)) ≡ answerTo (short (modelOf (args .model) .need) out) (headOf (sought (modelOf (args .model)) true p)) =
-    ap (λ (b : Bool). answerTo b (headOf (sought (modelOf (args .model)) true p))) (sym long) in
-    let q = ap (λ (m : Model). answerTo false (headOf (sought (modelOf m) true p))) told ∙ e in
+    let q = ap (λ (m : Model). answerTo false (headOf (sought (modelOf m) true p))) told ∙ ap (λ (b : Bool). answerTo b (headOf (sought (modelOf (args .model)) true p))) (sym long) in
     (r .ensures .0 ∙ ap listAnswerOf q, (r .ensures .1 .0 ∙ ap (λ (a : Answer). content a out) q, r .ensures .1 .1 ∙ ap (λ (b : Bool). cond b (args .scratch .now) (zeros (args .scratch .now))) (sym long)))
 
 returns-3 : tie.Need-returns-3
 returns-3 c =
-    let args = (c .before .before .before .before .before .before .before .before .before .before .before .before .before .before .before .args) in
+    let args = (c .before .before .before .before .before .before .before .before .before .before .before .before .before .args) in
     let out = args .out .now in
     let p = programOf (args .program) in
-    let r = (c .before .before .next-listed) in
-    let long : short (modelOf (args .model) .need) out ≡ false = le-ltb (length out) (modelOf (args .model) .need) (subst (λ (n : ℕ). n ≤ length out) ((c .before .before .before .before .before .before .before .before .before .before .before .before .width) .ensures) ((c .before .before .before .before .before .before .before .before .before .before .before .if1) .left)) in
-    let all = (c .before .before .before .before .beginning) .ensures (sought (modelOf (args .model)) true p) in
-    let q = ap (λ (l : List Schedule). answerTo (short (modelOf (args .model) .need) out) (headOf l)) all in
-    (r .ensures .0 ∙ ap listAnswerOf q, (r .ensures .1 ∙ ap (λ (a : Answer). content a out) q, (c .before .before .before .before .before .before .before .clear) .ensures .0 ∙ ap (λ (b : Bool). cond b (args .scratch .now) (zeros (args .scratch .now))) (sym long)))
+    let r = (c .before .before .before .before .first-by-queues) in
+    let told = sym ((c .before .before .before .before .before .before .before .enum-told2) .given .1) in
+    let long : short (modelOf (args .model) .need) out ≡ false = le-ltb (length out) (modelOf (args .model) .need) (subst (λ (n : ℕ). n ≤ length out) ((c .before .before .before .before .before .before .before .before .before .before .width) .ensures) ((c .before .before .before .before .before .before .before .before .before .if1) .left)) in
+    let q = ap (λ (m : Model). answerTo false (headOf (sought (modelOf m) true p))) told ∙ ap (λ (b : Bool). answerTo b (headOf (sought (modelOf (args .model)) true p))) (sym long) in
+    (r .ensures .0 ∙ ap listAnswerOf q, (r .ensures .1 .0 ∙ ap (λ (a : Answer). content a out) q, r .ensures .1 .1 ∙ ap (λ (b : Bool). cond b (args .scratch .now) (zeros (args .scratch .now))) (sym long)))
 
 pub first-with-spec : {M : Type 1} → statement M
-first-with-spec = tie.close (tie.spec (λ c κs. search needs) returns (λ c. search needs) first-by-states-requires (λ c. search needs) (λ c κs. search needs) (λ c κs. search needs) next-listed-requires (λ c. search needs) (λ c. search needs) returns-2 (λ c. search needs) (λ c. search needs) returns-3)
+first-with-spec =
+    tie.close (tie.spec (λ c κs. search needs) returns (λ c. search needs) first-by-states-requires (λ c. search needs) first-by-queues-requires (λ c. search needs) (λ c. search needs) returns-2 (λ c. search needs) (λ c. search needs) returns-3)

@@ -12,16 +12,16 @@ begun-requires c κs = (programOf ((c .before .before .before .before .before .b
 
 returns : tie.Need-returns
 returns c =
-    let program = (c .before .before .before .before .before .before .before .before .before .before .before .before .before .before .before .before .before .args) .program in
-    let loaded = loaded-compiled program (c .before .before .before .before .before .before .before .before .before .before .before .before .before .before .before .before .before .pre) in
-    let lines = lines-known program ((c .before .before .before .before .before .before .before .before .before .before .before .before .known-lines) .result) ((c .before .before .before .before .before .before .before .before .before .before .before .before .known-lines) .ensures .0) ((c .before .before .before .before .before .before .before .before .before .before .before .before .known-lines) .ensures .1) in record {
-      left = (c .before .before .before .before .before .before .before .before .before .left-sets) .ensures;
-      live = (c .before .before .before .before .before .before .live-masks) .ensures;
-      few = (c .before .before .before .before .width) .ensures .0;
-      wide = (c .before .before .before .before .width) .ensures .1 (program .code) (program .lengths) (program .threads) (programOf program) loaded ((c .before .before .before .before .before .before .live-masks) .ensures);
-      stands = (c .first-spot) .ensures (program .code) (program .lengths) ((c .before .before .before .before .before .before .before .before .before .before .before .before .known-lines) .result) (program .threads) (program .groups) (programOf program)
-          ((c .before .begun) .ensures ((c .before .before .before .before .before .before .before .before .before .before .before .before .known-lines) .result) (program .groups) (programOf program) loaded (starting-compiled program) lines);
+    let program = (c .before .before .before .before .before .before .before .before .before .before .before .before .before .before .before .before .before .before .before .args) .program in
+    let loaded = loaded-compiled program (c .before .before .before .before .before .before .before .before .before .before .before .before .before .before .before .before .before .before .before .pre) in
+    let lines = lines-known program ((c .before .before .before .before .before .before .before .before .before .before .before .before .before .before .known-lines) .result) ((c .before .before .before .before .before .before .before .before .before .before .before .before .before .before .known-lines) .ensures .0) ((c .before .before .before .before .before .before .before .before .before .before .before .before .before .before .known-lines) .ensures .1) in record {
+      left = (c .before .before .before .before .before .before .before .before .before .before .before .left-sets) .ensures;
+      live = (c .before .before .before .before .before .before .before .before .live-masks) .ensures;
+      few = (c .before .before .before .before .before .before .width) .ensures .0;
+      wide = (c .before .before .before .before .before .before .width) .ensures .1 (program .code) (program .lengths) (program .threads) (programOf program) loaded ((c .before .before .before .before .before .before .before .before .live-masks) .ensures);
+      stands = (c .before .before .first-spot) .ensures (program .code) (program .lengths) ((c .before .before .before .before .before .before .before .before .before .before .before .before .before .before .known-lines) .result) (program .threads) (program .groups) (programOf program)
+          ((c .before .before .before .begun) .ensures ((c .before .before .before .before .before .before .before .before .before .before .before .before .before .before .known-lines) .result) (program .groups) (programOf program) loaded (starting-compiled program) lines);
     }
 
 pub made-spec : {M : Type 1} → statement M
-made-spec = tie.close (tie.spec (λ c κs. search needs) (λ c κs. search needs) (λ c κs. search needs) (λ c κs. search needs) begun-requires (λ c κs. search needs) returns)
+made-spec = tie.close (tie.spec (λ c κs. search needs) (λ c κs. search needs) (λ c κs. search needs) (λ c κs. search needs) begun-requires (λ c κs. search needs) (λ c κs. search needs) returns)

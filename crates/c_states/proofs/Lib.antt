@@ -1,0 +1,3 @@
+-- The laws.
+-- what the answer to how many are smaller says
+pub mod Ranks

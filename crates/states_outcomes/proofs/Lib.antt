@@ -1,0 +1,11 @@
+-- The laws, in the order in which they rest on each other.
+-- the eight final values, one by one
+pub mod Values
+-- rows of outcomes: known, not known, one more
+pub mod Rows
+-- the words behind a place, lent as a part of all
+pub mod Parts
+-- the first word of a key with whether something failed
+pub mod Flags
+-- the first new outcome behind a prefix: with one next step, over the next steps in turn
+pub mod FirstNew

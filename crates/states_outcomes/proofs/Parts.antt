@@ -1,0 +1,43 @@
+-- The words behind a place, lent as a part of all and put back.
+use Prim.Native.Nat.{ℕ, _-_, _≤_}
+use mathlib.Core.Path.{_≡_, sym, ap, subst, _∙_}
+use mathlib.Core.Option.{Option, none, some, Option·none-ne-some}
+use mathlib.Core.List.{List, [], _++_, append-nil}
+use native.Mathlib.Omega.{arith}
+use lib.ListN.{length, take, drop, length-drop, drop-of-length-le}
+use lib.Seq.{take-all, drop-at, length-take-le}
+use borrow.Rule.Slice.PartMut.{midOf, putMid, same-len-mid, take-put}
+use Rattle.spec_file.specs.Program.{Program}
+use Rattle.table.specs.Said.{saidAt}
+use Rattle.table.specs.Places.{placeOf}
+use Rattle.table.specs.Answers.{Honest}
+use Rattle.theory_outcomes.proofs.Passing.{passes-nothing}
+use Rattle.states_outcomes.specs.declared.known.Frame.{Frame}
+use Rattle.states_outcomes.specs.Rows.{isNew}
+use Rattle.states_outcomes.specs.Swept.{Swept, Kept}
+
+pub rest-part : (cut : ℕ) (m : List ℕ) → midOf cut (length m - cut) m ≡ drop cut m
+rest-part cut m = take-all (length m - cut) (drop cut m) (simp length-drop (omega arith))
+
+pub rest-put : (cut : ℕ) (m ys : List ℕ) → cut ≤ length m → drop cut (putMid cut (length m - cut) m ys) ≡ ys
+rest-put cut m ys h =
+    let n : length (drop cut m) ≤ length m - cut = simp length-drop (omega arith) in
+    drop-at (take cut m) (ys ++ drop (length m - cut) (drop cut m)) cut (length-take-le cut m h)
+    ∙ ap (λ (p : List ℕ). ys ++ p) (drop-of-length-le (drop cut m) n) ∙ append-nil ys
+
+-- a part as long as it was leaves what stands before it
+pub rest-kept : (cut : ℕ) (m ys : List ℕ) → cut ≤ length m → length ys ≡ length (midOf cut (length m - cut) m) → Kept cut m (putMid cut (length m - cut) m ys)
+rest-kept cut m ys h n = (same-len-mid cut (length m - cut) m ys n, take-put cut (length m - cut) m ys h)
+
+-- what was put into the part was put into the words behind the place
+pub rest-honest : (slots cut : ℕ) (k m ys : List ℕ) → cut ≤ length m → Honest slots k [] (midOf cut (length m - cut) m) ys → Honest slots k [] (drop cut m) (drop cut (putMid cut (length m - cut) m ys))
+rest-honest slots cut k m ys h honest =
+    subst (λ (l : List ℕ). Honest slots k [] l (drop cut (putMid cut (length m - cut) m ys))) (rest-part cut m)
+    (subst (λ (l : List ℕ). Honest slots k [] (midOf cut (length m - cut) m) l) (sym (rest-put cut m ys h)) honest)
+
+-- a part that says nothing
+pub rest-silent : (cut : ℕ) (m ys : List ℕ) → cut ≤ length m → ((at width : ℕ) (k : List ℕ) → saidAt at width ys k ≡ none) → (p : Program) (f : Frame) (rows : List ℕ) → f .cut ≡ cut →
+    Swept p f rows (putMid cut (length m - cut) m ys)
+rest-silent cut m ys h silent p f rows e =
+    let d : drop (f .cut) (putMid cut (length m - cut) m ys) ≡ ys = ap (λ (i : ℕ). drop i (putMid cut (length m - cut) m ys)) e ∙ rest-put cut m ys h in
+    passes-nothing p (isNew rows (f .known)) (f .width) _ (λ k c s. Option·none-ne-some c (sym (ap (λ (l : List ℕ). saidAt (placeOf (f .slots) 0 k) 0 l k) d ∙ silent (placeOf (f .slots) 0 k) 0 k) ∙ s))

@@ -1,0 +1,1 @@
+// Who wins a game goes by what is seen of a state: definitions and laws; no functions.
