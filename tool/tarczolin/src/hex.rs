@@ -12,6 +12,11 @@ pub fn line(frame: &[u8]) -> String {
     digits(frame) + "\n"
 }
 
+/// Puts the digits of these bytes behind a text.
+pub fn put(text: &mut Vec<u8>, bytes: &[u8]) {
+    text.extend(bytes.iter().flat_map(|b| [DIGITS[(b >> 4) as usize], DIGITS[(b & 15) as usize]]));
+}
+
 /// The value of one digit.
 pub fn value(digit: u8) -> Option<u8> {
     match digit {

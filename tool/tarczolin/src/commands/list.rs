@@ -19,8 +19,11 @@ fn listed(question: &Question, piece: &Piece) -> Result<End, Error> {
     let list = piece.list(List::of(&source, true))?;
     let mut out = output::standard();
     let headed = if question.json { Ok(()) } else { out.write_all(question.heading().as_bytes()) };
+    let mut lines = Vec::new();
     let found = piece::walk(&list, piece.jobs, piece.memory, |part| {
-        part.listed.iter().try_for_each(|listed| out.write_all(line(question, listed).as_bytes()))
+        lines.clear();
+        part.listed.iter().for_each(|listed| put_line(question, listed, &mut lines));
+        out.write_all(&lines)
     });
     let Found { counts, cut, .. } = found;
     let written = headed.and(found.written.as_ref().map_or(Ok(()), |error| Err(io::Error::from(error.kind()))));
@@ -42,12 +45,16 @@ fn refused(question: &Question, error: &Error) {
     }
 }
 
-/// The line of a listed schedule.
-fn line(question: &Question, listed: &Listed) -> String {
+/// Puts the line of a listed schedule behind others.
+fn put_line(question: &Question, listed: &Listed, lines: &mut Vec<u8>) {
     if question.json {
-        return question.object([("schedule", listed.schedule.to_string().into()), ("fails", listed.fails.into())]);
+        let object = question.object([("schedule", listed.schedule.to_string().into()), ("fails", listed.fails.into())]);
+        lines.extend(object.as_bytes());
+        return;
     }
-    hex::line(&[&[0x50, listed.fails as u8], &listed.schedule[..]].concat())
+    hex::put(lines, &[0x50, listed.fails as u8]);
+    hex::put(lines, &listed.schedule);
+    lines.push(b'\n');
 }
 
 /// The line of the counts.
