@@ -123,9 +123,10 @@ impl Rows {
     }
 }
 
-/// The first listed schedule that fails, or none. States are remembered in the scratch.
+/// The first listed schedule that fails, or none. States are remembered in the scratch; with none the list is walked.
 pub fn violation(model: Model, file: &[u8], scratch: &mut [u64]) -> Result<Option<Schedule>, Refusal> {
     schedule(|out| match model {
+        Model::Sc if scratch.is_empty() => library::violation(file, out),
         Model::Sc => library::violation_with(file, out, scratch),
         Model::Tso => tso::violation_with(file, out, scratch),
     })
@@ -134,6 +135,7 @@ pub fn violation(model: Model, file: &[u8], scratch: &mut [u64]) -> Result<Optio
 /// The same, in memory that another thread may look at.
 pub fn violation_in(model: Model, file: &[u8], scratch: &Scratch) -> Result<Option<Schedule>, Refusal> {
     schedule(|out| match model {
+        Model::Sc if scratch.words() == 0 => library::violation(file, out),
         Model::Sc => scratch.violation(file, out),
         Model::Tso => scratch.tso_violation(file, out),
     })
@@ -144,17 +146,19 @@ pub fn count_in(model: Model, file: &[u8], scratch: &Scratch) -> Result<Counts, 
     let mut counts = Counts::default();
     let Counts { listed, failing } = &mut counts;
     length(match model {
+        Model::Sc if scratch.words() == 0 => library::count(file, listed, failing),
         Model::Sc => scratch.count(file, listed, failing),
         Model::Tso => scratch.tso_count(file, listed, failing),
     })?;
     Ok(counts)
 }
 
-/// How many schedules are listed, and how many of these fail. States are remembered in the scratch.
+/// How many schedules are listed, and how many of these fail. States are remembered in the scratch; with none the list is walked.
 pub fn count(model: Model, file: &[u8], scratch: &mut [u64]) -> Result<Counts, Refusal> {
     let mut counts = Counts::default();
     let Counts { listed, failing } = &mut counts;
     length(match model {
+        Model::Sc if scratch.is_empty() => library::count(file, listed, failing),
         Model::Sc => library::count_with(file, listed, failing, scratch),
         Model::Tso => tso::count_with(file, listed, failing, scratch),
     })?;

@@ -5,6 +5,8 @@ use crate::program::{Instruction, Program};
 use std::ffi::OsStr;
 use tarczolin_sys::Scratch;
 
+/// A list of so few accesses under sequential consistency is sooner walked.
+const FEW: usize = 8;
 /// At most so many bytes where nothing else is said.
 const MOST: usize = 16 << 20;
 /// So many words for each way in which the threads can stand at their accesses: sixteen states with keys of the greatest width.
@@ -28,9 +30,13 @@ impl Memory {
         bytes.map(|bytes| Memory(bytes / 8)).ok_or_else(wrong)
     }
 
-    /// No more words than can be of use for a program, so that clearing them costs a small one nothing. Under total store order a thread
-    /// stands at an access, and some of its stores are in memory.
+    /// No more words than can be of use for a program: none where its list is sooner walked than its states are remembered, and else so
+    /// many that clearing them costs nothing. Under total store order a thread stands at an access, and some of its stores are in memory.
     pub fn words(self, model: Model, program: &Program) -> usize {
+        let accesses = program.threads.iter().flatten().filter(|i| i.access().is_some()).count();
+        if model == Model::Sc && accesses <= FEW {
+            return 0;
+        }
         let stands = |code: &Vec<Instruction>| {
             let accesses = code.iter().filter(|i| i.access().is_some()).count();
             let stores = code.iter().filter(|i| matches!(i, Instruction::Store { .. })).count();
@@ -77,13 +83,13 @@ mod tests {
 
     #[test]
     fn by_the_accesses() {
-        let one = program("01 20000000000001 ");
-        let four = program("01 110000 110000 01 110000 01 ");
+        let few = program(&format!("01 {}", "110000 ".repeat(4)).repeat(2));
+        let nine = program(&format!("01 {}", "110000 ".repeat(3)).repeat(3));
         let most = program(&format!("01 {}", "110000 ".repeat(4)).repeat(6));
         let all = Memory::default();
-        assert_eq!([&one, &four, &most].map(|program| all.lent(Model::Sc, program).len()), [320, 6 * 320, MOST / 8]);
+        assert_eq!([&few, &nine, &most].map(|program| all.lent(Model::Sc, program).len()), [0, 64 * 320, MOST / 8]);
         let stored = program("01 10000000000001 110000 01 110000 ");
-        assert_eq!([Model::Sc, Model::Tso].map(|model| all.lent(model, &stored).len()), [6 * 320, 12 * 320]);
+        assert_eq!([Model::Sc, Model::Tso].map(|model| all.lent(model, &stored).len()), [0, 12 * 320]);
         assert_eq!(Memory::of_word("--memory", OsStr::new("1001")).unwrap().lent(Model::Sc, &most).len(), 125);
         assert_eq!(Memory::of_word("--memory", OsStr::new("0")).unwrap().lent(Model::Sc, &most).len(), 0);
         assert!(Memory::of_word("--memory", OsStr::new("16M")).is_err());

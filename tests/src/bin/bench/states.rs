@@ -15,6 +15,9 @@ const SLOTS: usize = 1 << 16;
 
 /// The numbers of a file by the library, with this scratch.
 fn counted(file: &[u8], scratch: &mut [u64]) -> (u64, u64) {
+    if scratch.is_empty() {
+        return walked(file);
+    }
     let (mut listed, mut failing) = (0, 0);
     assert_eq!(count_with(black_box(file), &mut listed, &mut failing, scratch), Answer::Answered(0));
     (listed, failing)
@@ -100,8 +103,12 @@ fn beside_the_walk(name: &str, files: &[Vec<u8>], rounds: usize, words: fn(&[u8]
 
 /// As much memory as the command lends: sixteen states of the widest key for each way in which the threads can stand at their accesses.
 fn as_lent(file: &[u8]) -> usize {
-    let accesses = |code: &Vec<Instruction>| 1 + code.iter().filter(|instruction| instruction.is_access()).count();
-    decode(file).unwrap().threads.iter().map(accesses).product::<usize>().saturating_mul(320).min(2 << 20)
+    let accesses = |code: &Vec<Instruction>| code.iter().filter(|instruction| instruction.is_access()).count();
+    let threads: Vec<usize> = decode(file).unwrap().threads.iter().map(accesses).collect();
+    if threads.iter().sum::<usize>() <= 8 {
+        return 0;
+    }
+    threads.iter().map(|accesses| 1 + accesses).product::<usize>().saturating_mul(320).min(2 << 20)
 }
 
 /// A ring: each thread stores to a location of its own and loads its neighbour's, twice.
