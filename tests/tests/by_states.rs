@@ -211,7 +211,7 @@ fn random_programs_under_tso() {
     let mut random = Random::new(96);
     let mut scratches = Scratches::new(&mut random);
     let (mut alike, mut failing, mut long, mut listed) = (0, 0, 0, 0);
-    for k in 0..share::of(10_000) {
+    for k in 0..share::of(20_000) {
         let file = text(&frames_parted(&mut random, TSO_SIZES[k % TSO_SIZES.len()]));
         let program = decode(&file).expect("accepted");
         let list = list_within(&program, 20_000);
@@ -222,7 +222,7 @@ fn random_programs_under_tso() {
         long += (asked.counts.0 > 20) as usize;
         scratches.hold(&UNDER_TSO, &mut random, &file, &Ok(asked), k % 40 == 0);
     }
-    let enough = alike > 3_000 && failing > 1_500 && long > 20 && listed > 3_000;
+    let enough = alike > 6_000 && failing > 2_500 && long > 20 && listed > 15_000;
     assert!(!share::whole() || enough, "{alike} alike, {failing} fail, {long} long, {listed} listed by brute force");
 }
 
