@@ -7,7 +7,7 @@ import unittest
 from ctypes import byref, c_uint64
 
 from here import ROOT
-from tarczolin._library import ANSWERED, REFUSED, SECOND_REFUSED, call, room
+from tarczolin._library import ANSWERED, REFUSED, SECOND_REFUSED, call, room, scratch
 
 HEX = r'(?:[0-9a-f]{2})+(?: (?:[0-9a-f]{2})+)*'
 FILE = rf'on (?P<file>{HEX})'
@@ -15,8 +15,10 @@ STEPS = rf'(?:{HEX}|no steps)'
 # what a remark asks, and the call that answers it
 ASKED = [
     (rf'{FILE}, (?:tarczolin_)?check [^;]*; right is (?P<right>.*)', 'check'),
-    (rf'{FILE}, (?:count(?: with a scratch)? (?:answers|leaves)|tarczolin_count_with (?:answers|stores)|\d+ (?:is|are) listed)[^;]*; right is (?P<right>.*)',
-     'count'),
+    (rf'{FILE}, (?:count(?: with a scratch)? (?:answers|leaves)|tarczolin_(?:tso_)?count_with (?:answers|stores)|counting by keys answers|'
+     r'\d+ (?:is|are) listed)[^;]*; right is (?P<right>.*)', 'count'),
+    (rf'{FILE}, (?:tarczolin_kth answers [^;]* to|the member number) (?P<k>\d+)[^;]*; right is (?P<right>.*)', 'kth'),
+    (rf'{FILE}, (?:tarczolin_rank of|the number of) (?P<steps>{STEPS}) (?:stores|is) [^;]*; right is (?P<right>.*)', 'rank'),
     (rf'{FILE}, violation(?: with a scratch)? answers [^;]*; right is (?P<right>.*)', 'violation'),
     (rf'{FILE}, start answers [^;]*; right is (?P<right>.*)', 'start'),
     (rf'{FILE}, continue from (?P<steps>{STEPS}) answers [^;]*; right is (?P<right>.*)', 'continue'),
@@ -24,8 +26,8 @@ ASKED = [
     (rf'{FILE} (?:by|and the schedule) (?P<steps>{STEPS}), (?:class_size answers|the class has|the class call answers|tarczolin_class answers)[^;]*; right is (?P<right>.*)',
      'class'),
     (rf'{FILE} and the graph (?P<text>{HEX}|of no lines), (?:the )?(?:judge answers|answer is)[^;]*; right is (?P<right>.*)', 'judge'),
-    (rf'{FILE} by the set (?P<set>[0-9a-f]{{2}}), force answers [^;]*; right is (?P<right>.*)', 'force'),
-    (rf'{FILE} and (?P<second>{HEX}), covers answers [^;]*; right is (?P<right>.*)', 'covers'),
+    (rf'{FILE} by the set (?P<set>[0-9a-f]{{2}}), (?:force(?:_with)? answers|the answer would be) [^;]*; right is (?P<right>.*)', 'force'),
+    (rf'{FILE} and (?P<second>{HEX}), (?:tarczolin_covers_with|covers) answers [^;]*; right is (?P<right>.*)', 'covers'),
     (rf'{FILE}, robust answers [^;]*; right is (?P<right>.*)', 'robust'),
     (rf'{FILE}, the schedule (?P<steps>{STEPS}) is (?:not )?found; right is (?P<right>.*)', 'listed'),
 ]
@@ -45,7 +47,7 @@ def told(schedule):
     length = str(len(schedule))
     if not schedule:
         return {'a schedule of no steps', 'no steps', 'yes with no steps', "the second's of none", length}
-    return {schedule.hex(' '), f'yes with {schedule.hex(" ")}', f'the schedule {schedule.hex(" ")}', length}
+    return {schedule.hex(' '), f'kind 1 with length {length}', f'yes with {schedule.hex(" ")}', f'the schedule {schedule.hex(" ")}', length}
 
 
 def refused(answer):
@@ -81,6 +83,12 @@ def right(asked, found, tso):
     file, out = text(found['file']), room(512)
     if asked == 'count':
         return counted(tso, file)
+    if asked == 'kth':
+        return schedule_of(call('kth', file, int(found['k']), out, scratch(64)), out, 'no more')
+    if asked == 'rank':
+        number = c_uint64()
+        answer = call('rank', file, steps(found['steps']), byref(number), scratch(64))
+        return refused(answer) if answer.kind == REFUSED else {str(number.value)}
     if asked == 'check':
         answer = call('check', file)
         return refused(answer) if answer.kind == REFUSED else {'accepted', f'kind {answer.kind} with length {answer.value}'}
@@ -126,11 +134,11 @@ class Edits(unittest.TestCase):
                 continue
             crate = path.parts[-3]
             flushes = any(byte >= 16 for byte in steps(found[1].groupdict().get('steps') or 'no steps'))
-            tso = 'tso_' if flushes or '_tso' in crate or crate.startswith('tso_') else ''
+            tso = 'tso_' if flushes or '_tso' in crate or crate.startswith('tso_') or 'tso_count_with' in remark else ''
             with self.subTest(path=str(path.relative_to(ROOT)), remark=remark):
                 self.assertIn(found[1]['right'], right(found[0], found[1], tso))
             asked += 1
-        self.assertGreater(asked, 120, f'{passed_over} passed over')
+        self.assertGreater(asked, 210, f'{passed_over} passed over')
 
 
 if __name__ == '__main__':
