@@ -65,7 +65,11 @@ impl Places {
         let mut finder = Finder::of(&list, memory);
         let mut piece = List { ..list };
         if let Some(front) = self.from.checked_sub(1).filter(|front| *front > 0) {
-            match finder.at(&list, front)? {
+            let last = finder.at(&list, front)?;
+            if last.is_none() || finder.at(&list, self.from)?.is_none() {
+                output::tell(&format!("the list has no place {}: it is shorter", self.from));
+            }
+            match last {
                 Some(last) => piece.after = Some(last),
                 None => return Ok(list.none()),
             }
