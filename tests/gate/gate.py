@@ -310,7 +310,8 @@ QUICK = (samples, every_crate_is_listed, only_laws, claimed_and_believed, arrows
 CHECKS = (*QUICK, formatting, rust_formatting, proofs, reasons, rust_tests, python_tests, rust_lints, browser, slurm, validator)
 
 def main(quick):
-    os.environ.setdefault('RT_JOBS', '2')
+    # rt waits for the slowest of each batch: with one more than two cores carry, none of them stands idle at a batch's end
+    os.environ.setdefault('RT_JOBS', '3')
     os.environ.update(OWN)
     for name in NOT_TAKEN:
         os.environ.pop(name, None)
