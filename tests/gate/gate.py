@@ -190,10 +190,6 @@ def edits(tally):
         why = must_fail.without_input(text) or must_fail.misplaced(text, lambda file: read(edit.parents[1] / file))
         if why:
             tally.fail(f'must-fail {edit.parts[-3]}/{edit.stem}: {why}')
-    for crate in sorted({edit.parts[-3] for edit in found}):
-        number = sum(edit.parts[-3] == crate for edit in found)
-        if number % 2 == 1:  # rt tries them in pairs, through all crates in order, and the slower of a pair is waited for
-            tally.note(f'{crate} has {number} edits: every pair behind it may be of two crates; one more edit is cheaper than that')
 
 
 def reasons(tally):
