@@ -6,8 +6,8 @@ use Rattle.spec_model.specs.Laws.{Admitted}
 use Rattle.spec_model.specs.Answers.{countOf}
 use Rattle.listing_model.specs.declared.memory.Model.{Model}
 use Rattle.listing_model.specs.ModelOf.{modelOf}
-use Rattle.listing.proofs.lent.counts_with.Statement.{statement}
-use Rattle.listing.proofs.lent.counts_with.Tie as tie
+use Rattle.states_call.proofs.lent.counts_with.Statement.{statement}
+use Rattle.states_call.proofs.lent.counts_with.Tie as tie
 
 counted-requires : tie.Need-counted-requires
 counted-requires c κs = subst (λ (m : Model). Admitted (modelOf m) (programOf ((c .before .before .before .before .args) .program))) ((c .before .enum-told) .given .1) (c .before .before .before .before .pre) .0

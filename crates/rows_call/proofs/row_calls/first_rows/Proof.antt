@@ -12,9 +12,9 @@ use Rattle.spec_file.specs.Decode.{decode}
 use Rattle.spec_model.specs.OnFile.{admit}
 use Rattle.file_decoder.proofs.Said.{answer-refused, answer-accepted}
 use Rattle.listing_replay.proofs.ListedProgram.{answer-listed}
-use Rattle.listing.proofs.RowsAnswered.{rows-refused, rows-paged}
-use Rattle.listing.proofs.row_calls.first_rows.Statement.{statement}
-use Rattle.listing.proofs.row_calls.first_rows.Tie as tie
+use Rattle.rows_call.proofs.RowsAnswered.{rows-refused, rows-paged}
+use Rattle.rows_call.proofs.row_calls.first_rows.Statement.{statement}
+use Rattle.rows_call.proofs.row_calls.first_rows.Tie as tie
 
 next-page-requires : tie.Need-next-page-requires
 next-page-requires c κs =

@@ -12,12 +12,12 @@ use Rattle.spec_model.specs.Search.{sought}
 use Rattle.listing_model.specs.ModelOf.{modelOf}
 use Rattle.listing_model.proofs.ModelLaws.{model-laws}
 use Rattle.file_decoder.proofs.Said.{answer-refused, answer-accepted}
 use Rattle.listing.specs.AnswerOf.{violationAnswerOf}
 use Rattle.listing_replay.proofs.ListedProgram.{answer-listed}
 use Rattle.listing.proofs.FileCalls.{violation-refused, violation-answer, violation-output}
-use Rattle.listing.proofs.LentCalls.{violation-kept, violation-zeros}
-use Rattle.listing.proofs.lent.violation_with.Statement.{statement}
-use Rattle.listing.proofs.lent.violation_with.Tie as tie
+use Rattle.states_call.proofs.LentCalls.{violation-kept, violation-zeros}
+use Rattle.states_call.proofs.lent.violation_with.Statement.{statement}
+use Rattle.states_call.proofs.lent.violation_with.Tie as tie
 
 first-with-requires : tie.Need-first-with-requires
 first-with-requires c κs = answer-listed (modelOf ((c .before .before .before .before .before .before .before .before .before .args) .model)) (model-laws ((c .before .before .before .before .before .before .before .before .before .args) .model)) ((c .before .before .before .before .before .admitted) .result) ((c .before .before .before .before .before .before .before .before .before .args) .file .now) ((c .before .before .before .before .before .admitted) .ensures) ((c .before .before .before .enum-told) .given .1)

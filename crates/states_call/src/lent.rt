@@ -1,9 +1,9 @@
 // Count and violation with a lent scratch, by states. However long the scratch is and whatever it holds, they answer the same.
-use crate::calling::ListAnswer;
-use crate::counting::CountAnswer;
-use crate::counting::Tally;
 use file_decoder::Compiled;
 use file_rows::put_front;
+use listing::CountAnswer;
+use listing::ListAnswer;
+use listing::Tally;
 use listing_model::Model;
 use listing_model::width;
 use listing_replay::admitted;

@@ -7,10 +7,10 @@ use Rattle.listing_model.specs.ModelOf.{modelOf}
 use Rattle.listing_model.proofs.ModelLaws.{model-laws}
 use Rattle.file_decoder.proofs.Said.{answer-refused, answer-accepted}
 use Rattle.listing_replay.proofs.ListedProgram.{answer-listed}
 use Rattle.listing.proofs.CountCalled.{count-refused, count-answered}
-use Rattle.listing.proofs.LentCalls.{count-kept, count-zeros}
-use Rattle.listing.proofs.lent.count_with.Statement.{statement}
-use Rattle.listing.proofs.lent.count_with.Tie as tie
+use Rattle.states_call.proofs.LentCalls.{count-kept, count-zeros}
+use Rattle.states_call.proofs.lent.count_with.Statement.{statement}
+use Rattle.states_call.proofs.lent.count_with.Tie as tie
 
 counts-with-requires : tie.Need-counts-with-requires
 counts-with-requires c κs = answer-listed (modelOf ((c .before .before .before .before .before .before .before .args) .model)) (model-laws ((c .before .before .before .before .before .before .before .args) .model)) ((c .before .before .before .before .admitted) .result) ((c .before .before .before .before .before .before .before .args) .file .now) ((c .before .before .before .before .admitted) .ensures) ((c .before .before .enum-told) .given .1)

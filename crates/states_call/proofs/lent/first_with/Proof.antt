@@ -16,9 +16,9 @@ use Rattle.spec_model.specs.Laws.{Admitted}
 use Rattle.spec_model.specs.Search.{sought}
 use Rattle.listing_model.specs.declared.memory.Model.{Model}
 use Rattle.listing_model.specs.ModelOf.{modelOf}
 use Rattle.listing.specs.AnswerOf.{listAnswerOf}
-use Rattle.listing.proofs.lent.first_with.Statement.{statement}
-use Rattle.listing.proofs.lent.first_with.Tie as tie
+use Rattle.states_call.proofs.lent.first_with.Statement.{statement}
+use Rattle.states_call.proofs.lent.first_with.Tie as tie
 
 returns : tie.Need-returns
 unfolding listAnswerOf
