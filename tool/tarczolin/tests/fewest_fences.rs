@@ -2,7 +2,6 @@
 //! by a machine that has fences of its own.
 mod common;
 #[path = "common/fenced.rs"]
-#[allow(dead_code, reason = "not every test file uses all of it")]
 mod fenced;
 
 use common::json::{fits_the_schema, parse, Value};

@@ -1,5 +1,6 @@
 //! Random programs with fences in the text form, and a machine that has fences of its own: a fence steps when the own queue is empty, and does
 //! nothing else. What the command answers is compared with it.
+#![allow(dead_code, reason = "not every test file uses all of it")]
 use std::collections::{BTreeSet, HashSet};
 use tarczolin_tests::random::Random;
 
