@@ -7,6 +7,8 @@ pub mod StoreOrder
 pub mod SameOutcome
 -- outcomes looked for in the list: some listed schedule has this one, and the first that another program lacks
 pub mod Attained
+-- the answer to two files worked out
+pub mod AnswerBy
 -- robust: the same graphs, so the same outcomes
 pub mod Robust
 -- exchanging alike threads keeps a graph consistent, so that the listed schedules speak for all

@@ -1,6 +1,6 @@
 -- Every two bytes, two files and room have exactly one answer: what is found in the second's list is one, and every one is what is found.
 use Prim.Native.Nat.{ℕ, zero, suc, _<_, _≤_}
-use mathlib.Core.Path.{_≡_, refl, sym, ap, subst, _∙_}
+use mathlib.Core.Path.{_≡_, refl, sym, ap, ap₂, subst, _∙_}
 use mathlib.Core.Logic.{_↔_}
 use mathlib.Core.Bool.{cond}
 use mathlib.Core.Option.{Option, none, some}
@@ -20,24 +20,12 @@ use Rattle.spec_tso.proofs.Laws.{tso-laws}
 use Rattle.spec_covers.specs.Answer.{Answer, covered, lacking, first-refused, second-refused, output-refused}
 use Rattle.spec_across.specs.Under.{CoversUnder}
 use Rattle.spec_across.specs.ModelsCall.{modelNamed, Admits, ModelsCompared, by-model, by-other-model, by-first, by-second, by-output, covering, exceeding}
+use Rattle.spec_across.proofs.AnswerBy.{answerBy, answerAgainst, answerOn, on-refused, on-accepted, against-refused, against-short, against-long}
 use Rattle.spec_across.proofs.Attained.{firstLacking, none-covers, some-first, covers-none, first-some}
 
 pub named-laws : (m : ℕ) → Laws (modelNamed m)
 named-laws zero = sc-laws
 named-laws (suc m) = tso-laws
-
--- the answer by what is found, and by what the files are read as
-unfoldable pub answerBy : Option Schedule → Answer
-answerBy none = covered
-answerBy (some s) = lacking s
-
-unfoldable pub answerAgainst : (m n : ℕ) → Program → Decoded → ℕ → Answer
-answerAgainst m n p (accepted q) room = cond (ltb room 48) (output-refused 22 0) (answerBy (firstLacking (modelNamed m) p (modelNamed n) q))
-answerAgainst m n p (refused i k) room = second-refused i k
-
-unfoldable pub answerOn : (m n : ℕ) → Decoded → Decoded → ℕ → Answer
-answerOn m n (accepted p) d room = answerAgainst m n p d room
-answerOn m n (refused i k) d room = first-refused i k
 
 module _ (m : ℕ) (first : List ℕ) (n : ℕ) (second : List ℕ) (room : ℕ) where
   abbrev C : Answer → Type 0
@@ -45,7 +33,7 @@ module _ (m : ℕ) (first : List ℕ) (n : ℕ) (second : List ℕ) (room : ℕ)
 
   unfoldable pub answerOf : Answer
   answerOf =
-      cond (ltb m 2) (cond (ltb n 2) (answerOn m n (admit (modelNamed m) (decode first)) (admit (modelNamed n) (decode second)) room) (output-refused 49 1))
+      cond (ltb m 2) (cond (ltb n 2) (answerOn 48 (modelNamed m) (modelNamed n) (admit (modelNamed m) (decode first)) (admit (modelNamed n) (decode second)) room) (output-refused 49 1))
       (output-refused 49 0)
 
   pub not-named : 2 ≤ m → answerOf ≡ output-refused 49 0
@@ -56,35 +44,35 @@ module _ (m : ℕ) (first : List ℕ) (n : ℕ) (second : List ℕ) (room : ℕ)
   unfolding answerOf
   other-not-named h k = rw (lt-ltb m 2 h, le-ltb n 2 k)
 
+  abbrev D : Decoded
+  D = admit (modelNamed m) (decode first)
+
+  abbrev E : Decoded
+  E = admit (modelNamed n) (decode second)
+
+  pub both-named : m < 2 → n < 2 → answerOf ≡ answerOn 48 (modelNamed m) (modelNamed n) D E room
+  unfolding answerOf
+  both-named h k = rw (lt-ltb m 2 h, lt-ltb n 2 k)
+
   module _ (h : m < 2) (k : n < 2) where
-    both-named : answerOf ≡ answerOn m n (admit (modelNamed m) (decode first)) (admit (modelNamed n) (decode second)) room
-    unfolding answerOf
-    both-named = rw (lt-ltb m 2 h, lt-ltb n 2 k)
+    answer-first : (i j : ℕ) → D ≡ refused i j → answerOf ≡ first-refused i j
+    answer-first i j e = both-named h k ∙ ap (λ (d : Decoded). answerOn 48 (modelNamed m) (modelNamed n) d E room) e ∙ on-refused 48 (modelNamed m) (modelNamed n) i j E room
 
-    pub answer-first : (i j : ℕ) → admit (modelNamed m) (decode first) ≡ refused i j → answerOf ≡ first-refused i j
-    unfolding answerOn
-    answer-first i j e = both-named ∙ ap (λ (d : Decoded). answerOn m n d (admit (modelNamed n) (decode second)) room) e
+    module _ (p : Program) (e : D ≡ accepted p) (d : Decoded) (f : E ≡ d) where
+      read : answerOf ≡ answerAgainst 48 (modelNamed m) (modelNamed n) p d room
+      read =
+          both-named h k ∙ ap₂ (λ (x y : Decoded). answerOn 48 (modelNamed m) (modelNamed n) x y room) e f
+          ∙ on-accepted 48 (modelNamed m) (modelNamed n) p room d
 
-    module _ (p : Program) (e : admit (modelNamed m) (decode first) ≡ accepted p) where
-      one-read : answerOf ≡ answerAgainst m n p (admit (modelNamed n) (decode second)) room
-      unfolding answerOn
-      one-read = both-named ∙ ap (λ (d : Decoded). answerOn m n d (admit (modelNamed n) (decode second)) room) e
-
-      pub answer-second : (i j : ℕ) → admit (modelNamed n) (decode second) ≡ refused i j → answerOf ≡ second-refused i j
-      unfolding answerAgainst
-      answer-second i j f = one-read ∙ ap (λ (d : Decoded). answerAgainst m n p d room) f
+    answer-second : (p : Program) → D ≡ accepted p → (i j : ℕ) → E ≡ refused i j → answerOf ≡ second-refused i j
+    answer-second p e i j f = read p e (refused i j) f ∙ against-refused 48 (modelNamed m) (modelNamed n) p room i j
 
   module _ (p q : Program) (a : Admits m first n second p q) where
-    both-read : answerOf ≡ answerAgainst m n p (accepted q) room
-    both-read = one-read (a .named) (a .named-too) p (a .one) ∙ ap (λ (d : Decoded). answerAgainst m n p d room) (a .other)
+    answer-short : room < 48 → answerOf ≡ output-refused 22 0
+    answer-short h = read (a .named) (a .named-too) p (a .one) (accepted q) (a .other) ∙ against-short 48 (modelNamed m) (modelNamed n) p room q h
 
-    pub answer-short : room < 48 → answerOf ≡ output-refused 22 0
-    unfolding answerAgainst
-    answer-short h = both-read ∙ rw (lt-ltb room 48 h)
-
-    pub answer-long : 48 ≤ room → answerOf ≡ answerBy (firstLacking (modelNamed m) p (modelNamed n) q)
-    unfolding answerAgainst
-    answer-long h = both-read ∙ rw (le-ltb room 48 h)
+    answer-long : 48 ≤ room → answerOf ≡ answerBy (firstLacking (modelNamed m) p (modelNamed n) q)
+    answer-long h = read (a .named) (a .named-too) p (a .one) (accepted q) (a .other) ∙ against-long 48 (modelNamed m) (modelNamed n) p room q h
 
     lists : Admitted (modelNamed m) p
     lists = listed-program (modelNamed m) (named-laws m) first p (a .one)
