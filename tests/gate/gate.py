@@ -11,6 +11,8 @@ import re
 import shutil
 import subprocess
 import sys
+import tempfile
+from contextlib import contextmanager
 from pathlib import Path
 
 sys.dont_write_bytecode = True
@@ -28,6 +30,8 @@ import printed  # noqa: E402
 ROOT = Path(__file__).resolve().parents[2]
 TARGET = ROOT / 'target'
 PINS = Path(__file__).with_name('pins.txt')
+# a folder in memory, and the bytes that it must have free
+MEMORY, ROOM = Path('/dev/shm'), 4 << 30
 CARGO_TEST = ['cargo', 'test', '--release', '--offline', '--locked', '--no-fail-fast', '--workspace']
 FUNCTION = re.compile(r'^\s*(?:pub(?:\([^)]*\))? +)?(?:extern "C" +)?fn ', re.M)
 # the gate's own length and seed of the fuzzing, whatever the caller's environment says; every case of every test
@@ -81,6 +85,25 @@ def run(words):
     except OSError as error:
         print(f'gate: {error}', flush=True)
         return 127, lines
+
+
+@contextmanager
+def in_memory():
+    """Has rt keep what it writes for a while in memory, where there is such a folder: each check copies thousands of small files."""
+    kept = os.environ.get('TMPDIR')
+    state = os.statvfs(MEMORY) if os.access(MEMORY, os.W_OK) else None
+    if state is None or state.f_flag & os.ST_NOEXEC or state.f_bavail * state.f_frsize < ROOM:
+        yield
+        return
+    with tempfile.TemporaryDirectory(dir=MEMORY) as folder:
+        os.chmod(folder, 0o755)  # rt runs a program as nobody, below it
+        os.environ['TMPDIR'] = folder
+        try:
+            yield
+        finally:
+            os.environ.pop('TMPDIR')
+            if kept is not None:
+                os.environ['TMPDIR'] = kept
 
 
 def samples(tally):
@@ -141,7 +164,8 @@ def formatting(tally):
 
 
 def proofs(tally):
-    status, lines = run(['rt', 'ci'])
+    with in_memory():
+        status, lines = run(['rt', 'ci'])
     count = re.fullmatch(r'(\d+) passed, (\d+) failed', lines[-1]) if lines else None
     if count:
         tally.add(int(count[1]), int(count[2]))
@@ -233,7 +257,8 @@ def rust_lints(tally):
 def rust_tests(tally):
     library = TARGET / 'staticlib' / 'libtarczolin.a'
     library.unlink(missing_ok=True)
-    status, _ = run(['make', '--no-print-directory', 'library'])
+    with in_memory():
+        status, _ = run(['make', '--no-print-directory', 'library'])
     if status != 0 or not library.is_file():
         tally.fail('make library made no library, so the Rust tests were not run')
         return
