@@ -112,9 +112,9 @@ module _ (M : Model) (L : Laws M) (p : Program) where
   any-first x = equal-tests (any (comesTo M p x) F) (any (comesTo M p x) (listOf M p))
       (λ e. let r = any-yes (comesTo M p x) F e in any-of (comesTo M p x) (listOf M p) (r .0) (first-in M p (r .0) (r .1) .0) (r .2))
       (λ e.
-          let r = any-yes (comesTo M p x) (listOf M p) e in
-          let t = first-of (r .0) (r .1) in
-          any-of (comesTo M p x) F (t .0) (t .1) (is-comes M p x (t .0) (t .2 ∙ comes-is M p x (r .0) (r .2))))
+      let r = any-yes (comesTo M p x) (listOf M p) e in
+      let t = first-of (r .0) (r .1) in
+      any-of (comesTo M p x) F (t .0) (t .1) (is-comes M p x (t .0) (t .2 ∙ comes-is M p x (r .0) (r .2))))
 
   -- whether the outcome of s is none of the first k
   abbrev pub newTo : ℕ → Schedule → Bool

@@ -63,9 +63,10 @@ module _ (M : Model) (L : Laws M) (file : List ℕ) (p : Program) (e : admit M (
 
   over-when : (from : ℕ) (out : List ℕ) → outcomeSize M ≤ length out → (outcomesFile M file from out ≡ Written 0) ↔ (length (firstsOf M p) ≤ from)
   over-when from out h =
-      let one : 1 ≤ length out / outcomeSize M = le-div-iff-mul-le {k = outcomeSize M} {x = 1} {y = length out} (omega arith) .1 (omega (arith, h)) in
-      ((λ q. let z = sym (answered from out h) ∙ q in let y : length (pageOf M p from out) ≡ 0 = cc in omega (arith, y, how-many from out, one)),
-      λ q. answered from out h ∙ ap {B = RowsAnswer} (λ n. Written n) (how-many from out ∙ omega (arith, q, one)))
+      let one : 1 ≤ length out / outcomeSize M = le-div-iff-mul-le {k = outcomeSize M} {x = 1} {y = length out} (omega arith) .1 (omega (arith, h)) in (
+        (λ q. let z = sym (answered from out h) ∙ q in let y : length (pageOf M p from out) ≡ 0 = cc in omega (arith, y, how-many from out, one)),
+        λ q. answered from out h ∙ ap {B = RowsAnswer} (λ n. Written n) (how-many from out ∙ omega (arith, q, one)),
+      )
 
   pub outcomes : Outcomes M file p
   outcomes = record {
