@@ -40,15 +40,15 @@ find-agree f g (x ∷ l) h = go (g x) refl (find-agree f g l (λ y m. h y (List�
     go true e ih = find-yes f x l (h x (List·Memᴰ·head refl) ∙ e) ∙ sym (find-yes g x l e)
     go false e ih = find-no f x l (h x (List·Memᴰ·head refl) ∙ e) ∙ ih ∙ sym (find-no g x l e)
 
+pub known-start : (M : Model) (p : Program) (rows : List ℕ) → Known M p rows 0
+known-start M p rows x e = sym (known-none rows (rowOf x)) ∙ sym (any-nil (comesTo M p x))
+
 module _ (M : Model) (L : Laws M) (p : Program) (eight : (s : Schedule) → Full M p s → length (outcomeUnder M p s .memory) ≡ 8) where
   abbrev F : List Schedule
   F = firstsOf M p
 
   abbrev o : Schedule → Outcome
   o s = outcomeUnder M p s
-
-  pub known-start : (rows : List ℕ) → Known M p rows 0
-  known-start rows x e = sym (known-none rows (rowOf x)) ∙ sym (any-nil (comesTo M p x))
 
   -- THE NEXT ONE is a full schedule
   pub next-full : (k : ℕ) (s : Schedule) → member F k ≡ some s → Full M p s

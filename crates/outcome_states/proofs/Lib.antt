@@ -5,3 +5,5 @@ pub mod Noted
 pub mod Known
 -- their rows in an output
 pub mod Shown
+-- outcomes gathered row by row
+pub mod Gathers

@@ -6,3 +6,5 @@ mod keeping;
 mod gathering;
 
 pub use gathering::Gathering;
+pub use gathering::gathered;
+pub use keeping::show;
