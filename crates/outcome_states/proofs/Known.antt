@@ -22,8 +22,9 @@ use Rattle.spec_model.proofs.TheList.{list-exact}
 use Rattle.spec_members.proofs.Numbered.{member-in, member-ends}
 use Rattle.spec_covers.specs.declared.outcome.Outcome.{Outcome}
 use Rattle.spec_across.specs.Under.{outcomeUnder}
-use Rattle.spec_outcomes.specs.Firsts.{comesTo, firstsOf}
-use Rattle.spec_outcomes.proofs.Same.{comes-is, is-comes}
+use Rattle.spec_across.proofs.Attained.{comesTo, comes-is}
+use Rattle.spec_outcomes.specs.Firsts.{firstsOf}
+use Rattle.spec_outcomes.proofs.Same.{is-comes}
 use Rattle.spec_outcomes.proofs.Taken.{take-more}
 use Rattle.spec_outcomes.proofs.Firsts.{first-in, any-first, next-first}
 use Rattle.states_outcomes.specs.Rows.{rowOf, knownRow, isNew}

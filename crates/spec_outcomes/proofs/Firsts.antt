@@ -21,18 +21,15 @@ use Rattle.spec_schedules.proofs.Lists.{both-left, both-right, any-yes, any-of,
 use Rattle.spec_schedules.proofs.Order.{less-irreflexive, less-asymmetric, less-transitive, not-less-at-most}
 use Rattle.spec_model.specs.Model.{Model, Full}
 use Rattle.spec_model.specs.Laws.{Laws, Admitted}
-use Rattle.spec_model.specs.Alike.{Alike, Listed, listOf}
-use Rattle.spec_model.proofs.Outcome.{same-outcome}
-use Rattle.spec_model.proofs.TheList.{list-ascends, list-exact, one-each, listed-below}
+use Rattle.spec_model.specs.Alike.{listOf}
+use Rattle.spec_model.proofs.TheList.{list-ascends, list-exact, listed-below}
 use Rattle.spec_members.proofs.Numbered.{member-in, member-ends}
 use Rattle.spec_covers.specs.declared.outcome.Outcome.{Outcome}
 use Rattle.spec_across.specs.Under.{outcomeUnder, AttainsUnder}
-use Rattle.spec_outcomes.specs.Firsts.{comesTo, isFirst, firstsOf}
-use Rattle.spec_outcomes.proofs.Same.{comes-is, is-comes}
+use Rattle.spec_across.proofs.Attained.{comesTo, comes-is, listed-outcome}
+use Rattle.spec_outcomes.specs.Firsts.{isFirst, firstsOf}
+use Rattle.spec_outcomes.proofs.Same.{is-comes}
 use Rattle.spec_outcomes.proofs.Taken.{take-in, take-below, below-take}
-
-abbrev outcome : List ℕ → Bool → Outcome
-outcome m f = record { memory = m; fails = f }
 
 module _ (M : Model) (p : Program) where
   abbrev out : Schedule → Outcome
@@ -151,21 +148,13 @@ module _ (M : Model) (L : Laws M) (p : Program) where
               (⊎-elim (λ (i : t .0 ≡ r). subst (λ (z : Schedule). less z s ≡ true) (sym i) h) (λ (i : less (t .0) r ≡ true). less-transitive (t .0) r s i h) (not-less-at-most (t .0) r (t .3)))) (t .2)
 
   module _ (a : Admitted M p) where
-    -- EACH FULL SCHEDULE HAS A LISTED ONE WITH ITS OUTCOME
-    pub listed-under : (s : Schedule) → Full M p s → (r : Schedule) × List·Memᴰ r (listOf M p) × Alike M p r s × (o r ≡ o s)
-    unfolding outcomeUnder
-    listed-under s f =
-        let c = one-each M L p a s f in
-        let e = same-outcome M L p a (c .0) s (list-exact M L p (c .0) .0 (c .1) .0) f (c .2) in
-        (c .0, c .1, c .2, ap₂ outcome (e .1) (e .0))
-
     -- A FIRST IS THE LEAST OF ALL full schedules with its outcome
     pub first-least : (s : Schedule) → List·Memᴰ s F → (r : Schedule) → Full M p r → o r ≡ o s → less r s ≡ false
     first-least s m r f e = go (less r s) refl
       where
         go : (b : Bool) → less r s ≡ b → less r s ≡ false
         go true h =
-            let c = listed-under r f in
+            let c = listed-outcome M L p a r f in
             absurd (first-none M p s (first-in M p s m .1) (c .0) (c .1)
             (listed-below M L p a (c .0) r s (list-exact M L p (c .0) .0 (c .1)) f (c .2) h) (c .3 ∙ e))
         go false h = h
@@ -173,7 +162,7 @@ module _ (M : Model) (L : Laws M) (p : Program) where
     -- EACH OUTCOME of a full schedule has exactly one first
     pub attained-once : (x : Outcome) → AttainsUnder M p x → (s : Schedule) × List·Memᴰ s F × (o s ≡ x) × ((r : Schedule) → List·Memᴰ r F → o r ≡ x → r ≡ s)
     attained-once x t =
-        let c = listed-under (t .0) (t .1) in
+        let c = listed-outcome M L p a (t .0) (t .1) in
         let f = first-of (c .0) (c .1) in
         let e = f .2 ∙ c .3 ∙ t .2 in
         (f .0, f .1, e, λ r m q. firsts-once r (f .0) m (f .1) (q ∙ sym e))

@@ -1,5 +1,5 @@
 -- The laws, in the order in which they rest on each other.
--- the test of two outcomes says whether they are equal
+-- a schedule with an outcome passes the test of it
 pub mod Same
 -- the first so many of an ascending list
 pub mod Taken
