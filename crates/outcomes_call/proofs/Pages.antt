@@ -123,8 +123,10 @@ module _ (M : Memory.Model) (file : List ℕ) (from : ℕ) (out scratch : List �
         ∙ ap (λ (b : Bool). cond b (Refused 22 0) (Written (length (pageOf M p from out)))) (lt-ltb (length out) (outcomeSize M) h)) in
         let none : pageOf M p from out ≡ [] = ap (λ (n : ℕ). take n (drop from (firstsOf M p))) (div-eq-of-lt h) in (
           a,
-          (sym (ap (λ (d : Decoded). outputOn M d from out) e ∙ ap (λ (l : List Schedule). over (outcomeRows M p l) out) none ∙ ap (λ (t : List ℕ). over t out) (rows-none M p) ∙ over-nil out),
-          ap (λ (r : RowsAnswer). outcomesScratch r scratch) a),
+          (
+            sym (ap (λ (d : Decoded). outputOn M d from out) e ∙ ap (λ (l : List Schedule). over (outcomeRows M p l) out) none ∙ ap (λ (t : List ℕ). over t out) (rows-none M p) ∙ over-nil out),
+            ap (λ (r : RowsAnswer). outcomesScratch r scratch) a,
+          ),
         )
 
     pub said-rows : outcomeSize M ≤ length out → (n : ℕ) (out' scratch' : List ℕ) → n ≡ length (pageOf M p from out) → out' ≡ over (outcomeRows M p (pageOf M p from out)) out → scratch' ≡ zeros scratch

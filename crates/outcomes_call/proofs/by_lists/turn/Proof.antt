@@ -55,7 +55,7 @@ returns c =
     let x = c .before .before .before .outcome-of .ensures (list-exact M L p s .0 (c .before .before .before .before .before .before .before .pre .3) .0) in
     let e = coming-some M L p s (c .before .before .before .before .before .before .before .pre .3) (c .before .before .before .outcome-of .result) x (c .before .before .first-coming .result) (c .before .before .first-coming .ensures .1) in
     λ from room held rest is same walks.
-        (same, walks-past M L p from room held s rest (a .t) (a .out .now) (not-first M L p s _ (c .before .before .before .before .before .before .before .pre .3) e (c .before .same .ensures .1 (not-true _ (c .if1 .taken)))) walks)
+    (same, walks-past M L p from room held s rest (a .t) (a .out .now) (not-first M L p s _ (c .before .before .before .before .before .before .before .pre .3) e (c .before .same .ensures .1 (not-true _ (c .if1 .taken)))) walks)
 
 returns-2 : tie.Need-returns-2
 returns-2 c =
@@ -67,7 +67,7 @@ returns-2 c =
     let x = c .before .before .before .before .before .before .outcome-of .ensures (list-exact M L p s .0 (c .before .before .before .before .before .before .before .before .before .before .pre .3) .0) in
     let e = coming-some M L p s (c .before .before .before .before .before .before .before .before .before .before .pre .3) (c .before .before .before .before .before .before .outcome-of .result) x (c .before .before .before .before .before .first-coming .result) (c .before .before .before .before .before .first-coming .ensures .1) in
     λ from room held rest is same walks.
-        (same, walks-skip M L p from room held s rest (a .t) (a .out .now) (is-first M L p s _ (c .before .before .before .before .before .before .before .before .before .before .pre .3) e (c .before .before .before .before .same .ensures .0 (not-false _ (c .before .before .before .if1 .left)))) (c .before .if2 .taken) walks)
+    (same, walks-skip M L p from room held s rest (a .t) (a .out .now) (is-first M L p s _ (c .before .before .before .before .before .before .before .before .before .before .pre .3) e (c .before .before .before .before .same .ensures .0 (not-false _ (c .before .before .before .if1 .left)))) (c .before .if2 .taken) walks)
 
 array-share-prefix-schedule-2 : tie.Need-array-share-prefix-schedule-2
 array-share-prefix-schedule-2 c =
@@ -106,8 +106,8 @@ returns-3 c =
     let z : a .t .left ≡ 0 = omega (arith, c .before .before .before .before .before .before .if2 .left) in
     let long : length (c .before .before .before .show .last .1 .1 .1 .1 .1 .0) ≡ length (a .out .now) = search needs in
     λ from room held rest is same walks.
-        let h : a .t .rows < room = subst (λ (n : ℕ). a .t .rows < n) (ap (λ (n : ℕ). n / outcomeSize M) same ∙ sym is) (c .before .before .before .before .before .before .before .before .before .before .before .before .before .before .before .pre .2) in
-        (long ∙ same, walks-row M L p from room held s rest (a .t) (a .out .now) (is-first M L p s _ (c .before .before .before .before .before .before .before .before .before .before .before .before .before .before .before .pre .3) e (c .before .before .before .before .before .before .before .before .before .same .ensures .0 (not-false _ (c .before .before .before .before .before .before .before .before .if1 .left)))) z h (c .before .before .before .before .before .before .before .before .before .before .before .outcome-of .result) x eight _ same (c .before .before .before .show .ensures .1 (omega arith)) walks)
+    let h : a .t .rows < room = subst (λ (n : ℕ). a .t .rows < n) (ap (λ (n : ℕ). n / outcomeSize M) same ∙ sym is) (c .before .before .before .before .before .before .before .before .before .before .before .before .before .before .before .pre .2) in
+    (long ∙ same, walks-row M L p from room held s rest (a .t) (a .out .now) (is-first M L p s _ (c .before .before .before .before .before .before .before .before .before .before .before .before .before .before .before .pre .3) e (c .before .before .before .before .before .before .before .before .before .same .ensures .0 (not-false _ (c .before .before .before .before .before .before .before .before .if1 .left)))) z h (c .before .before .before .before .before .before .before .before .before .before .before .outcome-of .result) x eight _ same (c .before .before .before .show .ensures .1 (omega arith)) walks)
 
 pub turn-spec : {M : Type 1} → statement M
 turn-spec = tie.close (tie.spec array-share-prefix-schedule slice-aggregate-outcome-of outcome-of-requires first-coming-requires same-requires returns (λ c. search needs) returns-2 array-share-prefix-schedule-2 slice-aggregate-show show-requires add-t20 (λ c. search needs) returns-3)
