@@ -12,6 +12,7 @@ use Rattle.file_decoder.specs.Compiled.{programOf}
 use Rattle.spec_covers.specs.Covers.{outcomeOf}
 use Rattle.states_outcomes.specs.Rows.{rowOf}
 use Rattle.states_outcomes.specs.Swept.{Swept}
+use Rattle.states_outcomes.proofs.Parts.{silent-swept}
 use Rattle.covers.specs.Gathered.{Exactly}
 use Rattle.covers.proofs.Gathered.{framed, Sound, sound-start, none-new, found-full, sound-more, swept-more}
 use Rattle.covers.proofs.gathering.outcomes_of.Statement.{statement}
@@ -29,7 +30,7 @@ loop-holds c =
     let a = (c .before .before .before .before .before .before .before .args) in
     let p = programOf (a .program) in
     let rows : List ℕ = take (a .cut) ((c .before .before .unmark) .last .0) in
-    (omega arith, omega arith, refl, sound-start p rows, (c .before .before .unmark) .ensures .1 p (framed ((c .before .before .before .before .before .made) .result .width) ((c .before .before .before .before .slots) .result) (a .cut) 0) rows refl)
+    (omega arith, omega arith, refl, sound-start p rows, silent-swept p (framed ((c .before .before .before .before .before .made) .result .width) ((c .before .before .before .before .slots) .result) (a .cut) 0) rows _ ((c .before .before .unmark) .ensures .1 ((c .before .before .before .before .slots) .result)))
 
 first-new-requires : tie.Need-first-new-requires Inv-loop μ-loop
 first-new-requires c κs =
