@@ -11,7 +11,7 @@ ghost use Rattle.spec_model.specs.Model.{Full};
 ghost use Rattle.spec_sc.specs.Sequential.{sc};
 ghost use Rattle.spec_tso.specs.TotalStoreOrder.{tso};
 ghost use Rattle.spec_across.specs.Under.{outcomeUnder};
-ghost use Rattle.spec_across.proofs.SameOutcome.{sameOutcome};
+ghost use Rattle.spec_across.specs.Same.{sameOutcome};
 ghost use Rattle.listing_model.specs.ModelOf.{modelOf};
 
 // Whether two outcomes are the same.

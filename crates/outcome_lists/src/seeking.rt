@@ -18,7 +18,7 @@ ghost use Rattle.spec_schedules.specs.Lists.{find};
 ghost use Rattle.spec_schedules.specs.Order.{Schedule};
 ghost use Rattle.spec_model.specs.Alike.{listOf};
 ghost use Rattle.spec_model.specs.Laws.{Admitted};
-ghost use Rattle.spec_across.proofs.Attained.{comesTo};
+ghost use Rattle.spec_across.specs.Same.{comesTo};
 ghost use Rattle.listing_model.specs.ModelOf.{modelOf};
 ghost use Rattle.listing_pages.specs.Page.{Rows};
 ghost use Rattle.outcome_lists.specs.FoundOf.{foundOf};

@@ -13,7 +13,7 @@ use Rattle.spec_model.specs.Model.{Model}
 use Rattle.spec_model.specs.Alike.{listOf}
 use Rattle.spec_covers.specs.declared.outcome.Outcome.{Outcome}
 use Rattle.spec_across.specs.Under.{outcomeUnder}
-use Rattle.spec_across.proofs.Attained.{comesTo}
+use Rattle.spec_across.specs.Same.{comesTo}
 use Rattle.spec_outcomes.specs.Firsts.{firstsOf}
 use Rattle.spec_outcomes.specs.OutcomesCall.{outcomeRows}
 use Rattle.states_outcomes.specs.Rows.{rowOf, knownRow}

@@ -19,11 +19,8 @@ use Rattle.spec_model.proofs.Outcome.{same-outcome}
 use Rattle.spec_model.proofs.TheList.{list-exact, list-ascends, one-each}
 use Rattle.spec_covers.specs.declared.outcome.Outcome.{Outcome}
 use Rattle.spec_across.specs.Under.{outcomeUnder, AttainsUnder, CoversUnder, FirstLackingUnder}
+pub use Rattle.spec_across.specs.Same.{comesTo}
 use Rattle.spec_across.proofs.SameOutcome.{sameOutcome, same-is, is-same}
-
--- whether s has this outcome
-unfoldable pub comesTo : (M : Model) → Program → Outcome → Schedule → Bool
-comesTo M p o s = sameOutcome (outcomeUnder M p s) o
 
 -- whether some listed schedule of p has it
 unfoldable pub attained : (M : Model) → Program → Outcome → Bool

@@ -3,7 +3,7 @@
 pub mod Covering
 -- every program under total store order covers itself under sequential consistency
 pub mod StoreOrder
--- whether two outcomes are the same, as a test
+-- the test whether two outcomes are the same is exact
 pub mod SameOutcome
 -- outcomes looked for in the list: some listed schedule has this one, and the first that another program lacks
 pub mod Attained

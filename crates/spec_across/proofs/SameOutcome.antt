@@ -1,4 +1,4 @@
--- Whether two outcomes are the same, as a test: value by value, then whether something failed. The test is exact.
+-- The test whether two outcomes are the same is exact.
 use Prim.Native.Nat.{ℕ, _<_}
 use mathlib.Core.Path.{_≡_, refl, sym, ap, ap₂, subst, _∙_}
 use mathlib.Core.Logic.{_≢_}
@@ -14,9 +14,7 @@ use Rattle.spec_file.proofs.DigitValues.{both}
 use Rattle.spec_file.proofs.Lists.{same-list, same-list-is}
 use Rattle.spec_sc.proofs.Same.{both-and}
 use Rattle.spec_covers.specs.declared.outcome.Outcome.{Outcome}
-
-unfoldable pub sameOutcome : Outcome → Outcome → Bool
-sameOutcome a b = sameList eqb (a .memory) (b .memory) && cond (a .fails) (b .fails) (not (b .fails))
+pub use Rattle.spec_across.specs.Same.{sameOutcome}
 
 flags-is : (a b : Bool) → cond a b (not b) ≡ true → a ≡ b
 flags-is true b e = sym e

@@ -7,7 +7,7 @@ use Rattle.spec_model.specs.Model.{Model}
 use Rattle.spec_covers.specs.declared.outcome.Outcome.{Outcome}
 use Rattle.spec_across.specs.Under.{outcomeUnder}
 use Rattle.spec_across.proofs.SameOutcome.{is-same}
-use Rattle.spec_across.proofs.Attained.{comesTo}
+use Rattle.spec_across.specs.Same.{comesTo}
 
 pub is-comes : (M : Model) (p : Program) (o : Outcome) (s : Schedule) → outcomeUnder M p s ≡ o → comesTo M p o s ≡ true
 unfolding comesTo

@@ -7,7 +7,7 @@ use Rattle.spec_schedules.specs.Order.{Schedule, less}
 use Rattle.spec_model.specs.Model.{Model}
 use Rattle.spec_model.specs.Alike.{listOf}
 use Rattle.spec_across.specs.Under.{outcomeUnder}
-use Rattle.spec_across.proofs.Attained.{comesTo}
+use Rattle.spec_across.specs.Same.{comesTo}
 
 module _ (M : Model) (p : Program) where
   -- whether no smaller listed schedule has the outcome of s

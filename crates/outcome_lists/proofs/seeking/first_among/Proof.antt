@@ -8,7 +8,7 @@ use lib.Seq.{length-take-le}
 use Rattle.file_decoder.specs.Compiled.{programOf}
 use Rattle.spec_model.specs.Model.{Full}
 use Rattle.spec_covers.specs.declared.outcome.Outcome.{Outcome}
-use Rattle.spec_across.proofs.SameOutcome.{sameOutcome}
+use Rattle.spec_across.specs.Same.{sameOutcome}
 use Rattle.spec_across.proofs.Attained.{comesTo, comes-by}
 use Rattle.listing_model.specs.ModelOf.{modelOf}
 use Rattle.outcome_lists.proofs.Walked.{Left, left-start, left-over, turn-found, turn-next}

@@ -6,7 +6,7 @@ use mathlib.Core.Bool.{false}
 use lib.ListN.{length}
 use Rattle.file_decoder.specs.Compiled.{programOf}
 use Rattle.spec_model.specs.Search.{sought}
-use Rattle.spec_across.proofs.Attained.{comesTo}
+use Rattle.spec_across.specs.Same.{comesTo}
 use Rattle.listing_cursor.specs.ListRows.{pages}
 use Rattle.listing_model.specs.ModelOf.{modelOf}
 use Rattle.listing_model.proofs.ModelLaws.{model-laws}

@@ -17,6 +17,7 @@ use Rattle.spec_outcomes.specs.Firsts.{firstsOf}
 use Rattle.spec_outcomes.specs.OutcomesCall.{outcomeRows}
 use Rattle.states_outcomes.specs.Rows.{rowOf}
 use Rattle.states_outcomes.specs.Swept.{Swept}
+use Rattle.states_outcomes.proofs.Parts.{silent-swept}
 use Rattle.outcome_states.specs.Gathered.{Known}
 use Rattle.outcome_states.proofs.Known.{known-start, known-more, next-full}
 use Rattle.outcome_states.proofs.Shown.{shown-start}
@@ -38,7 +39,7 @@ loop-holds c =
     let a = c .before .before .before .before .before .before .before .before .before .args in
     let p = programOf (a .program) in
     let rows : List ℕ = take (a .cut) (c .before .before .before .unmark .last .0) in
-    (omega arith, refl, refl, omega arith, known-start sc p rows, c .before .before .before .unmark .ensures .1 p (framed (c .before .before .before .before .before .before .made .result .width) (c .before .before .before .before .before .slots .result) (a .cut) 0) rows refl, shown-start sc p (a .from) (a .out .now))
+    (omega arith, refl, refl, omega arith, known-start sc p rows, silent-swept p (framed (c .before .before .before .before .before .before .made .result .width) (c .before .before .before .before .before .slots .result) (a .cut) 0) rows _ (c .before .before .before .unmark .ensures .1 (c .before .before .before .before .before .slots .result)), shown-start sc p (a .from) (a .out .now))
 
 first-new-requires : tie.Need-first-new-requires Inv-loop μ-loop
 first-new-requires c κs =
