@@ -8,6 +8,9 @@ use crate::random::Random;
 /// So many bytes on each side of a lent output belong to somebody else.
 const AROUND: usize = 32;
 
+/// So many words has a scratch of covers.
+pub const SCRATCHES: [usize; 5] = [0, 1, 40, 400, 4_000];
+
 /// The answer of a call, and the bytes that stand in front of its output, for what the oracle found.
 pub fn shown(found: &Found) -> (Answer, &[u8]) {
     match found {
@@ -58,7 +61,7 @@ pub fn held_covers(random: &mut Random, files: [&[u8]; 2], output: usize, found:
         Covers::Output => (calls::Covers::Refused(22, 0), &[][..]),
     };
     held_by(random, files, output, shown, |[first, second], out| calls::covers(first, second, out));
-    for words in [0, 1, 40, 400, 4_000] {
+    for words in SCRATCHES {
         let before: Vec<u64> = (0..words).map(|_| random.word()).collect();
         let mut scratch = before.clone();
         held_by(random, files, output, shown, |[first, second], out| calls::covers_with(first, second, out, &mut scratch));

@@ -5,7 +5,7 @@ use crate::program::{Instruction, Program};
 use std::ffi::OsStr;
 use tarczolin_sys::Scratch;
 
-/// A list of so few accesses under sequential consistency is sooner walked.
+/// A list of so few accesses is sooner walked.
 const FEW: usize = 8;
 /// At most so many bytes where nothing else is said.
 const MOST: usize = 16 << 20;
@@ -34,7 +34,7 @@ impl Memory {
     /// many that clearing them costs nothing. Under total store order a thread stands at an access, and some of its stores are in memory.
     pub fn words(self, model: Model, program: &Program) -> usize {
         let accesses = program.threads.iter().flatten().filter(|i| i.access().is_some()).count();
-        if model == Model::Sc && accesses <= FEW {
+        if accesses <= FEW {
             return 0;
         }
         let stands = |code: &Vec<Instruction>| {
@@ -88,8 +88,9 @@ mod tests {
         let most = program(&format!("01 {}", "110000 ".repeat(4)).repeat(6));
         let all = Memory::default();
         assert_eq!([&few, &nine, &most].map(|program| all.lent(Model::Sc, program).len()), [0, 64 * 320, MOST / 8]);
-        let stored = program("01 10000000000001 110000 01 110000 ");
-        assert_eq!([Model::Sc, Model::Tso].map(|model| all.lent(model, &stored).len()), [0, 12 * 320]);
+        let stored = program(&format!("01 {}01 {}", "10000000000001 ".repeat(2), "110000 ".repeat(7)));
+        assert_eq!([Model::Sc, Model::Tso].map(|model| all.lent(model, &stored).len()), [24 * 320, 72 * 320]);
+        assert_eq!([Model::Sc, Model::Tso].map(|model| all.lent(model, &few).len()), [0, 0]);
         assert_eq!(Memory::of_word("--memory", OsStr::new("1001")).unwrap().lent(Model::Sc, &most).len(), 125);
         assert_eq!(Memory::of_word("--memory", OsStr::new("0")).unwrap().lent(Model::Sc, &most).len(), 0);
         assert!(Memory::of_word("--memory", OsStr::new("16M")).is_err());

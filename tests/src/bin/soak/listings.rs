@@ -1,13 +1,14 @@
-//! Both listings, the judge, class, covers and force on one file, each call held to the oracle.
+//! Both listings, the judge, class, covers, force and robust on one file, each call held to the oracle.
 use crate::files::is_quick;
 use crate::tally::Tally;
 use tarczolin_tests::calls::{self, tso, Answer, GRAPH, ROW, SCHEDULE};
-use tarczolin_tests::lent::{held, held_by, held_covers, shown, shown_rows};
+use tarczolin_tests::lent::{held, held_by, held_covers, shown, shown_rows, SCRATCHES};
 use tarczolin_tests::oracle::calls::{self as oracle, Found};
 use tarczolin_tests::oracle::decode::{decode, Program};
 use tarczolin_tests::oracle::force::{self, Forced};
 use tarczolin_tests::oracle::listing::{self, Listed};
 use tarczolin_tests::oracle::machine::run_full;
+use tarczolin_tests::oracle::robust::robust_in;
 use tarczolin_tests::oracle::tso as oracle_tso;
 use tarczolin_tests::oracle::{covers, refused, Refusal};
 use tarczolin_tests::random::{graph, schedule, tso as random_tso, Random};
@@ -147,14 +148,22 @@ fn ask_by_states(random: &mut Random, tally: &Tally, file: &[u8], list: &Result<
     tally.call(if in_tso { "tso_violation_with" } else { "violation_with" });
     held(random, [file], out, &first, |[f], out| violation_with(f, out, &mut scratch));
     assert_eq!(scratch, later(shown(&first).0), "the scratch: {}", file.escape_ascii());
-    let (mut scratch, out) = (before.clone(), output(random, SCHEDULE));
+    if !in_tso {
+        ask_members(random, tally, file, list, &before);
+    }
+}
+
+/// The member of a number of the list under sequential consistency, and the number of a schedule.
+fn ask_members(random: &mut Random, tally: &Tally, file: &[u8], list: &Result<Vec<Listed>, Refusal>, before: &[u64]) {
+    let (mut scratch, out) = (before.to_vec(), output(random, SCHEDULE));
     let end = list.as_ref().map_or(0, Vec::len);
     let k = if random.one_in(6) { random.word() } else { random.below(end + 2) as u64 };
     let member = found(list, out, SCHEDULE, |list| list.get(usize::try_from(k).ok()?).map(|one| one.schedule.clone()));
     tally.call("kth");
     held(random, [file], out, &member, |[f], out| calls::kth(f, k, out, &mut scratch));
-    assert_eq!(scratch, later(shown(&member).0), "the scratch: {}", file.escape_ascii());
-    ask_rank(random, tally, file, list, &before);
+    let later = if member.is_ok() { vec![0; before.len()] } else { before.to_vec() };
+    assert_eq!(scratch, later, "the scratch: {}", file.escape_ascii());
+    ask_rank(random, tally, file, list, before);
 }
 
 /// The number of a schedule: its word changes when it answers, and not when it refuses.
@@ -178,6 +187,8 @@ fn ask_both(random: &mut Random, tally: &Tally, file: &[u8], other: &[u8]) {
     for files in [[file, other], [other, file]] {
         let output = output(random, SCHEDULE);
         tally.call("covers");
+        // the same is asked with scratches of each of these lengths
+        SCRATCHES.iter().for_each(|_| tally.call("covers_with"));
         held_covers(random, files, output, &covers::call(files[0], files[1], output));
     }
 }
@@ -232,6 +243,9 @@ fn ask_in_store_order(random: &mut Random, tally: &Tally, file: &[u8]) {
     }
     let Some(list) = &list else { return };
     let out = output(random, tso::SCHEDULE);
+    tally.call("robust");
+    let relaxed = robust_in(list.as_deref().unwrap_or_default(), file, out);
+    held(random, [file], out, &relaxed, |[f], out| calls::across::robust(f, out));
     tally.call("tso_start");
     held(random, [file], out, &found(list, out, tso::SCHEDULE, listing::start), |[f], out| tso::start(f, out));
     tally.call("tso_violation");

@@ -2,7 +2,7 @@
 use std::sync::atomic::{AtomicU64, Ordering};
 
 /// The calls, without the word in front of their names.
-const NAMES: [&str; 34] = [
+const NAMES: [&str; 36] = [
     "check",
     "graph",
     "class",
@@ -18,6 +18,7 @@ const NAMES: [&str; 34] = [
     "rows",
     "rows_after",
     "covers",
+    "covers_with",
     "force",
     "force_with",
     "tso_graph",
@@ -30,6 +31,7 @@ const NAMES: [&str; 34] = [
     "tso_violation_with",
     "tso_rows",
     "tso_rows_after",
+    "robust",
     "open",
     "ask",
     "serve",
