@@ -49,7 +49,7 @@ extern "C" {
         scratch_len: usize,
     ) -> u64;
     fn tarczolin_tso_rows(file: *const u8, file_len: usize, out: *mut u8, out_len: usize) -> u64;
-    fn tarczolin_tso_outcomes(
+    pub(crate) fn tarczolin_tso_outcomes(
         file: *const u8,
         file_len: usize,
         from: u64,

@@ -121,6 +121,28 @@ impl Progress {
     }
 }
 
+/// The same until Ctrl-C, behind which nothing is known; the call is left behind then, and ends with the program. Nothing is said of a quiet one.
+pub fn waiting_or_cut<T: Send + 'static>(quiet: bool, call: impl FnOnce() -> T + Send + 'static) -> Option<T> {
+    const SOON: Duration = Duration::from_millis(50);
+    let mut progress = Progress::default();
+    let (done, wait) = channel();
+    std::thread::spawn(move || done.send(call()));
+    let answer = loop {
+        match wait.recv_timeout(SOON) {
+            Ok(answer) => break Some(answer),
+            Err(RecvTimeoutError::Timeout) if tarczolin_sys::was_interrupted() => break None,
+            Err(RecvTimeoutError::Timeout) if quiet => {}
+            Err(RecvTimeoutError::Timeout) => {
+                let seconds = progress.began.elapsed().as_secs();
+                progress.say(|| format!("one call of the library for {seconds} s"));
+            }
+            Err(RecvTimeoutError::Disconnected) => panic!("the call of the library has failed"),
+        }
+    };
+    progress.hide();
+    answer
+}
+
 /// Waits for a single call that tells nothing on its way, and says now and then that it goes on.
 pub fn waiting<T: Send>(call: impl FnOnce() -> T + Send) -> T {
     let mut progress = Progress::default();
