@@ -80,11 +80,39 @@ impl Seen {
     }
 }
 
+/// Threads of two or three accesses that keep what they read, so that many outcomes come about; some of the same code, and declared alike.
+fn mixing(random: &mut Random) -> Vec<u8> {
+    let access = |random: &mut Random| {
+        let (l, c) = (random.below(3), random.below(3));
+        match random.below(6) {
+            0 => format!("11000{l} "),
+            1 => format!("11000{l} 230000000000{c:02x} "),
+            2 => format!("100{l}00000000{c:02x} "),
+            3 => format!("100{l}0100000000 "),
+            _ => format!("12000{l}00000000{:02x} ", 1 + c),
+        }
+    };
+    let threads = random.between(2, 3);
+    let code = |random: &mut Random| (0..if threads == 2 { 3 } else { 2 }).map(|_| access(random)).collect::<String>();
+    let (same, alike) = (code(random), random.one_in(3));
+    let all: String = (0..threads).map(|_| format!("01 {}", if alike { same.clone() } else { code(random) })).collect();
+    let declared = if alike { ["020001", "02000102"][threads - 2] } else { "" };
+    lines(&format!("{all} {declared}"))
+}
+
+/// A random program of any kind, or one that has many outcomes.
+fn program(random: &mut Random, k: usize) -> Vec<u8> {
+    match k % 2 {
+        0 => mixing(random),
+        _ => text(&frames_parted(random, SIZES[k / 2 % SIZES.len()])),
+    }
+}
+
 fn random_programs(model: Model, seed: u64, cases: usize) -> Seen {
     let mut random = Random::new(seed);
     let (mut scratches, mut seen) = (Scratches::new(&mut random), Seen::default());
     for k in 0..share::of(cases) {
-        let file = text(&frames_parted(&mut random, SIZES[k % SIZES.len()]));
+        let file = program(&mut random, k);
         let program = decode(&file).expect("accepted");
         let Some(list) = model.list_within(&program, STEPS) else { continue };
         let firsts = firsts(model, &program, &list);
@@ -152,8 +180,8 @@ fn pages_joined_are_the_whole() {
     let mut random = Random::new(0x7061_6765);
     let mut many = 0;
     for k in 0..share::of(300) {
-        let model = Model::BOTH[k % 2];
-        let file = if k == 0 { drawing(4) } else { text(&frames_parted(&mut random, SIZES[k % SIZES.len()])) };
+        let model = Model::BOTH[k / 2 % 2];
+        let file = if k == 0 { drawing(4) } else { program(&mut random, k) };
         let mut scratch = vec![random.word(); random.pick(&[0, 21, 1_000, 20_000])];
         let all = whole(model, &file, &mut scratch);
         many += (all.len() > 3 * size(model)) as usize;
@@ -161,7 +189,7 @@ fn pages_joined_are_the_whole() {
             assert_eq!(by_pages(model, &file, rows, &mut scratch), all, "{rows} rows a page: {}", file.escape_ascii());
         }
     }
-    assert!(!share::whole() || many > 20, "{many}");
+    assert!(!share::whole() || many > 5, "{many}");
 }
 
 /// The first listed schedule with an outcome is the least of all full schedules that have it, and schedules ascend.
@@ -169,7 +197,7 @@ fn pages_joined_are_the_whole() {
 fn the_least_of_all_full_schedules() {
     let mut random = Random::new(0x6c65_6173);
     for k in 0..share::of(600) {
-        let file = text(&frames_parted(&mut random, SIZES[k % SIZES.len()]));
+        let file = program(&mut random, k);
         let program = decode(&file).expect("accepted");
         let mut met: Vec<([u32; 8], bool, Vec<u8>)> = Vec::new();
         let machine = tarczolin_tests::oracle::machine::Machine::new(&program);

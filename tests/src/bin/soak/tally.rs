@@ -2,7 +2,7 @@
 use std::sync::atomic::{AtomicU64, Ordering};
 
 /// The calls, without the word in front of their names.
-const NAMES: [&str; 34] = [
+const NAMES: [&str; 37] = [
     "check",
     "graph",
     "class",
@@ -17,7 +17,9 @@ const NAMES: [&str; 34] = [
     "rank",
     "rows",
     "rows_after",
+    "outcomes",
     "covers",
+    "covers_models",
     "force",
     "force_with",
     "tso_graph",
@@ -30,6 +32,7 @@ const NAMES: [&str; 34] = [
     "tso_violation_with",
     "tso_rows",
     "tso_rows_after",
+    "tso_outcomes",
     "open",
     "ask",
     "serve",

@@ -35,12 +35,12 @@ pub fn run(arguments: &Arguments) -> Result<End, Error> {
     })
 }
 
-/// What is added, by both calls: is it robust, and is each outcome one of sequential consistency?
+/// What is added: is it robust, and is each outcome one of sequential consistency? Of a robust program each is, which is proved with that call.
 fn added(question: &Question, strong: &Accepted, source: &Accepted, memory: Memory) -> Result<End, Error> {
     let programs = comparable(strong, source, false)?;
     let relaxed = first(source);
-    let lack = lacking(&programs, memory).map(|schedule| Lack::of(&programs, &schedule, memory));
-    assert!(relaxed.is_some() || lack.is_none(), "a robust program has the same outcomes under both models");
+    let exceeding = relaxed.and_then(|_| lacking(&programs, memory));
+    let lack = exceeding.map(|schedule| Lack::of(&programs, &schedule, memory));
     let same = relaxed.is_some() && relaxed == lack.as_ref().map(Lack::schedule);
     let shown = relaxed.map(|schedule| Relaxed::of(source, &schedule));
     let mut text = match (&shown, &lack) {
