@@ -251,12 +251,15 @@ uint64_t tarczolin_tso_rows_after(const uint8_t *file, size_t file_len, const ui
  * 22 at place 0, an output of under 48 bytes, also where the answer would be robust. Robust and a refusal change no byte. */
 uint64_t tarczolin_robust(const uint8_t *file, size_t file_len, uint8_t *out, size_t out_len);
 
-/* tarczolin_covers_with for two programs under memory models of their own: is each outcome of the second under its model one of the first
- * under its own? The models are TARCZOLIN_SC and TARCZOLIN_TSO. The answers are those of tarczolin_covers: kind 2, covered; kind 1, the first
- * listed schedule of the second in its model with an outcome that the first lacks. With the same file twice, first by sequential consistency
- * and then by total store order, it says whether x86 adds an outcome. Refused, in this order: 49, a byte that names no model, at place 0
- * or 1, kind 3; the first file (1 to 8, 40, and 41 at place 0 where its model is total store order), kind 3; the second file in the same way,
- * kind 4; 22 at place 0, an output of under 48 bytes, kind 3. The scratch is as that of tarczolin_covers_with. */
+/* Does the first program under its memory model cover the second under its own: is each outcome of a full schedule of the second there one
+ * of the first here? A byte in front of each file names its model: TARCZOLIN_SC or TARCZOLIN_TSO. Covered: kind 2. Not
+ * covered: kind 1, the first listed schedule of the second in its model with an outcome that the first lacks stands in front of the output,
+ * the answer carries its length, and the bytes behind it keep their value. Refused, in this order: 49, a byte that names no model, at place
+ * 0 for the first and 1 for the second, kind 3; the first file (1 to 8, 40, and 41 at place 0 for more than 16 accesses under total store
+ * order), kind 3; the second file likewise, kind 4; 22 at place 0, an output of under 48 bytes, whatever the models, kind 3, also where the
+ * answer would be covered. Covered and a refusal change no byte of the output. Answer and output do not depend on the scratch, 0 words too;
+ * only the time does. It shares no byte with any other buffer; kinds 1 and 2 leave zeros in all of its words, a refusal leaves it as it was.
+ * Its length is counted in words of 8 bytes. With 0 and 0 it answers as tarczolin_covers_with does, but for the length that 22 asks for. */
 uint64_t tarczolin_covers_models(uint8_t first_model, const uint8_t *first, size_t first_len, uint8_t second_model, const uint8_t *second, size_t second_len, uint8_t *out, size_t out_len, uint64_t *scratch, size_t scratch_len);
 
 /* Four callers, 0 to 3, on one explorer. Their records lie in a list that the host lends, whatever it holds; `last`, the caller served last,

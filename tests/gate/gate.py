@@ -11,6 +11,8 @@ import re
 import shutil
 import subprocess
 import sys
+import tempfile
+from contextlib import contextmanager
 from pathlib import Path
 
 sys.dont_write_bytecode = True
@@ -28,6 +30,8 @@ import printed  # noqa: E402
 ROOT = Path(__file__).resolve().parents[2]
 TARGET = ROOT / 'target'
 PINS = Path(__file__).with_name('pins.txt')
+# a folder in memory, and the bytes that it must have free
+MEMORY, ROOM = Path('/dev/shm'), 4 << 30
 CARGO_TEST = ['cargo', 'test', '--release', '--offline', '--locked', '--no-fail-fast', '--workspace']
 FUNCTION = re.compile(r'^\s*(?:pub(?:\([^)]*\))? +)?(?:extern "C" +)?fn ', re.M)
 # the gate's own length and seed of the fuzzing, whatever the caller's environment says; every case of every test
@@ -81,6 +85,25 @@ def run(words):
     except OSError as error:
         print(f'gate: {error}', flush=True)
         return 127, lines
+
+
+@contextmanager
+def in_memory():
+    """Has rt keep what it writes for a while in memory, where there is such a folder: each check copies thousands of small files."""
+    kept = os.environ.get('TMPDIR')
+    state = os.statvfs(MEMORY) if os.access(MEMORY, os.W_OK) else None
+    if state is None or state.f_flag & os.ST_NOEXEC or state.f_bavail * state.f_frsize < ROOM:
+        yield
+        return
+    with tempfile.TemporaryDirectory(dir=MEMORY) as folder:
+        os.chmod(folder, 0o755)  # rt runs a program as nobody, below it
+        os.environ['TMPDIR'] = folder
+        try:
+            yield
+        finally:
+            os.environ.pop('TMPDIR')
+            if kept is not None:
+                os.environ['TMPDIR'] = kept
 
 
 def samples(tally):
@@ -141,7 +164,8 @@ def formatting(tally):
 
 
 def proofs(tally):
-    status, lines = run(['rt', 'ci'])
+    with in_memory():
+        status, lines = run(['rt', 'ci'])
     count = re.fullmatch(r'(\d+) passed, (\d+) failed', lines[-1]) if lines else None
     if count:
         tally.add(int(count[1]), int(count[2]))
@@ -190,10 +214,6 @@ def edits(tally):
         why = must_fail.without_input(text) or must_fail.misplaced(text, lambda file: read(edit.parents[1] / file))
         if why:
             tally.fail(f'must-fail {edit.parts[-3]}/{edit.stem}: {why}')
-    for crate in sorted({edit.parts[-3] for edit in found}):
-        number = sum(edit.parts[-3] == crate for edit in found)
-        if number % 2 == 1:  # rt tries them in pairs, through all crates in order, and the slower of a pair is waited for
-            tally.note(f'{crate} has {number} edits: every pair behind it may be of two crates; one more edit is cheaper than that')
 
 
 def reasons(tally):
@@ -237,7 +257,8 @@ def rust_lints(tally):
 def rust_tests(tally):
     library = TARGET / 'staticlib' / 'libtarczolin.a'
     library.unlink(missing_ok=True)
-    status, _ = run(['make', '--no-print-directory', 'library'])
+    with in_memory():
+        status, _ = run(['make', '--no-print-directory', 'library'])
     if status != 0 or not library.is_file():
         tally.fail('make library made no library, so the Rust tests were not run')
         return
@@ -310,7 +331,8 @@ QUICK = (samples, every_crate_is_listed, only_laws, claimed_and_believed, arrows
 CHECKS = (*QUICK, formatting, rust_formatting, proofs, reasons, rust_tests, python_tests, rust_lints, browser, slurm, validator)
 
 def main(quick):
-    os.environ.setdefault('RT_JOBS', '2')
+    # rt waits for the slowest of each batch: with one more than two cores carry, none of them stands idle at a batch's end
+    os.environ.setdefault('RT_JOBS', '3')
     os.environ.update(OWN)
     for name in NOT_TAKEN:
         os.environ.pop(name, None)

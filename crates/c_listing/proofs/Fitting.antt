@@ -48,7 +48,7 @@ module _ (m : Model) where
 
   -- a listed schedule has at most 48 steps
   module _ (p : Program) (a : Admitted M p) (out : List ℕ) where
-    answer-fits : (x : Answer) → Within M p out x → Fits (listed x)
+    pub answer-fits : (x : Answer) → Within M p out x → Fits (listed x)
     unfolding listed
     answer-fits (found s) h = omega (arith, list-room M L p a s (h .0), need-48 m)
     answer-fits nomore h = tt

@@ -24,7 +24,7 @@ use Rattle.c_listing.proofs.Fitting.{start-fits, continue-fits, violati
 abbrev pub Stands : ℕ → List ℕ → List ℕ → (Schedule → Type 0) → Type 0
 Stands w before behind Answered = kindIn w ≡ 1 → (s : Schedule) × Answered s × (length s ≡ restIn w) × InFront s before behind
 
-listed-found : (a : Answer) (n : ℕ) → listed a ≡ answered n → (s : Schedule) × (a ≡ found s) × (length s ≡ n)
+pub listed-found : (a : Answer) (n : ℕ) → listed a ≡ answered n → (s : Schedule) × (a ≡ found s) × (length s ≡ n)
 unfolding listed
 listed-found (found s) n e = (s, refl, cc)
 listed-found nomore n e = absurd (let z : _≡_ {A = ℕ} 0 1 = cc in omega arith)

@@ -26,7 +26,7 @@ pub extern "C" fn tarczolin_count_with(
     ensures failing { λ w. ⌜ now (failing .exit) ≡ failingLater (countFile sc (now (file .entry))) (now (failing .entry)) ⌝ }
     ensures scratch { λ w. ⌜ now (scratch .exit) ≡ countScratch (countFile sc (now (file .entry))) (now (scratch .entry)) ⌝ }
 {
-    let a = listing::count_with(Model::Sequential, file, scratch);
+    let a = states_call::count_with(Model::Sequential, file, scratch);
     match a {
         CountAnswer::Counted(n, f) => {
             *listed = n as u64;
@@ -46,5 +46,5 @@ pub extern "C" fn tarczolin_violation_with(file: &[u8], out: &mut [u8], scratch:
     ensures scratch { λ w. ⌜ now (scratch .exit)
         ≡ violationScratch (violationFile sc (now (file .entry)) (now (out .entry)) .0) (now (scratch .entry)) ⌝ }
 {
-    word_of(listing::violation_with(Model::Sequential, file, out, scratch))
+    word_of(states_call::violation_with(Model::Sequential, file, out, scratch))
 }

@@ -26,7 +26,7 @@ pub extern "C" fn tarczolin_tso_count_with(
     ensures failing { λ w. ⌜ now (failing .exit) ≡ failingLater (countFile tso (now (file .entry))) (now (failing .entry)) ⌝ }
     ensures scratch { λ w. ⌜ now (scratch .exit) ≡ countScratch (countFile tso (now (file .entry))) (now (scratch .entry)) ⌝ }
 {
-    let a = listing::count_with(Model::TotalStoreOrder, file, scratch);
+    let a = states_call::count_with(Model::TotalStoreOrder, file, scratch);
     match a {
         CountAnswer::Counted(n, f) => {
             *listed = n as u64;
@@ -50,5 +50,5 @@ pub extern "C" fn tarczolin_tso_violation_with(
     ensures scratch { λ w. ⌜ now (scratch .exit)
         ≡ violationScratch (violationFile tso (now (file .entry)) (now (out .entry)) .0) (now (scratch .entry)) ⌝ }
 {
-    word_of(listing::violation_with(Model::TotalStoreOrder, file, out, scratch))
+    word_of(states_call::violation_with(Model::TotalStoreOrder, file, out, scratch))
 }

@@ -15,7 +15,7 @@ pub extern "C" fn tarczolin_tso_rows(file: &[u8], out: &mut [u8]) -> u64
     ensures answer { λ w. ⌜ w ≡ wordOf (rowsReply (rowsFile tso (now (file .entry)) none (now (out .entry)))) ⌝ }
     ensures output { λ w. ⌜ now (out .exit) ≡ rowsOutput tso (now (file .entry)) none (now (out .entry)) ⌝ }
 {
-    rows_word(listing::first_rows(Model::TotalStoreOrder, file, out))
+    rows_word(rows_call::first_rows(Model::TotalStoreOrder, file, out))
 }
 
 // The listed schedules after a given one, which need not be listed nor full, by rows and a word like those of `tarczolin_tso_rows`.
@@ -26,5 +26,5 @@ pub extern "C" fn tarczolin_tso_rows_after(file: &[u8], schedule: &[u8], out: &m
     ensures output { λ w. ⌜ now (out .exit) ≡ rowsOutput tso (now (file .entry)) (some (now (schedule .entry)))
         (now (out .entry)) ⌝ }
 {
-    rows_word(listing::next_rows(Model::TotalStoreOrder, file, schedule, out))
+    rows_word(rows_call::next_rows(Model::TotalStoreOrder, file, schedule, out))
 }

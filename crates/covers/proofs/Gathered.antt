@@ -33,9 +33,9 @@ use Rattle.states_outcomes.specs.Rows.{rowOf, knownRow, isNew}
 use Rattle.states_outcomes.specs.Swept.{Swept}
 use Rattle.states_outcomes.specs.declared.known.Frame.{Frame}
 use Rattle.states_outcomes.proofs.Rows.{known-none, row-stays, row-new}
-use Rattle.covers.specs.Same.{comesTo}
+use Rattle.spec_across.proofs.Covering.{outcome-sc}
+use Rattle.spec_across.proofs.Attained.{comesTo, attained, lacksUnder, firstLacking, attained-of, comes-is}
 use Rattle.covers.specs.Gathered.{Exactly}
-use Rattle.covers.proofs.Attained.{attained, lacksOf, attained-of, comes-is}
 
 -- the frame of a walk
 abbrev pub framed : ℕ → ℕ → ℕ → ℕ → Frame
@@ -47,7 +47,7 @@ outcome-eight p w s = memory-eight p w s
 
 -- every row is an outcome of the program
 abbrev pub Sound : Program → List ℕ → ℕ → Type 0
-Sound p rows k = (o : Outcome) → length (o .memory) ≡ 8 → knownRow rows k (rowOf o) ≡ true → attained p o ≡ true
+Sound p rows k = (o : Outcome) → length (o .memory) ≡ 8 → knownRow rows k (rowOf o) ≡ true → attained sc p o ≡ true
 
 pub sound-start : (p : Program) (rows : List ℕ) → Sound p rows 0
 sound-start p rows o e q = absurd (true≢false (sym q ∙ sym (known-none rows (rowOf o))))
@@ -60,12 +60,12 @@ module _ (p : Program) (w : WellFormed p) where
     -- NONE IS NEW: the rows are all
     pub none-new : (r : First) → r .found ≡ false → foundOf r ≡ find new (listOf sc p) → Sound p rows k → Exactly p rows k
     unfolding attained
-    none-new r f e sound o eight = equal-tests (knownRow rows k (rowOf o)) (any (comesTo p o) (listOf sc p)) (sound o eight) back
+    none-new r f e sound o eight = equal-tests (knownRow rows k (rowOf o)) (any (comesTo sc p o) (listOf sc p)) (sound o eight) back
       where
-        back : any (comesTo p o) (listOf sc p) ≡ true → knownRow rows k (rowOf o) ≡ true
+        back : any (comesTo sc p o) (listOf sc p) ≡ true → knownRow rows k (rowOf o) ≡ true
         back q =
-            let m = any-yes (comesTo p o) (listOf sc p) q in
-            subst (λ (x : Outcome). knownRow rows k (rowOf x) ≡ true) (comes-is p o (m .0) (m .2))
+            let m = any-yes (comesTo sc p o) (listOf sc p) q in
+            subst (λ (x : Outcome). knownRow rows k (rowOf x) ≡ true) (sym (outcome-sc p (m .0)) ∙ comes-is sc p o (m .0) (m .2))
             (not-false _ (none-find new (listOf sc p) (sym (found-none r f ∙ e)) (m .0) (m .1)))
 
     -- ONE IS NEW: it is a full schedule
@@ -78,7 +78,7 @@ module _ (p : Program) (w : WellFormed p) where
     -- and its outcome one row more
     module _ (s : Schedule) (full : Full p s) (rows' : List ℕ) (room : 9 * k + 9 ≤ length rows) (is : rows' ≡ paste rows (9 * k) (rowOf (outcomeOf p s)) 9) where
       pub sound-more : Sound p rows k → Sound p rows' (k + 1)
-      sound-more sound o e q = ⊎-elim (λ (a : knownRow rows k (rowOf o) ≡ true). sound o e a) (λ (x : o ≡ outcomeOf p s). attained-of p w o (s, full, sym x))
+      sound-more sound o e q = ⊎-elim (λ (a : knownRow rows k (rowOf o) ≡ true). sound o e a) (λ (x : o ≡ outcomeOf p s). attained-of sc sc-laws p (w, refl) o (s, full, outcome-sc p s ∙ sym x))
           (row-new rows k (outcomeOf p s) (outcome-eight p w s) room rows' is o e q)
 
       fewer : (o : Outcome) → length (o .memory) ≡ 8 → isNew rows' (k + 1) o ≡ true → isNew rows k o ≡ true
@@ -108,6 +108,8 @@ noted m ys row row' cut at h room nine is = (
     long = ap length is ∙ length-paste (take cut m) at row (length row) (omega (arith, front, room, nine)) (omega arith) ∙ front
 
 -- WHAT IS NEW TO ALL OF p's OUTCOMES p lacks
-pub new-lacks : (p q : Program) → WellFormed q → (rows : List ℕ) (k : ℕ) → Exactly p rows k → find (λ s. isNew rows k (outcomeOf q s)) (listOf sc q) ≡ find (lacksOf p q) (listOf sc q)
-unfolding lacksOf attained
-new-lacks p q wq rows k exact = ap (λ (f : Schedule → Bool). find f (listOf sc q)) (fun-ext (λ s. ap not (exact (outcomeOf q s) (outcome-eight q wq s))))
+pub new-lacks : (p q : Program) → WellFormed q → (rows : List ℕ) (k : ℕ) → Exactly p rows k → find (λ s. isNew rows k (outcomeOf q s)) (listOf sc q) ≡ firstLacking sc p sc q
+unfolding lacksUnder attained
+new-lacks p q wq rows k exact =
+    ap (λ (f : Schedule → Bool). find f (listOf sc q))
+    (fun-ext (λ s. ap not (exact (outcomeOf q s) (outcome-eight q wq s)) ∙ ap (λ (o : Outcome). not (attained sc p o)) (sym (outcome-sc q s))))

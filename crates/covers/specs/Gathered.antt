@@ -9,7 +9,7 @@ use Rattle.spec_model.specs.Alike.{listOf}
 use Rattle.spec_sc.specs.Sequential.{sc}
 use Rattle.spec_covers.specs.declared.outcome.Outcome.{Outcome}
 use Rattle.states_outcomes.specs.Rows.{rowOf, knownRow}
-use Rattle.covers.specs.Same.{comesTo}
+use Rattle.spec_across.proofs.Attained.{comesTo}
 
 abbrev pub Exactly : Program → List ℕ → ℕ → Type 0
-Exactly p rows n = (o : Outcome) → length (o .memory) ≡ 8 → knownRow rows n (rowOf o) ≡ any (comesTo p o) (listOf sc p)
+Exactly p rows n = (o : Outcome) → length (o .memory) ≡ 8 → knownRow rows n (rowOf o) ≡ any (comesTo sc p o) (listOf sc p)

@@ -1,6 +1,7 @@
 // All outcomes of a program into lent words, by states; and the first listed schedule of another with none of them.
-use crate::coming::outcome;
 use file_decoder::Compiled;
+use listing_model::Model;
+use outcome_lists::outcome_of;
 use states_outcomes::Frame;
 use states_outcomes::first_new;
 use states_outcomes::row_of;
@@ -41,7 +42,7 @@ fn note(program: Compiled, r: First, k: usize, cut: usize, lent: &mut [u64])
 {
     let schedule = r.schedule;
     let n = r.steps;
-    let o = outcome(program, &schedule[..n]);
+    let o = outcome_of(Model::Sequential, program, &schedule[..n]);
     let memory = o.memory;
     let row = row_of(memory, o.fails);
     write(&mut lent[..cut], 9 * k, &row);

@@ -9,11 +9,7 @@ pub mod Demand3
 pub mod Sequential
 -- the calls that give a schedule, way by way
 pub mod FileCalls
--- what count and violation answer with a lent scratch, and leave in it
-pub mod LentCalls
 -- what count says of a program file
 pub mod CountCalled
--- the calls by rows, way by way
-pub mod RowsAnswered
 -- files that differ only in remarks and capitals
 pub mod PlainFiles

@@ -21,7 +21,7 @@ use Rattle.listing.specs.Demand3.{InFront}
 
 module _ (M : Model) (L : Laws M) where
   -- a listed schedule is not longer than an output that is not refused, so that it fits
-  in-front : (p : Program) → Admitted M p → (s : Schedule) (out behind : List ℕ) → Stands M p out s behind → InFront s out behind
+  pub in-front : (p : Program) → Admitted M p → (s : Schedule) (out behind : List ℕ) → Stands M p out s behind → InFront s out behind
   in-front p w s out behind h = subst (InFront s out) (sym (h .2))
       (take-over s out, drop-over s out, length-over s out (omega (arith, list-room M L p w s (h .0), h .1)))
 

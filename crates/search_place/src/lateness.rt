@@ -46,7 +46,7 @@ pub fn late_bound(late: u8, t: u8) -> u8
 }
 
 // Whether thread u, which stands so with this memory behind the step a, is late.
-pub fn is_late_behind(
+pub(crate) fn is_late_behind(
     code: &Code,
     lengths: &[usize; 6],
     k: ThreadState,

@@ -18,7 +18,7 @@ fn lone(t: u8) -> u64
 }
 
 // Thread t's word behind an access that found this stamp, and wrote or not.
-pub fn word_behind(t: u8, word: u64, stamp: u8, wrote: bool) -> u64
+pub(crate) fn word_behind(t: u8, word: u64, stamp: u8, wrote: bool) -> u64
     ensures { λ r. ⌜ r ≡ wordBehind t word stamp wrote ⌝ }
 {
     if wrote {
@@ -31,7 +31,7 @@ pub fn word_behind(t: u8, word: u64, stamp: u8, wrote: bool) -> u64
 }
 
 // A location's stamp behind step number n, which wrote it or not.
-pub fn stamp_behind(stamp: u8, n: u8, wrote: bool) -> u8
+pub(crate) fn stamp_behind(stamp: u8, n: u8, wrote: bool) -> u8
     ensures { λ r. ⌜ r ≡ cond wrote n stamp ⌝ }
 {
     if wrote {

@@ -7,4 +7,3 @@ mod listed;
 
 pub use listed::listed_rows;
 pub use walking::is_tried;
-pub use walking::walk;

@@ -129,7 +129,7 @@ fn visit(
 }
 
 // Adds all that is found behind the steps taken, where a search begins.
-pub fn walk(
+pub(crate) fn walk(
     code: &Code,
     lengths: &[usize; 6],
     class: &[usize; 6],

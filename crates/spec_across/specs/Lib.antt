@@ -7,3 +7,5 @@ pub mod Robust
 pub mod RobustCall
 -- and what its word says
 pub mod RobustWord
+-- what the call over two files, each under a model of its own, answers
+pub mod ModelsCall

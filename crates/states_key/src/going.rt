@@ -35,7 +35,7 @@ pub fn first_spot(x: Place) -> Spot
 }
 
 // A way behind an access at a location.
-pub fn way_behind(way: u64, location: u8) -> u64
+pub(crate) fn way_behind(way: u64, location: u8) -> u64
     ensures { λ r. ⌜ r ≡ wayBehind way location ⌝ }
 {
     (way % 0x2_0000_0000 * 8 + (location as u64)) % 0x10_0000_0000

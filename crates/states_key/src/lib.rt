@@ -15,7 +15,6 @@ mod seen;
 
 pub use going::first_spot;
 pub use going::mark_way;
-pub use going::way_behind;
 pub use keys::key;
 pub use keys::left;
 pub use keys::pair;

@@ -6,7 +6,7 @@ use native.Mathlib.Omega.{arith}
 use lib.ListN.{length, take}
 use lib.Seq.{length-take-le}
 use Rattle.states_walk.proofs.FirstFound.{found-none, found-some}
-use Rattle.listing.proofs.LentCalls.{first-none, first-some}
+use Rattle.states_call.proofs.LentCalls.{first-none, first-some}
 use Rattle.member_call.proofs.kth_call.kth_of.Statement.{statement}
 use Rattle.member_call.proofs.kth_call.kth_of.Tie as tie
 

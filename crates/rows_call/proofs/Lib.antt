@@ -1,0 +1,3 @@
+-- The laws.
+-- the calls by rows, way by way
+pub mod RowsAnswered
