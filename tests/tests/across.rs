@@ -8,6 +8,7 @@ use tarczolin_tests::lent::held_across;
 use tarczolin_tests::oracle::across::call;
 use tarczolin_tests::oracle::covers::Covers;
 use tarczolin_tests::oracle::decode::decode;
+use tarczolin_tests::random::ends::buffering;
 use tarczolin_tests::random::program::{frames_parted, Size, SMALL};
 use tarczolin_tests::random::{damage, Random};
 use tarczolin_tests::share;
@@ -31,18 +32,6 @@ const DEKKER: &str =
     "01 10000000000001 110001 2200000000000001 1201020000000001 01 10010000000001 110000 2200000000000001 1201020000000001";
 /// Both loads pass the stores: another graph, and no other outcome.
 const PAIR: &str = "01 10000000000001 110001 01 10010000000001 110000";
-
-/// Two threads that store, load and keep what they loaded at a location of their own: where the loads pass the stores memory tells it, unless
-/// a fetch and add stands between.
-fn buffering(random: &mut Random) -> Vec<u8> {
-    let thread = |random: &mut Random, t: usize| {
-        let fence = if random.one_in(3) { "1201060000000000 " } else { "" };
-        let [own, other] = if random.one_in(4) { [random.below(2), random.below(2)] } else { [t, 1 - t] };
-        format!("01 100{own}0000000001 {fence}11000{other} 100{}0100000000 ", 2 + t)
-    };
-    let threads: String = (0..2).map(|t| thread(random, t)).collect();
-    lines(&threads)
-}
 
 /// A random program, or one that is likely to tell the models apart.
 fn program(random: &mut Random, size: Size) -> Vec<u8> {

@@ -10,6 +10,7 @@ use tarczolin_tests::oracle::listing::Listed;
 use tarczolin_tests::oracle::model::Model;
 use tarczolin_tests::oracle::outcomes::{call_in, firsts, row, size};
 use tarczolin_tests::oracle::Refusal;
+use tarczolin_tests::random::ends::mixing;
 use tarczolin_tests::random::program::{frames_parted, Size, SMALL};
 use tarczolin_tests::random::{damage, Random};
 use tarczolin_tests::scratch::{Scratch, LONG};
@@ -78,26 +79,6 @@ impl Seen {
         let memories: BTreeSet<_> = ends.iter().map(|(memory, _)| memory).collect();
         self.by_failure += (memories.len() < ends.len()) as usize;
     }
-}
-
-/// Threads of two or three accesses that keep what they read, so that many outcomes come about; some of the same code, and declared alike.
-fn mixing(random: &mut Random) -> Vec<u8> {
-    let access = |random: &mut Random| {
-        let (l, c) = (random.below(3), random.below(3));
-        match random.below(6) {
-            0 => format!("11000{l} "),
-            1 => format!("11000{l} 230000000000{c:02x} "),
-            2 => format!("100{l}00000000{c:02x} "),
-            3 => format!("100{l}0100000000 "),
-            _ => format!("12000{l}00000000{:02x} ", 1 + c),
-        }
-    };
-    let threads = random.between(2, 3);
-    let code = |random: &mut Random| (0..if threads == 2 { 3 } else { 2 }).map(|_| access(random)).collect::<String>();
-    let (same, alike) = (code(random), random.one_in(3));
-    let all: String = (0..threads).map(|_| format!("01 {}", if alike { same.clone() } else { code(random) })).collect();
-    let declared = if alike { ["020001", "02000102"][threads - 2] } else { "" };
-    lines(&format!("{all} {declared}"))
 }
 
 /// A random program of any kind, or one that has many outcomes.

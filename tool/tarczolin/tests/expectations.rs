@@ -4,6 +4,7 @@ mod common;
 use common::json::{parse, Value};
 use common::{folder, run, run_with};
 use tarczolin_tests::files::{path, text};
+use tarczolin_tests::random::ends::mixing;
 use tarczolin_tests::random::program::{frames, SMALL};
 use tarczolin_tests::random::Random;
 use tarczolin_tests::share;
@@ -205,8 +206,12 @@ fn too_many_accesses_for_one_model() {
 fn the_calls_and_the_walk() {
     let mut random = Random::new(0x6578);
     let mut seen = [0; 2];
-    for _ in 0..share::of(80) {
-        let file = text(&frames(&mut random, SMALL));
+    for k in 0..share::of(80) {
+        let file = if k % 2 == 0 { mixing(&mut random) } else { text(&frames(&mut random, SMALL)) };
+        if !file.split(|c| *c == b'\n').any(|line| line == b"01") {
+            // without a thread there is no register to ask about
+            continue;
+        }
         let value = random.below(3);
         for condition in [format!("x0 = {value}"), format!("x1 != {value} & !fails"), "fails".to_string()] {
             for kind in ["exists", "forbid", "forall"] {

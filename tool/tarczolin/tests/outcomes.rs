@@ -8,6 +8,7 @@ use tarczolin::outcome::Final;
 use tarczolin::program::Program;
 use tarczolin_tests::files::{lines, text};
 use tarczolin_tests::oracle::decode::decode;
+use tarczolin_tests::random::ends::mixing;
 use tarczolin_tests::random::program::{frames, SMALL};
 use tarczolin_tests::random::{schedule, Random};
 use tarczolin_tests::share;
@@ -64,7 +65,8 @@ fn the_call_and_the_walks() {
     let mut random = Random::new(0x6f75);
     let mut many = 0;
     for k in 0..share::of(120) {
-        let (file, model) = (text(&frames(&mut random, SMALL)), ["sc", "tso"][k % 2]);
+        let file = if k % 4 < 2 { mixing(&mut random) } else { text(&frames(&mut random, SMALL)) };
+        let model = ["sc", "tso"][k % 2];
         let told = |options: &[&str]| {
             let ran = run_with(&[&["outcomes", "-", "--model", model, "--json"], options].concat(), &file);
             let all: Vec<Value> = ran.out.lines().map(parse).filter(|one| one.get("outcome").is_some()).collect();

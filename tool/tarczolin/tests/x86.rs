@@ -4,6 +4,7 @@ mod common;
 use common::json::{parse, Value};
 use common::{run, run_with};
 use tarczolin_tests::files::text;
+use tarczolin_tests::random::ends::buffering;
 use tarczolin_tests::random::program::{frames, Size, SMALL};
 use tarczolin_tests::random::Random;
 use tarczolin_tests::share;
@@ -75,9 +76,10 @@ fn as_the_two_commands() {
     let size = Size { threads: 3, instructions: 4, accesses: 7, locations: 2, constants: 2, ..SMALL };
     let mut seen = [0; 3];
     let folder = common::folder("x86-random");
-    for _ in 0..share::of(300) {
+    for k in 0..share::of(150) {
         let path = folder.join("program.hex");
-        std::fs::write(&path, text(&frames(&mut random, size))).unwrap();
+        let file = if k % 2 == 0 { buffering(&mut random) } else { text(&frames(&mut random, size)) };
+        std::fs::write(&path, file).unwrap();
         let name = path.display().to_string();
         let robust = run(&["robust", &name]).status == 0;
         let covered = run(&["covers", &name, &name, "--under", "sc,tso"]).status == 0;
@@ -93,5 +95,6 @@ fn as_the_two_commands() {
         );
         seen[if robust { 0 } else { 1 + !covered as usize }] += 1;
     }
-    assert!(!share::whole() || seen.iter().all(|times| *times > 3), "nothing, executions, outcomes: {seen:?}");
+    // an execution without an outcome is the store and load pair's
+    assert!(!share::whole() || (seen[0] > 20 && seen[2] > 10), "nothing, executions, outcomes: {seen:?}");
 }
