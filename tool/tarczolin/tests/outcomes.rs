@@ -86,7 +86,7 @@ fn the_call_and_the_walks() {
         assert_eq!((status, firsts), called, "{}", file.escape_ascii());
         many += (called.1.len() > 1) as usize;
     }
-    assert!(!share::whole() || many > 30, "{many}");
+    assert!(!share::whole() || many > 15, "{many}");
 }
 
 /// A list that nobody walks: its outcomes are there at once, also where they are asked about.
