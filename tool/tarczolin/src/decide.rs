@@ -7,9 +7,13 @@ use crate::expect::{Expectation, Kind};
 use crate::jobs::{self, List};
 use crate::memory::Memory;
 use crate::outcome::{exchanges, Condition, Exchange, Final};
-use crate::progress::waiting_or_cut;
+use crate::progress::{begun, waiting_or_cut};
 use crate::schedule::Schedule;
 use std::io;
+use std::time::Duration;
+
+/// A call that takes longer has the list walked beside it.
+const PATIENCE: Duration = Duration::from_secs(2);
 
 /// How it is decided.
 #[derive(Clone, Copy)]
@@ -90,29 +94,43 @@ fn verdict(one: &Expectation, found: Option<Shown>) -> Verdict {
 
 /// Decides these of a program, under the model that it is accepted under.
 pub fn decide(source: &Accepted, all: &[&Expectation], asking: Asking) -> Decided {
-    let wanted = |looked: Looked| all.iter().any(|one| needs(one) == looked);
-    let asked: Vec<Kind> = all.iter().filter(|one| needs(one) == Looked::Outcomes(0)).map(|one| one.kind.clone()).collect();
-    let outcomes = wanted(Looked::Outcomes(0)).then(|| outcomes(source, asked, asking));
-    let failing = wanted(Looked::Failures).then(|| failing(source, asking));
-    let walked: Vec<&Expectation> = all.iter().copied().filter(|one| needs(one) == Looked::Listed(0)).collect();
-    let mut by_list = walk(source, &walked, asking);
-    let mut next = std::mem::take(&mut by_list.all).into_iter();
+    let of = |looked: Looked| all.iter().copied().filter(|one| needs(one) == looked).collect::<Vec<&Expectation>>();
+    let failing = (!of(Looked::Failures).is_empty()).then(|| failing(source, asking));
+    let by_outcomes = of_memory(source, &of(Looked::Outcomes(0)), asking);
+    let by_list = walk(source, &of(Looked::Listed(0)), asking);
+    let cut = by_list.cut || by_outcomes.cut || failing == Some(None);
+    let (mut called, mut walked) = (by_outcomes.all.into_iter(), by_list.all.into_iter());
     let decision = |one: &&Expectation| match needs(one) {
-        Looked::Outcomes(_) => by_outcomes(one, outcomes.as_ref().and_then(Option::as_deref)),
+        Looked::Outcomes(_) => called.next().expect("one for each of memory"),
         Looked::Failures => by_failures(one, failing.flatten()),
-        Looked::Listed(_) => next.next().expect("one for each that is walked"),
+        Looked::Listed(_) => walked.next().expect("one for each that is walked"),
     };
-    let decisions = all.iter().map(decision).collect();
-    Decided { all: decisions, cut: by_list.cut || outcomes.is_some_and(|all| all.is_none()) || failing == Some(None) }
+    Decided { all: all.iter().map(decision).collect(), cut }
 }
 
-/// The outcomes by the library, no more than decide all of these, or none where Ctrl-C came first.
-fn outcomes(source: &Accepted, asked: Vec<Kind>, asking: Asking) -> Option<Vec<Attained>> {
+/// Decides these by the library's outcomes, no more of them than are enough. Where that takes a while the list is walked beside it: what ends
+/// first decides, and behind the limit the call is waited for.
+fn of_memory(source: &Accepted, all: &[&Expectation], asking: Asking) -> Decided {
+    if all.is_empty() {
+        return Decided { all: Vec::new(), cut: false };
+    }
     let (model, file) = (source.program.model, source.file.clone());
     let scratch = asking.memory.for_outcomes(model, &source.program);
+    let asked: Vec<Kind> = all.iter().map(|one| one.kind.clone()).collect();
     let enough = move |all: &[Attained]| asked.iter().all(|kind| all.iter().any(|attained| decides(kind, attained)));
-    let found = waiting_or_cut(asking.quiet, move || ask::outcomes_until(model, &file, &scratch, enough));
-    found.map(|all| all.expect("the file is accepted"))
+    let wait = begun(move || ask::outcomes_until(model, &file, &scratch, enough));
+    let found = match wait.recv_timeout(PATIENCE) {
+        Ok(found) => Some(found),
+        Err(_) => {
+            let walked = walk(source, all, asking);
+            if walked.cut || walked.all.iter().all(|one| one.verdict != Verdict::Open) {
+                return walked;
+            }
+            waiting_or_cut(asking.quiet, &wait)
+        }
+    };
+    let outcomes = found.map(|found| found.expect("the file is accepted"));
+    Decided { all: all.iter().map(|one| by_outcomes(one, outcomes.as_deref())).collect(), cut: outcomes.is_none() }
 }
 
 /// Is an outcome one that decides what speaks of memory and failures alone?
@@ -128,8 +146,8 @@ fn decides(kind: &Kind, attained: &Attained) -> bool {
 fn failing(source: &Accepted, asking: Asking) -> Option<Option<Schedule>> {
     let (model, file) = (source.program.model, source.file.clone());
     let scratch = asking.memory.looked_at(model, &source.program);
-    waiting_or_cut(asking.quiet, move || ask::violation_in(model, &file, &scratch))
-        .map(|first| first.expect("the file is accepted"))
+    let wait = begun(move || ask::violation_in(model, &file, &scratch));
+    waiting_or_cut(asking.quiet, &wait).map(|first| first.expect("the file is accepted"))
 }
 
 fn by_outcomes(one: &Expectation, outcomes: Option<&[Attained]>) -> Decision {

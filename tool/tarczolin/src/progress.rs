@@ -2,7 +2,7 @@
 //! terminal one line that changes; else a line every few seconds; none where `TARCZOLIN_PROGRESS` is `off`.
 use crate::ask::Counts;
 use std::io::{stderr, stdout, IsTerminal, Write};
-use std::sync::mpsc::{channel, RecvTimeoutError};
+use std::sync::mpsc::{channel, Receiver, RecvTimeoutError};
 use std::sync::Arc;
 use std::time::{Duration, Instant};
 use tarczolin_sys::{Scratch, Seen};
@@ -121,12 +121,17 @@ impl Progress {
     }
 }
 
-/// The same until Ctrl-C, behind which nothing is known; the call is left behind then, and ends with the program. Nothing is said of a quiet one.
-pub fn waiting_or_cut<T: Send + 'static>(quiet: bool, call: impl FnOnce() -> T + Send + 'static) -> Option<T> {
-    const SOON: Duration = Duration::from_millis(50);
-    let mut progress = Progress::default();
+/// A call on a thread of its own, which ends with the program at the latest.
+pub fn begun<T: Send + 'static>(call: impl FnOnce() -> T + Send + 'static) -> Receiver<T> {
     let (done, wait) = channel();
     std::thread::spawn(move || done.send(call()));
+    wait
+}
+
+/// Waits for a call that has begun, until Ctrl-C, behind which nothing is known. Nothing is said of a quiet one.
+pub fn waiting_or_cut<T>(quiet: bool, wait: &Receiver<T>) -> Option<T> {
+    const SOON: Duration = Duration::from_millis(50);
+    let mut progress = Progress::default();
     let answer = loop {
         match wait.recv_timeout(SOON) {
             Ok(answer) => break Some(answer),
