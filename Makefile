@@ -12,6 +12,7 @@
 # make walk              the list beside a walk over all schedules in plain Rust: equal byte for byte? both times; PROGRAMS='F ..': of these
 # make fuzz SECONDS=N    random bytes to every call, for so long
 # make soak MINUTES=N    every call on two cores with random and damaged input, held to the oracle; SEED=S: of these seeds, S and S + 1
+# make backends          every call on the interpreter and compiled three ways: the same answers, and the oracle's?
 # make valgrind          the Rust tests, few cases each, under valgrind
 FILE ?= examples/whole.hex
 SECONDS ?= 600
@@ -21,13 +22,13 @@ QUIET = --quiet --release --offline --locked
 LIBRARY = target/staticlib/libtarczolin.a
 SHARED = $(LIBRARY:.a=.so)
 # the crates whose functions C and Rust call: their archives become one
-EXPORTED = c_graph c_listing c_states c_extra c_tso c_across c_service
+EXPORTED = c_graph c_listing c_states c_outcomes c_extra c_tso c_across c_service
 EXPLORER = target/bin/explorer
 SOURCES = crates.txt $(shell find crates -name '*.rt' -o -name '*.antt')
 VALGRIND = valgrind --quiet --error-exitcode=9 --leak-check=full --show-leak-kinds=definite --errors-for-leak-kinds=definite \
   --trace-children=yes --log-file=$(CURDIR)/target/valgrind/%p.log
 
-.PHONY: help test check list explorer tool library bench walk fuzz soak valgrind
+.PHONY: help test check list explorer tool library bench walk fuzz soak backends valgrind
 
 help:
 	@sed -n 's/^# make/make/p' Makefile
@@ -62,6 +63,19 @@ fuzz: $(LIBRARY)
 
 soak: $(LIBRARY)
 	@$(CARGO) run $(QUIET) --bin soak -- $(MINUTES) $(SEED)
+
+# a tree of its own, with one program more than the crates: rt try takes all of it as source and proves nothing. Crates and modules share
+# their names there, so a module of the name of a crate has another. In the repository the program is no .rt file, since no crate has it
+backends: $(LIBRARY)
+	@rm -rf target/backends && mkdir -p target/backends/crates/backends/src
+	@for crate in crates/*; do ln -s $(CURDIR)/$$crate target/backends/$$crate; done
+	@cp tests/backends/main.rattle target/backends/crates/backends/src/main.rt
+	@rm target/backends/crates/graph_reader && cp -r crates/graph_reader target/backends/crates/
+	@cd target/backends/crates/graph_reader/src && mv table.rt read_table.rt && sed -i 's/^mod table;/mod read_table;/; s/\btable::/read_table::/' *.rt
+	@{ cat crates.txt; echo 'backends: $(EXPORTED) io libc service_record spec_service'; } > target/backends/crates.txt
+	@$(CARGO) run $(QUIET) --bin backends -- target/backends/parts
+	@cd target/backends && for part in parts/*; do cp $$part/std* crates/backends/ && rt try backends > said || { cat said; exit 1; }; done
+	@echo 'equal on the interpreter, at -O0, at -O3 and with the assumptions checked, and as the oracle says'
 
 # cargo hands each test program to valgrind; a hundredth of the cases, since valgrind is slow; a report is an error
 valgrind: $(LIBRARY)

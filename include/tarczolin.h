@@ -46,15 +46,21 @@
 /* The version of this header. */
 #define TARCZOLIN_VERSION "0.1.0"
 
-/* Sizes in bytes: the longest accepted file, what an output for a schedule and for a graph text needs, a row. */
+/* Sizes in bytes: the longest accepted file, what an output for a schedule and for a graph text needs, a row, a row of tarczolin_outcomes. */
 #define TARCZOLIN_FILE 4096
 #define TARCZOLIN_SCHEDULE 24
 #define TARCZOLIN_GRAPH 512
 #define TARCZOLIN_ROW 26
+#define TARCZOLIN_OUTCOME 58
 
-/* The same under total store order: an output for a schedule, a row. */
+/* The same under total store order: an output for a schedule, a row, a row of tarczolin_tso_outcomes. */
 #define TARCZOLIN_TSO_SCHEDULE 48
 #define TARCZOLIN_TSO_ROW 50
+#define TARCZOLIN_TSO_OUTCOME 82
+
+/* The bytes that name a memory model: sequential consistency, and total store order. */
+#define TARCZOLIN_SC 0
+#define TARCZOLIN_TSO 1
 
 /* An answer word taken apart: its kind, a refusal's number, the length, number of rows, size of a class or place. */
 #define TARCZOLIN_KIND(word) ((unsigned)((uint64_t)(word) >> 56))
@@ -179,6 +185,16 @@ uint64_t tarczolin_rank(const uint8_t *file, size_t file_len, const uint8_t *sch
 uint64_t tarczolin_rows(const uint8_t *file, size_t file_len, uint8_t *out, size_t out_len);
 uint64_t tarczolin_rows_after(const uint8_t *file, size_t file_len, const uint8_t *schedule, size_t schedule_len, uint8_t *out, size_t out_len);
 
+/* All outcomes of a program, each once: the outcome of a full schedule is the eight final values and whether it fails. A row of 58 bytes is
+ * the eight values, four bytes each, the most significant first, and then the row of tarczolin_rows of the first listed schedule that has
+ * the outcome: its number of steps, 1 where it fails and else 0, the steps, zeros behind them. Rows stand in the order of these
+ * schedules. From row number `from` on, counted from 0, as many rows as the output has room for stand in front of it: kind 1, and the
+ * answer carries their number, 0 where there are no more; the bytes behind them keep their value. Refused, in this order: the program's (1 to
+ * 8, 40); 22 at place 0, an output that has not room for one row. Outcomes and states are remembered in the scratch: the answer and the
+ * output do not depend on its length or content, 0 words too, only the time does. The scratch shares no byte with any other buffer. An answer
+ * leaves zeros in all of its words; a refusal leaves it, and the output, as it was. Its length is counted in words of 8 bytes. */
+uint64_t tarczolin_outcomes(const uint8_t *file, size_t file_len, uint64_t from, uint8_t *out, size_t out_len, uint64_t *scratch, size_t scratch_len);
+
 /* Does the first program cover the second: is each outcome of a full schedule of the second one of the first? The outcome of a
  * full schedule is the eight final values and whether it fails. Covered: kind 2. Not covered: kind 1, the first listed schedule
  * of the second with an outcome that the first lacks stands in front of the output, the answer carries its length, and the bytes
@@ -215,7 +231,7 @@ uint64_t tarczolin_force_with(const uint8_t *file, size_t file_len, uint8_t set,
  * store. Each call answers as its namesake does for the other listing, save that: a file of more than 16 accesses is refused by 41 at
  * place 0, right behind the program's own refusals (1 to 8, 40) and before 22; a schedule needs an output of 48 bytes; 20 also refuses a
  * move from an empty queue and a fetch and add or compare and swap whose queue is not empty; rows have 50 bytes, with zeros behind the
- * steps up to 48; both counts are modulo 2^64. */
+ * steps up to 48, and those of tarczolin_tso_outcomes 82; both counts are modulo 2^64. */
 uint64_t tarczolin_tso_graph(const uint8_t *file, size_t file_len, const uint8_t *schedule, size_t schedule_len, uint8_t *out, size_t out_len);
 uint64_t tarczolin_tso_class(const uint8_t *file, size_t file_len, const uint8_t *schedule, size_t schedule_len);
 uint64_t tarczolin_tso_start(const uint8_t *file, size_t file_len, uint8_t *out, size_t out_len);
@@ -225,6 +241,7 @@ uint64_t tarczolin_tso_count(const uint8_t *file, size_t file_len, uint64_t *lis
 uint64_t tarczolin_tso_count_with(const uint8_t *file, size_t file_len, uint64_t *listed, uint64_t *failing, uint64_t *scratch, size_t scratch_len);
 uint64_t tarczolin_tso_violation_with(const uint8_t *file, size_t file_len, uint8_t *out, size_t out_len, uint64_t *scratch, size_t scratch_len);
 uint64_t tarczolin_tso_rows(const uint8_t *file, size_t file_len, uint8_t *out, size_t out_len);
+uint64_t tarczolin_tso_outcomes(const uint8_t *file, size_t file_len, uint64_t from, uint8_t *out, size_t out_len, uint64_t *scratch, size_t scratch_len);
 uint64_t tarczolin_tso_rows_after(const uint8_t *file, size_t file_len, const uint8_t *schedule, size_t schedule_len, uint8_t *out, size_t out_len);
 
 /* Is the program robust: is the graph of every full schedule of total store order consistent? Both machines then have exactly the same
@@ -235,7 +252,7 @@ uint64_t tarczolin_tso_rows_after(const uint8_t *file, size_t file_len, const ui
 uint64_t tarczolin_robust(const uint8_t *file, size_t file_len, uint8_t *out, size_t out_len);
 
 /* Does the first program under its memory model cover the second under its own: is each outcome of a full schedule of the second there one
- * of the first here? A byte in front of each file names its model: 0 sequential consistency, 1 total store order. Covered: kind 2. Not
+ * of the first here? A byte in front of each file names its model: TARCZOLIN_SC or TARCZOLIN_TSO. Covered: kind 2. Not
  * covered: kind 1, the first listed schedule of the second in its model with an outcome that the first lacks stands in front of the output,
  * the answer carries its length, and the bytes behind it keep their value. Refused, in this order: 49, a byte that names no model, at place
  * 0 for the first and 1 for the second, kind 3; the first file (1 to 8, 40, and 41 at place 0 for more than 16 accesses under total store

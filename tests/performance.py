@@ -4,13 +4,14 @@
 Runs the programs `bench` and `walk`, shows what they print, and writes the rows that they print into the document, with the day,
 the cores and the load of the machine when it began. With names of files these hold what was printed, and nothing is run. What stands
 outside the marks stays. Where a program fails, a row is too long or a mark is missing nothing is written. `--into FILE` writes into
-another document.
+another document, and draws the picture beside it. With TEST_SHARE=N in the environment it takes an Nth of the rounds: a trial.
 """
 import datetime
 import os
 import re
 import subprocess
 import sys
+import textwrap
 from pathlib import Path
 
 ROOT = Path(__file__).resolve().parents[1]
@@ -50,16 +51,18 @@ def written(document, rows, when):
         raise ValueError(f'{len(rows)} rows, of which these have more than {MOST} characters: {long}')
     over, asked = missed(rows)
     bounds = f'All {asked} bounds are met.' if not over else f'Of {asked} bounds {len(over)} are not met: {"; ".join(over)}.'
+    bounds = textwrap.fill(bounds, MOST, break_on_hyphens=False)
     front, rest = document.split(BEGIN)
     end = rest.split(END)[1]
     return f'{front}{BEGIN}\n{when}\n{bounds}\n\n{HEADER}' + '\n'.join(rows) + f'\n\n{END}{end}'
 
 
-def measured():
-    """What both programs print, which is shown as it comes."""
+def measured(document):
+    """What both programs print, which is shown as it comes; the picture is drawn beside the document."""
     printed = ''
+    told = {**os.environ, 'BENCH_PICTURE': str(document.resolve().parent / 'listing-time.svg')}
     for name in ('bench', 'walk'):
-        with subprocess.Popen([*RUN, name], cwd=ROOT, stdout=subprocess.PIPE, encoding='utf-8') as process:
+        with subprocess.Popen([*RUN, name], cwd=ROOT, env=told, stdout=subprocess.PIPE, encoding='utf-8') as process:
             for line in process.stdout:
                 print(line, end='', flush=True)
                 printed += line
@@ -74,7 +77,7 @@ def main(words):
         document, words = Path(words[1]), words[2:]
     day = datetime.date.today()
     when = f'Measured on {day.day} {day:%B %Y}, {os.cpu_count()} cores, at a load of {os.getloadavg()[0]:.1f} when it began.'
-    printed = ''.join(Path(name).read_text(encoding='utf-8') for name in words) if words else measured()
+    printed = ''.join(Path(name).read_text(encoding='utf-8') for name in words) if words else measured(document)
     try:
         text = written(document.read_text(encoding='utf-8'), rows_of(printed), when)
     except ValueError as why:

@@ -1,11 +1,13 @@
 //! How the time of a list grows, with the threads and with their instructions: a table, and a picture in docs/.
 use crate::chart::{Chart, Line};
 use std::hint::black_box;
+use std::path::PathBuf;
 use std::time::{Duration, Instant};
 use tarczolin_tests::beside::{by_calls, by_rows, by_search, by_searches, increments, schedules, timed};
 use tarczolin_tests::files::path;
 use tarczolin_tests::oracle::decode::decode;
 use tarczolin_tests::search::walk::walk;
+use tarczolin_tests::share;
 
 /// What is measured, in the order of a point's times.
 const MEASURED: [&str; 5] = [
@@ -32,7 +34,7 @@ fn measured(at: usize, file: &[u8]) -> Point {
     let mut searched = timed(|| by_search(black_box(file)));
     let mut called = timed(|| by_calls(black_box(file)));
     let mut nexts = timed(|| by_searches(black_box(file)));
-    for round in 1..200 {
+    for round in 1..share::of(200) {
         if round > 3 && began.elapsed() > Duration::from_millis(500) {
             break;
         }
@@ -88,9 +90,10 @@ pub fn report() {
         series("Two alike threads, load, add 1, store again and again", "Instructions a thread", more),
         series("Four alike threads, load, add 1, store, then register adds", "Instructions a thread", idle),
     ];
-    let file = path("docs/listing-time.svg");
+    let file = std::env::var_os("BENCH_PICTURE").map_or_else(|| path("docs/listing-time.svg"), PathBuf::from);
+    let name = file.file_name().unwrap_or_default().to_string_lossy();
     match std::fs::write(&file, crate::chart::drawn(&charts)) {
-        Ok(()) => println!("drawn in docs/listing-time.svg"),
-        Err(why) => println!("docs/listing-time.svg: {why}"),
+        Ok(()) => println!("drawn in {name}"),
+        Err(why) => println!("{name}: {why}"),
     }
 }

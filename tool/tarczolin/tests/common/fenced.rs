@@ -1,5 +1,6 @@
 //! Random programs with fences in the text form, and a machine that has fences of its own: a fence steps when the own queue is empty, and does
 //! nothing else. What the command answers is compared with it.
+#![allow(dead_code, reason = "not every test file uses all of it")]
 use std::collections::{BTreeSet, HashSet};
 use tarczolin_tests::random::Random;
 
@@ -157,8 +158,23 @@ impl Fenced {
 
     /// Every end, with queues of pending stores or without.
     pub fn ends(&self, queues: bool) -> BTreeSet<End> {
+        let mut ends = BTreeSet::new();
+        self.walk(queues, &mut |end| {
+            ends.insert(end);
+            false
+        });
+        ends
+    }
+
+    /// Does some execution end so, with queues of pending stores or without?
+    pub fn may_end(&self, queues: bool, so: impl Fn(&End) -> bool) -> bool {
+        self.walk(queues, &mut |end| so(&end))
+    }
+
+    /// Tells every end until one is enough: whether one was.
+    fn walk(&self, queues: bool, enough: &mut dyn FnMut(End) -> bool) -> bool {
         let first = State { threads: vec![Thread::default(); self.threads.len()], memory: self.starts };
-        let (mut ends, mut seen, mut left) = (BTreeSet::new(), HashSet::new(), vec![first]);
+        let (mut seen, mut left) = (HashSet::new(), vec![first]);
         while let Some(state) = left.pop() {
             if !seen.insert(state.clone()) {
                 continue;
@@ -166,11 +182,28 @@ impl Fenced {
             let next: Vec<State> = (0..self.threads.len()).flat_map(|t| self.after(&state, t, queues)).collect();
             if next.is_empty() {
                 let registers = state.threads.iter().map(|thread| thread.registers).collect();
-                ends.insert((state.memory, registers, state.threads.iter().any(|thread| thread.failed)));
+                if enough((state.memory, registers, state.threads.iter().any(|thread| thread.failed))) {
+                    return true;
+                }
             }
             left.extend(next);
         }
-        ends
+        false
+    }
+
+    /// The program with a fence in front of each of these statements, given by thread and number: a statement that skips goes over those that
+    /// stand between.
+    pub fn with(&self, places: &BTreeSet<(usize, usize)>) -> Fenced {
+        let of = |(t, code): (usize, &Vec<Op>)| -> Vec<Op> {
+            let fences = |from: usize, to: usize| places.range((t, from)..(t, to)).count();
+            let longer = |(k, op): (usize, &Op)| match *op {
+                Op::Skip(r, p, n) => Op::Skip(r, p, n + fences(k + 1, k + 1 + n)),
+                other => other,
+            };
+            let each = code.iter().enumerate().map(|(k, op)| (places.contains(&(t, k)), longer((k, op))));
+            each.flat_map(|(fence, op)| fence.then_some(Op::Fence).into_iter().chain([op])).collect()
+        };
+        Fenced { threads: self.threads.iter().enumerate().map(of).collect(), starts: self.starts }
     }
 
     /// What one thread may do: move its oldest pending store, or its next statement.

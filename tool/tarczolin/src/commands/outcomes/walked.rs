@@ -1,11 +1,10 @@
-//! outcomes: each different end of the listed executions, how many end so, how many executions these stand for, and the first.
-use super::arguments::Arguments;
-use super::expected::{self, Asking};
-use super::piece::{self, Found, Piece};
-use super::record;
-use super::reply::{each, Question};
+//! The ends of the listed executions by a walk over the list: with registers or without, how many end so, how many executions these stand for, and
+//! the first. How executions end is replayed in plain Rust, which is not proved.
 use crate::accepted::Accepted;
 use crate::ask::{self, Listed};
+use crate::commands::piece::{self, Found, Piece};
+use crate::commands::record;
+use crate::commands::reply::Question;
 use crate::end::End;
 use crate::error::Error;
 use crate::execution::Execution;
@@ -15,20 +14,19 @@ use crate::outcome::{exchanges, Condition, Exchange, Final};
 use crate::output;
 use crate::program::Program;
 use crate::schedule::Schedule;
-use crate::show::end_lines;
+use crate::show::{end_lines, memory_line};
 use std::collections::BTreeMap;
 
-pub fn run(arguments: &Arguments) -> Result<End, Error> {
-    let piece = Piece::of(arguments)?;
-    let condition = arguments.option("--where")?;
-    let asking = Asking::of(arguments, piece.jobs)?;
-    each("outcomes", arguments, |question| {
-        let source = question.source_under(piece.model)?;
-        let expectations = source.expectations()?;
-        expected::note_others(question, &source, &expectations, piece.model)?;
-        let end = outcomes(question, &source, &piece, condition)?;
-        Ok(end.max(expected::tell(question, &source, &expectations, asking)?))
-    })
+const WALKED: &str =
+    "(how executions end, and how many, is found by plain Rust over the list, which is not proved; the list is)\n";
+
+/// Which ends are told apart.
+#[derive(Clone, Copy, PartialEq, Eq)]
+pub enum Apart {
+    /// By final memory and whether it fails, as the library's outcomes are.
+    ByMemory,
+    /// Also by registers, and by which threads fail and where.
+    ByRegisters,
 }
 
 /// Executions that end alike: so many, how many executions they stand for, and the first of them.
@@ -39,22 +37,30 @@ struct Outcome {
     first: Schedule,
 }
 
+/// What tells an end from others: whether it fails, and final memory alone or all of it.
+type Key = (bool, [u32; 8], Option<Final>);
+
 /// The outcomes of a list, in the order of their first executions.
-#[derive(Default)]
 struct Outcomes {
+    apart: Apart,
     all: Vec<Outcome>,
     /// What all of them stand for.
     executions: u64,
-    places: BTreeMap<Final, usize>,
+    places: BTreeMap<Key, usize>,
 }
 
 impl Outcomes {
+    fn new(apart: Apart) -> Outcomes {
+        Outcomes { apart, all: Vec::new(), executions: 0, places: BTreeMap::new() }
+    }
+
     fn add(&mut self, list: &List, listed: &Listed) {
         let end = Final::of(list.program, &listed.schedule);
         let executions =
             ask::class(list.program.model, list.file, &listed.schedule).expect("a listed schedule of an accepted file is full");
         let next = self.all.len();
-        let place = *self.places.entry(end.clone()).or_insert(next);
+        let whole = (self.apart == Apart::ByRegisters).then(|| end.clone());
+        let place = *self.places.entry((listed.fails, end.memory, whole)).or_insert(next);
         if place == next {
             self.all.push(Outcome { end, listed: 0, executions: 0, first: listed.schedule });
         }
@@ -77,11 +83,15 @@ impl Outcomes {
     }
 }
 
-fn outcomes(question: &Question, source: &Accepted, piece: &Piece, condition: Option<&str>) -> Result<End, Error> {
+pub fn ends(
+    question: &Question,
+    source: &Accepted,
+    piece: &Piece,
+    condition: Option<&Condition>,
+    apart: Apart,
+) -> Result<End, Error> {
     let list = piece.list(List::of(source, true))?;
-    let condition = condition.map(|text| Condition::of(text, list.program)).transpose();
-    let condition = condition.map_err(|message| Error::Condition { name: source.name.clone(), message })?;
-    let mut all = Outcomes::default();
+    let mut all = Outcomes::new(apart);
     let found = piece::walk(&list, piece.jobs, piece.memory, |part| {
         part.listed.iter().for_each(|listed| all.add(&list, listed));
         Ok(())
@@ -91,19 +101,40 @@ fn outcomes(question: &Question, source: &Accepted, piece: &Piece, condition: Op
         piece::tell_interrupted(found.counts, None);
     }
     let executions = all.executions;
-    let chosen = match &condition {
+    let chosen = match condition {
         None => all.all.into_iter().map(|outcome| (outcome, false)).collect(),
         Some(condition) => all.matching(list.program, condition),
     };
     let matched = chosen.iter().map(|(outcome, _)| outcome.listed).sum();
     let mut text = if question.json { String::new() } else { question.heading() };
     for (number, (outcome, exchanged)) in (1u64..).zip(&chosen) {
-        text += &told(question, &list, number, outcome, *exchanged);
+        text += &match apart {
+            Apart::ByRegisters => told(question, &list, number, outcome, *exchanged),
+            Apart::ByMemory => counted(question, &list, number, outcome),
+        };
     }
     let matching = condition.is_some().then_some(matched);
     text += &last_line(question, &list, &found, chosen.len() as u64, executions, matching);
     let bad = if condition.is_some() { matched } else { found.counts.failing };
     output::answer(text, if found.cut { End::of_cut(bad) } else { End::of_failing(bad) })
+}
+
+/// One outcome of final memory alone.
+fn counted(question: &Question, list: &List, number: u64, outcome: &Outcome) -> String {
+    let Outcome { end, listed, executions, first } = outcome;
+    if question.json {
+        return question.object([
+            ("outcome", number.into()),
+            ("listed", (*listed).into()),
+            ("executions", (*executions).into()),
+            ("schedule", first.to_string().into()),
+            ("fails", end.fails().into()),
+            record::memory(list.program, &end.memory),
+        ]);
+    }
+    let (in_all, fails) = (in_all(list, *executions), if end.fails() { ", fails" } else { "" });
+    let memory = memory_line(list.program, &end.memory);
+    format!("outcome {number}: {listed} listed{in_all}, first {}{fails}\n{memory}\n", first.told())
 }
 
 /// One outcome.
@@ -162,5 +193,5 @@ fn last_line(question: &Question, list: &List, found: &Found, outcomes: u64, exe
     let matching = matched.map_or(String::new(), |matched| format!(", {matched} matching"));
     let word = if outcomes == 1 { "outcome" } else { "outcomes" };
     let in_all = in_all(list, executions);
-    format!("{outcomes} {word}, {} listed, {} failing{in_all}{matching}\n", counts.listed, counts.failing)
+    format!("{outcomes} {word}, {} listed, {} failing{in_all}{matching}\n{WALKED}", counts.listed, counts.failing)
 }
