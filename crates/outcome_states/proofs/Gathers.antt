@@ -1,6 +1,6 @@
 -- OUTCOMES GATHERED ROW BY ROW: what one row more leaves, which one is next, and what is known at the end.
 use Prim.Native.Nat.{ℕ, _+_, _*_, _-_, _<_, _≤_}
-use mathlib.Core.Path.{_≡_, refl, sym, ap, subst, _∙_}
+use mathlib.Core.Path.{_≡_, sym, ap, subst, _∙_}
 use mathlib.Core.Bool.{true, false, true≢false}
 use mathlib.Core.Option.{some, Option·none-ne-some}
 use mathlib.Core.List.{List, _++_, flatMap, List·Memᴰ, Memᴰ·append-right}
@@ -22,14 +22,13 @@ use Rattle.spec_calls.specs.Rows.{rowBytes}
 use Rattle.spec_covers.specs.declared.outcome.Outcome.{Outcome}
 use Rattle.spec_across.specs.Under.{outcomeUnder}
 use Rattle.spec_outcomes.specs.Firsts.{firstsOf}
-use Rattle.spec_outcomes.specs.OutcomesCall.{fourBytes, outcomeSize, outcomeRow, outcomeRows}
+use Rattle.spec_outcomes.specs.OutcomesCall.{fourBytes, outcomeSize, outcomeRows}
 use Rattle.spec_outcomes.proofs.Taken.{take-in}
 use Rattle.spec_outcomes.proofs.Firsts.{first-in}
 use Rattle.outcome_lists.specs.declared.coming.Coming.{Coming}
 use Rattle.outcome_lists.specs.FoundOf.{foundOf}
 use Rattle.outcome_lists.proofs.Found.{found-none, found-some}
 use Rattle.states_outcomes.specs.Rows.{rowOf, isNew}
-use Rattle.outcome_states.specs.declared.gathering.Gathering.{Gathering}
 use Rattle.outcome_states.specs.Gathered.{Known, Keeps, Gathers}
 use Rattle.outcome_states.proofs.Known.{new-next, all-known}
 use Rattle.outcome_states.proofs.Shown.{row-is, rows-more, rows-length, from-many, from-more, from-none}

@@ -12,7 +12,7 @@ use states_outcomes::unmark;
 use table::slots;
 ghost use mathlib.Core.Path.{_≡_};
 ghost use mathlib.Core.Option.{some};
-ghost use Prim.Native.Nat.{ℕ, _+_, _-_, _*_, _/_, _<_, _≤_};
+ghost use Prim.Native.Nat.{_+_, _-_, _*_, _/_, _<_, _≤_};
 ghost use lib.ListN.{length, take, drop};
 ghost use Rattle.file_decoder.specs.Compiled.{programOf};
 ghost use Rattle.spec_schedules.specs.Calls.{member};

@@ -2,9 +2,9 @@
 use borrow.Author.Needs.{needs}
 use borrow.Author.Tests.{not-false}
 use Prim.Native.Nat.{ℕ}
-use mathlib.Core.Path.{_≡_, ap, _∙_}
+use mathlib.Core.Path.{ap, _∙_}
 use native.Mathlib.Omega.{arith}
-use lib.ListN.{length, replicate}
+use lib.ListN.{replicate}
 use Rattle.file_decoder.specs.Compiled.{programOf}
 use Rattle.listing_model.specs.ModelOf.{modelOf}
 use Rattle.covers.proofs.Lacked.{new-lacks}
@@ -33,7 +33,4 @@ returns-2 c =
     )
 
 pub lacking-with-spec : {M : Type 1} → statement M
-lacking-with-spec =
-    tie.close
-    (tie.spec
-    (λ c. search needs) gathered-requires (λ c κs. search needs) first-lacking-requires (λ c. search needs) returns first-beyond-requires (λ c κs. search needs) (λ c. search needs) returns-2)
+lacking-with-spec = tie.close (tie.spec (λ c. search needs) gathered-requires (λ c κs. search needs) first-lacking-requires (λ c. search needs) returns first-beyond-requires (λ c κs. search needs) (λ c. search needs) returns-2)

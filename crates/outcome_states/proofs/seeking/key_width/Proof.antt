@@ -1,7 +1,6 @@
 -- `key_width` is the width that was made ready.
 use borrow.Author.Needs.{needs}
-use Prim.Native.Nat.{ℕ}
-use mathlib.Core.Path.{_≡_, sym, subst}
+use mathlib.Core.Path.{sym, subst}
 use Rattle.file_decoder.specs.Compiled.{programOf}
 use Rattle.spec_model.specs.Laws.{Admitted}
 use Rattle.listing_model.specs.declared.memory.Model.{Model}

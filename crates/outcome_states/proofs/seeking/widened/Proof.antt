@@ -1,9 +1,6 @@
 -- `widened` copies the steps.
 use borrow.Author.Needs.{needs}
-use Prim.Native.Nat.{_≤_}
-use mathlib.Core.Path.{_≡_, refl}
-use native.Mathlib.Omega.{arith}
-use lib.ListN.{length}
+use mathlib.Core.Path.{refl}
 use Rattle.outcome_states.proofs.Marks.{found-wide}
 use Rattle.outcome_states.proofs.seeking.widened.Statement.{statement}
 use Rattle.outcome_states.proofs.seeking.widened.Tie as tie
