@@ -1,5 +1,6 @@
--- Whether another program lacks the outcome of a schedule, by what was found in its list.
-use mathlib.Core.Path.{_≡_, refl, sym, ap, _∙_}
+-- Whether another program lacks the outcome of a schedule, by what was found in its list, or by rows of all its outcomes.
+use Prim.Native.Nat.{ℕ}
+use mathlib.Core.Path.{_≡_, refl, sym, ap, _∙_, fun-ext}
 use mathlib.Core.Bool.{Bool, true, false, not, _||_}
 use mathlib.Core.Option.{Option, none, some}
 use mathlib.Core.List.{List, [], _∷_}
@@ -10,13 +11,19 @@ use Rattle.spec_schedules.proofs.Lists.{any-cons, find-yes, find-no}
 use Rattle.spec_schedules.proofs.Loops.{any-nil}
 use Rattle.spec_model.specs.Model.{Model}
 use Rattle.spec_model.specs.Alike.{listOf}
+use Rattle.spec_model.specs.Laws.{Admitted}
 use Rattle.spec_covers.specs.declared.outcome.Outcome.{Outcome}
 use Rattle.spec_across.specs.Under.{outcomeUnder}
-use Rattle.spec_across.proofs.Attained.{comesTo, attained, lacksUnder}
+use Rattle.spec_across.proofs.Attained.{comesTo, attained, lacksUnder, firstLacking}
+use Rattle.listing_model.specs.declared.memory.Model as Code
+use Rattle.listing_model.specs.ModelOf.{modelOf}
 use Rattle.listing_pages.proofs.FirstOfTwo.{find-empty}
 use Rattle.outcome_lists.specs.declared.coming.Coming.{Coming}
 use Rattle.outcome_lists.specs.FoundOf.{foundOf}
 use Rattle.outcome_lists.proofs.Found.{found-none, found-some}
+use Rattle.states_outcomes.specs.Rows.{isNew}
+use Rattle.outcome_states.specs.Gathered.{Exactly}
+use Rattle.outcome_states.proofs.Marks.{eight-under}
 
 -- whether there is a first that passes
 unfoldable isSome : Option Schedule → Bool
@@ -46,3 +53,10 @@ pub lacked : (M : Model) (p : Program) (N : Model) (q : Program) (s : Schedule) 
 unfolding lacksUnder attained
 lacked M p N q s o c e f =
     ap not (sym (found-is c) ∙ ap isSome f ∙ sym (any-found (comesTo M p o) (listOf M p))) ∙ ap (λ (x : Outcome). not (attained M p x)) e
+
+-- WHAT IS NEW TO ALL OF p's OUTCOMES p lacks
+pub new-lacks : (M : Model) (p : Program) (other : Code.Model) (q : Program) → Admitted (modelOf other) q → (rows : List ℕ) (k : ℕ) → Exactly M p rows k
+    → find (λ s. isNew rows k (outcomeUnder (modelOf other) q s)) (listOf (modelOf other) q) ≡ firstLacking M p (modelOf other) q
+unfolding lacksUnder attained
+new-lacks M p other q a rows k exact =
+    ap (λ (f : Schedule → Bool). find f (listOf (modelOf other) q)) (fun-ext (λ s. ap not (exact (outcomeUnder (modelOf other) q s) (eight-under other q a s))))

@@ -3,5 +3,3 @@
 pub mod AnswerOf
 -- the model that a byte names; for the code
 pub mod ModelBy
--- all outcomes of a program in rows; for the code
-pub mod Gathered

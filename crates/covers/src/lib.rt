@@ -2,8 +2,6 @@
 
 // The first listed schedule with an outcome that another program lacks, by the lists.
 mod lacking;
-// All outcomes of a program, and what goes beyond them, by states.
-mod gathering;
 // The first listed schedule with an outcome that another program lacks, with a scratch.
 mod seeking;
 // The calls.
@@ -13,4 +11,3 @@ pub use covers_call::CoversAnswer;
 pub use covers_call::covers;
 pub use covers_call::covers_models;
 pub use covers_call::covers_with;
-pub use gathering::Gathering;

@@ -5,5 +5,7 @@ pub mod Noted
 pub mod Known
 -- their rows in an output
 pub mod Shown
+-- marks in either memory model
+pub mod Marks
 -- outcomes gathered row by row
 pub mod Gathers
