@@ -18,15 +18,17 @@
  *    28672   tarczolin_ask
  *    36864   tarczolin_set, tarczolin_return
  *    40960   tarczolin_start, tarczolin_continue, tarczolin_violation, tarczolin_count, tarczolin_rows, tarczolin_rows_after
- *    53248   tarczolin_covers_with
- *    61440   tarczolin_serve
+ *    61440   tarczolin_serve, tarczolin_covers_with
  *    65536   tarczolin_tso_start, tarczolin_tso_continue, tarczolin_tso_violation, tarczolin_tso_count, tarczolin_tso_rows,
  *    65536   tarczolin_tso_rows_after
- *    73728   tarczolin_covers, tarczolin_covers_models, tarczolin_outcomes, tarczolin_tso_outcomes
+ *    73728   tarczolin_outcomes
  *    77824   tarczolin_robust
+ *    81920   tarczolin_covers
  *    90112   tarczolin_count_with, tarczolin_kth, tarczolin_rank, tarczolin_force, tarczolin_force_with
  *    94208   tarczolin_violation_with
  *   126976   tarczolin_tso_count_with
+ *   139264   tarczolin_tso_outcomes
+ *   147456   tarczolin_covers_models
  *   167936   tarczolin_tso_violation_with
  *
  * Program files and graph texts are lines of hexadecimal, each ended by 0a; A to F are read as a to f, and what is written is
