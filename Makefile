@@ -22,7 +22,7 @@ QUIET = --quiet --release --offline --locked
 LIBRARY = target/staticlib/libtarczolin.a
 SHARED = $(LIBRARY:.a=.so)
 # the crates whose functions C and Rust call: their archives become one
-EXPORTED = c_graph c_listing c_states c_extra c_tso c_across c_service
+EXPORTED = c_graph c_listing c_states c_outcomes c_extra c_tso c_across c_service
 EXPLORER = target/bin/explorer
 SOURCES = crates.txt $(shell find crates -name '*.rt' -o -name '*.antt')
 VALGRIND = valgrind --quiet --error-exitcode=9 --leak-check=full --show-leak-kinds=definite --errors-for-leak-kinds=definite \

@@ -18,15 +18,17 @@
  *    28672   tarczolin_ask
  *    36864   tarczolin_set, tarczolin_return
  *    40960   tarczolin_start, tarczolin_continue, tarczolin_violation, tarczolin_count, tarczolin_rows, tarczolin_rows_after
- *    61440   tarczolin_serve
+ *    61440   tarczolin_serve, tarczolin_covers_with
  *    65536   tarczolin_tso_start, tarczolin_tso_continue, tarczolin_tso_violation, tarczolin_tso_count, tarczolin_tso_rows,
  *    65536   tarczolin_tso_rows_after
+ *    73728   tarczolin_outcomes
  *    77824   tarczolin_robust
+ *    81920   tarczolin_covers
  *    90112   tarczolin_count_with, tarczolin_kth, tarczolin_rank, tarczolin_force, tarczolin_force_with
  *    94208   tarczolin_violation_with
- *   110592   tarczolin_covers_with
  *   126976   tarczolin_tso_count_with
- *   139264   tarczolin_covers
+ *   139264   tarczolin_tso_outcomes
+ *   147456   tarczolin_covers_models
  *   167936   tarczolin_tso_violation_with
  *
  * Program files and graph texts are lines of hexadecimal, each ended by 0a; A to F are read as a to f, and what is written is
@@ -46,15 +48,21 @@
 /* The version of this header. */
 #define TARCZOLIN_VERSION "0.1.0"
 
-/* Sizes in bytes: the longest accepted file, what an output for a schedule and for a graph text needs, a row. */
+/* Sizes in bytes: the longest accepted file, what an output for a schedule and for a graph text needs, a row, a row of tarczolin_outcomes. */
 #define TARCZOLIN_FILE 4096
 #define TARCZOLIN_SCHEDULE 24
 #define TARCZOLIN_GRAPH 512
 #define TARCZOLIN_ROW 26
+#define TARCZOLIN_OUTCOME 58
 
-/* The same under total store order: an output for a schedule, a row. */
+/* The same under total store order: an output for a schedule, a row, a row of tarczolin_tso_outcomes. */
 #define TARCZOLIN_TSO_SCHEDULE 48
 #define TARCZOLIN_TSO_ROW 50
+#define TARCZOLIN_TSO_OUTCOME 82
+
+/* The bytes that name a memory model: sequential consistency, and total store order. */
+#define TARCZOLIN_SC 0
+#define TARCZOLIN_TSO 1
 
 /* An answer word taken apart: its kind, a refusal's number, the length, number of rows, size of a class or place. */
 #define TARCZOLIN_KIND(word) ((unsigned)((uint64_t)(word) >> 56))
@@ -179,6 +187,16 @@ uint64_t tarczolin_rank(const uint8_t *file, size_t file_len, const uint8_t *sch
 uint64_t tarczolin_rows(const uint8_t *file, size_t file_len, uint8_t *out, size_t out_len);
 uint64_t tarczolin_rows_after(const uint8_t *file, size_t file_len, const uint8_t *schedule, size_t schedule_len, uint8_t *out, size_t out_len);
 
+/* All outcomes of a program, each once: the outcome of a full schedule is the eight final values and whether it fails. A row of 58 bytes is
+ * the eight values, four bytes each, the most significant first, and then the row of tarczolin_rows of the first listed schedule that has
+ * the outcome: its number of steps, 1 where it fails and else 0, the steps, zeros behind them. Rows stand in the order of these
+ * schedules. From row number `from` on, counted from 0, as many rows as the output has room for stand in front of it: kind 1, and the
+ * answer carries their number, 0 where there are no more; the bytes behind them keep their value. Refused, in this order: the program's (1 to
+ * 8, 40); 22 at place 0, an output that has not room for one row. Outcomes and states are remembered in the scratch: the answer and the
+ * output do not depend on its length or content, 0 words too, only the time does. The scratch shares no byte with any other buffer. An answer
+ * leaves zeros in all of its words; a refusal leaves it, and the output, as it was. Its length is counted in words of 8 bytes. */
+uint64_t tarczolin_outcomes(const uint8_t *file, size_t file_len, uint64_t from, uint8_t *out, size_t out_len, uint64_t *scratch, size_t scratch_len);
+
 /* Does the first program cover the second: is each outcome of a full schedule of the second one of the first? The outcome of a
  * full schedule is the eight final values and whether it fails. Covered: kind 2. Not covered: kind 1, the first listed schedule
  * of the second with an outcome that the first lacks stands in front of the output, the answer carries its length, and the bytes
@@ -215,7 +233,7 @@ uint64_t tarczolin_force_with(const uint8_t *file, size_t file_len, uint8_t set,
  * store. Each call answers as its namesake does for the other listing, save that: a file of more than 16 accesses is refused by 41 at
  * place 0, right behind the program's own refusals (1 to 8, 40) and before 22; a schedule needs an output of 48 bytes; 20 also refuses a
  * move from an empty queue and a fetch and add or compare and swap whose queue is not empty; rows have 50 bytes, with zeros behind the
- * steps up to 48; both counts are modulo 2^64. */
+ * steps up to 48, and those of tarczolin_tso_outcomes 82; both counts are modulo 2^64. */
 uint64_t tarczolin_tso_graph(const uint8_t *file, size_t file_len, const uint8_t *schedule, size_t schedule_len, uint8_t *out, size_t out_len);
 uint64_t tarczolin_tso_class(const uint8_t *file, size_t file_len, const uint8_t *schedule, size_t schedule_len);
 uint64_t tarczolin_tso_start(const uint8_t *file, size_t file_len, uint8_t *out, size_t out_len);
@@ -225,6 +243,7 @@ uint64_t tarczolin_tso_count(const uint8_t *file, size_t file_len, uint64_t *lis
 uint64_t tarczolin_tso_count_with(const uint8_t *file, size_t file_len, uint64_t *listed, uint64_t *failing, uint64_t *scratch, size_t scratch_len);
 uint64_t tarczolin_tso_violation_with(const uint8_t *file, size_t file_len, uint8_t *out, size_t out_len, uint64_t *scratch, size_t scratch_len);
 uint64_t tarczolin_tso_rows(const uint8_t *file, size_t file_len, uint8_t *out, size_t out_len);
+uint64_t tarczolin_tso_outcomes(const uint8_t *file, size_t file_len, uint64_t from, uint8_t *out, size_t out_len, uint64_t *scratch, size_t scratch_len);
 uint64_t tarczolin_tso_rows_after(const uint8_t *file, size_t file_len, const uint8_t *schedule, size_t schedule_len, uint8_t *out, size_t out_len);
 
 /* Is the program robust: is the graph of every full schedule of total store order consistent? Both machines then have exactly the same
@@ -233,6 +252,17 @@ uint64_t tarczolin_tso_rows_after(const uint8_t *file, size_t file_len, const ui
  * schedule, listed or not, has such a graph. Refused, in this order: the program's (1 to 8, 40); 41 at place 0, more than 16 accesses;
  * 22 at place 0, an output of under 48 bytes, also where the answer would be robust. Robust and a refusal change no byte. */
 uint64_t tarczolin_robust(const uint8_t *file, size_t file_len, uint8_t *out, size_t out_len);
+
+/* Does the first program under its memory model cover the second under its own: is each outcome of a full schedule of the second there one
+ * of the first here? A byte in front of each file names its model: TARCZOLIN_SC or TARCZOLIN_TSO. Covered: kind 2. Not
+ * covered: kind 1, the first listed schedule of the second in its model with an outcome that the first lacks stands in front of the output,
+ * the answer carries its length, and the bytes behind it keep their value. Refused, in this order: 49, a byte that names no model, at place
+ * 0 for the first and 1 for the second, kind 3; the first file (1 to 8, 40, and 41 at place 0 for more than 16 accesses under total store
+ * order), kind 3; the second file likewise, kind 4; 22 at place 0, an output of under 48 bytes, whatever the models, kind 3, also where the
+ * answer would be covered. Covered and a refusal change no byte of the output. Answer and output do not depend on the scratch, 0 words too;
+ * only the time does. It shares no byte with any other buffer; kinds 1 and 2 leave zeros in all of its words, a refusal leaves it as it was.
+ * Its length is counted in words of 8 bytes. With 0 and 0 it answers as tarczolin_covers_with does, but for the length that 22 asks for. */
+uint64_t tarczolin_covers_models(uint8_t first_model, const uint8_t *first, size_t first_len, uint8_t second_model, const uint8_t *second, size_t second_len, uint8_t *out, size_t out_len, uint64_t *scratch, size_t scratch_len);
 
 /* Four callers, 0 to 3, on one explorer. Their records lie in a list that the host lends, whatever it holds; `last`, the caller served last,
  * goes into each call and comes out of it. The first list is four records of zeros, with `last` 3. Refused, in this order: 22 at place 0, a

@@ -11,7 +11,7 @@ from typing import Any, NamedTuple
 from .errors import LibraryMissing
 
 NAME = 'libtarczolin.so'
-FILE, SCHEDULE, GRAPH, TSO_SCHEDULE = 4096, 24, 512, 48
+FILE, SCHEDULE, GRAPH, TSO_SCHEDULE, VALUES = 4096, 24, 512, 48, 32
 ANSWERED, NONE, REFUSED, SECOND_REFUSED, IDLE = 1, 2, 3, 4, 5
 CALLERS, NOBODY, MARKS = 4, 3, 8
 
@@ -53,7 +53,8 @@ CALLS = {
     'tso_count_with': _FILE + _COUNTS + _SCRATCH, 'tso_violation_with': _FILE + _OUT + _SCRATCH,
     'check': _FILE, 'judge': _FILE + _FILE + _OUT, 'covers': _FILE + _FILE + _OUT, 'force': _FILE + [c_uint8],
     'force_with': _FILE + [c_uint8] + _SCRATCH, 'covers_with': _FILE + _FILE + _OUT + _SCRATCH,
-    'robust': _FILE + _OUT,
+    'outcomes': _FILE + [c_uint64] + _OUT + _SCRATCH, 'tso_outcomes': _FILE + [c_uint64] + _OUT + _SCRATCH,
+    'robust': _FILE + _OUT, 'covers_models': [c_uint8] + _FILE + [c_uint8] + _FILE + _OUT + _SCRATCH,
     'open': _SHARED + [c_size_t] + _FILE, 'ask': _SHARED + [c_size_t], 'serve': _SHARED + _OUT, 'close': _SHARED + [c_size_t],
     'set': _SHARED + [c_size_t] + _FILE, 'return': _SHARED + [c_size_t] + _FILE, 'forget': _SHARED + [c_size_t] + _FILE,
 }

@@ -10,7 +10,7 @@ from math import prod
 from typing import Any, Dict, Iterable, Iterator, List, NamedTuple, Optional, Tuple, Union
 
 from . import _frames
-from ._library import ANSWERED, GRAPH, REFUSED, SCHEDULE, SECOND_REFUSED, TSO_SCHEDULE, Answer, call, room, scratch
+from ._library import ANSWERED, GRAPH, REFUSED, SCHEDULE, SECOND_REFUSED, TSO_SCHEDULE, VALUES, Answer, call, room, scratch
 from ._matching import matched
 from ._random import Numbers
 from .errors import Refused, Unfit, line_at
@@ -21,6 +21,10 @@ Schedule = Union[bytes, str]
 PAGE = 1024
 # at most so many bytes to remember states in, and so many words for each way in which the threads can stand at their accesses
 MEMORY, EACH = 16 << 20, 16 * 20
+# so many outcomes are asked for at a time, and so many words have room for some thousands of them
+ROWS, OUTCOMES = 4096, 1 << 18
+# the models, each at the place of the byte that names it
+MODELS = ('sc', 'tso')
 
 
 class Count(NamedTuple):
@@ -73,7 +77,16 @@ class Force:
 
 @dataclass(frozen=True)
 class Outcome:
-    """An end of executions: how many listed ones end so, how many executions these stand for, and the first of them."""
+    """A final memory, by the names of its locations, whether an assertion fails, and the first listed execution that ends so."""
+
+    memory: Dict[str, int]
+    fails: bool
+    first: Execution
+
+
+@dataclass(frozen=True)
+class End:
+    """An end with its registers: how many listed executions end so, how many executions these stand for, and the first of them."""
 
     memory: Dict[str, int]
     registers: Dict[str, int]
@@ -238,14 +251,38 @@ class Program:
         answer = self._by_states('violation', memory, out)
         return Execution(self, out.raw[:answer.value], True) if answer.kind == ANSWERED else None
 
-    def outcomes(self) -> List[Outcome]:
-        """Each different end of the listed executions, in the order of the first ones. The values are not proved."""
-        all_: Dict[Tuple[object, ...], Outcome] = {}
+    def outcomes(self, memory: int = MEMORY) -> List[Outcome]:
+        """Each different final memory and whether it fails, of all executions, in the order of the first listed ones that end so.
+
+        They are the library's answer. Outcomes and states are remembered as for `count`. `ends` has registers too.
+        """
+        size = VALUES + 2 + self._size
+        rows, lent = room(ROWS * size), scratch(self._outcome_words(memory))
+        all_: List[Outcome] = []
+        while True:
+            written = self._call('outcomes', len(all_), rows, lent).value
+            page = rows.raw[:written * size]
+            all_ += [self._outcome(page[at:at + size]) for at in range(0, len(page), size)]
+            if written < ROWS:
+                return all_
+
+    def _outcome(self, row: bytes) -> Outcome:
+        """The outcome of a row: eight values, the most significant byte first, and the row of a listed schedule."""
+        steps, fails = row[VALUES], row[VALUES + 1] == 1
+        values = {self.code.location(l): int.from_bytes(row[4 * l:4 * l + 4], 'big') for l in self.code.used_locations()}
+        return Outcome(values, fails, Execution(self, row[VALUES + 2:VALUES + 2 + steps], fails))
+
+    def ends(self) -> List[End]:
+        """Each different end of the listed executions, with registers and with how many end so, in the order of the first ones.
+
+        The list is walked, and the values are not proved.
+        """
+        all_: Dict[Tuple[object, ...], End] = {}
         for one in self.executions():
             end = one.memory(), one.registers(), one.failed()
             key = tuple(tuple(values.items()) for values in end)
-            known = all_.get(key) or Outcome(*end, listed=0, executions=0, first=one)
-            all_[key] = Outcome(*end, listed=known.listed + 1, executions=known.executions + one.size(), first=known.first)
+            known = all_.get(key) or End(*end, listed=0, executions=0, first=one)
+            all_[key] = End(*end, listed=known.listed + 1, executions=known.executions + one.size(), first=known.first)
         return list(all_.values())
 
     def graph(self, schedule: Schedule) -> str:
@@ -270,19 +307,27 @@ class Program:
         possible = answer.kind == ANSWERED
         return Judgement(possible, out.raw[:answer.value] if possible else None)
 
-    def covers(self, new: 'Program', by: str = 'name', memory: int = MEMORY) -> Covering:
-        """Whether each end of the other program, its final memory and whether it fails, is one of this program.
+    def covers(self, new: 'Program', by: str = 'name', memory: int = MEMORY, under: str = 'sc') -> Covering:
+        """Whether each outcome of the other program, its final memory and whether it fails, is one of this program.
 
-        Locations are the same by name where they have names, else by number, or by number in any case (`by='number'`). Ends and states
-        are remembered as for `count`.
+        Locations are the same by name where they have names, else by number, or by number in any case (`by='number'`). `under` says the
+        two models, first this program's: `sc,tso` asks whether the other one under total store order has an outcome that this one lacks
+        under sequential consistency; a single word is for both. Each program has to be of the model that is said of it: fences of a text
+        are left out under `sc`. Outcomes and states are remembered as for `count`.
         """
-        self._only_sc('covers')
-        new._only_sc('covers')
+        models = under.split(',') if ',' in under else [under, under]
+        if len(models) != 2 or not set(models) <= set(MODELS):
+            raise ValueError(f'under takes one model or two, as in sc,tso, not {under!r}')
+        for program, model in zip((self, new), models):
+            if program.model != model:
+                raise Unfit(f'this program is under {program.model}, and is asked about under {model}; under= says the models')
         if by not in ('name', 'number'):
             raise ValueError(f'locations are the same by name or by number, not by {by!r}')
         other = _frames.moved(new.file, matched(self.code, new.code, by))
-        out = room(SCHEDULE)
-        answer = call('covers_with', self.file, other, out, scratch(max(self._words(memory), new._words(memory))))
+        out = room(TSO_SCHEDULE)
+        lent = scratch(max(self._outcome_words(memory), new._outcome_words(memory)))
+        first, second = (MODELS.index(model) for model in models)
+        answer = call('covers_models', first, self.file, second, other, out, lent)
         if answer.kind != ANSWERED:
             self._done(answer)
             return Covering(True, None)
@@ -346,6 +391,10 @@ class Program:
         if self.model == 'tso':
             places *= prod(1 + sum(one.kind == _frames.STORE for one in code) for code in self.code.threads)
         return min(memory // 8, EACH * places)
+
+    def _outcome_words(self, memory: int) -> int:
+        """The same where outcomes are remembered too: these need room whatever the program's accesses are."""
+        return min(memory // 8, max(OUTCOMES, self._words(memory)))
 
     def _done(self, answer: Answer, subject: str = 'program') -> None:
         """Raises what an answer refuses: the file's own refusals come first."""

@@ -79,7 +79,7 @@ class Texts(unittest.TestCase):
         fenced = Program(text, 'tso')
         self.assertIn(b'\n12', fenced.file)
         self.assertEqual(fenced.count().listed, 3)
-        self.assertEqual(set(fenced.outcomes()[0].registers), {'T0.n', 'T1.m'})
+        self.assertEqual(set(fenced.ends()[0].registers), {'T0.n', 'T1.m'})
 
 
 class Missing(unittest.TestCase):

@@ -75,7 +75,35 @@ class Asked(unittest.TestCase):
             if 'error' in told[0]:
                 continue
             with self.subTest(name=name, model=model):
-                found = Program.read(EXAMPLES / name, model).outcomes()
+                program = Program.read(EXAMPLES / name, model)
+                found = [(one.memory, one.fails, str(one.first)) for one in program.outcomes()]
+                self.assertEqual(found, [(one['memory'], one['fails'], one['schedule']) for one in told[:-1]])
+                # the same as the ends without their registers, and whatever the memory that is lent
+                firsts = {}
+                for one in program.ends():
+                    firsts.setdefault((tuple(one.memory.items()), one.fails), str(one.first))
+                self.assertEqual([(tuple(memory.items()), fails) for memory, fails, _ in found], list(firsts))
+                self.assertEqual([first for _, _, first in found], list(firsts.values()))
+                self.assertEqual(program.outcomes(memory=0), program.outcomes())
+                self.assertEqual([one.fails for one in program.outcomes()], [one.first.fails for one in program.outcomes()])
+                compared += 1
+        self.assertGreater(compared, 25)
+
+    def test_outcomes_of_a_list_that_nobody_walks(self):
+        program = Program(('01\n' + '1200000000000001\n' * 4) * 6)
+        self.assertEqual(program.count().listed, 3246670537110000)
+        (only,) = program.outcomes()
+        self.assertEqual((only.memory, only.fails), ({'x0': 24}, False))
+
+    def test_ends_are_the_command_s(self):
+        cases = [(name, model) for name in programs() for model in ('sc', 'tso')]
+        compared = 0
+        for name, model in cases:
+            told = answers('outcomes', f'examples/{name}', '--registers', '--model', model)
+            if 'error' in told[0]:
+                continue
+            with self.subTest(name=name, model=model):
+                found = Program.read(EXAMPLES / name, model).ends()
                 keys = ['memory', 'registers', 'fails', 'listed', 'executions']
                 self.assertEqual([[getattr(one, key) for key in keys] + [str(one.first)] for one in found],
                                  [[one[key] for key in keys] + [one['schedule']] for one in told[:-1]])
@@ -86,8 +114,8 @@ class Asked(unittest.TestCase):
         for path in sorted((ROOT / 'tests' / 'litmus').glob('*mfence*.litmus')):
             text = answers('import-litmus', str(path))[0]['text']
             for model in ('sc', 'tso'):
-                told = answers('outcomes', '-', '--model', model, text=text.encode())
-                found = Program(text, model).outcomes()
+                told = answers('outcomes', '-', '--registers', '--model', model, text=text.encode())
+                found = Program(text, model).ends()
                 # behind the outcomes stand the sums, and what the test expects
                 self.assertEqual([(one.memory, one.registers) for one in found],
                                  [(one['memory'], one['registers']) for one in told if 'outcome' in one], path.name)
@@ -116,8 +144,8 @@ class Asked(unittest.TestCase):
         self.assertEqual((caught.exception.place, caught.exception.line), (2, '  stor x k'))
 
     def test_failed_threads(self):
-        fails = [one for one in Program.read(EXAMPLES / 'queue-broken.asm').outcomes() if one.fails]
-        told = [one['failures'] for one in answers('outcomes', 'examples/queue-broken.asm')[:-1] if one['fails']]
+        fails = [one for one in Program.read(EXAMPLES / 'queue-broken.asm').ends() if one.fails]
+        told = [one['failures'] for one in answers('outcomes', 'examples/queue-broken.asm', '--registers')[:-1] if one['fails']]
         self.assertEqual(len(fails), 3)
         for one, (failure,) in zip(fails, told):
             ((thread, at),) = one.failed.items()
@@ -172,6 +200,30 @@ class Asked(unittest.TestCase):
                 found = Program.read(EXAMPLES / one).covers(Program.read(EXAMPLES / other))
                 self.assertEqual(found.covered, told['covered'])
                 self.assertEqual(str(found.execution) if found.execution else None, told.get('schedule'))
+
+    def test_covers_under_models(self):
+        dekker = EXAMPLES / 'suite' / 'dekker.asm'
+        strong, weak = Program.read(dekker), Program.read(dekker, 'tso')
+        found = strong.covers(weak, under='sc,tso')
+        self.assertFalse(found)
+        self.assertEqual((str(found.execution), found.execution.fails), ('0000010110001101', True))
+        self.assertEqual(found.execution.memory()['inside'], 2)
+        self.assertTrue(weak.covers(strong, under='tso,sc'))
+        self.assertTrue(weak.covers(weak, under='tso') and strong.covers(strong, under='sc,sc'))
+        # another execution, and no other outcome
+        self.assertTrue(Program(PAIR).covers(Program(PAIR, 'tso'), under='sc,tso'))
+        self.assertFalse(Program(PAIR, 'tso').robust())
+        for under in ('sc,tso', 'tso,sc', 'tso', 'sc'):
+            told = answers('covers', str(dekker), str(dekker), '--under', under)[-1]
+            models = under.split(',') if ',' in under else [under] * 2
+            found = Program.read(dekker, models[0]).covers(Program.read(dekker, models[1]), under=under)
+            self.assertEqual((found.covered, found.execution and str(found.execution)), (told['covered'], told.get('schedule')))
+        # a program is asked about under its own model alone: the fences of the other are not in it
+        with self.assertRaises(Unfit):
+            strong.covers(strong, under='sc,tso')
+        for wrong in ('x86', 'sc,tso,sc', 'sc,', ''):
+            with self.assertRaises(ValueError):
+                strong.covers(weak, under=wrong)
 
     def test_force(self):
         program = Program.read(EXAMPLES / 'queue-broken.asm')

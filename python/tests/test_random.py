@@ -59,11 +59,16 @@ class Random(unittest.TestCase):
                 paths.append(Path(folder) / f'{seed}.hex')
                 paths[-1].write_bytes(Maker(seed).file())
             for model in ('sc', 'tso'):
-                told = answers('outcomes', *map(str, paths), '--model', model)
+                told = answers('outcomes', *map(str, paths), '--registers', '--model', model)
+                called = answers('outcomes', *map(str, paths), '--model', model)
                 for path in paths:
                     mine = [one for one in told if one['file'] == str(path)]
                     self.assertNotIn('error', mine[0], path.read_text(encoding='ascii'))
-                    found = Program(path.read_bytes(), model).outcomes()
+                    found = Program(path.read_bytes(), model).ends()
+                    outcomes = [one for one in called if one['file'] == str(path)][:-1]
+                    self.assertEqual([(one.memory, one.fails, str(one.first)) for one in Program(path.read_bytes(), model).outcomes()],
+                                     [(one['memory'], one['fails'], one['schedule']) for one in outcomes],
+                                     f'{model}\n{path.read_text(encoding="ascii")}')
                     self.assertEqual([[getattr(one, key) for key in keys] + [str(one.first)] for one in found],
                                      [[one[key] for key in keys] + [one['schedule']] for one in mine[:-1]],
                                      f'{model}\n{path.read_text(encoding="ascii")}')

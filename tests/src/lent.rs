@@ -1,9 +1,12 @@
 //! Calls held to the oracle: the answer, and every byte of every lent buffer.
-use crate::calls::{self, Answer, ROW};
+use crate::calls::across::{self, Under};
+use crate::calls::{self, tso, Answer, ROW};
 use crate::oracle::calls::Found;
 use crate::oracle::covers::Covers;
-use crate::oracle::Refusal;
+use crate::oracle::model::Model;
+use crate::oracle::{outcomes, Refusal};
 use crate::random::Random;
+use crate::scratch::Scratch;
 
 /// So many bytes on each side of a lent output belong to somebody else.
 const AROUND: usize = 32;
@@ -51,15 +54,51 @@ pub fn held_rows(random: &mut Random, file: &[u8], behind: Option<&[u8]>, output
     }
 }
 
+/// The call that gives outcomes from a number on, with this scratch, held to the oracle's rows in the same way.
+pub fn held_outcomes(
+    random: &mut Random,
+    scratch: &mut Scratch,
+    (model, file): (Model, &[u8]),
+    (from, output): (u64, usize),
+    found: &Result<Vec<u8>, Refusal>,
+) {
+    let call = if model == Model::Sc { calls::outcomes } else { tso::outcomes };
+    let (wanted, front) = shown_rows(found, outcomes::size(model));
+    let asked = |words: &mut [u64]| {
+        held_by(random, [file], output, (wanted, front), |[file], out| call(file, from, out, words));
+        wanted
+    };
+    scratch.held(wanted, asked, file);
+}
+
+/// The call over two files under models of their own, with a scratch of so many words, held to the oracle's in the same way.
+pub fn held_across(random: &mut Random, models: [u8; 2], files: [&[u8]; 2], output: usize, words: usize, found: &Covers) {
+    let shown = shown_covers(found);
+    let before: Vec<u64> = (0..words).map(|_| random.word()).collect();
+    let mut scratch = before.clone();
+    held_by(random, files, output, shown, |[first, second], out| {
+        let [one, other] = [(models[0], first), (models[1], second)].map(|(model, file)| Under { model, file });
+        across::covers_models(one, other, out, &mut scratch)
+    });
+    let later = if matches!(found, Covers::Covered | Covers::Lacking(_)) { vec![0; words] } else { before };
+    let told = || files.map(|file| file.escape_ascii().to_string());
+    assert!(scratch == later, "the scratch of {words} words behind {shown:?} under {models:?}: {:?}", told());
+}
+
+/// The answer over two files, and the bytes that stand in front of its output, for what the oracle found.
+fn shown_covers(found: &Covers) -> (calls::Covers, &[u8]) {
+    match found {
+        Covers::Covered => (calls::Covers::Covered, &[]),
+        Covers::Lacking(schedule) => (calls::Covers::Lacking(schedule.len() as u64), schedule),
+        Covers::First(refusal) => (calls::Covers::Refused(refusal.number, refusal.place), &[]),
+        Covers::Second(refusal) => (calls::Covers::SecondRefused(refusal.number, refusal.place), &[]),
+        Covers::Output => (calls::Covers::Refused(22, 0), &[]),
+    }
+}
+
 /// The call over two files, held to the oracle's in the same way.
 pub fn held_covers(random: &mut Random, files: [&[u8]; 2], output: usize, found: &Covers) {
-    let shown = match found {
-        Covers::Covered => (calls::Covers::Covered, &[][..]),
-        Covers::Lacking(schedule) => (calls::Covers::Lacking(schedule.len() as u64), schedule.as_slice()),
-        Covers::First(refusal) => (calls::Covers::Refused(refusal.number, refusal.place), &[][..]),
-        Covers::Second(refusal) => (calls::Covers::SecondRefused(refusal.number, refusal.place), &[][..]),
-        Covers::Output => (calls::Covers::Refused(22, 0), &[][..]),
-    };
+    let shown = shown_covers(found);
     held_by(random, files, output, shown, |[first, second], out| calls::covers(first, second, out));
     for words in SCRATCHES {
         let before: Vec<u64> = (0..words).map(|_| random.word()).collect();

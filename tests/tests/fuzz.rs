@@ -2,16 +2,20 @@
 //! texts, parts of one buffer that overlap, outputs of any length. Whatever is asked, the call answers, its answer is one
 //! that it may give, and no byte changes that it may not change. What the answer must be, the other tests say.
 use std::time::{Duration, Instant};
+use tarczolin_tests::calls::across::{covers_models, Under};
 use tarczolin_tests::calls::{self, tso, Answer, GRAPH, ROW, SCHEDULE};
 use tarczolin_tests::files::text;
 use tarczolin_tests::lent;
 use tarczolin_tests::oracle::calls::Found;
 use tarczolin_tests::oracle::covers::Covers;
 use tarczolin_tests::oracle::decode::decode;
+use tarczolin_tests::oracle::model::Model;
+use tarczolin_tests::oracle::outcomes;
 use tarczolin_tests::oracle::users::{Lists, Shared};
 use tarczolin_tests::oracle::Refusal;
 use tarczolin_tests::random::program::{frames, Size, ANY, SMALL};
 use tarczolin_tests::random::{damage, graph, schedule, users, Random};
+use tarczolin_tests::scratch::Scratch;
 use tarczolin_tests::users::held as held_on_records;
 
 /// Small enough for a list that is walked in a moment.
@@ -129,7 +133,9 @@ fn ask_all(random: &mut Random, file: &[u8], beside: &[u8]) {
         counts(random, file);
         ranks(random, file, beside);
         rows(random, file, beside);
+        ends(random, Model::Sc, file);
         against(random, file, beside);
+        across(random, file, beside);
     }
     ask_in_store_order(random, file, beside);
     ask_on_records(random, file);
@@ -153,6 +159,55 @@ fn ask_in_store_order(random: &mut Random, file: &[u8], beside: &[u8]) {
             Answer::Refused(1..=8 | 40 | 41, _) => assert_eq!((listed, failing), (7, 9)),
             other => panic!("{other:?} is no answer of count"),
         }
+        ends(random, Model::Tso, file);
+    }
+}
+
+/// Outcomes are asked for twice, on outputs and scratches of different content and length: both answer the same, write the same, and leave the
+/// rest alone.
+fn ends(random: &mut Random, model: Model, file: &[u8]) {
+    let size = outcomes::size(model);
+    let output = {
+        let rows = random.between(1, 5);
+        output(random, rows * size)
+    };
+    let from = if random.one_in(4) { random.word() } else { random.below(4) as u64 };
+    let call = if model == Model::Sc { calls::outcomes } else { tso::outcomes };
+    let mut out = vec![0; output];
+    let found = match call(file, from, &mut out, &mut vec![random.word(); random.below(600)]) {
+        Answer::Answered(rows) if output >= size && rows as usize <= output / size => Ok(out[..rows as usize * size].to_vec()),
+        Answer::Refused(22, 0) if output < size => Err(Refusal { number: 22, place: 0 }),
+        Answer::Refused(number @ (1..=8 | 40 | 41), place) => Err(Refusal { number, place }),
+        other => panic!("{other:?} is no answer of outcomes with an output of {output} bytes: {file:?}"),
+    };
+    assert_eq!(model.accepted(file).err().is_some(), matches!(found, Err(refusal) if refusal.number != 22), "{file:?}");
+    let words = random.below(600);
+    let mut scratch = Scratch::new(random, words);
+    lent::held_outcomes(random, &mut scratch, (model, file), (from, output), &found);
+}
+
+/// Two files under two models, some of which no byte names: whose refusal it is stands in the answer.
+fn across(random: &mut Random, file: &[u8], beside: &[u8]) {
+    let other = text(&frames(random, QUICK));
+    for files in [[file, beside], [beside, file], [file, &other], [&other, file], [file, file]] {
+        let models = [(); 2].map(|()| if random.one_in(9) { random.byte() } else { random.byte() % 2 });
+        let output = output(random, tso::SCHEDULE);
+        let [one, other] = [0, 1].map(|k| Under { model: models[k], file: files[k] });
+        let mut out = vec![0; output];
+        let answer = covers_models(one, other, &mut out, &mut vec![random.word(); random.below(600)]);
+        let refused = |k: usize| Model::named(models[k]).and_then(|model| model.accepted(files[k]).err());
+        let unnamed = models.iter().position(|byte| Model::named(*byte).is_none());
+        let found = match (unnamed, refused(0), refused(1), answer) {
+            (Some(place), ..) => Covers::First(Refusal { number: 49, place: place as u64 }),
+            (None, Some(refusal), ..) => Covers::First(refusal),
+            (None, None, Some(refusal), _) => Covers::Second(refusal),
+            _ if output < tso::SCHEDULE => Covers::Output,
+            (.., calls::Covers::Lacking(length)) if length <= 32 => Covers::Lacking(out[..length as usize].to_vec()),
+            (.., calls::Covers::Covered) => Covers::Covered,
+            _ => panic!("{answer:?} with an output of {output} bytes under {models:?}: {files:?}"),
+        };
+        let words = random.below(600);
+        lent::held_across(random, models, files, output, words, &found);
     }
 }
 

@@ -1,7 +1,8 @@
 //! Every call needs no more stack than `include/tarczolin.h` says: each runs on a painted stack, with programs at the limits and random ones.
 use std::collections::BTreeMap;
+use tarczolin_tests::calls::across::{covers_models, Under, SC, TSO};
 use tarczolin_tests::calls::users::{self, Shared as Lent};
-use tarczolin_tests::calls::{self, tso, Caller, GRAPH, ROW, SCHEDULE};
+use tarczolin_tests::calls::{self, tso, Caller, GRAPH, OUTCOME, ROW, SCHEDULE};
 use tarczolin_tests::files::{lines, read, text};
 use tarczolin_tests::oracle::decode::{decode, Program};
 use tarczolin_tests::oracle::tso::calls::accepted;
@@ -122,6 +123,17 @@ fn of_list(most: &mut Most, random: &mut Random, file: &[u8], other: &[u8]) {
     let mut scratch = vec![7; 5_000];
     most.of("tarczolin_covers_with", || _ = calls::covers_with(file, other, &mut [0; SCHEDULE], &mut scratch));
     most.of("tarczolin_covers_with", || _ = calls::covers_with(other, file, &mut [0; SCHEDULE], &mut scratch));
+    let mut rows = vec![0; 9 * OUTCOME];
+    most.of("tarczolin_outcomes", || _ = calls::outcomes(file, 0, &mut rows, &mut scratch));
+    across(most, [file, other], [SC, SC]);
+    across(most, [other, file], [SC, SC]);
+}
+
+/// Two files under two models.
+fn across(most: &mut Most, files: [&[u8]; 2], models: [u8; 2]) {
+    let mut scratch = vec![7; 5_000];
+    let [one, other] = [0, 1].map(|k| Under { model: models[k], file: files[k] });
+    most.of("tarczolin_covers_models", || _ = covers_models(one, other, &mut [0; tso::SCHEDULE], &mut scratch));
 }
 
 fn of_store_order(most: &mut Most, random: &mut Random, file: &[u8]) {
@@ -136,6 +148,11 @@ fn of_store_order(most: &mut Most, random: &mut Random, file: &[u8]) {
     most.of("tarczolin_robust", || _ = calls::across::robust(file, &mut [0; tso::SCHEDULE]));
     most.of("tarczolin_tso_count_with", || _ = tso::count_with(file, &mut 0, &mut 0, &mut scratch));
     let mut rows = vec![0; 9 * tso::ROW];
+    let mut ends = vec![0; 9 * tso::OUTCOME];
+    most.of("tarczolin_tso_outcomes", || _ = tso::outcomes(file, 0, &mut ends, &mut scratch));
+    for models in [[SC, TSO], [TSO, SC], [TSO, TSO]] {
+        across(most, [file, file], models);
+    }
     most.of("tarczolin_tso_rows", || _ = tso::rows(file, &mut rows));
     most.of("tarczolin_tso_rows_after", || _ = tso::rows_after(file, &steps, &mut rows));
 }

@@ -13,7 +13,7 @@ ghost use Rattle.spec_outcomes.specs.Scratch.{coversScratch};
 ghost use Rattle.c_extra.specs.Against.{againstReply};
 
 // The word of an answer.
-fn against_word(a: CoversAnswer) -> u64
+pub fn against_word(a: CoversAnswer) -> u64
     ensures { λ w. ⌜ w ≡ wordOf (againstReply a) ⌝ }
 {
     match a {

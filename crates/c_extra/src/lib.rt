@@ -7,6 +7,7 @@ mod against;
 // Who can force the failure: tarczolin_force, tarczolin_force_with.
 mod forcing;
 
+pub use against::against_word;
 pub use against::tarczolin_covers;
 pub use against::tarczolin_covers_with;
 pub use class::tarczolin_class;

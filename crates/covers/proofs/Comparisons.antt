@@ -1,117 +1,98 @@
--- Every two files and room have exactly one answer: what is found in the second's list is one, and every one is what is found.
+-- Every two files and room have exactly one answer under sequential consistency twice: what is found in the second's list is one, and every
+-- one is what is found.
 use Prim.Native.Nat.{ℕ, _<_, _≤_}
-use mathlib.Core.Path.{_≡_, refl, sym, ap, _∙_}
+use mathlib.Core.Path.{_≡_, refl, sym, ap, ap₂, subst, _∙_}
 use mathlib.Core.Logic.{_↔_}
-use mathlib.Core.Bool.{Bool, true, false, not, cond}
 use mathlib.Core.Option.{Option, none, some}
 use mathlib.Core.List.{List}
 use native.Mathlib.Omega.{arith}
 use native.Mathlib.Decide.{decLt}
-use lib.Dec.{ltb}
-use borrow.Author.Tests.{lt-ltb, le-ltb}
 use Rattle.spec_file.specs.Program.{Program}
-use Rattle.spec_file.specs.WellFormed.{WellFormed}
 use Rattle.spec_file.specs.Decode.{Decoded, accepted, refused, decode}
 use Rattle.spec_file.proofs.AcceptedWellFormed.{accepted-well-formed}
-use Rattle.spec_schedules.specs.Lists.{find}
 use Rattle.spec_schedules.specs.Order.{Schedule}
-use Rattle.spec_schedules.proofs.First.{find-none}
-use Rattle.spec_schedules.proofs.FirstIn.{in-find}
-use Rattle.spec_model.specs.Alike.{listOf}
+use Rattle.spec_model.specs.Laws.{Admitted}
+use Rattle.spec_model.specs.OnFile.{admit}
 use Rattle.spec_sc.specs.Sequential.{sc}
-use Rattle.spec_model.proofs.TheList.{list-exact, list-ascends}
 use Rattle.spec_sc.proofs.Laws.{sc-laws}
-use Rattle.spec_covers.specs.Covers.{outcomeOf, Attains, Covers, FirstLacking}
+use Rattle.spec_sc.proofs.Admits.{sc-admits}
+use Rattle.spec_covers.specs.Covers.{Covers}
 use Rattle.spec_covers.specs.Answer.{Answer, covered, lacking, first-refused, second-refused, output-refused, Accepted, Comparison, by-first, by-second, by-output, covering, exceeding}
-use Rattle.covers.proofs.Attained.{attained, lacksOf, attained-yes, attained-of, none-covers, some-first}
-
--- the answer by what is found
-unfoldable pub answerBy : Option Schedule → Answer
-answerBy none = covered
-answerBy (some s) = lacking s
-
-unfoldable pub answerOf : Program → Program → ℕ → Answer
-answerOf p q room = cond (ltb room 24) (output-refused 22 0) (answerBy (find (lacksOf p q) (listOf sc q)))
-
-unfoldable pub answerAgainst : Program → Decoded → ℕ → Answer
-answerAgainst p (accepted q) room = answerOf p q room
-answerAgainst p (refused n k) room = second-refused n k
-
-unfoldable pub answerOn : Decoded → Decoded → ℕ → Answer
-answerOn (accepted p) d room = answerAgainst p d room
-answerOn (refused n k) d room = first-refused n k
-
--- what is covered lacks nothing, and the first that is lacked is found
-module _ (p q : Program) (wp : WellFormed p) (wq : WellFormed q) where
-  lacks-not : (s : Schedule) → Attains p (outcomeOf q s) → lacksOf p q s ≡ false
-  unfolding lacksOf
-  lacks-not s a = ap not (attained-of p wp (outcomeOf q s) a)
-
-  lacks-yes : (s : Schedule) → (Attains p (outcomeOf q s) → ⊥) → lacksOf p q s ≡ true
-  unfolding lacksOf
-  lacks-yes s n = go (attained p (outcomeOf q s)) refl
-    where
-      go : (b : Bool) → attained p (outcomeOf q s) ≡ b → not b ≡ true
-      go true e = absurd (n (attained-yes p (outcomeOf q s) e))
-      go false e = refl
-
-  pub covers-none : Covers p q → find (lacksOf p q) (listOf sc q) ≡ none
-  covers-none c = find-none (lacksOf p q) (listOf sc q) (λ s m. lacks-not s (c (outcomeOf q s) (s, list-exact sc sc-laws q s .0 m .0, refl)))
-
-  pub first-some : (s : Schedule) → FirstLacking p q s → find (lacksOf p q) (listOf sc q) ≡ some s
-  first-some s f =
-      in-find (lacksOf p q) (listOf sc q) (list-ascends sc sc-laws q) s
-      (list-exact sc sc-laws q s .1 (f .listed), lacks-yes s (f .lacks), λ r m h. lacks-not r (f .first r (list-exact sc sc-laws q r .0 m) h))
+use Rattle.spec_across.proofs.Covering.{covers-sc, first-lacking-sc}
+use Rattle.spec_across.proofs.Attained.{firstLacking, none-covers, some-first, covers-none, first-some}
+use Rattle.spec_across.proofs.AnswerBy.{answerBy, answerAgainst, answerOn, on-refused, on-accepted, against-refused, against-short, against-long}
 
 module _ (first second : List ℕ) (room : ℕ) where
   abbrev C : Answer → Type 0
   C = Comparison first second room
 
-  -- to two programs
-  pub compared : (p q : Program) → Accepted first second p q → 24 ≤ room → (o : Option Schedule) → find (lacksOf p q) (listOf sc q) ≡ o → C (answerBy o)
-  unfolding answerBy
-  compared p q a h none e =
-      covering p q a h (none-covers p q (accepted-well-formed first p (a .one)) (accepted-well-formed second q (a .other)) e)
-  compared p q a h (some s) e =
-      exceeding p q s a h (some-first p q (accepted-well-formed first p (a .one)) (accepted-well-formed second q (a .other)) s e)
+  -- the answer worked out
+  unfoldable pub answer : Answer
+  answer = answerOn 24 sc sc (admit sc (decode first)) (admit sc (decode second)) room
 
-  room-compared : (p q : Program) → Accepted first second p q → Dec (room < 24) → C (answerOf p q room)
-  unfolding answerOf
-  room-compared p q a (yes h) = rw (lt-ltb room 24 h) (by-output p q a h)
-  room-compared p q a (no h) =
-      let enough : 24 ≤ room = omega (arith, h) in
-      rw (le-ltb room 24 enough) (compared p q a enough (find (lacksOf p q) (listOf sc q)) refl)
+  read : (d e : Decoded) → decode first ≡ d → decode second ≡ e → answer ≡ answerOn 24 sc sc d e room
+  unfolding answer
+  read d e i j = ap₂ (λ (x y : Decoded). answerOn 24 sc sc x y room) (sc-admits (decode first) ∙ i) (sc-admits (decode second) ∙ j)
 
-  against-compared : (p : Program) → decode first ≡ accepted p → (d : Decoded) → decode second ≡ d → C (answerAgainst p d room)
-  unfolding answerAgainst
-  against-compared p e (accepted q) i = room-compared p q (record { one = e; other = i }) (decLt room 24)
-  against-compared p e (refused n k) i = by-second p n k e i
+  answer-first : (n k : ℕ) → decode first ≡ refused n k → answer ≡ first-refused n k
+  answer-first n k e = read (refused n k) (decode second) e refl ∙ on-refused 24 sc sc n k (decode second) room
 
-  file-compared : (d : Decoded) → decode first ≡ d → C (answerOn d (decode second) room)
-  unfolding answerOn
-  file-compared (accepted p) e = against-compared p e (decode second) refl
-  file-compared (refused n k) e = by-first n k e
+  against : (p : Program) (d : Decoded) → decode first ≡ accepted p → decode second ≡ d → answer ≡ answerAgainst 24 sc sc p d room
+  against p d e i = read (accepted p) d e i ∙ on-accepted 24 sc sc p room d
+
+  answer-second : (p : Program) (n k : ℕ) → decode first ≡ accepted p → decode second ≡ refused n k → answer ≡ second-refused n k
+  answer-second p n k e i = against p (refused n k) e i ∙ against-refused 24 sc sc p room n k
+
+  module _ (p q : Program) (a : Accepted first second p q) where
+    answer-short : room < 24 → answer ≡ output-refused 22 0
+    answer-short h = against p (accepted q) (a .one) (a .other) ∙ against-short 24 sc sc p room q h
+
+    answer-long : 24 ≤ room → answer ≡ answerBy (firstLacking sc p sc q)
+    answer-long h = against p (accepted q) (a .one) (a .other) ∙ against-long 24 sc sc p room q h
+
+    lists : Admitted sc p
+    lists = (accepted-well-formed first p (a .one), refl)
+
+    lists-too : Admitted sc q
+    lists-too = (accepted-well-formed second q (a .other), refl)
+
+    -- what is found is right
+    found-right : 24 ≤ room → (o : Option Schedule) → firstLacking sc p sc q ≡ o → C (answerBy o)
+    unfolding answerBy
+    found-right h none e = covering p q a h (covers-sc p q .0 (none-covers sc sc-laws p lists sc sc-laws q lists-too e))
+    found-right h (some s) e = exceeding p q s a h (first-lacking-sc p q s .0 (some-first sc sc-laws p lists sc sc-laws q lists-too s e))
+
+    right : Dec (room < 24) → C answer
+    right (yes h) = subst C (sym (answer-short h)) (by-output p q a h)
+    right (no h) =
+        let enough : 24 ≤ room = omega (arith, h) in
+        subst C (sym (answer-long enough)) (found-right enough (firstLacking sc p sc q) refl)
+
+  right-second : (p : Program) → decode first ≡ accepted p → (d : Decoded) → decode second ≡ d → C answer
+  right-second p e (accepted q) i = right p q (record { one = e; other = i }) (decLt room 24)
+  right-second p e (refused n k) i = subst C (sym (answer-second p n k e i)) (by-second p n k e i)
+
+  right-first : (d : Decoded) → decode first ≡ d → C answer
+  right-first (accepted p) e = right-second p e (decode second) refl
+  right-first (refused n k) e = subst C (sym (answer-first n k e)) (by-first n k e)
+
+  pub comparison-right : C answer
+  comparison-right = right-first (decode first) refl
 
   -- THERE IS AN ANSWER
   pub comparison-exists : (a : Answer) × C a
-  comparison-exists = (answerOn (decode first) (decode second) room, file-compared (decode first) refl)
-
-  found-answer : (p q : Program) → Accepted first second p q → answerOn (decode first) (decode second) room ≡ answerOf p q room
-  unfolding answerOn answerAgainst
-  found-answer p q a = rw (a .one, a .other)
+  comparison-exists = (answer, comparison-right)
 
   -- every right answer is the one worked out
-  comparison-is : {a : Answer} → C a → answerOn (decode first) (decode second) room ≡ a
-  unfolding answerOn answerAgainst answerOf answerBy
-  comparison-is (by-first n k e) = ap (λ (d : Decoded). answerOn d (decode second) room) e
-  comparison-is (by-second p n k e i) = rw (e, i)
-  comparison-is (by-output p q a h) = found-answer p q a ∙ rw (lt-ltb room 24 h)
+  comparison-is : {a : Answer} → C a → answer ≡ a
+  unfolding answerBy
+  comparison-is (by-first n k e) = answer-first n k e
+  comparison-is (by-second p n k e i) = answer-second p n k e i
+  comparison-is (by-output p q a h) = answer-short p q a h
   comparison-is (covering p q a h c) =
-      found-answer p q a
-      ∙ rw (le-ltb room 24 h, covers-none p q (accepted-well-formed first p (a .one)) (accepted-well-formed second q (a .other)) c)
+      answer-long p q a h ∙ ap answerBy (covers-none sc sc-laws p (lists p q a) sc sc-laws q (lists-too p q a) (covers-sc p q .1 c))
   comparison-is (exceeding p q s a h f) =
-      found-answer p q a
-      ∙ rw (le-ltb room 24 h, first-some p q (accepted-well-formed first p (a .one)) (accepted-well-formed second q (a .other)) s f)
+      answer-long p q a h ∙ ap answerBy (first-some sc sc-laws p (lists p q a) sc sc-laws q (lists-too p q a) s (first-lacking-sc p q s .1 f))
 
   -- THERE IS ONE ANSWER ONLY
   pub comparison-unique : (a b : Answer) → C a → C b → a ≡ b
@@ -120,11 +101,11 @@ module _ (first second : List ℕ) (room : ℕ) where
   -- COVERED EXACTLY WHEN IT IS, on two accepted files with an output that is not too short
   pub covered-exactly : (p q : Program) → Accepted first second p q → 24 ≤ room → C covered ↔ Covers p q
   unfolding answerBy
-  covered-exactly p q a h = ((λ c. go c (find (lacksOf p q) (listOf sc q)) refl), covering p q a h)
+  covered-exactly p q a h = ((λ c. go c (firstLacking sc p sc q) refl), covering p q a h)
     where
-      go : C covered → (o : Option Schedule) → find (lacksOf p q) (listOf sc q) ≡ o → Covers p q
-      go c none e = none-covers p q (accepted-well-formed first p (a .one)) (accepted-well-formed second q (a .other)) e
+      go : C covered → (o : Option Schedule) → firstLacking sc p sc q ≡ o → Covers p q
+      go c none e = covers-sc p q .0 (none-covers sc sc-laws p (lists p q a) sc sc-laws q (lists-too p q a) e)
       go c (some s) e = absurd (
-          let z : covered ≡ lacking s = comparison-unique covered (lacking s) c (compared p q a h (some s) e) in
+          let z : covered ≡ lacking s = comparison-unique covered (lacking s) c (found-right p q a h (some s) e) in
           let y : _≡_ {A = ℕ} 0 1 = cc in
           omega arith)

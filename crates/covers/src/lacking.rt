@@ -1,69 +1,72 @@
-// The first of some outcomes that a program lacks.
-use crate::batch::Batch;
-use crate::batch::is_in;
-use crate::collecting::collect;
+// The first listed schedule of a program with an outcome that another lacks, by their lists: the second's is walked once, the first's once
+// for each schedule of the second's up to that one.
 use file_decoder::Compiled;
 use listing_cursor::beginning;
 use listing_cursor::is_end;
+use listing_model::Model;
+use listing_pages::next_page;
+use outcome_lists::Coming;
+use outcome_lists::first_coming;
+use outcome_lists::none_found;
+use outcome_lists::outcome_of;
+use outcome_lists::row_at;
 ghost use mathlib.Core.Path.{_≡_};
-ghost use mathlib.Core.Bool.{true, false};
 ghost use mathlib.Core.List.{List};
-ghost use Prim.Native.Nat.{ℕ, _<_, _≤_};
-ghost use lib.ListN.{getD};
-ghost use Rattle.spec_file.specs.Program.{Program};
-ghost use Rattle.spec_file.specs.WellFormed.{WellFormed};
+ghost use Prim.Native.Nat.{_≤_};
 ghost use Rattle.file_decoder.specs.Compiled.{programOf};
+ghost use Rattle.spec_schedules.specs.Lists.{find};
 ghost use Rattle.spec_schedules.specs.Order.{Schedule};
-ghost use Rattle.covers.specs.Batches.{Held, Marks, Lacks};
+ghost use Rattle.spec_model.specs.Laws.{Admitted};
+ghost use Rattle.spec_across.proofs.Attained.{lacksUnder, firstLacking};
+ghost use Rattle.listing_model.specs.ModelOf.{modelOf};
+ghost use Rattle.listing_pages.specs.Page.{Rows};
+ghost use Rattle.outcome_lists.specs.FoundOf.{foundOf};
 
-// Marks those that are among the others' outcomes.
-fn marked(wanted: Batch, others: Batch, marks: [bool; 128]) -> [bool; 128]
-    requires { ⌜ (wanted .size ≤ 128) × (others .size ≤ 128) ⌝ }
-    ensures { λ r. ⌜ ((p q : Program) (ss rs : List Schedule) → Held q ss wanted → Held p rs others
-        → Marks p q ss rs (wanted .size) marks r) ⌝ }
-{
-    let n = wanted.size;
-    let mut all = marks;
-    let mut k = 0;
-    while k < n {
-        let f = wanted.table[k];
-        let o = f.outcome;
-        if is_in(others, o) {
-            all[k] = true;
-        }
-        k += 1;
-    }
-    all
-}
-
-// The first of n marks that is not set, or n.
-fn first_unmarked(marks: [bool; 128], n: usize) -> usize
-    requires { ⌜ n ≤ 128 ⌝ }
-    ensures { λ r. ⌜ (r ≤ n) × ((k : ℕ) → k < r → getD marks k false ≡ true) × (r < n → getD marks r false ≡ false) ⌝ }
+// The first of n rows whose schedule has an outcome that the first program lacks.
+fn lacking_among(
+    model: Model,
+    first: Compiled,
+    other: Model,
+    second: Compiled,
+    rows: &[u8],
+    n: usize,
+) -> Coming
+    requires { ⌜ Admitted (modelOf model) (programOf first) × Admitted (modelOf other) (programOf second)
+        × ((ss : List Schedule) × Rows (modelOf other) (programOf second) ss (now rows) n) ⌝ }
+    ensures few { λ r. ⌜ r .steps ≤ 48 ⌝ }
+    ensures first { λ r. ⌜ ((ss : List Schedule) → Rows (modelOf other) (programOf second) ss (now (rows .entry)) n
+        → foundOf r ≡ find (lacksUnder (modelOf model) (programOf first) (modelOf other) (programOf second)) ss) ⌝ }
 {
     let mut k = 0;
     while k < n {
-        if !marks[k] {
-            return k;
+        let r = row_at(other, rows, k);
+        let steps = r.steps;
+        let schedule = r.schedule;
+        let o = outcome_of(other, second, &schedule[..steps]);
+        let c = first_coming(model, first, o);
+        if !c.found {
+            return r;
         }
         k += 1;
     }
-    n
+    none_found()
 }
 
-// The first of these outcomes that no listed schedule of the program has, or their number: the list is walked once.
-pub(crate) fn first_lacking(program: Compiled, wanted: Batch) -> usize
-    requires { ⌜ WellFormed (programOf program) × (wanted .size ≤ 128) ⌝ }
-    ensures { λ r. ⌜ ((q : Program) (ss : List Schedule) → Held q ss wanted → Lacks (programOf program) q ss r) ⌝ }
+// The first of the second program's list, by pages of 800 bytes.
+pub(crate) fn first_lacking(model: Model, first: Compiled, other: Model, second: Compiled) -> Coming
+    requires { ⌜ Admitted (modelOf model) (programOf first) × Admitted (modelOf other) (programOf second) ⌝ }
+    ensures { λ r. ⌜ (r .steps ≤ 48)
+        × (foundOf r ≡ firstLacking (modelOf model) (programOf first) (modelOf other) (programOf second)) ⌝ }
 {
-    let mut marks = [false; 128];
+    let mut rows = [0u8; 800];
     let mut cursor = beginning();
     while !is_end(cursor) {
-        let c = collect(program, cursor);
-        let others = c.batch;
-        let more = marked(wanted, others, marks);
-        marks = more;
-        cursor = c.cursor;
+        let page = next_page(other, second, cursor, false, &mut rows);
+        let r = lacking_among(model, first, other, second, &rows, page.rows);
+        if r.found {
+            return r;
+        }
+        cursor = page.cursor;
     }
-    first_unmarked(marks, wanted.size)
+    none_found()
 }

@@ -1,22 +1,13 @@
-// One program against another.
+// One program against another, each under a memory model of its own.
 
-// The outcome of a listed schedule.
-mod coming;
-// Different outcomes, each with the first schedule that has it.
-mod batch;
-// The list walked for different outcomes.
-mod collecting;
-// Outcomes that the first program lacks.
+// The first listed schedule with an outcome that another program lacks, by the lists.
 mod lacking;
-// All outcomes of a program, and what goes beyond them, by states.
-mod gathering;
-// The call.
+// The first listed schedule with an outcome that another program lacks, with a scratch.
+mod seeking;
+// The calls.
 mod covers_call;
 
-pub use batch::Batch;
-pub use batch::Found;
-pub use collecting::Collected;
 pub use covers_call::CoversAnswer;
 pub use covers_call::covers;
+pub use covers_call::covers_models;
 pub use covers_call::covers_with;
-pub use gathering::Gathering;

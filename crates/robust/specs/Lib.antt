@@ -1,5 +1,3 @@
 -- How arrays and answers hold what the definitions say, in reading order.
 -- the call's answer as the code gives it
 pub mod AnswerOf
--- rows of full schedules; for the code
-pub mod Page

@@ -9,7 +9,7 @@ ghost use mathlib.Core.Path.{_≡_};
 ghost use mathlib.Core.List.{List, []};
 ghost use mathlib.Core.Option.{none, some};
 ghost use Prim.Native.Nat.{_<_, _≤_};
-ghost use lib.ListN.{getD};
+ghost use lib.ListN.{length, getD};
 ghost use Rattle.file_decoder.specs.Compiled.{programOf};
 ghost use Rattle.spec_schedules.specs.Lists.{find};
 ghost use Rattle.spec_schedules.specs.Order.{Schedule};
@@ -17,7 +17,7 @@ ghost use Rattle.spec_model.specs.Laws.{Admitted};
 ghost use Rattle.spec_model.specs.Model.{Full};
 ghost use Rattle.spec_tso.specs.TotalStoreOrder.{tso};
 ghost use Rattle.spec_across.proofs.Relaxed.{isRelaxed};
-ghost use Rattle.robust.specs.Page.{Rows};
+ghost use Rattle.listing_pages.specs.Page.{Rows};
 
 // Whether a full schedule is.
 fn is_relaxed(program: Compiled, steps: &[u8]) -> bool
@@ -41,8 +41,9 @@ fn is_relaxed(program: Compiled, steps: &[u8]) -> bool
 
 // The first of so many rows whose schedule is, or their number.
 pub(crate) fn first_relaxed(program: Compiled, rows: &[u8], n: usize) -> usize
-    requires { ⌜ Admitted tso (programOf program) × (n ≤ 64) × ((ss : List Schedule) × Rows (programOf program) ss (now rows) n) ⌝ }
-    ensures { λ r. ⌜ ((ss : List Schedule) → Rows (programOf program) ss (now (rows .entry)) n
+    requires { ⌜ Admitted tso (programOf program) × (n ≤ 64) × (length (now rows) ≡ 3200)
+        × ((ss : List Schedule) × Rows tso (programOf program) ss (now rows) n) ⌝ }
+    ensures { λ r. ⌜ ((ss : List Schedule) → Rows tso (programOf program) ss (now (rows .entry)) n
         → (r < n → find (isRelaxed (programOf program)) ss ≡ some (getD ss r []))
         × (n ≤ r → find (isRelaxed (programOf program)) ss ≡ none)) ⌝ }
 {

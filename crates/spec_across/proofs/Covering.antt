@@ -7,8 +7,8 @@ use Rattle.spec_schedules.specs.Order.{Schedule}
 use Rattle.spec_model.specs.Model.{Model}
 use Rattle.spec_sc.specs.Sequential.{sc}
 use Rattle.spec_covers.specs.declared.outcome.Outcome.{Outcome}
-use Rattle.spec_covers.specs.Covers.{outcomeOf, Attains, Covers}
-use Rattle.spec_across.specs.Under.{outcomeUnder, AttainsUnder, CoversUnder}
+use Rattle.spec_covers.specs.Covers.{outcomeOf, Attains, Covers, FirstLacking}
+use Rattle.spec_across.specs.Under.{outcomeUnder, AttainsUnder, CoversUnder, FirstLackingUnder}
 
 -- EVERY PROGRAM COVERS ITSELF under one model
 pub under-itself : (M : Model) (p : Program) → CoversUnder M p M p
@@ -30,3 +30,11 @@ attains-sc p o = ((λ a. a), λ a. a)
 -- UNDER SEQUENTIAL CONSISTENCY TWICE it is covering
 pub covers-sc : (p q : Program) → CoversUnder sc p sc q ↔ Covers p q
 covers-sc p q = ((λ c o a. attains-sc p o .0 (c o (attains-sc q o .1 a))), λ c o a. attains-sc p o .1 (c o (attains-sc q o .0 a)))
+
+-- and so is the first schedule that is lacked
+pub first-lacking-sc : (p q : Program) (s : Schedule) → FirstLackingUnder sc p sc q s ↔ FirstLacking p q s
+unfolding outcomeUnder outcomeOf
+first-lacking-sc p q s = (
+  (λ f. record { listed = f .listed; lacks = f .lacks; first = f .first }),
+  λ f. record { listed = f .listed; lacks = f .lacks; first = f .first },
+)

@@ -16,15 +16,15 @@ use Rattle.spec_schedules.proofs.Lists.{filter-yes, filter-no}
 use Rattle.spec_schedules.proofs.Order.{less-irreflexive, less-asymmetric}
 
 -- one turn
-member-nil : (k : ℕ) → member [] k ≡ none
+pub member-nil : (k : ℕ) → member [] k ≡ none
 unfolding member
 member-nil k = refl
 
-member-first : (x : Schedule) (l : List Schedule) → member (x ∷ l) 0 ≡ some x
+pub member-first : (x : Schedule) (l : List Schedule) → member (x ∷ l) 0 ≡ some x
 unfolding member
 member-first x l = refl
 
-member-later : (x : Schedule) (l : List Schedule) (k : ℕ) → member (x ∷ l) (suc k) ≡ member l k
+pub member-later : (x : Schedule) (l : List Schedule) (k : ℕ) → member (x ∷ l) (suc k) ≡ member l k
 unfolding member
 member-later x l k = refl
 

@@ -1,1 +1,1 @@
-// What calls that go by outcomes leave in the scratch that they are lent. Definitions; no functions.
+// The outcomes of a program, and what calls that go by outcomes leave in the scratch that they are lent. Definitions and laws; no functions.

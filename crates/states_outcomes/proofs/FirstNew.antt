@@ -1,6 +1,6 @@
 -- The first schedule with a new outcome behind a prefix as the code seeks it: with one next step, at the end, over the next steps in turn, and with marks.
-use Prim.Native.Nat.{ℕ, _+_, _-_, _<_, _≤_}
-use mathlib.Core.Path.{_≡_, refl, sym, ap, ap₂, subst, _∙_}
+use Prim.Native.Nat.{ℕ, _+_, _<_, _≤_}
+use mathlib.Core.Path.{_≡_, sym, ap, ap₂, subst, _∙_}
 use mathlib.Core.Bool.{Bool, true, false}
 use mathlib.Core.Option.{Option, none, some}
 use mathlib.Core.List.{List, [], _∷_, _++_}
@@ -8,23 +8,21 @@ use lib.ListN.{length, take, drop}
 use borrow.Author.Tests.{eqb-false, not-true}
 use Rattle.spec_file.specs.Program.{Program}
 use Rattle.spec_file.specs.WellFormed.{WellFormed}
-use Rattle.spec_schedules.specs.Lists.{filter, headOf}
+use Rattle.spec_schedules.specs.Lists.{headOf}
 use Rattle.spec_schedules.specs.Order.{Schedule}
 use Rattle.spec_schedules.specs.System.{Allowed, ended}
-use Rattle.spec_schedules.proofs.Kept.{filter-nil}
-use Rattle.spec_schedules.proofs.Lists.{filter-yes, filter-no}
 use Rattle.spec_sc.specs.State.{SC, start, fails}
 use Rattle.spec_sc.specs.Graph.{endOf}
+use Rattle.spec_sc.specs.Sequential.{sc}
 use Rattle.spec_covers.specs.declared.outcome.Outcome.{Outcome}
-use Rattle.theory_search.specs.Found.{concatRange}
-use Rattle.theory_search.specs.Search.{low}
-use Rattle.theory_search.proofs.Found.{past-none, low-none}
-use Rattle.theory_sc.specs.Search.{foundBehind, foundWith}
-use Rattle.theory_sc.proofs.Search.{up-asleep, with-given-up, with-live, behind-end, behind-branches}
-use Rattle.theory_states.proofs.Passing.{head-nil, Seeks, seek-start, seek-found, seek-next, seek-over}
+use Rattle.theory_search.proofs.Found.{low-none}
+use Rattle.theory_sc.specs.Search.{givenUp}
+use Rattle.theory_sc.proofs.Search.{up-asleep}
+use Rattle.theory_states.proofs.Passing.{Seeks, seek-start, seek-found, seek-next, seek-over}
 use Rattle.theory_sc_key.specs.Key.{Wide}
-use Rattle.theory_outcomes.specs.Passing.{outcomeAt, passes, comesSo, passingBehind, passingWith, outcomeKey}
-use Rattle.theory_outcomes.proofs.Ending.{ends-at, passing-range}
+use Rattle.theory_outcomes.specs.Outcomes.{passes}
+use Rattle.theory_outcomes.specs.Passing.{passingBehind, passingWith, outcomeKey}
+use Rattle.theory_outcomes.proofs.NextSteps.{none-with, cut-with, live-with, turns-with, ended-with}
 use Rattle.theory_outcomes.proofs.Passing.{passed-over, may-mark}
 use Rattle.search_place.proofs.ReachedStep.{reached-open}
 use Rattle.search_walk.specs.Tried.{tried}
@@ -44,40 +42,24 @@ use Rattle.states_outcomes.proofs.Values.{values-memory}
 
 -- ---- with one next step
 module _ (test : Outcome → Bool) (p : Program) (steps : ℕ) (v : Schedule) (t : ℕ) where
-  nothing-with : foundWith false p steps none v t ≡ [] → none ≡ headOf (passingWith test p steps v t)
-  nothing-with e = sym (head-nil (passingWith test p steps v t) (ap (filter (comesSo test p)) e ∙ filter-nil (comesSo test p)))
-
   pub asleep-new : tried p v t ≡ true → Asleep p v t true → (o : Option Schedule) → o ≡ none → o ≡ headOf (passingWith test p steps v t)
-  asleep-new is e o q = q ∙ nothing-with (with-given-up false p steps none v t (tried-enabled p v t is) (up-asleep p v t (eqb-false _ 0 (not-true _ e))))
+  asleep-new is e o q = q ∙ cut-with sc givenUp test p steps v t (tried-enabled p v t is) (up-asleep p v t (eqb-false _ 0 (not-true _ e)))
 
   pub awake-new : tried p v t ≡ true → Asleep p v t false → (k : ℕ) → k ≡ steps + 1 → passingBehind test p k (v ++ (t ∷ [])) ≡ passingWith test p steps v t
-  awake-new is e k q = ap (filter (comesSo test p)) (
-      ap₂ (λ (i : ℕ) (o : Option Schedule). foundBehind false p i o (v ++ (t ∷ []))) q (sym (past-none t))
-      ∙ sym (with-live false p steps none v t (tried-enabled p v t is) (awake-cut p v t is e)))
+  awake-new is e = live-with sc givenUp test p steps v t (tried-enabled p v t is) (awake-cut p v t is e)
 
   pub untried-new : tried p v t ≡ false → none ≡ headOf (passingWith test p steps v t)
-  untried-new e = nothing-with (untried-none p v t false steps none e)
+  untried-new e = none-with sc givenUp test p steps v t (untried-none p v t false steps none e)
 
 -- ---- where nobody may step: the prefix, if its outcome passes
-pub ended-new : (test : Outcome → Bool) (p : Program) (steps : ℕ) (v : Schedule) → ended SC (endOf p v) ≡ true → (r : First) → r .found ≡ passes test (endOf p v) → take (r .steps) (r .schedule) ≡ v
+pub ended-new : (test : Outcome → Bool) (p : Program) (steps : ℕ) (v : Schedule) → ended SC (endOf p v) ≡ true → (r : First) → r .found ≡ passes sc test (endOf p v) → take (r .steps) (r .schedule) ≡ v
     → foundOf r ≡ headOf (passingBehind test p steps v)
-unfolding headOf
-ended-new test p steps v e r q s = go (passes test (endOf p v)) refl
-  where
-    all : foundBehind false p steps none v ≡ v ∷ []
-    all = behind-end false p steps v (fails (endOf p v)) e refl refl
-
-    comes : (b : Bool) → passes test (endOf p v) ≡ b → comesSo test p v ≡ b
-    comes b f = ends-at SC (passes test) (endOf p v) e ∙ f
-
-    go : (b : Bool) → passes test (endOf p v) ≡ b → foundOf r ≡ headOf (passingBehind test p steps v)
-    go true f = sym (found-some r (q ∙ f)) ∙ ap some s ∙ sym (ap (λ (l : List Schedule). headOf (filter (comesSo test p) l)) all ∙ ap headOf (filter-yes (comesSo test p) v [] (comes true f)))
-    go false f = sym (found-none r (q ∙ f))
-        ∙ sym (ap (λ (l : List Schedule). headOf (filter (comesSo test p) l)) all ∙ ap headOf (filter-no (comesSo test p) v [] (comes false f) ∙ filter-nil (comesSo test p)))
+unfolding foundOf
+ended-new test p steps v e r = ended-with sc givenUp test p steps v e (r .found) (take (r .steps) (r .schedule))
 
 -- the outcome that a spot holds
 pub outcome-here : (code lengths class : List ℕ) (threads groups : ℕ) (x : Spot) (p : Program) (v : Schedule) → Stands code lengths class threads groups x p v → (f : Bool) → f ≡ fails (endOf p v) →
-    (test : Outcome → Bool) → test (record { memory = x .memory; fails = f }) ≡ passes test (endOf p v)
+    (test : Outcome → Bool) → test (record { memory = x .memory; fails = f }) ≡ passes sc test (endOf p v)
 outcome-here code lengths class threads groups x p v at f e test =
     let h = at .reached .holds in
     ap₂ (λ (m : List ℕ) (b : Bool). test (record { memory = m; fails = b })) (values-memory (endOf p v) (x .memory) (h .eight) (h .sizes .1) (h .values)) e
@@ -122,8 +104,7 @@ module _ (code lengths class : List ℕ) (f : Frame) (x : Spot) (rows lent₀ : 
       let v = c .3 in
       let going = e (c .0) (c .1) p v (c .4) in (
         seek-start (λ d. passingWith test p (x .steps) v d) 6 (passingBehind test p (x .steps) v) _ low-none
-            (ap (filter (comesSo test p)) (behind-branches false p (x .steps) v none going (reached-open code lengths class (c .0) (c .1) (placeOf x) p v (c .4 .reached) going))
-            ∙ sym (passing-range (comesSo test p) (λ d. passingWith test p (x .steps) v d) (λ d. foundWith false p (x .steps) none v d) (λ d. refl) (6 - low none) (low none))),
+            (turns-with sc givenUp test p (x .steps) v going (reached-open code lengths class (c .0) (c .1) (placeOf x) p v (c .4 .reached) going)),
         marks,
       )
 

@@ -5,7 +5,5 @@ pub mod Values
 pub mod Rows
 -- the words behind a place, lent as a part of all
 pub mod Parts
--- the first word of a key with whether something failed
-pub mod Flags
 -- the first new outcome behind a prefix: with one next step, over the next steps in turn
 pub mod FirstNew

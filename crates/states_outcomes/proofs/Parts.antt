@@ -14,7 +14,7 @@ use Rattle.table.specs.Answers.{Honest}
 use Rattle.theory_outcomes.proofs.Passing.{passes-nothing}
 use Rattle.states_outcomes.specs.declared.known.Frame.{Frame}
 use Rattle.states_outcomes.specs.Rows.{isNew}
-use Rattle.states_outcomes.specs.Swept.{Swept, Kept}
+use Rattle.states_outcomes.specs.Swept.{Swept, Silent, Kept}
 
 pub rest-part : (cut : ℕ) (m : List ℕ) → midOf cut (length m - cut) m ≡ drop cut m
 rest-part cut m = take-all (length m - cut) (drop cut m) (simp length-drop (omega arith))
@@ -36,8 +36,10 @@ rest-honest slots cut k m ys h honest =
     (subst (λ (l : List ℕ). Honest slots k [] (midOf cut (length m - cut) m) l) (sym (rest-put cut m ys h)) honest)
 
 -- a part that says nothing
-pub rest-silent : (cut : ℕ) (m ys : List ℕ) → cut ≤ length m → ((at width : ℕ) (k : List ℕ) → saidAt at width ys k ≡ none) → (p : Program) (f : Frame) (rows : List ℕ) → f .cut ≡ cut →
-    Swept p f rows (putMid cut (length m - cut) m ys)
-rest-silent cut m ys h silent p f rows e =
-    let d : drop (f .cut) (putMid cut (length m - cut) m ys) ≡ ys = ap (λ (i : ℕ). drop i (putMid cut (length m - cut) m ys)) e ∙ rest-put cut m ys h in
-    passes-nothing p (isNew rows (f .known)) (f .width) _ (λ k c s. Option·none-ne-some c (sym (ap (λ (l : List ℕ). saidAt (placeOf (f .slots) 0 k) 0 l k) d ∙ silent (placeOf (f .slots) 0 k) 0 k) ∙ s))
+pub rest-silent : (cut : ℕ) (m ys : List ℕ) → cut ≤ length m → ((at width : ℕ) (k : List ℕ) → saidAt at width ys k ≡ none) → (slots : ℕ) → Silent slots cut (putMid cut (length m - cut) m ys)
+rest-silent cut m ys h silent slots k c s =
+    Option·none-ne-some c (sym (ap (λ (l : List ℕ). saidAt (placeOf slots 0 k) 0 l k) (rest-put cut m ys h) ∙ silent (placeOf slots 0 k) 0 k) ∙ s)
+
+-- where nothing is said, nothing false is
+pub silent-swept : (p : Program) (f : Frame) (rows m : List ℕ) → Silent (f .slots) (f .cut) m → Swept p f rows m
+silent-swept p f rows m silent = passes-nothing p (isNew rows (f .known)) (f .width) _ silent

@@ -14,6 +14,10 @@ use Rattle.states_outcomes.specs.Rows.{isNew}
 abbrev pub Swept : Program → Frame → List ℕ → List ℕ → Type 0
 Swept p f rows m = NonePasses (isNew rows (f .known)) p (f .width) (λ k c. said (f .slots) 0 (drop (f .cut) m) k ≡ some c)
 
+-- behind the first so many words the table, of so many slots, says nothing
+abbrev pub Silent : ℕ → ℕ → List ℕ → Type 0
+Silent slots cut m = (k c : List ℕ) → said slots 0 (drop cut m) k ≡ some c → ⊥
+
 -- as many words, and the first so many as they were
 abbrev pub Kept : ℕ → List ℕ → List ℕ → Type 0
 Kept cut m m' = (length m' ≡ length m) × (take cut m' ≡ take cut m)

@@ -2,8 +2,9 @@
 use states_key::Spot;
 use states_key::key;
 ghost use mathlib.Core.Path.{_≡_};
+ghost use mathlib.Core.Bool.{cond};
 ghost use mathlib.Core.List.{List};
-ghost use Prim.Native.Nat.{ℕ, _≤_};
+ghost use Prim.Native.Nat.{ℕ, _+_, _*_, _%_, _^_, _≤_};
 ghost use lib.ListN.{length, take};
 ghost use Rattle.spec_file.specs.Program.{Program};
 ghost use Rattle.spec_schedules.specs.Order.{Schedule};
@@ -13,6 +14,16 @@ ghost use Rattle.theory_sc_key.specs.Key.{keyOf, wordsOf};
 ghost use Rattle.theory_outcomes.specs.Passing.{outcomeKey};
 ghost use Rattle.states_live.specs.Live.{Live};
 ghost use Rattle.states_key.specs.Stands.{Stands};
+
+// The first word of a key, with the second highest bit set where something failed.
+pub fn flag(word: u64, failed: bool) -> u64
+    ensures { λ r. ⌜ r ≡ cond failed (word % 2 ^ 62 + 3 * 2 ^ 62) word ⌝ }
+{
+    if failed {
+        return word % 0x4000_0000_0000_0000 + 0xc000_0000_0000_0000;
+    }
+    word
+}
 
 // The key of the position that this spot is, where something has failed or not.
 pub(crate) fn outcome_key(
@@ -29,8 +40,7 @@ pub(crate) fn outcome_key(
         → length (wordsOf (keyOf p v (endOf p v))) ≤ n → n ≤ 18 → failed ≡ fails (endOf p v) → take n r ≡ outcomeKey n p v (endOf p v)) ⌝ }
 {
     let mut k = key(lengths, class, masks, x);
-    if failed {
-        k[0] = k[0] % 0x4000_0000_0000_0000 + 0xc000_0000_0000_0000;
-    }
+    let first = flag(k[0], failed);
+    k[0] = first;
     k
 }

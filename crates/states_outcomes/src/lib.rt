@@ -12,6 +12,10 @@ mod walking;
 mod first;
 
 pub use first::first_new;
+pub use flagging::flag;
 pub use known::Frame;
 pub use known::row_of;
+pub use sweeping::is_new;
+pub use sweeping::is_swept;
+pub use sweeping::sweep;
 pub use sweeping::unmark;

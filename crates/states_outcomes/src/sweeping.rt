@@ -1,47 +1,37 @@
-// The two parts of lent words: outcomes that are known, and keys behind which none is new.
+// The two parts of lent words: outcomes that are known, and keys behind which none is new. Both memory models have them so.
 use crate::known::Frame;
 use crate::known::is_known;
 use crate::known::row_of;
-use states_key::Spot;
 use states_memory::Shape;
 use states_memory::is_marked;
 use states_memory::mark;
-use states_walk::First;
 use table::clear;
 ghost use mathlib.Core.Path.{_≡_};
 ghost use mathlib.Core.Bool.{true};
 ghost use mathlib.Core.Option.{some};
-ghost use mathlib.Core.List.{List, []};
+ghost use mathlib.Core.List.{[]};
 ghost use Prim.Native.Nat.{ℕ, _*_, _≤_};
 ghost use lib.ListN.{length, take, drop};
-ghost use Rattle.spec_file.specs.Program.{Program};
 ghost use Rattle.table.specs.Places.{said};
 ghost use Rattle.table.specs.Answers.{Honest};
-ghost use Rattle.states_outcomes.specs.declared.known.Frame.{Frame};
 ghost use Rattle.states_outcomes.specs.Rows.{isNew};
-ghost use Rattle.states_outcomes.specs.Swept.{Swept, Kept};
+ghost use Rattle.states_outcomes.specs.Swept.{Kept, Silent};
 
-// Where nobody may step: the prefix, if its outcome is not known.
-pub(crate) fn ending(x: Spot, failed: bool, lent: &[u64], frame: Frame) -> First
+// Whether an outcome is not among the known ones.
+pub fn is_new(memory: [u32; 8], failed: bool, lent: &[u64], frame: Frame) -> bool
     requires { ⌜ (9 * frame .known ≤ frame .cut) × (frame .cut ≤ length (now lent)) ⌝ }
-    ensures { λ r. ⌜ (r .found ≡ isNew (take (frame .cut) (now (lent .entry))) (frame .known) (record { memory = x .memory; fails = failed }))
-        × (r .steps ≡ x .steps) × (r .schedule ≡ x .schedule) ⌝ }
+    ensures { λ r. ⌜ r ≡ isNew (take (frame .cut) (now (lent .entry))) (frame .known) (record { memory = memory; fails = failed }) ⌝ }
 {
-    let memory = x.memory;
     let row = row_of(memory, failed);
-    let schedule = x.schedule;
     let cut = frame.cut;
-    First {
-        found: !is_known(&lent[..cut], frame.known, &row),
-        steps: x.steps,
-        schedule: schedule,
-    }
+    !is_known(&lent[..cut], frame.known, &row)
 }
 
-// Whether a key is marked.
-pub(crate) fn is_swept(lent: &[u64], frame: Frame, key: [u64; 18]) -> bool
-    requires { ⌜ (frame .width ≤ 18) × (frame .cut ≤ length (now lent)) ⌝ }
-    ensures { λ r. ⌜ (r ≡ true → said (frame .slots) 0 (drop (frame .cut) (now (lent .entry))) (take (frame .width) key) ≡ some []) ⌝ }
+// Whether a key is marked: the first words of these, as many as the frame's keys have.
+pub fn is_swept(lent: &[u64], frame: Frame, key: &[u64]) -> bool
+    requires { ⌜ (frame .width ≤ length (now key)) × (frame .cut ≤ length (now lent)) ⌝ }
+    ensures { λ r. ⌜ (r ≡ true
+        → said (frame .slots) 0 (drop (frame .cut) (now (lent .entry))) (take (frame .width) (now (key .entry))) ≡ some []) ⌝ }
 {
     let cut = frame.cut;
     let width = frame.width;
@@ -53,11 +43,11 @@ pub(crate) fn is_swept(lent: &[u64], frame: Frame, key: [u64; 18]) -> bool
     is_marked(&lent[cut..], shape, &key[..width])
 }
 
-// Marks a key.
-pub(crate) fn sweep(lent: &mut [u64], frame: Frame, key: [u64; 18])
-    requires { ⌜ (frame .width ≤ 18) × (frame .cut ≤ length (now lent)) ⌝ }
+// Marks such a key.
+pub fn sweep(lent: &mut [u64], frame: Frame, key: &[u64])
+    requires { ⌜ (frame .width ≤ length (now key)) × (frame .cut ≤ length (now lent)) ⌝ }
     ensures kept { λ r. ⌜ Kept (frame .cut) (now (lent .entry)) (now (lent .exit)) ⌝ }
-    ensures honest { λ r. ⌜ Honest (frame .slots) (take (frame .width) key) [] (drop (frame .cut) (now (lent .entry)))
+    ensures honest { λ r. ⌜ Honest (frame .slots) (take (frame .width) (now (key .entry))) [] (drop (frame .cut) (now (lent .entry)))
         (drop (frame .cut) (now (lent .exit))) ⌝ }
 {
     let cut = frame.cut;
@@ -74,7 +64,7 @@ pub(crate) fn sweep(lent: &mut [u64], frame: Frame, key: [u64; 18])
 pub fn unmark(lent: &mut [u64], cut: usize)
     requires { ⌜ cut ≤ length (now lent) ⌝ }
     ensures kept { λ r. ⌜ Kept cut (now (lent .entry)) (now (lent .exit)) ⌝ }
-    ensures nothing { λ r. ⌜ ((p : Program) (f : Frame) (rows : List ℕ) → f .cut ≡ cut → Swept p f rows (now (lent .exit))) ⌝ }
+    ensures nothing { λ r. ⌜ ((slots : ℕ) → Silent slots cut (now (lent .exit))) ⌝ }
 {
     clear(&mut lent[cut..]);
 }

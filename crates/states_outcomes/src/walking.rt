@@ -1,7 +1,7 @@
 // The first listed schedule behind a prefix with an outcome that is not known. A key behind which none is found is marked, and passed over.
 use crate::flagging::outcome_key;
 use crate::known::Frame;
-use crate::sweeping::ending;
+use crate::sweeping::is_new;
 use crate::sweeping::is_swept;
 use crate::sweeping::sweep;
 use file_rows::Code;
@@ -29,6 +29,21 @@ ghost use Rattle.states_key.specs.Stands.{Stands};
 ghost use Rattle.states_walk.specs.FoundOf.{foundOf};
 ghost use Rattle.states_outcomes.specs.Rows.{isNew};
 ghost use Rattle.states_outcomes.specs.Swept.{Swept, Kept};
+
+// Where nobody may step: the prefix, if its outcome is not known.
+fn ending(x: Spot, failed: bool, lent: &[u64], frame: Frame) -> First
+    requires { ⌜ (9 * frame .known ≤ frame .cut) × (frame .cut ≤ length (now lent)) ⌝ }
+    ensures { λ r. ⌜ (r .found ≡ isNew (take (frame .cut) (now (lent .entry))) (frame .known) (record { memory = x .memory; fails = failed }))
+        × (r .steps ≡ x .steps) × (r .schedule ≡ x .schedule) ⌝ }
+{
+    let memory = x.memory;
+    let schedule = x.schedule;
+    First {
+        found: is_new(memory, failed, lent, frame),
+        steps: x.steps,
+        schedule: schedule,
+    }
+}
 
 // Of those with t, which is tried, as the next step.
 fn new_with(
@@ -93,7 +108,7 @@ pub(crate) fn new_behind(
         return r;
     }
     let k = outcome_key(lengths, class, masks, x, failed);
-    if is_swept(lent, frame, k) {
+    if is_swept(lent, frame, &k) {
         let r = nothing();
         return r;
     }
@@ -107,7 +122,7 @@ pub(crate) fn new_behind(
         }
         t += 1;
     }
-    sweep(lent, frame, k);
+    sweep(lent, frame, &k);
     let r = nothing();
     r
 }

@@ -150,16 +150,16 @@ module _ (p : Program) (a : Admitted tso p) (v : Schedule) (σ : State) (r : Met
   pub key-words : (length (wordsOf (keyOf p v σ)) ≤ 27) × Everywhere (λ n. n < 2 ^ 64) (wordsOf (keyOf p v σ))
   key-words = (words-few (keyOf p v σ) key-shaped, words-below (keyOf p v σ) key-shaped)
 
--- THE WORDS DECIDE, with zeros behind up to any width
+-- EQUAL WORDS, ONE FUTURE, with zeros behind up to any width
+pub words-future : (p : Program) (a : Admitted tso p) (n : ℕ) (v : Schedule) (σ : State) (x : Schedule) (τ : State) → Met p v σ → Met p x τ → wordKey n p v σ ≡ wordKey n p x τ → OneFuture p v σ x τ
+words-future p a n v σ x τ r s e =
+    let j = key-shaped p a v σ r in
+    let k = key-shaped p a x τ s in
+    key-future p a v σ x τ r s (words-once n (keyOf p v σ) (keyOf p x τ) j k e (values-many p (a .0) v σ x τ r s (left-same n (keyOf p v σ) (keyOf p x τ) j k e)))
+
+-- THE WORDS DECIDE
 pub words-decide : (p : Program) (a : Admitted tso p) (n : ℕ) → Decides TSO (givenUp p) breaks (Met p) (wordKey n p)
-words-decide p a n = record {
-  R = OneFuture p;
-  bisimulation = one-future p a;
-  related = λ v σ x τ r s e.
-      let j = key-shaped p a v σ r in
-      let k = key-shaped p a x τ s in
-      key-future p a v σ x τ r s (words-once n (keyOf p v σ) (keyOf p x τ) j k e (values-many p (a .0) v σ x τ r s (left-same n (keyOf p v σ) (keyOf p x τ) j k e)));
-}
+words-decide p a n = record { R = OneFuture p; bisimulation = one-future p a; related = words-future p a n }
 
 -- up to so many words as a position's key has, or more, they are as wide as that
 pub as-wide : (p : Program) (n : ℕ) (v : Schedule) (σ : State) → length (wordsOf (keyOf p v σ)) ≤ n → length (wordKey n p v σ) ≡ n

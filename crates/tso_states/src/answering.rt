@@ -37,7 +37,8 @@ pub struct Setup {
     pub spot: Spot,
 }
 
-fn made(program: Compiled) -> Setup
+// Makes ready.
+pub fn made(program: Compiled) -> Setup
     requires { ⌜ Admitted tso (programOf program) ⌝ }
     ensures { λ r. ⌜ Made program r ⌝ }
 {

@@ -11,6 +11,10 @@ mod seeking;
 // Both of a decoded program, with a lent table.
 mod answering;
 
+pub use answering::Setup;
 pub use answering::counted;
 pub use answering::first_failing;
+pub use answering::made;
 pub use seeking::First;
+pub use seeking::nothing;
+pub use stepping::stepped;

@@ -35,7 +35,7 @@ pub struct First {
 }
 
 // None.
-fn nothing() -> First
+pub fn nothing() -> First
     ensures { λ r. ⌜ (r .steps ≤ 32) × (foundOf r ≡ none) ⌝ }
 {
     First {

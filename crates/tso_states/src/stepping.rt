@@ -20,7 +20,7 @@ ghost use Rattle.tso_place.specs.declared.place.Place.{Place};
 ghost use Rattle.tso_key.specs.Stands.{Stands};
 
 // The spot behind the step b, which may be made: an access adds its location to its thread's way.
-pub(crate) fn stepped(code: &Code, lengths: &[usize; 6], class: &[usize; 6], x: Spot, b: u8) -> Spot
+pub fn stepped(code: &Code, lengths: &[usize; 6], class: &[usize; 6], x: Spot, b: u8) -> Spot
     requires { ⌜ ((threads : ℕ) × (groups : ℕ) × (p : Program) × (v : Schedule)
         × Stands (now code) (now lengths) (now class) threads groups x p v × (enabled (endOf p v) b ≡ true)) ⌝ }
     ensures { λ r. ⌜ ((threads groups : ℕ) (p : Program) (v : Schedule)

@@ -1,4 +1,5 @@
 //! An oracle: document 01 written a second time, in plain Rust, by its words and without regard to speed.
+pub mod across;
 pub mod calls;
 pub mod covers;
 pub mod decode;
@@ -7,6 +8,8 @@ pub mod graph;
 pub mod judge;
 pub mod listing;
 pub mod machine;
+pub mod model;
+pub mod outcomes;
 pub mod robust;
 pub mod tso;
 pub mod users;

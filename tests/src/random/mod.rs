@@ -1,5 +1,6 @@
 //! Random inputs from a fixed seed: numbers, programs, schedules, graph texts, remarks, damaged program files, calls on records.
 pub mod damage;
+pub mod ends;
 pub mod graph;
 pub mod program;
 pub mod remarks;

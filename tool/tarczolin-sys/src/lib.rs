@@ -28,6 +28,10 @@ pub use served::Served;
 pub const SCHEDULE: usize = 24;
 /// A listed schedule as a row: the number of steps, 1 where it fails and else 0, the steps, zeros behind them.
 pub const ROW: usize = 2 + SCHEDULE;
+/// So many bytes of final values stand in front of a row of `outcomes`: eight values, each most significant byte first.
+pub const VALUES: usize = 32;
+/// An outcome as a row: the eight final values, then the row of the first listed schedule that has it.
+pub const OUTCOME: usize = VALUES + ROW;
 /// A graph text needs an output of so many bytes.
 pub const GRAPH: usize = 512;
 
@@ -136,6 +140,16 @@ pub fn rows_after(file: &[u8], schedule: &[u8], out: &mut [u8]) -> Answer {
     // safe: the call reads only the bytes of the first two slices and writes only bytes of the third
     Answer::of_word(unsafe {
         raw::tarczolin_rows_after(file.as_ptr(), file.len(), schedule.as_ptr(), schedule.len(), out.as_mut_ptr(), out.len())
+    })
+}
+
+/// The outcomes, each once with the first listed schedule that has it and in the order of these, as rows from number `from` on, as many as the
+/// output has room for; the answer carries the number of rows, 0 where there are no more. The output needs room for one. Outcomes and
+/// states are remembered in the scratch, as `count_with` does.
+pub fn outcomes(file: &[u8], from: u64, out: &mut [u8], scratch: &mut [u64]) -> Answer {
+    // safe: the call reads only the bytes of the first slice and writes only bytes of the second and words of the third
+    Answer::of_word(unsafe {
+        raw::tarczolin_outcomes(file.as_ptr(), file.len(), from, out.as_mut_ptr(), out.len(), scratch.as_mut_ptr(), scratch.len())
     })
 }
 

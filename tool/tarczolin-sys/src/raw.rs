@@ -73,6 +73,15 @@ extern "C" {
         out: *mut u8,
         out_len: usize,
     ) -> u64;
+    pub fn tarczolin_outcomes(
+        file: *const u8,
+        file_len: usize,
+        from: u64,
+        out: *mut u8,
+        out_len: usize,
+        scratch: *mut u64,
+        scratch_len: usize,
+    ) -> u64;
     pub fn tarczolin_covers(
         first: *const u8,
         first_len: usize,

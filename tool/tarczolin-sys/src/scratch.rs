@@ -78,6 +78,22 @@ impl Scratch {
         })
     }
 
+    /// As `outcomes`.
+    pub fn outcomes(&self, file: &[u8], from: u64, out: &mut [u8]) -> Answer {
+        // safe: as `violation`
+        self.lend(|words, length| unsafe {
+            raw::tarczolin_outcomes(file.as_ptr(), file.len(), from, out.as_mut_ptr(), out.len(), words, length)
+        })
+    }
+
+    /// As `tso::outcomes`.
+    pub fn tso_outcomes(&self, file: &[u8], from: u64, out: &mut [u8]) -> Answer {
+        // safe: as `violation`
+        self.lend(|words, length| unsafe {
+            tso::tarczolin_tso_outcomes(file.as_ptr(), file.len(), from, out.as_mut_ptr(), out.len(), words, length)
+        })
+    }
+
     /// As `tso::count_with`.
     pub fn tso_count(&self, file: &[u8], listed: &mut u64, failing: &mut u64) -> Answer {
         // safe: as `count`

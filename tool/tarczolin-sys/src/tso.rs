@@ -2,12 +2,14 @@
 //!
 //! A step byte t does thread t's next access, 10 + t (hexadecimal) moves its oldest pending store to memory. A file of more than
 //! 16 accesses is refused by 41 at place 0, right behind the program's own refusals.
-use crate::Answer;
+use crate::{Answer, VALUES};
 
 /// A schedule needs an output of so many bytes.
 pub const SCHEDULE: usize = 48;
 /// A listed schedule as a row: the number of steps, 1 where it fails and else 0, the steps, zeros behind them.
 pub const ROW: usize = 2 + SCHEDULE;
+/// An outcome as a row: the eight final values, then the row of the first listed schedule that has it.
+pub const OUTCOME: usize = VALUES + ROW;
 
 extern "C" {
     fn tarczolin_tso_graph(
@@ -47,6 +49,15 @@ extern "C" {
         scratch_len: usize,
     ) -> u64;
     fn tarczolin_tso_rows(file: *const u8, file_len: usize, out: *mut u8, out_len: usize) -> u64;
+    pub(crate) fn tarczolin_tso_outcomes(
+        file: *const u8,
+        file_len: usize,
+        from: u64,
+        out: *mut u8,
+        out_len: usize,
+        scratch: *mut u64,
+        scratch_len: usize,
+    ) -> u64;
     fn tarczolin_tso_rows_after(
         file: *const u8,
         file_len: usize,
@@ -125,5 +136,14 @@ pub fn rows_after(file: &[u8], schedule: &[u8], out: &mut [u8]) -> Answer {
     // safe: the call reads only the bytes of the first two slices and writes only bytes of the third
     Answer::of_word(unsafe {
         tarczolin_tso_rows_after(file.as_ptr(), file.len(), schedule.as_ptr(), schedule.len(), out.as_mut_ptr(), out.len())
+    })
+}
+
+/// The outcomes, each once with the first listed schedule that has it and in the order of these, as rows from number `from` on, as
+/// `crate::outcomes` gives them.
+pub fn outcomes(file: &[u8], from: u64, out: &mut [u8], scratch: &mut [u64]) -> Answer {
+    // safe: the call reads only the bytes of the first slice and writes only bytes of the second and words of the third
+    Answer::of_word(unsafe {
+        tarczolin_tso_outcomes(file.as_ptr(), file.len(), from, out.as_mut_ptr(), out.len(), scratch.as_mut_ptr(), scratch.len())
     })
 }

@@ -1,7 +1,7 @@
 //! The library's calls with answers to keep: each lends an output that is long enough and takes the answer out of it.
 use crate::model::Model;
 use crate::schedule::Schedule;
-use tarczolin_sys::{self as library, across, tso, Answer, Covers, Scratch, GRAPH, SCHEDULE};
+use tarczolin_sys::{self as library, across, tso, Answer, Covers, Scratch, GRAPH, VALUES};
 
 /// A refusal: its number and its place.
 #[derive(Clone, Copy, Debug, PartialEq, Eq)]
@@ -30,6 +30,26 @@ pub struct Rows {
     bytes: Vec<u8>,
     written: usize,
 }
+
+/// How an execution ends, its registers apart: the eight final values, and whether it fails.
+#[derive(Clone, Copy, Debug, PartialEq, Eq, PartialOrd, Ord)]
+pub struct Outcome {
+    pub memory: [u32; 8],
+    pub fails: bool,
+}
+
+/// An outcome, and the first listed schedule that has it.
+#[derive(Clone, Copy, Debug, PartialEq, Eq)]
+pub struct Attained {
+    pub outcome: Outcome,
+    pub first: Schedule,
+}
+
+/// So many outcomes are asked for at first, and at most so many at a time. Each time the program is gone through anew, up to the last of them, so
+/// that every page is so many times as long as the one before.
+const FEW: usize = 1 << 6;
+const MANY: usize = 1 << 18;
+const LONGER: usize = 8;
 
 /// The length that an answer carries, or none for no more, none and no.
 fn length(answer: Answer) -> Result<Option<usize>, Refusal> {
@@ -202,14 +222,61 @@ pub fn judge(file: &[u8], graph: &[u8]) -> Result<Option<Schedule>, Refusal> {
     schedule(|out| library::judge(file, graph, out))
 }
 
-/// The first listed schedule of the second program with an outcome that the first lacks, or none where it is covered. Which file
-/// is refused does not stand in the refusal: the first is asked about first. Outcomes and states are remembered in the scratch.
-pub fn covers(first: &[u8], second: &[u8], scratch: &mut [u64]) -> Result<Option<Schedule>, Refusal> {
-    let mut out = [0; SCHEDULE];
-    match library::covers_with(first, second, &mut out, scratch) {
+/// A program file, and the model that it runs under.
+pub type Under<'a> = (Model, &'a [u8]);
+
+/// The first listed schedule of the second program under its model with an outcome that the first lacks under its own, or none where it is
+/// covered. Which file is refused does not stand in the refusal: the first is asked about first. Outcomes and states are remembered in
+/// the scratch.
+pub fn covers(first: Under, second: Under, scratch: &mut [u64]) -> Result<Option<Schedule>, Refusal> {
+    let mut out = [0; tso::SCHEDULE];
+    let [one, other] = [first, second].map(|(model, file)| across::Under { model: model.byte(), file });
+    let answer = match (first.0, second.0) {
+        (Model::Sc, Model::Sc) => library::covers_with(first.1, second.1, &mut out, scratch),
+        _ => across::covers_models(one, other, &mut out, scratch),
+    };
+    match answer {
         Covers::Covered => Ok(None),
         Covers::Lacking(length) => Ok(Some(Schedule::of_output(&out[..length as usize]))),
         Covers::Refused(number, place) | Covers::SecondRefused(number, place) => Err(Refusal { number, place }),
+    }
+}
+
+impl Attained {
+    fn of_row(row: &[u8]) -> Attained {
+        let (values, listed) = row.split_at(VALUES);
+        let value = |l: usize| u32::from_be_bytes([0, 1, 2, 3].map(|k| values[4 * l + k]));
+        let Listed { schedule, fails } = Listed::of_row(listed);
+        Attained { outcome: Outcome { memory: std::array::from_fn(value), fails }, first: schedule }
+    }
+}
+
+/// All outcomes, each once, in the order of the first listed schedules that have them. Outcomes and states are remembered in the scratch.
+pub fn outcomes(model: Model, file: &[u8], scratch: &Scratch) -> Result<Vec<Attained>, Refusal> {
+    outcomes_until(model, file, scratch, |_| false)
+}
+
+/// The same, or the first of them, once these are enough.
+pub fn outcomes_until(
+    model: Model,
+    file: &[u8],
+    scratch: &Scratch,
+    enough: impl Fn(&[Attained]) -> bool,
+) -> Result<Vec<Attained>, Refusal> {
+    let (mut all, mut room) = (Vec::new(), FEW);
+    loop {
+        let mut out = vec![0; room * model.outcome()];
+        let from = all.len() as u64;
+        let answer = match model {
+            Model::Sc => scratch.outcomes(file, from, &mut out),
+            Model::Tso => scratch.tso_outcomes(file, from, &mut out),
+        };
+        let written = length(answer)?.unwrap_or(0);
+        all.extend(out.chunks_exact(model.outcome()).take(written).map(Attained::of_row));
+        if written < room || enough(&all) {
+            return Ok(all);
+        }
+        room = MANY.min(LONGER * room);
     }
 }
 

@@ -1,13 +1,11 @@
 //! Least sets of fences: by asking for sets of places in order of what they cost. That some execution fails with a set, or that none does, is
 //! the library's word; which sets are asked for is plain Rust, which is not proved.
 use crate::accepted::Accepted;
-use crate::ask;
 use crate::asm::{fenced, places, Group, Place};
-use crate::decide::{decide, Verdict};
+use crate::decide::{decide, Asking, Verdict};
 use crate::error::Error;
 use crate::expect::{Expectation, Kind};
 use crate::input::Content;
-use crate::memory::Memory;
 use crate::model::Model;
 use crate::program::{Program, ACCESSES_TSO};
 use crate::schedule::Schedule;
@@ -28,11 +26,11 @@ pub enum Least {
     None(Schedule),
 }
 
-/// A question about fences: a text in the text form, and how many executions are looked at for each set.
+/// A question about fences: a text in the text form, and how it is decided for each set.
 pub struct Search<'a> {
     pub name: &'a str,
     pub text: &'a [u8],
-    pub limit: u64,
+    pub asking: Asking,
 }
 
 /// What is to be met, asked under a model: what the file forbids under total store order, and that no assertion fails.
@@ -63,19 +61,15 @@ impl Search<'_> {
 
     /// The first execution that is wrong under this model, or none.
     fn wrong(&self, source: &Accepted, goals: &[Expectation]) -> Result<Option<Schedule>, Error> {
-        let decided = decide(source, &goals.iter().collect::<Vec<_>>(), 1, self.limit);
-        let shown = decided.verdicts.iter().find_map(|verdict| match verdict {
+        let decided = decide(source, &goals.iter().collect::<Vec<_>>(), self.asking);
+        let shown = decided.all.iter().find_map(|one| match one.verdict {
             Verdict::Fails(Some(shown)) => Some(shown.schedule),
             _ => None,
         });
-        if shown.is_none() && decided.verdicts.contains(&Verdict::Open) {
-            let why = if decided.cut { "interrupted".to_string() } else { format!("more than {} are listed", decided.walked) };
-            return Err(self.unfit(format!("not decided: {why}; a greater number behind --limit looks at more")));
-        }
-        if shown.is_none() && goals.iter().any(|one| one.kind == Kind::NoViolation) {
-            let mut scratch = Memory::default().lent(source.program.model, &source.program);
-            let answer = ask::violation(source.program.model, &source.file, &mut scratch).expect("the file is accepted");
-            assert_eq!(answer, None, "the library's own answer is that none fails");
+        if shown.is_none() && decided.all.iter().any(|one| one.verdict == Verdict::Open) {
+            let listed = format!("more than {} are listed; a greater number behind --limit looks at more", self.asking.limit);
+            let why = if decided.cut { "interrupted".to_string() } else { listed };
+            return Err(self.unfit(format!("not decided: {why}")));
         }
         Ok(shown)
     }

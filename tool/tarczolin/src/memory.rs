@@ -12,6 +12,9 @@ const MOST: usize = 16 << 20;
 /// So many words for each way in which the threads can stand at their accesses: sixteen states with keys of the greatest width.
 const EACH: usize = 16 * 20;
 
+/// So many words have room for some thousands of outcomes.
+const OUTCOMES: usize = 1 << 18;
+
 /// At most so many words are lent.
 #[derive(Clone, Copy, Debug, PartialEq, Eq)]
 pub struct Memory(usize);
@@ -46,6 +49,16 @@ impl Memory {
         places.saturating_mul(EACH).min(self.0)
     }
 
+    /// So many words are lent to a call that remembers outcomes too: these need room whatever the program's accesses are.
+    pub fn outcome_words(self, model: Model, program: &Program) -> usize {
+        self.words(model, program).max(OUTCOMES).min(self.0)
+    }
+
+    /// What is lent to such a call, as much of it as can be had.
+    pub fn for_outcomes(self, model: Model, program: &Program) -> Scratch {
+        had(self.outcome_words(model, program))
+    }
+
     /// Is there none at all?
     pub fn is_none(self) -> bool {
         self.0 == 0
@@ -53,23 +66,32 @@ impl Memory {
 
     /// The same as what is lent, where another thread may look how full it is.
     pub fn looked_at(self, model: Model, program: &Program) -> Scratch {
-        let mut words = self.words(model, program);
-        loop {
-            match Scratch::new(words) {
-                Some(scratch) => return scratch,
-                None => words /= 2,
-            }
-        }
+        had(self.words(model, program))
     }
 
     /// What is lent for a program: as much of it as can be had.
     pub fn lent(self, model: Model, program: &Program) -> Vec<u64> {
-        let (mut words, mut lent) = (self.words(model, program), Vec::new());
+        Memory::had(self.words(model, program))
+    }
+
+    /// So many words, or as many of them as can be had.
+    pub fn had(mut words: usize) -> Vec<u64> {
+        let mut lent = Vec::new();
         while lent.try_reserve_exact(words).is_err() {
             words /= 2;
         }
         lent.resize(words, 0);
         lent
+    }
+}
+
+/// The same where another thread may look how full it is.
+fn had(mut words: usize) -> Scratch {
+    loop {
+        match Scratch::new(words) {
+            Some(scratch) => return scratch,
+            None => words /= 2,
+        }
     }
 }
 
@@ -91,6 +113,8 @@ mod tests {
         let stored = program(&format!("01 {}01 {}", "10000000000001 ".repeat(2), "110000 ".repeat(7)));
         assert_eq!([Model::Sc, Model::Tso].map(|model| all.lent(model, &stored).len()), [24 * 320, 72 * 320]);
         assert_eq!([Model::Sc, Model::Tso].map(|model| all.lent(model, &few).len()), [0, 0]);
+        assert_eq!([&few, &most].map(|program| all.for_outcomes(Model::Sc, program).words()), [OUTCOMES, MOST / 8]);
+        assert_eq!(Memory::of_word("--memory", OsStr::new("80")).unwrap().for_outcomes(Model::Sc, &few).words(), 10);
         assert_eq!(Memory::of_word("--memory", OsStr::new("1001")).unwrap().lent(Model::Sc, &most).len(), 125);
         assert_eq!(Memory::of_word("--memory", OsStr::new("0")).unwrap().lent(Model::Sc, &most).len(), 0);
         assert!(Memory::of_word("--memory", OsStr::new("16M")).is_err());

@@ -1,5 +1,5 @@
 //! The memory model under which a program's executions are asked for.
-use tarczolin_sys::tso;
+use tarczolin_sys::{across, tso, VALUES};
 
 #[derive(Clone, Copy, Debug, Default, PartialEq, Eq)]
 pub enum Model {
@@ -57,5 +57,18 @@ impl Model {
     /// A row has so many bytes.
     pub fn row(self) -> usize {
         2 + self.steps()
+    }
+
+    /// The row of an outcome has so many bytes.
+    pub fn outcome(self) -> usize {
+        VALUES + self.row()
+    }
+
+    /// The byte that names it where a call takes two.
+    pub fn byte(self) -> u8 {
+        match self {
+            Model::Sc => across::SC,
+            Model::Tso => across::TSO,
+        }
     }
 }

@@ -2,7 +2,7 @@
 //! terminal one line that changes; else a line every few seconds; none where `TARCZOLIN_PROGRESS` is `off`.
 use crate::ask::Counts;
 use std::io::{stderr, stdout, IsTerminal, Write};
-use std::sync::mpsc::{channel, RecvTimeoutError};
+use std::sync::mpsc::{channel, Receiver, RecvTimeoutError};
 use std::sync::Arc;
 use std::time::{Duration, Instant};
 use tarczolin_sys::{Scratch, Seen};
@@ -119,6 +119,33 @@ impl Progress {
             let _ = stderr().flush();
         }
     }
+}
+
+/// A call on a thread of its own, which ends with the program at the latest.
+pub fn begun<T: Send + 'static>(call: impl FnOnce() -> T + Send + 'static) -> Receiver<T> {
+    let (done, wait) = channel();
+    std::thread::spawn(move || done.send(call()));
+    wait
+}
+
+/// Waits for a call that has begun, until Ctrl-C, behind which nothing is known. Nothing is said of a quiet one.
+pub fn waiting_or_cut<T>(quiet: bool, wait: &Receiver<T>) -> Option<T> {
+    const SOON: Duration = Duration::from_millis(50);
+    let mut progress = Progress::default();
+    let answer = loop {
+        match wait.recv_timeout(SOON) {
+            Ok(answer) => break Some(answer),
+            Err(RecvTimeoutError::Timeout) if tarczolin_sys::was_interrupted() => break None,
+            Err(RecvTimeoutError::Timeout) if quiet => {}
+            Err(RecvTimeoutError::Timeout) => {
+                let seconds = progress.began.elapsed().as_secs();
+                progress.say(|| format!("one call of the library for {seconds} s"));
+            }
+            Err(RecvTimeoutError::Disconnected) => panic!("the call of the library has failed"),
+        }
+    };
+    progress.hide();
+    answer
 }
 
 /// Waits for a single call that tells nothing on its way, and says now and then that it goes on.

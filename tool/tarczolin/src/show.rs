@@ -1,6 +1,7 @@
 //! An execution in two columns: on the left the steps, on the right the write that each read saw; of a text beside them the statement as it is
 //! written, with its line. Below, the values at the end.
 use crate::execution::{Execution, Step};
+use crate::program::{number, Program};
 use crate::schedule::NO_STEP;
 use std::fmt::Write;
 
@@ -38,6 +39,16 @@ pub fn columns(execution: &Execution, by: By) -> String {
         writeln!(text, "{}", line.trim_end()).expect("text grows");
     }
     text + &end_lines(execution)
+}
+
+/// Final memory, by names.
+pub fn memory_line(program: &Program, memory: &[u32; 8]) -> String {
+    let value = |l: u8| format!("{} = {}", program.names.location(l), number(memory[l as usize]));
+    let values: Vec<String> = program.locations().into_iter().map(value).collect();
+    if values.is_empty() {
+        return String::new();
+    }
+    format!("{:<9}  {}\n", "memory", values.join(", "))
 }
 
 /// The values at the end.

@@ -37,9 +37,11 @@ fn show_and_outcomes() {
     // a schedule that is not listed stands for as many as the one that is
     assert!(run(&["show", WHOLE, "020001"]).out.starts_with("execution: schedule 02 00 01, does not fail, stands for 2"));
     assert!(!run(&["show", APART]).out.contains("stands for"));
-    let outcomes = run(&["outcomes", WHOLE]).out;
+    let outcomes = run(&["outcomes", WHOLE, "--registers"]).out;
     assert!(outcomes.contains("outcome 2: 1 listed, 2 in all, first 010002\n"), "{outcomes}");
-    assert!(outcomes.ends_with("3 outcomes, 3 listed, 0 failing, 4 in all\n"), "{outcomes}");
+    assert!(outcomes.contains("\n3 outcomes, 3 listed, 0 failing, 4 in all\n"), "{outcomes}");
+    let counted = run(&["outcomes", WHOLE, "--count"]).out;
+    assert!(counted.contains("outcome 1: 3 listed, 4 in all, first 000102\n"), "{counted}");
 }
 
 /// Where the list is long the sum is the count of the file without its `02` lines, and the sizes are told where they are asked for.

@@ -1,7 +1,9 @@
 //! covers: what it prints, how it ends, and whose refusal it tells.
 mod common;
 
+use common::json::Value;
 use common::{run, run_with};
+use std::collections::BTreeSet;
 use tarczolin_tests::files::text;
 use tarczolin_tests::random::program::{frames, SMALL};
 use tarczolin_tests::random::Random;
@@ -212,4 +214,87 @@ fn numbers_change_nothing() {
         seen[one.status as usize] += 1;
     }
     assert!(!share::whole() || seen.iter().all(|times| *times > 5), "{seen:?}");
+}
+
+const DEKKER: &str = "examples/suite/dekker.asm";
+const PAIR: &str = "examples/store-load-pair.hex";
+
+/// Each program under its own model, first that of the old one: the direction is told in words.
+#[test]
+fn under_two_models() {
+    let ran = run(&["covers", DEKKER, DEKKER, "--under", "sc,tso"]);
+    let front = format!(
+        "not covered: {DEKKER} under total store order has an outcome that {DEKKER} under sequential consistency lacks\n\n"
+    );
+    assert!(
+        ran.status == 1 && ran.out.starts_with(&format!("{front}execution: schedule 00 00 01 01 10 00 11 01, fails\n")),
+        "{ran:?}"
+    );
+    let lacked = "outcome    wants_left=1, wants_right=1, inside=2, fails\n";
+    let known =
+        format!("{lacked}\noutcomes of {DEKKER} under sequential consistency:\n  wants_left=1, wants_right=1, inside=0\n");
+    assert!(ran.out.contains(&known) && ran.out.ends_with("  wants_left=1, wants_right=1, inside=1\n"), "{}", ran.out);
+    for (models, old, new) in
+        [("tso,sc", "total store order", "sequential consistency"), ("tso", "total store order", "total store order")]
+    {
+        let ran = run(&["covers", DEKKER, DEKKER, "--under", models]);
+        let covered = format!("covered: each outcome of {DEKKER} under {new} is one of {DEKKER} under {old}\n");
+        assert_eq!((ran.status, ran.out), (0, covered), "{models}");
+    }
+    // the pair has another execution under total store order, and no other outcome
+    assert_eq!(run(&["covers", PAIR, PAIR, "--under", "sc,tso"]).status, 0);
+    assert_eq!(run(&["covers", PAIR, PAIR, "--under", "sc,sc"]).status, 0);
+    let ran = run(&["covers", PAIR, PAIR, "--under", "x86"]);
+    assert!(ran.status == 2 && ran.err.contains("--under takes the word sc or tso or sc,tso or tso,sc"), "{}", ran.err);
+    assert!(run(&["covers", PAIR, PAIR, "--model", "tso"]).err.contains("covers takes --under"), "no --model");
+}
+
+/// A file is refused under its own model alone, and fences count under total store order alone.
+#[test]
+fn files_under_their_models() {
+    let long = "examples/accesses-24.hex";
+    for (models, files) in [("tso,sc", [long, PAIR]), ("sc,tso", [PAIR, long])] {
+        let ran = run(&["covers", files[0], files[1], "--under", models]);
+        assert!(ran.status == 2 && ran.err.contains(&format!("{long}: refusal 41")), "{models}: {ran:?}");
+    }
+    let text = String::from_utf8(std::fs::read(tarczolin_tests::files::path(DEKKER)).unwrap()).unwrap();
+    let fenced = text.replace("  other = load", "  fence\n  other = load");
+    assert_eq!(fenced.matches("fence\n").count(), 2);
+    let ran = compared("fenced-dekker", fenced.as_bytes(), fenced.as_bytes(), &["--under", "sc,tso"]);
+    assert_eq!(ran.status, 0, "{ran:?}");
+    assert!(ran.err.starts_with("tarczolin: old: 2 fences are left out") && ran.err.lines().count() == 1, "{}", ran.err);
+    let ran = compared("bare-dekker", fenced.as_bytes(), text.as_bytes(), &["--under", "tso"]);
+    assert!(ran.status == 1 && ran.out.contains("inside=2, fails\n"), "{ran:?}");
+}
+
+/// A program and another under any two models: covered exactly where each outcome that `outcomes` tells of the new one is one of the old.
+#[test]
+fn covered_by_the_outcomes() {
+    let mut random = Random::new(0x6375);
+    let mut seen = [0; 2];
+    let folder = common::folder("covers-outcomes");
+    for k in 0..share::of(120) {
+        let models = [["sc", "tso"], ["tso", "sc"], ["tso", "tso"], ["sc", "sc"]][k % 4];
+        let one = text(&frames(&mut random, SMALL));
+        let other = if k % 8 < 4 { one.clone() } else { text(&frames(&mut random, SMALL)) };
+        let paths = [("old", &one), ("new", &other)].map(|(name, file)| {
+            let path = folder.join(name);
+            std::fs::write(&path, file).unwrap();
+            path.display().to_string()
+        });
+        // all eight values: what a program does not name is 0 in it
+        let named = |which: usize| {
+            let ran = run(&["outcomes", &paths[which], "--model", models[which], "--json"]);
+            let all = ran.out.lines().map(common::json::parse).filter(|one| one.get("outcome").is_some());
+            let value =
+                |one: &Value, l: usize| one.get("memory").unwrap().get(&format!("x{l}")).cloned().unwrap_or(Value::Number(0));
+            all.map(|one| format!("{:?} {:?}", (0..8).map(|l| value(&one, l)).collect::<Vec<_>>(), one.get("fails")))
+                .collect::<BTreeSet<_>>()
+        };
+        let covered = named(1).is_subset(&named(0));
+        let ran = run(&["covers", &paths[0], &paths[1], "--under", &models.join(",")]);
+        assert_eq!(ran.status, !covered as i32, "{models:?} {}{}", one.escape_ascii(), other.escape_ascii());
+        seen[ran.status as usize] += 1;
+    }
+    assert!(!share::whole() || seen.iter().all(|times| *times > 15), "{seen:?}");
 }

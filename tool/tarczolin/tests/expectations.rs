@@ -3,10 +3,18 @@ mod common;
 
 use common::json::{parse, Value};
 use common::{folder, run, run_with};
-use tarczolin_tests::files::path;
+use tarczolin_tests::files::{path, text};
+use tarczolin_tests::random::ends::mixing;
+use tarczolin_tests::random::program::{frames, SMALL};
+use tarczolin_tests::random::Random;
+use tarczolin_tests::share;
 
 const PAIR: &str = "thread\n  store x 1\n  n = load y\nthread\n  store y 1\n  n = load x\n";
-const NOTE: &str = "(what is expected is decided by plain Rust over the list, which is not proved; the list is)\n";
+const BY_CALLS: &str =
+    "(which outcomes there are and what fails first are the library's answers; that a condition fits an outcome is found by \
+plain Rust, which is not proved)\n";
+const BY_LIST: &str =
+    "(what speaks of registers or of one thread's failure is decided by plain Rust over the list, which is not proved; the list is)\n";
 
 fn lines(words: &[&str], text: &str) -> (i32, Vec<String>) {
     let ran = run_with(words, text.as_bytes());
@@ -23,7 +31,9 @@ fn each_kind() {
         ("exists T0.n = 0 & T1.n = 0", 1, "FAILS: none of 3 listed ends so"),
         ("forbid T0.n = 0 & T1.n = 0", 0, "holds: none of 3 listed ends so"),
         ("forbid T0.n = 1 & T1.n = 1", 1, "FAILS, first by 00010001"),
-        ("forall x = 1 & y = 1", 0, "holds: all of 3 listed end so"),
+        ("forall x = 1 & y = 1", 0, "holds: the only outcome is so"),
+        ("exists x = 0 | fails", 1, "FAILS: the only outcome is not so"),
+        ("forbid x = 1", 1, "FAILS, first by 00000101"),
         ("forall T0.n = 0", 1, "FAILS, first by 00010001"),
         ("expect none", 0, "holds: the program asserts nothing"),
         ("expect violation", 1, "FAILS: the program asserts nothing"),
@@ -38,7 +48,7 @@ fn each_kind() {
     assert_eq!(lines(&["check", "-", "--model", "sc"], &format!("{fails}expect violation\n")).0, 0);
     let holds = fails.replace("== 0", "<= 1");
     let (status, told) = lines(&["check", "-", "--model", "sc"], &format!("{holds}expect none\n"));
-    assert_eq!((status, told), (0, vec!["line 6: expect none under sc: holds: none of 2 listed fails".to_string()]));
+    assert_eq!((status, told), (0, vec!["line 6: expect none under sc: holds: no execution fails".to_string()]));
     let (status, told) = lines(&["check", "-", "--model", "sc"], &format!("{fails}expect none\n"));
     assert_eq!((status, told), (1, vec!["line 6: expect none under sc: FAILS, first by 0100".to_string()]));
 }
@@ -49,7 +59,7 @@ fn under_a_model() {
     let both = format!("{PAIR}forbid T0.n = 0 & T1.n = 0 under sc\nexists T0.n = 0 & T1.n = 0 under tso\nforall x = 1\n");
     let ran = run_with(&["check", "-"], both.as_bytes());
     assert_eq!((ran.status, ran.out.matches(": holds").count()), (0, 4), "{}", ran.out);
-    assert!(ran.out.ends_with(NOTE));
+    assert!(ran.out.ends_with(&format!("{BY_CALLS}{BY_LIST}")), "{}", ran.out);
     let ran = run_with(&["violation", "-"], both.as_bytes());
     assert_eq!((ran.status, ran.out.matches(" under sc: holds").count()), (0, 2), "{}", ran.out);
     assert!(ran.err.contains("1 expectation speaks of another model, and nothing is said of it here"), "{}", ran.err);
@@ -191,6 +201,39 @@ fn too_many_accesses_for_one_model() {
     assert_eq!(run_with(&["check", "-"], format!("# exists true under sc\n{file}").as_bytes()).status, 0);
 }
 
+/// What the library's calls decide and what a walk over the list decides is the same, on random programs under both models.
+#[test]
+fn the_calls_and_the_walk() {
+    let mut random = Random::new(0x6578);
+    let mut seen = [0; 2];
+    for k in 0..share::of(80) {
+        let file = if k % 2 == 0 { mixing(&mut random) } else { text(&frames(&mut random, SMALL)) };
+        if !file.split(|c| *c == b'\n').any(|line| line == b"01") {
+            // without a thread there is no register to ask about
+            continue;
+        }
+        let value = random.below(3);
+        for condition in [format!("x0 = {value}"), format!("x1 != {value} & !fails"), "fails".to_string()] {
+            for kind in ["exists", "forbid", "forall"] {
+                // a thread's name makes it a condition that is not of memory alone, and changes nothing of what it says
+                let same = format!("{condition} & (T0.r0 = 0 | T0.r0 != 0)");
+                let [called, walked] = [&condition, &same].map(|condition| {
+                    let ran =
+                        run_with(&["check", "-", "--json"], &[format!("# {kind} {condition}\n").as_bytes(), &file].concat());
+                    let all = ran.out.lines().map(parse).filter(|one| one.get("holds").is_some());
+                    (
+                        ran.status,
+                        all.map(|one| ["model", "holds", "schedule"].map(|name| one.get(name).cloned())).collect::<Vec<_>>(),
+                    )
+                });
+                assert_eq!(called, walked, "{kind} {condition}: {}", file.escape_ascii());
+                seen[called.0.min(1) as usize] += 1;
+            }
+        }
+    }
+    assert!(!share::whole() || seen.iter().all(|times| *times > 100), "{seen:?}");
+}
+
 /// What speaks of another model is told in JSON too; `asm` passes over nothing, and `export-litmus` says what it leaves out.
 #[test]
 fn nothing_is_left_out_in_silence() {
@@ -221,6 +264,8 @@ fn as_json() {
     assert_eq!((field(1, "line"), field(1, "holds")), (Some(Value::Number(7)), Some(Value::Bool(false))));
     assert_eq!(field(1, "schedule"), Some(Value::Text("00010001".to_string())));
     assert_eq!((field(2, "model"), field(2, "schedule")), (Some(Value::Text("tso".to_string())), Some(Value::Null)));
+    // the walk was over two, where the second decides; of memory the outcomes decide, and nothing is walked
+    assert_eq!((field(1, "walked"), field(2, "walked")), (Some(Value::Number(2)), Some(Value::Null)));
 }
 
 /// A litmus test's condition, or its answers, are what it expects; the line is the test's own.

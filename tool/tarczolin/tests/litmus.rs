@@ -34,8 +34,9 @@ fn answer(litmus: &str) -> (bool, usize) {
     let (form, condition) = imported(litmus);
     let ran = run_with(&["outcomes", "-", "--where", &condition], form.as_bytes());
     assert!(ran.status < 2, "{form}{}", ran.err);
-    let all = run_with(&["outcomes", "-"], form.as_bytes()).out;
-    let number = all.lines().last().unwrap().split(' ').next().unwrap().parse().unwrap();
+    let all = run_with(&["outcomes", "-", "--registers"], form.as_bytes()).out;
+    let sums = all.lines().find(|line| line.contains(" listed, ") && !line.starts_with("outcome ")).unwrap();
+    let number = sums.split(' ').next().unwrap().parse().unwrap();
     (ran.status == 1, number)
 }
 

@@ -189,9 +189,11 @@ fn interrupted_count_and_outcomes() {
     let (status, out, err) = interrupted(&["count", "-", "--jobs", "2"]);
     assert_eq!(status, Some(2), "{err}");
     assert!(out.ends_with(" listed, 0 failing\n") && err.contains("interrupted: "), "{out}{err}");
-    let (status, _, err) = interrupted(&["outcomes", "-", "--json"]);
-    assert!(status == Some(2) && err.contains("interrupted: "), "{err}");
-    assert!(err.ends_with(" listed, 0 failing so far\n"), "outcomes has no --after to go on by: {err}");
+    for words in [&["outcomes", "-", "--json"][..], &["outcomes", "-", "--json", "--count"], &["outcomes", "-", "--registers"]] {
+        let (status, _, err) = interrupted(words);
+        assert!(status == Some(2) && err.contains("interrupted: "), "{words:?}: {err}");
+        assert!(err.ends_with(" listed, 0 failing so far\n"), "outcomes has no --after to go on by: {words:?}: {err}");
+    }
 }
 
 /// By one job too `count` and `violation` tell how far they are, and Ctrl-C tells the counts so far.

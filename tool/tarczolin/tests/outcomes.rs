@@ -1,18 +1,127 @@
 //! outcomes: what it prints, which conditions it takes, and that no end of any execution is missed.
 mod common;
 
+use common::json::{parse, Value};
 use common::{run, run_with};
 use std::collections::BTreeSet;
 use tarczolin::outcome::Final;
 use tarczolin::program::Program;
 use tarczolin_tests::files::{lines, text};
 use tarczolin_tests::oracle::decode::decode;
+use tarczolin_tests::random::ends::mixing;
 use tarczolin_tests::random::program::{frames, SMALL};
 use tarczolin_tests::random::{schedule, Random};
 use tarczolin_tests::share;
 
 const QUEUE: &str = "examples/queue-broken.asm";
 
+const FURTHER: &str = "(--registers: with registers; --count: how many executions end so)\n";
+const WALKED: &str =
+    "(how executions end, and how many, is found by plain Rust over the list, which is not proved; the list is)\n";
+
+/// Final memory and whether it fails, by the library: no register tells two ends apart.
+#[test]
+fn each_outcome_once() {
+    let shown = "\
+outcome 1: first 0001
+memory     x0 = 1
+
+outcome 2: first 0100, fails
+memory     x0 = 1
+
+2 outcomes, 1 failing
+";
+    let ran = run(&["outcomes", "examples/load-assert-beside-store.hex"]);
+    assert_eq!((ran.status, ran.out), (1, format!("{shown}{FURTHER}")));
+    let ran = run(&["outcomes", "examples/load-assert-beside-store.hex", "--where", "!fails"]);
+    let matching = "outcome 1: first 0001\nmemory     x0 = 1\n\n1 of 2 outcomes matches\n";
+    assert_eq!((ran.status, ran.out), (1, format!("{matching}{FURTHER}")));
+    let ran = run(&["outcomes", "examples/load-assert-beside-store.hex", "--where", "x0 = 0"]);
+    assert_eq!((ran.status, ran.out), (0, format!("0 of 2 outcomes match\n{FURTHER}")));
+    assert_eq!(run(&["outcomes", "examples/whole.hex"]).status, 0);
+}
+
+/// With how many end so the same are told, by a walk over the list.
+#[test]
+fn each_outcome_counted() {
+    let shown = "\
+outcome 1: 1 listed, 2 in all, first 00000101020202
+memory     tail = 3, slot1 = 7, slot2 = 7
+
+outcome 2: 3 listed, 6 in all, first 00000102020201, fails
+memory     tail = 3, slot1 = 7, slot2 = 7
+
+2 outcomes, 6 listed, 3 failing, 12 in all
+";
+    let ran = run(&["outcomes", QUEUE, "--count"]);
+    let listed = ran.out.replacen("outcome 1: 3 listed, 6 in all", "outcome 1: 1 listed, 2 in all", 1);
+    assert_eq!((ran.status, listed), (1, format!("{shown}{WALKED}")));
+}
+
+/// The list walked by jobs, the list counted, and the library's call have the same outcomes, first schedules and exit status; with registers there
+/// are no others.
+#[test]
+fn the_call_and_the_walks() {
+    let mut random = Random::new(0x6f75);
+    let mut many = 0;
+    for k in 0..share::of(120) {
+        let file = if k % 4 < 2 { mixing(&mut random) } else { text(&frames(&mut random, SMALL)) };
+        let model = ["sc", "tso"][k % 2];
+        let told = |options: &[&str]| {
+            let ran = run_with(&[&["outcomes", "-", "--model", model, "--json"], options].concat(), &file);
+            let all: Vec<Value> = ran.out.lines().map(parse).filter(|one| one.get("outcome").is_some()).collect();
+            let fields = |one: &Value| ["schedule", "fails", "memory"].map(|name| one.get(name).cloned());
+            (ran.status, all.iter().map(fields).collect::<Vec<_>>())
+        };
+        let called = told(&[]);
+        assert_eq!(told(&["--jobs", "2"]), called, "{}", file.escape_ascii());
+        assert_eq!(told(&["--count"]), called, "{}", file.escape_ascii());
+        let (status, with) = told(&["--registers"]);
+        let firsts = with.iter().fold(Vec::new(), |mut all: Vec<[Option<Value>; 3]>, one| {
+            if !all.iter().any(|known| known[1..] == one[1..]) {
+                all.push(one.clone());
+            }
+            all
+        });
+        assert_eq!((status, firsts), called, "{}", file.escape_ascii());
+        many += (called.1.len() > 1) as usize;
+    }
+    assert!(!share::whole() || many > 15, "{many}");
+}
+
+/// A list that nobody walks: its outcomes are there at once, also where they are asked about.
+#[test]
+fn beyond_every_walk() {
+    let adds = format!("01 {}", "1200000000000001 ".repeat(4)).repeat(6);
+    let ran = run_with(&["outcomes", "-", "--where", "x0 = 24"], &lines(&adds));
+    let first = "00".repeat(4) + &"01".repeat(4) + &"02".repeat(4) + &"03".repeat(4) + &"04".repeat(4) + &"05".repeat(4);
+    let shown = format!("outcome 1: first {first}\nmemory     x0 = 24\n\n1 of 1 outcome matches\n{FURTHER}");
+    assert_eq!((ran.status, ran.out), (1, shown));
+    let text = "thread t * 6\n  repeat 4 {\n    n = fetch_add x 1\n  }\nforall x = 24\nforbid x = 23\nexpect none\n";
+    let ran = run_with(&["check", "-", "--model", "sc"], text.as_bytes());
+    assert_eq!((ran.status, ran.out.matches(": holds: ").count()), (0, 3), "{}{}", ran.out, ran.err);
+}
+
+/// Conditions of registers, and of the failure of one thread, walk the list, and that is told.
+#[test]
+fn what_needs_registers() {
+    let told = format!(
+        "tarczolin: {QUEUE}: the condition speaks of registers or of one thread's failure: as with --registers, the list is walked\n"
+    );
+    for condition in ["consumer.item = 0", "tail = 3 & !(consumer.fails)", "tail = 3 | first.mine = 1"] {
+        let ran = run(&["outcomes", QUEUE, "--where", condition]);
+        assert_eq!((ran.status, ran.err.as_str()), (1, told.as_str()), "{condition}");
+        let asked = run(&["outcomes", QUEUE, "--where", condition, "--registers"]);
+        assert_eq!((asked.status, asked.out.as_str(), asked.err.as_str()), (1, ran.out.as_str(), ""), "{condition}");
+        assert!(ran.out.ends_with(WALKED) && ran.out.contains("\nregisters  "), "{}", ran.out);
+    }
+    for condition in ["tail = 3", "tail = 3 & fails | !true", "tail = slot1"] {
+        let ran = run(&["outcomes", QUEUE, "--where", condition]);
+        assert!(ran.err.is_empty() && !ran.out.contains("registers  "), "{condition}: {}{}", ran.out, ran.err);
+    }
+}
+
+/// With registers ends are told apart as before.
 #[test]
 fn each_end_once() {
     let shown = "\
@@ -27,11 +136,12 @@ fails      T0: assert r0 == 0 FAILS: r0 = 1 (instruction 1)
 
 2 outcomes, 2 listed, 1 failing
 ";
-    let ran = run(&["outcomes", "examples/load-assert-beside-store.hex"]);
-    assert_eq!((ran.status, ran.out.as_str()), (1, shown));
-    assert_eq!(run(&["outcomes", "examples/whole.hex"]).status, 0);
-    let last = |words: &[&str]| run(words).out.lines().last().map(str::to_string);
-    assert_eq!(last(&["outcomes", QUEUE, "--jobs", "3"]), last(&["outcomes", QUEUE]));
+    let ran = run(&["outcomes", "examples/load-assert-beside-store.hex", "--registers"]);
+    assert_eq!((ran.status, ran.out), (1, format!("{shown}{WALKED}")));
+    assert_eq!(run(&["outcomes", "examples/whole.hex", "--registers"]).status, 0);
+    let by = |options: &[&str]| run(&[&["outcomes", QUEUE, "--registers"], options].concat());
+    assert_eq!(by(&["--jobs", "3"]), by(&[]));
+    assert_eq!(by(&["--count"]), by(&[]), "how many end so is told with registers in any case");
 }
 
 /// "Can this happen?" by the exit status.
@@ -60,7 +170,9 @@ fn conditions() {
 #[test]
 fn small_ends_and_several_files() {
     let ran = run_with(&["outcomes", "-"], b"01\n");
-    assert_eq!(ran.out, "outcome 1: 1 listed, first (no step)\n\n1 outcome, 1 listed, 0 failing\n");
+    assert_eq!(ran.out, format!("outcome 1: first (no step)\n\n1 outcome, 0 failing\n{FURTHER}"));
+    let ran = run_with(&["outcomes", "-", "--registers"], b"01\n");
+    assert_eq!(ran.out, format!("outcome 1: 1 listed, first (no step)\n\n1 outcome, 1 listed, 0 failing\n{WALKED}"));
     assert_eq!(run(&["outcomes", QUEUE, "--where", "true & !false"]).status, 1);
     let named = b"thread\n  store true 1\n  store fails 1\n";
     assert_eq!(run_with(&["outcomes", "-", "--where", "true = 1 & fails != 0 & !fails"], named).status, 1);
@@ -111,8 +223,8 @@ fn outcomes_of_the_list() {
     let schedules = listed.lines().filter_map(|line| line.strip_prefix("5000"));
     let steps = |digits: &str| digits.as_bytes().chunks(2).map(|pair| pair[1] - b'0').collect();
     let ends: BTreeSet<Final> = schedules.map(|digits| Final::of(&program, &steps(digits))).collect();
-    let ran = run_with(&["outcomes", "-"], &file).out;
-    let last = ran.lines().last().unwrap();
+    let ran = run_with(&["outcomes", "-", "--registers"], &file).out;
+    let last = ran.lines().rev().nth(1).unwrap();
     assert!(last.starts_with(&format!("{} outcomes, {} listed", ends.len(), listed.lines().count() - 1)), "{last}");
 }
 
@@ -129,6 +241,6 @@ fn deep_and_long_conditions() {
     }
     for sign in ["&", "|"] {
         let ran = asked(&vec!["x0=1"; 20_000].join(sign));
-        assert!(ran.status == 1 && ran.out.ends_with("3 matching\n"), "{}{}", ran.out, ran.err);
+        assert!(ran.status == 1 && ran.out.contains("1 of 1 outcome matches\n"), "{}{}", ran.out, ran.err);
     }
 }

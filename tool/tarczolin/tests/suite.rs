@@ -80,7 +80,7 @@ fn a_line_each() {
     );
     assert!(!ran.out.contains("g.txt"), "of a folder only programs");
     assert!(lines.contains(&"6 files: 1 ok, 1 FAILS, 2 refused, 2 without expectation; 6 expectations".to_string()), "{lines:?}");
-    assert!(ran.out.ends_with("which is not proved; the list is)\n"));
+    assert!(ran.out.ends_with("(which outcomes there are and what fails first are the library's answers; that a condition fits an outcome is found by plain Rust, which is not proved)\n"), "{}", ran.out);
     assert_eq!(run(&["test", &format!("{folder}/b.asm"), &format!("{folder}/a.asm")]).status, 1);
     assert_eq!(run(&["test", &format!("{folder}/g.txt")]).status, 1, "a file that is named is tested whatever its name is");
     assert_eq!(run(&["test", &folder, "--filter", "a.asm"]).status, 0);
@@ -108,7 +108,7 @@ fn nothing_tested_is_no_success() {
 /// What is not decided is refused, and a limit decides nothing.
 #[test]
 fn a_limit_is_refused() {
-    let folder = suite("suite-limit", &[("a.asm", "thread\n  store x 1\nthread\n  store x 2\nforbid x = 3 under sc\n")]);
+    let folder = suite("suite-limit", &[("a.asm", "thread\n  n = load x\nthread\n  store x 2\nforbid T0.n = 3 under sc\n")]);
     let ran = run(&["test", &folder, "--limit", "1"]);
     assert_eq!(ran.status, 2);
     assert!(ran.out.starts_with("refused ") && ran.out.contains("not decided: more than 1 are listed"), "{}", ran.out);
@@ -130,7 +130,7 @@ fn links() {
 /// that a test could wait for, and Ctrl-C comes once the first file is told, so that it is noted.
 #[test]
 fn interrupted() {
-    let endless = format!("{}forbid x = 77 under sc\n", format!("thread\n{}", "  r0 = fetch_add x 1\n".repeat(6)).repeat(4));
+    let endless = format!("{}forbid T0.r0 = 77 under sc\n", format!("thread\n{}", "  r0 = fetch_add x 1\n".repeat(6)).repeat(4));
     let folder = suite("suite-interrupted", &[("a.asm", GOOD), ("b.asm", &endless), ("c.asm", GOOD)]);
     let mut command = tool(&["test", &folder, "--limit", "1000000000000"]);
     let mut child = command.stdout(Stdio::piped()).stderr(Stdio::null()).spawn().unwrap();

@@ -140,7 +140,7 @@ fn schedules_of_the_other_model() {
         "{}",
         ran.err
     );
-    let said = "judge, covers, force, sample and users stay with sequential consistency";
+    let said = "judge, force, sample and users stay with sequential consistency, and covers takes --under";
     let force = &["force", PAIR, "--hostile", "0"];
     for words in [&["judge", PAIR, "-"][..], &["covers", PAIR, PAIR], force, &["sample", PAIR, "1"]] {
         let ran = run(&[words, &["--model", "tso"]].concat());
@@ -183,7 +183,8 @@ fn random_programs() {
         assert_eq!(under_tso(&["violation", "-"], &file).1, first.unwrap_or("none".to_string()) + "\n");
         let shown = under_tso(&["show", "-"], &file);
         assert_eq!((shown.0, shown.1.matches("execution ").count()), (wanted.0, list.len()));
-        assert!(under_tso(&["outcomes", "-"], &file).1.contains(&format!(" {} listed, {failing} failing", list.len())));
+        let counted = under_tso(&["outcomes", "-", "--count"], &file).1;
+        assert!(counted.contains(&format!(" {} listed, {failing} failing", list.len())), "{counted}");
         all += list.len();
     }
     assert!(!share::whole() || all > 500, "{all}");

@@ -8,7 +8,7 @@ use tarczolin::commands::{all, Values};
 /// The names in the parser's table.
 fn names() -> Vec<&'static str> {
     let names: Vec<&str> = all().iter().map(|command| command.name).collect();
-    assert!(names.len() == 25 && names.contains(&"outcomes") && names.contains(&"completions"));
+    assert!(names.len() == 26 && names.contains(&"outcomes") && names.contains(&"completions"));
     names
 }
 

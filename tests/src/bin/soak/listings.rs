@@ -2,15 +2,16 @@
 use crate::files::is_quick;
 use crate::tally::Tally;
 use tarczolin_tests::calls::{self, tso, Answer, GRAPH, ROW, SCHEDULE};
-use tarczolin_tests::lent::{held, held_by, held_covers, shown, shown_rows, SCRATCHES};
+use tarczolin_tests::lent::{held, held_across, held_by, held_covers, held_outcomes, shown, shown_rows, SCRATCHES};
 use tarczolin_tests::oracle::calls::{self as oracle, Found};
 use tarczolin_tests::oracle::decode::{decode, Program};
 use tarczolin_tests::oracle::force::{self, Forced};
 use tarczolin_tests::oracle::listing::{self, Listed};
 use tarczolin_tests::oracle::machine::run_full;
+use tarczolin_tests::oracle::model::Model;
 use tarczolin_tests::oracle::robust::robust_in;
 use tarczolin_tests::oracle::tso as oracle_tso;
-use tarczolin_tests::oracle::{covers, refused, Refusal};
+use tarczolin_tests::oracle::{across, covers, outcomes, refused, Refusal};
 use tarczolin_tests::random::{graph, schedule, tso as random_tso, Random};
 use tarczolin_tests::scratch::Scratch;
 
@@ -124,6 +125,7 @@ fn ask_list(random: &mut Random, tally: &Tally, file: &[u8], list: &Result<Vec<L
     let counts = list.as_ref().map(|list| listing::count(list)).map_err(|refusal| *refusal);
     held_count(random, file, counts, calls::count);
     ask_by_states(random, tally, file, list, false);
+    ask_outcomes(random, tally, (Model::Sc, file), list);
     let out = random.below(40 * ROW);
     let rows = list.as_ref().map(|list| listing::rows(list, None, out)).map_err(|refusal| *refusal);
     tally.call("rows");
@@ -182,14 +184,32 @@ fn ask_rank(random: &mut Random, tally: &Tally, file: &[u8], list: &Result<Vec<L
     assert_eq!(scratch, later, "the scratch: {}", file.escape_ascii());
 }
 
-/// One file against another, and the other against it.
+/// The outcomes from some number on, with a scratch of some length and any content.
+fn ask_outcomes(random: &mut Random, tally: &Tally, asked: (Model, &[u8]), list: &Result<Vec<Listed>, Refusal>) {
+    let (model, file) = asked;
+    let size = outcomes::size(model);
+    let (from, out) = (random.below(4) as u64, random.below(12 * size));
+    let found = list.as_ref().map_err(|refusal| *refusal).and_then(|list| outcomes::call_in(model, list, file, from, out));
+    tally.call(if model == Model::Sc { "outcomes" } else { "tso_outcomes" });
+    let words = random.pick(&[0, 1, 7, 20, 21, 29, 64, 300, 1_000]);
+    let mut scratch = Scratch::new(random, words);
+    held_outcomes(random, &mut scratch, asked, (from, out), &found);
+}
+
+/// One file against another, and the other against it; each under some model too.
 fn ask_both(random: &mut Random, tally: &Tally, file: &[u8], other: &[u8]) {
     for files in [[file, other], [other, file]] {
-        let output = output(random, SCHEDULE);
+        let out = output(random, SCHEDULE);
         tally.call("covers");
         // the same is asked with scratches of each of these lengths
         SCRATCHES.iter().for_each(|_| tally.call("covers_with"));
-        held_covers(random, files, output, &covers::call(files[0], files[1], output));
+        held_covers(random, files, out, &covers::call(files[0], files[1], out));
+        let models = [(); 2].map(|()| if random.one_in(20) { random.byte() } else { random.byte() % 2 });
+        let out = output(random, tso::SCHEDULE);
+        let Some(found) = across::call((models[0], files[0]), (models[1], files[1]), out, STEPS) else { continue };
+        tally.call("covers_models");
+        let words = random.pick(&[0, 1, 7, 20, 21, 29, 64, 300, 1_000]);
+        held_across(random, models, files, out, words, &found);
     }
 }
 
@@ -254,6 +274,7 @@ fn ask_in_store_order(random: &mut Random, tally: &Tally, file: &[u8]) {
     let counts = list.as_ref().map(|list| listing::count(list)).map_err(|refusal| *refusal);
     held_count(random, file, counts, tso::count);
     ask_by_states(random, tally, file, list, true);
+    ask_outcomes(random, tally, (Model::Tso, file), list);
     let out = random.below(40 * tso::ROW);
     let rows = list.as_ref().map(|list| oracle_tso::listing::rows(list, None, out)).map_err(|refusal| *refusal);
     tally.call("tso_rows");

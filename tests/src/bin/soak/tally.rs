@@ -2,7 +2,7 @@
 use std::sync::atomic::{AtomicU64, Ordering};
 
 /// The calls, without the word in front of their names.
-const NAMES: [&str; 36] = [
+const NAMES: [&str; 39] = [
     "check",
     "graph",
     "class",
@@ -17,7 +17,9 @@ const NAMES: [&str; 36] = [
     "rank",
     "rows",
     "rows_after",
+    "outcomes",
     "covers",
+    "covers_models",
     "covers_with",
     "force",
     "force_with",
@@ -31,6 +33,7 @@ const NAMES: [&str; 36] = [
     "tso_violation_with",
     "tso_rows",
     "tso_rows_after",
+    "tso_outcomes",
     "robust",
     "open",
     "ask",

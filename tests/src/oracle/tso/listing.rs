@@ -71,6 +71,28 @@ pub fn list(program: &Program) -> Vec<Listed> {
     list_within(program, u64::MAX).expect("every walk ends")
 }
 
+/// Threads, queues and memory: what decides every end that a beginning can come to.
+type Standing = (Vec<Thread>, Vec<Vec<Pending>>, [u32; 8]);
+
+/// Hands each machine in which full schedules end to `each`, listed or not; of two beginnings that come to the same threads, queues and
+/// memory one is gone on from.
+pub fn every_end(program: &Program, each: &mut dyn FnMut(&Machine)) {
+    let (mut met, mut open) = (HashSet::<Standing>::new(), vec![Machine::new(program)]);
+    while let Some(machine) = open.pop() {
+        if !met.insert((machine.threads.clone(), machine.queues.clone(), machine.memory)) {
+            continue;
+        }
+        if machine.full() {
+            each(&machine);
+        }
+        for byte in machine.allowed() {
+            let mut next = machine.clone();
+            next.step(byte);
+            open.push(next);
+        }
+    }
+}
+
 /// A row has so many bytes.
 pub const ROW: usize = 50;
 

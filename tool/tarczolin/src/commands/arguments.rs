@@ -172,7 +172,7 @@ fn schedule(digits: &[u8]) -> Result<Vec<u8>, Error> {
 /// What is said of an option that the command has not.
 fn unknown(name: &str, known: &[Opt]) -> Error {
     if name == "--model" {
-        let who = "judge, covers, force, sample and users stay with sequential consistency";
+        let who = "judge, force, sample and users stay with sequential consistency, and covers takes --under";
         return Error::usage(format!("there is no option --model here: this command knows no other model; {who}"));
     }
     let hint = meant(name, known.iter().map(|option| option.name));

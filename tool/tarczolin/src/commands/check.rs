@@ -1,9 +1,10 @@
 //! check: is this a program? What it uses of what there is, or why not.
 use super::arguments::Arguments;
-use super::expected::{self, Asking, Found};
+use super::expected::{self, asking, Found};
 use super::models::only_model;
 use super::reply::{each, Question};
 use crate::accepted::Accepted;
+use crate::decide::Asking;
 use crate::end::End;
 use crate::error::Error;
 use crate::input;
@@ -12,7 +13,7 @@ use crate::model::Model;
 use crate::program::{Used, ACCESSES, ACCESSES_TSO, INSTRUCTIONS, LOCATIONS, REGISTERS, THREADS};
 
 pub fn run(arguments: &Arguments) -> Result<End, Error> {
-    let (model, asking) = (only_model(arguments)?, Asking::of(arguments, 1)?);
+    let (model, asking) = (only_model(arguments)?, asking(arguments, 1)?);
     each("check", arguments, |question| checked(question, model, asking))
 }
 

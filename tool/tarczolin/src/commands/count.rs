@@ -82,7 +82,7 @@ fn counted(question: &Question, piece: &Piece, asking: Asking) -> Result<End, Er
 /// The counts by one call of the library, or what was found until Ctrl-C.
 fn called(list: &List, model: Model, memory: Memory) -> Result<Counts, Box<piece::Found>> {
     let call = move |file: &[u8], scratch: &Scratch| ask::count_in(model, file, scratch);
-    piece::answered(list, model, memory, call).map(|counts| counts.expect("the file is accepted"))
+    piece::answered(list, memory.looked_at(model, list.program), true, call).map(|counts| counts.expect("the file is accepted"))
 }
 
 /// How many executions all listed ones stand for: so many are listed of the file without its `02` lines.

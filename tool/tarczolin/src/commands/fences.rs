@@ -1,10 +1,11 @@
 //! fences: a least set of places for fences that makes a program keep under total store order what it keeps without its stores waiting.
 use super::arguments::Arguments;
-use super::expected::{Asking, LIMIT};
+use super::expected::{asking, LIMIT};
 use super::opt::Opt;
 use super::reply::{asked, Question, JSON};
 use crate::accepted::Accepted;
 use crate::called::called;
+use crate::decide::Asking;
 use crate::end::End;
 use crate::error::Error;
 use crate::fences::{Least, Search, Set};
@@ -30,15 +31,15 @@ const NOTE: &str =
 
 pub fn run(arguments: &Arguments) -> Result<End, Error> {
     let [name] = arguments.files()?;
-    let asking = Asking::of(arguments, 1)?;
-    asked(&Question::of("fences", arguments, name), |question| found(question, arguments.path("--write"), asking.limit))
+    let asking = asking(arguments, 1)?;
+    asked(&Question::of("fences", arguments, name), |question| found(question, arguments.path("--write"), asking))
 }
 
-fn found(question: &Question, out: Option<&OsStr>, limit: u64) -> Result<End, Error> {
+fn found(question: &Question, out: Option<&OsStr>, asking: Asking) -> Result<End, Error> {
     let content = input::content(question.file)?;
     let (text, lines) = content.text_form()?;
     question.noted(&content.name, &content.source(Some(Model::Tso))?.notes)?;
-    let search = Search { name: &content.name, text: &text, limit };
+    let search = Search { name: &content.name, text: &text, asking };
     tarczolin_sys::note_interrupts();
     match search.least()? {
         Least::None(schedule) => {

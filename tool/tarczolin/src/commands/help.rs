@@ -17,13 +17,13 @@ two a step: 00000101. -- ends the options. `tarczolin COMMAND -h` tells a comman
 
 /// Which commands know which model.
 pub const MODELS: &str = "list, count, violation, show, graph, outcomes, rank, cuts and check take --model tso; test asks under the models that a \
-file speaks of, fences and robust about total store order; judge, covers, force, sample and users stay with sequential consistency. Under total store order a step from 10 to 15 moves the oldest pending store of thread 0 to 5 to memory, and a \
+file speaks of, fences and robust about total store order, x86 and covers --under about both; judge, force, sample and users stay with sequential consistency. Under total store order a step from 10 to 15 moves the oldest pending store of thread 0 to 5 to memory, and a \
 program has at most 16 accesses.";
 
 /// What the exit status says.
 pub const STATUS: &str =
     "0 answered; 1 a violation was found, the hostile side can force it (force), an outcome matches (outcomes --where), NEW \
-is not covered (covers), the judge says no, a program is not robust (robust), what a file expects does not hold (check, outcomes, violation, test), or no fences help \
+is not covered (covers), the judge says no, a program is not robust (robust, x86), what a file expects does not hold (check, outcomes, violation, test), or no fences help \
 (fences); 2 refused, bad usage, not decided, nothing tested (test), or interrupted before a violation was found.";
 
 /// All commands, each with what it does, and what holds for all of them.

@@ -1,4 +1,4 @@
-//! How much memory is lent to count, violation and force: `--memory`, or else what `TARCZOLIN_MEMORY` says.
+//! How much memory is lent to calls that remember states: `--memory`, or else what `TARCZOLIN_MEMORY` says.
 use super::arguments::Arguments;
 use super::opt::Opt;
 use crate::error::Error;
@@ -7,7 +7,7 @@ use crate::memory::Memory;
 pub const MEMORY: Opt = Opt {
     name: "--memory",
     value: Some("BYTES"),
-    about: "at most so much memory to remember states in, under sequential consistency; 16777216 where it is not given",
+    about: "at most so much memory to remember states in; 16777216 where it is not given",
 };
 
 const VARIABLE: &str = "TARCZOLIN_MEMORY";

@@ -21,7 +21,7 @@ impl Opt {
     /// What may stand behind it, if it takes a value: small letters are the words themselves.
     pub fn values(&self) -> Option<Values> {
         let value = self.value?;
-        let is_word = |word: &str| word.bytes().all(|c| c.is_ascii_lowercase());
+        let is_word = |word: &str| word.bytes().all(|c| c.is_ascii_lowercase() || c == b',');
         Some(match value {
             "OUT" | "DIR" | "FILE" => Values::Files,
             _ if value.split('|').all(is_word) => Values::Words(value.split('|').collect()),

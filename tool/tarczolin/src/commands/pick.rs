@@ -16,7 +16,8 @@ pub const SHORT: u64 = 1_000_000;
 /// The counts of a whole list under sequential consistency, by one call of the library; Ctrl-C is an error.
 pub fn counts(list: &List, memory: Memory) -> Result<Counts, Error> {
     let call = move |file: &[u8], scratch: &Scratch| ask::count_in(Model::Sc, file, scratch);
-    let counts = piece::answered(list, Model::Sc, memory, call).map_err(|found| Error::Interrupted(found.counts))?;
+    let counts = piece::answered(list, memory.looked_at(Model::Sc, list.program), true, call)
+        .map_err(|found| Error::Interrupted(found.counts))?;
     Ok(counts.expect("the file is accepted"))
 }
 

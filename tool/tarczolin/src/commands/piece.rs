@@ -116,15 +116,14 @@ fn walk_and_tell(
 }
 
 /// The answer of one call of the library on the file of a list, with memory lent to it. Where it takes a while the rows of the list are
-/// walked beside it, only to tell how far that is, and how full the memory; what was walked is given back where Ctrl-C came before the
-/// answer. With progress off the call stands alone.
+/// walked beside it, only to tell how far that is, and how full the memory where it is one of states alone; what was walked is given back
+/// where Ctrl-C came before the answer. With progress off the call stands alone.
 pub fn answered<T: Send + 'static>(
     list: &List,
-    model: Model,
-    memory: Memory,
+    scratch: Scratch,
+    of_states: bool,
     call: impl FnOnce(&[u8], &Scratch) -> T + Send + 'static,
 ) -> Result<T, Box<Found>> {
-    let scratch = memory.looked_at(model, list.program);
     if progress::every().is_none() {
         return Ok(call(list.file, &scratch));
     }
@@ -137,7 +136,8 @@ pub fn answered<T: Send + 'static>(
         return Ok(answer);
     }
     let mut answer = None;
-    let progress = if model == Model::Sc { Progress::beside(scratch) } else { Progress::default() };
+    let seen = of_states && list.program.model == Model::Sc;
+    let progress = if seen { Progress::beside(scratch) } else { Progress::default() };
     let found = walk_and_tell(list, 1, Done::by_range(list), progress, |_| {
         answer = wait.try_recv().ok();
         answer.as_ref().map_or(Ok(()), |_| Err(io::Error::other("answered")))

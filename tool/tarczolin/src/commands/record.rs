@@ -3,7 +3,7 @@ use crate::execution::{Execution, Source, Step};
 use crate::graph::{Event, Graph};
 use crate::json::{list, object, Json};
 use crate::machine::Queue;
-use crate::program::FENCE;
+use crate::program::{Program, FENCE};
 
 fn event(event: Event) -> Json {
     object([("thread", event.t.into()), ("access", event.i.into())])
@@ -38,11 +38,16 @@ fn step(execution: &Execution, step: &Step) -> Json {
     ])
 }
 
+/// Final memory, by name.
+pub fn memory(program: &Program, memory: &[u32; 8]) -> (&'static str, Json) {
+    let value = |l: u8| (program.names.location(l), memory[l as usize].into());
+    ("memory", Json::Object(program.locations().into_iter().map(value).collect()))
+}
+
 /// The values at the end, by name.
 pub fn values(execution: &Execution) -> [(&'static str, Json); 2] {
     let program = execution.program;
     let names = &program.names;
-    let memory = program.locations().into_iter().map(|l| (names.location(l), execution.memory[l as usize].into()));
     let of_thread = |t: u8| {
         let value = move |r: u8| {
             (format!("{}.{}", names.thread(t), names.register(t, r)), execution.registers[t as usize][r as usize].into())
@@ -50,7 +55,7 @@ pub fn values(execution: &Execution) -> [(&'static str, Json); 2] {
         program.registers(t).into_iter().map(value)
     };
     let registers = program.numbers().flat_map(of_thread).collect();
-    [("memory", Json::Object(memory.collect())), ("registers", Json::Object(registers))]
+    [memory(program, &execution.memory), ("registers", Json::Object(registers))]
 }
 
 /// The fields of an execution.

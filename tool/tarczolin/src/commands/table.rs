@@ -5,13 +5,14 @@ use super::expected::LIMIT;
 use super::lent::MEMORY;
 use super::models::{FOR_MODEL, MODEL};
 use super::opt::Opt;
+use super::outcomes::{COUNT, REGISTERS};
 use super::piece::{AFTER, JOBS_OPTION, UNTIL};
 use super::places::{FROM, TO};
 use super::reply::JSON;
 use super::violation::FEWEST;
 use super::{
     asm, check, count, covers, cuts, disasm, fences, force, graph, join, judge, list, litmus, outcomes, rank, robust, sample,
-    show, test, users, violation,
+    show, test, users, violation, x86,
 };
 
 const SHOW: Opt =
@@ -34,7 +35,7 @@ const SHOW_OPTIONS: &[Opt] = &[
     JSON,
 ];
 
-pub const COMMANDS: [Command; 22] = [
+pub const COMMANDS: [Command; 23] = [
     Command {
         name: "list",
         words: "FILE..",
@@ -71,8 +72,9 @@ pub const COMMANDS: [Command; 22] = [
     Command {
         name: "outcomes",
         words: "FILE..",
-        about: "each different final memory, registers and failure, how many listed executions end so, and the first that does",
-        options: &[WHERE, JOBS_OPTION, MODEL, LIMIT, JSON],
+        about: "each different final memory and whether it fails, and the first listed execution that ends so; with registers, or how many end \
+                so, by a walk over the list",
+        options: &[WHERE, REGISTERS, COUNT, MEMORY, JOBS_OPTION, MODEL, LIMIT, JSON],
         example: "tarczolin outcomes examples/queue-broken.asm --where 'consumer.item = 0 & tail = 3'",
         run: outcomes::run,
     },
@@ -80,7 +82,7 @@ pub const COMMANDS: [Command; 22] = [
         name: "covers",
         words: "OLD NEW",
         about: "can NEW end as OLD cannot? covered, or the first execution of NEW that does, and all outcomes of OLD; by sequential \
-                consistency",
+                consistency, or each under the model that --under says",
         options: covers::OPTIONS,
         example: "tarczolin covers examples/queue-repaired.asm examples/queue-broken.asm",
         run: covers::run,
@@ -92,6 +94,14 @@ pub const COMMANDS: [Command; 22] = [
         options: &[JSON],
         example: "tarczolin robust examples/store-load-pair.hex",
         run: robust::run,
+    },
+    Command {
+        name: "x86",
+        words: "FILE..",
+        about: "what does x86 add to sequential consistency? nothing, executions alone, or an outcome: the first execution of each kind",
+        options: x86::OPTIONS,
+        example: "tarczolin x86 examples/suite/dekker.asm",
+        run: x86::run,
     },
     Command {
         name: "show",

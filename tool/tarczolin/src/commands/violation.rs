@@ -1,6 +1,6 @@
 //! violation: the first listed schedule that fails.
 use super::arguments::Arguments;
-use super::expected::{self, Asking};
+use super::expected::{self, asking};
 use super::opt::Opt;
 use super::piece::{self, Found, Piece};
 use super::record;
@@ -31,7 +31,7 @@ const WHY_NOTE: &str = "traced back from the assertion by plain Rust, which is n
 
 pub fn run(arguments: &Arguments) -> Result<End, Error> {
     let piece = Piece::of(arguments)?;
-    let asking = Asking::of(arguments, piece.jobs)?;
+    let asking = asking(arguments, piece.jobs)?;
     let fewest = arguments.one_of(FEWEST.name, &[("switches", true)], false)?;
     each("violation", arguments, |question| {
         let source = question.source_under(piece.model)?;
@@ -57,7 +57,8 @@ fn violation(question: &Question, source: &Accepted, piece: &Piece, showing: Sho
     let list = List::of(source, false);
     let found = if piece.is_one_call() {
         let call = move |file: &[u8], scratch: &Scratch| ask::violation_in(model, file, scratch);
-        piece::answered(&list, model, showing.memory, call).map(|found| found.expect("the file is accepted"))
+        let scratch = showing.memory.looked_at(model, list.program);
+        piece::answered(&list, scratch, true, call).map(|found| found.expect("the file is accepted"))
     } else {
         by_rows(&list, piece)
     };

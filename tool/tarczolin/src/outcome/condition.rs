@@ -1,5 +1,6 @@
 //! Questions about the end of an execution: `tail=2 & T2.r1=0`, `fails | !(consumer.item = ITEM)`.
 use super::end::Final;
+use crate::ask::Outcome;
 use crate::asm::constant;
 use crate::near::hint;
 use crate::program::{Program, LOCATIONS, REGISTERS};
@@ -61,14 +62,46 @@ impl Condition {
     }
 
     pub fn holds(&self, end: &Final) -> bool {
+        self.holds_by(&|value| value.of(end), &|thread| match thread {
+            None => end.fails(),
+            Some(t) => end.failed[t as usize].is_some(),
+        })
+    }
+
+    /// Does it speak of final memory and of whether anything fails, and of nothing else? Then the outcomes decide it.
+    pub fn is_of_memory(&self) -> bool {
+        let of_memory = |value: &Value| !matches!(value, Value::Register(..));
         match self {
-            Condition::Equal(a, b) => a.of(end) == b.of(end),
+            Condition::Equal(a, b) => of_memory(a) && of_memory(b),
+            Condition::Always(_) | Condition::Fails(None) => true,
+            Condition::Fails(Some(_)) => false,
+            Condition::Not(inner) => inner.is_of_memory(),
+            Condition::All(all) | Condition::Any(all) => all.iter().all(Condition::is_of_memory),
+        }
+    }
+
+    /// Whether a condition that is of memory alone holds of an outcome.
+    pub fn holds_of(&self, outcome: &Outcome) -> bool {
+        const ALONE: &str = "the condition is of memory alone";
+        let value = |value: Value| match value {
+            Value::Number(value) => value,
+            Value::Location(l) => outcome.memory[l as usize],
+            Value::Register(..) => unreachable!("{ALONE}"),
+        };
+        self.holds_by(&value, &|thread| match thread {
+            None => outcome.fails,
+            Some(_) => unreachable!("{ALONE}"),
+        })
+    }
+
+    fn holds_by(&self, value: &dyn Fn(Value) -> u32, fails: &dyn Fn(Option<u8>) -> bool) -> bool {
+        match self {
+            Condition::Equal(a, b) => value(*a) == value(*b),
             Condition::Always(holds) => *holds,
-            Condition::Fails(None) => end.fails(),
-            Condition::Fails(Some(t)) => end.failed[*t as usize].is_some(),
-            Condition::Not(inner) => !inner.holds(end),
-            Condition::All(all) => all.iter().all(|one| one.holds(end)),
-            Condition::Any(all) => all.iter().any(|one| one.holds(end)),
+            Condition::Fails(thread) => fails(*thread),
+            Condition::Not(inner) => !inner.holds_by(value, fails),
+            Condition::All(all) => all.iter().all(|one| one.holds_by(value, fails)),
+            Condition::Any(all) => all.iter().any(|one| one.holds_by(value, fails)),
         }
     }
 }

@@ -1,24 +1,17 @@
--- `covers_with` decodes the first file.
+-- `covers_with` compares under sequential consistency twice.
 use borrow.Author.Needs.{needs}
-use mathlib.Core.Path.{refl}
-use Rattle.file_decoder.specs.Compiled.{programOf}
-use Rattle.file_decoder.proofs.Decoded.{decoded-refused, decoded-accepted, decoded-well-formed}
-use Rattle.covers.proofs.ByBatches.{answered-first}
-use Rattle.covers.proofs.Lent.{first-with}
+use native.Mathlib.Omega.{arith}
+use lib.ListN.{length}
+use Rattle.covers.proofs.Comparisons.{answer, comparison-right}
 use Rattle.covers.proofs.covers_call.covers_with.Statement.{statement}
 use Rattle.covers.proofs.covers_call.covers_with.Tie as tie
 
-against-requires : tie.Need-against-requires
-against-requires c κs = decoded-well-formed ((c .before .before .before .before .before .decode) .result) ((c .before .before .before .before .before .before .before .before .before .before .args) .first .now) ((c .before .before .before .before .before .decode) .ensures) ((c .before .before .before .enum-told) .given .1)
-
 returns : tie.Need-returns
+unfolding answer
 returns c =
-    let a = (c .before .before .before .before .before .before .before .before .args) in
-    let e = decoded-refused ((c .before .before .before .decode) .result) (a .first .now) ((c .before .before .before .decode) .ensures) _ _ ((c .before .v) .given .1) in
-    first-with (a .first .now) (a .second .now) (a .out .now) (a .out .now) (a .scratch .now) (a .scratch .now) _ (answered-first (a .first .now) (a .second .now) (a .out .now) _ _ e) _ _ e refl
-
-returns-2 : tie.Need-returns-2
-returns-2 c = (c .before .before .before .before .against) .ensures ((c .before .before .before .before .before .before .before .before .before .before .before .before .before .before .before .args) .first .now) (decoded-accepted ((c .before .before .before .before .before .before .before .before .before .before .decode) .result) ((c .before .before .before .before .before .before .before .before .before .before .before .before .before .before .before .args) .first .now) ((c .before .before .before .before .before .before .before .before .before .before .decode) .ensures) ((c .before .before .before .before .before .before .before .before .enum-told) .given .1))
+    let a = c .before .before .before .before .before .before .before .before .before .before .before .args in
+    let r = c .before .before .before .before .compared .ensures in
+    (answer (a .first .now) (a .second .now) (length (a .out .now)), comparison-right (a .first .now) (a .second .now) (length (a .out .now)), r .0, r .1 .0, r .1 .1)
 
 pub covers-with-spec : {M : Type 1} → statement M
-covers-with-spec = tie.close (tie.spec (λ c κs. search needs) (λ c. search needs) (λ c. search needs) against-requires returns (λ c. search needs) (λ c. search needs) returns-2)
+covers-with-spec = tie.close (tie.spec (λ c κs. omega arith) (λ c. search needs) (λ c. search needs) returns)

@@ -1,8 +1,7 @@
 -- `sweep` marks in the table behind the known outcomes.
 use borrow.Author.Needs.{needs}
-use Prim.Native.Nat.{_≤_}
 use mathlib.Core.Path.{sym}
-use lib.ListN.{length, take}
+use lib.ListN.{take}
 use lib.Seq.{length-take-le}
 use Rattle.states_outcomes.proofs.Parts.{rest-kept, rest-honest}
 use Rattle.states_outcomes.proofs.sweeping.sweep.Statement.{statement}
@@ -10,19 +9,17 @@ use Rattle.states_outcomes.proofs.sweeping.sweep.Tie as tie
 
 slice-aggregate-mark : tie.Need-slice-aggregate-mark
 slice-aggregate-mark c =
-    let a = c .before .before .before .args in
-    let g = c .before .before .before .pre .0 in
-    let h : a .frame .width ≤ length (a .t3) = search needs in
-    sym (length-take-le (a .frame .width) (a .t3) h)
+    let entry = c .before .before .before .before in
+    sym (length-take-le (entry .args .frame .width) (entry .args .key .now) (entry .pre .0))
 
 returns : tie.Need-returns
 returns c =
-    let a = c .before .before .before .before .before .before .args in
-    let fits = c .before .before .before .before .before .before .pre .1 in
+    let entry = c .before .before .before .before .before .before .before in
+    let a = entry .args in
     let mark = c .before .before .mark in (
-      rest-kept (a .frame .cut) (a .lent .now) (mark .last .0) fits (mark .ensures .0),
-      rest-honest (a .frame .slots) (a .frame .cut) (take (a .frame .width) (a .t3)) (a .lent .now) (mark .last .0) fits (mark .ensures .1),
+      rest-kept (a .frame .cut) (a .lent .now) (mark .last .0) (entry .pre .1) (mark .ensures .0),
+      rest-honest (a .frame .slots) (a .frame .cut) (take (a .frame .width) (a .key .now)) (a .lent .now) (mark .last .0) (entry .pre .1) (mark .ensures .1),
     )
 
 pub sweep-spec : {M : Type 1} → statement M
-sweep-spec = tie.close (tie.spec (λ c. search needs) (λ c. search needs) (λ c. search needs) (λ c. search needs) (λ c. search needs) slice-aggregate-mark (λ c κs. search needs) (λ c. search needs) returns)
+sweep-spec = tie.close (tie.spec (λ c. search needs) (λ c. search needs) (λ c. search needs) (λ c. search needs) slice-aggregate-mark (λ c κs. search needs) (λ c. search needs) returns)

@@ -30,7 +30,7 @@ use Rattle.machine.proofs.some_failed.Reads as some-failed-reads
 use Rattle.search_rules.proofs.some_asleep.Reads as some-asleep-reads
 use Rattle.search_walk.proofs.is_tried.Reads as is-tried-reads
 use Rattle.states_outcomes.proofs.flagging.outcome_key.Reads as outcome-key-reads
-use Rattle.states_outcomes.proofs.sweeping.ending.Reads as ending-reads
+use Rattle.states_outcomes.proofs.walking.ending.Reads as ending-reads
 use Rattle.states_outcomes.proofs.sweeping.is_swept.Reads as is-swept-reads
 use Rattle.states_outcomes.proofs.sweeping.sweep.Reads as sweep-reads
 use Rattle.states_walk.proofs.nothing.Reads as nothing-reads
@@ -165,36 +165,36 @@ new-behind-outcome-key-requires t c κs =
     ((c .before .before .before .before .args) .code .now, e .0, e .1, e .2, e .3, e .4)
 
 new-behind-is-swept-requires : (t : ℕ) → new-behind-lts.Need-is-swept-requires (behind-callees t) (new-behind-at t) new-behind.Post new-behind-Inv-loop new-behind-μ-loop
-new-behind-is-swept-requires t c κs = ((c .before .before .before .before .before .before .pre) .1 .3, (c .before .before .before .before .before .before .pre) .1 .5)
+new-behind-is-swept-requires t c κs = let h = (c .before .before .before .before .before .before .before .pre) .1 .3 in ((search needs), (c .before .before .before .before .before .before .before .pre) .1 .5)
 
 -- a marked key
 new-behind-returns-2 : (t : ℕ) → new-behind-lts.Need-returns-2 (behind-callees t) (new-behind-at t) new-behind.Post new-behind-Inv-loop new-behind-μ-loop
 new-behind-returns-2 t c =
-    let a = (c .before .before .before .before .before .before .before .before .before .args) in
-    let pre = (c .before .before .before .before .before .before .before .before .before .pre) in (
+    let a = (c .before .before .before .before .before .before .before .before .before .before .args) in
+    let pre = (c .before .before .before .before .before .before .before .before .before .before .pre) in (
       ((refl, refl), (c .nothing) .ensures .0),
       λ threads groups p v at wide marks. (
         (c .nothing) .ensures .1
             ∙ passed-new p (at .reached .loaded .wellFormed) (a .frame) (take (a .frame .cut) (a .lent .now)) wide v (at .reached .allowed) (a .t7 .steps) (at .reached .counted)
-            (reached-going (a .code .now) (a .lengths .now) (a .class .now) threads groups (placeOf (a .t7)) p v (at .reached) ((c .before .before .before .before .before .if1) .left)) (a .lent .now) _
-            ((c .before .before .before .before .outcome-key) .ensures (a .code .now) threads groups (a .frame .width) p v at (pre .1 .2) (wide v (endOf p v) (refl, at .reached .allowed)) (pre .1 .3)
-            ((c .before .before .before .before .before .before .some-failed) .ensures ∙ fails-by (at .reached .holds))) marks ((c .before .before .is-swept) .ensures ((c .before .if2) .taken)),
+            (reached-going (a .code .now) (a .lengths .now) (a .class .now) threads groups (placeOf (a .t7)) p v (at .reached) ((c .before .before .before .before .before .before .if1) .left)) (a .lent .now) _
+            ((c .before .before .before .before .before .outcome-key) .ensures (a .code .now) threads groups (a .frame .width) p v at (pre .1 .2) (wide v (endOf p v) (refl, at .reached .allowed)) (pre .1 .3)
+            ((c .before .before .before .before .before .before .before .some-failed) .ensures ∙ fails-by (at .reached .holds))) marks ((c .before .before .is-swept) .ensures ((c .before .if2) .taken)),
         marks,
       ),
     )
 
 new-behind-loop-holds : (t : ℕ) → new-behind-lts.Need-loop-holds (behind-callees t) (new-behind-at t) new-behind.Post new-behind-Inv-loop new-behind-μ-loop
 new-behind-loop-holds t c =
-    let a = (c .before .before .before .before .before .before .before .before .args) in (
+    let a = (c .before .before .before .before .before .before .before .before .before .args) in (
       (refl, refl),
       new-start (a .code .now) (a .lengths .now) (a .class .now) (a .frame) (a .t7) (take (a .frame .cut) (a .lent .now)) (a .lent .now)
-          (λ threads groups p v at. reached-going (a .code .now) (a .lengths .now) (a .class .now) threads groups (placeOf (a .t7)) p v (at .reached) ((c .before .before .before .before .if1) .left)),
+          (λ threads groups p v at. reached-going (a .code .now) (a .lengths .now) (a .class .now) threads groups (placeOf (a .t7)) p v (at .reached) ((c .before .before .before .before .before .if1) .left)),
     )
 
 new-behind-new-with-requires : (t : ℕ) → new-behind-lts.Need-new-with-requires (behind-callees t) (new-behind-at t) new-behind.Post new-behind-Inv-loop new-behind-μ-loop
 new-behind-new-with-requires t c κs =
-    let pre = (c .before .before .before .before .before .before .before .before .before .before .before .before .before .before .before .pre) in
-    let a = (c .before .before .before .before .before .before .before .before .before .before .before .before .before .before .before .args) in
+    let pre = (c .before .before .before .before .before .before .before .before .before .before .before .before .before .before .before .before .pre) in
+    let a = (c .before .before .before .before .before .before .before .before .before .before .before .before .before .before .before .before .args) in
     let n = (c .before .before .before .before .before .before .loop) .inv .0 .0 in (
       omega (arith, pre .0),
       (pre .1 .0, pre .1 .1, pre .1 .2, pre .1 .3, pre .1 .4, omega (arith, pre .1 .5, n), λ threads groups p v at. sym ((c .before .before .is-tried) .ensures (a .code .now) (a .lengths .now) threads groups (placeOf (a .t7)) p v (at .reached) refl refl refl) ∙ (c .before .if3) .taken),
@@ -203,7 +203,7 @@ new-behind-new-with-requires t c κs =
 -- found with t
 new-behind-returns-3 : (t : ℕ) → new-behind-lts.Need-returns-3 (behind-callees t) (new-behind-at t) new-behind.Post new-behind-Inv-loop new-behind-μ-loop
 new-behind-returns-3 t c =
-    let a = (c .before .before .before .before .before .before .before .before .before .before .before .before .before .before .before .before .before .before .before .args) in
+    let a = (c .before .before .before .before .before .before .before .before .before .before .before .before .before .before .before .before .before .before .before .before .args) in
     let loop = (c .before .before .before .before .before .before .before .before .before .before .loop) in
     let r = (c .before .before .before .new-with) in (
       ((r .ensures .0 .0 .0 ∙ loop .inv .0 .0, r .ensures .0 .0 .1 ∙ loop .inv .0 .1), r .ensures .0 .1),
@@ -214,7 +214,7 @@ new-behind-returns-3 t c =
 -- none with a step that is tried, and none with one that is not
 new-behind-loop-again : (t : ℕ) → new-behind-lts.Need-loop-again (behind-callees t) (new-behind-at t) new-behind.Post new-behind-Inv-loop new-behind-μ-loop
 new-behind-loop-again t c =
-    let a = (c .before .before .before .before .before .before .before .before .before .before .before .before .before .before .args) in
+    let a = (c .before .before .before .before .before .before .before .before .before .before .before .before .before .before .before .args) in
     let loop = (c .before .before .before .before .before .loop) in
     let in-loop = (c .before .before .before .before .loop-test) .taken in
     let rows : List ℕ = take (a .frame .cut) (a .lent .now) in
@@ -232,27 +232,27 @@ new-behind-loop-again t c =
     ((c .if3) .came)
 
 new-behind-sweep-requires : (t : ℕ) → new-behind-lts.Need-sweep-requires (behind-callees t) (new-behind-at t) new-behind.Post new-behind-Inv-loop new-behind-μ-loop
-new-behind-sweep-requires t c κs = let n = (c .before .before .loop) .inv .0 .0 in ((c .before .before .before .before .before .before .before .before .before .before .before .pre) .1 .3, omega (arith, (c .before .before .before .before .before .before .before .before .before .before .before .pre) .1 .5, n))
+new-behind-sweep-requires t c κs = let n = (c .before .before .before .loop) .inv .0 .0 in let h = (c .before .before .before .before .before .before .before .before .before .before .before .before .before .pre) .1 .3 in ((search needs), omega (arith, (c .before .before .before .before .before .before .before .before .before .before .before .before .before .pre) .1 .5, n))
 
 -- none: the key is marked
 new-behind-returns-4 : (t : ℕ) → new-behind-lts.Need-returns-4 (behind-callees t) (new-behind-at t) new-behind.Post new-behind-Inv-loop new-behind-μ-loop
 new-behind-returns-4 t c =
-    let a = (c .before .before .before .before .before .before .before .before .before .before .before .before .before .before .before .args) in
-    let pre = (c .before .before .before .before .before .before .before .before .before .before .before .before .before .before .before .pre) in
-    let loop = (c .before .before .before .before .before .before .loop) in
+    let a = (c .before .before .before .before .before .before .before .before .before .before .before .before .before .before .before .before .before .args) in
+    let pre = (c .before .before .before .before .before .before .before .before .before .before .before .before .before .before .before .before .before .pre) in
+    let loop = (c .before .before .before .before .before .before .before .loop) in
     let rows : List ℕ = take (a .frame .cut) (a .lent .now) in (
       (((c .before .before .before .sweep) .ensures .0 .0 ∙ loop .inv .0 .0, (c .before .before .before .sweep) .ensures .0 .1 ∙ loop .inv .0 .1), (c .nothing2) .ensures .0),
       λ threads groups p v at wide marks.
-          let over = new-over (a .code .now) (a .lengths .now) (a .class .now) (a .frame) (a .t7) rows (a .lent .now) (loop .lent) (loop .t) ((c .before .before .before .before .before .loop-test) .left) (loop .inv .1) (threads, groups, p, v, at) wide marks in (
+          let over = new-over (a .code .now) (a .lengths .now) (a .class .now) (a .frame) (a .t7) rows (a .lent .now) (loop .lent) (loop .t) ((c .before .before .before .before .before .before .loop-test) .left) (loop .inv .1) (threads, groups, p, v, at) wide marks in (
             (c .nothing2) .ensures .1 ∙ over .0,
             marked-new p (at .reached .loaded .wellFormed) (a .frame) rows wide v (at .reached .allowed) (a .t7 .steps) (at .reached .counted)
-                (reached-going (a .code .now) (a .lengths .now) (a .class .now) threads groups (placeOf (a .t7)) p v (at .reached) ((c .before .before .before .before .before .before .before .before .before .before .before .if1) .left)) (loop .lent) _ _
-                ((c .before .before .before .before .before .before .before .before .before .before .outcome-key) .ensures (a .code .now) threads groups (a .frame .width) p v at (pre .1 .2) (wide v (endOf p v) (refl, at .reached .allowed)) (pre .1 .3)
-                ((c .before .before .before .before .before .before .before .before .before .before .before .before .some-failed) .ensures ∙ fails-by (at .reached .holds))) (over .0) ((c .before .before .before .sweep) .ensures .1) (over .1),
+                (reached-going (a .code .now) (a .lengths .now) (a .class .now) threads groups (placeOf (a .t7)) p v (at .reached) ((c .before .before .before .before .before .before .before .before .before .before .before .before .before .if1) .left)) (loop .lent) _ _
+                ((c .before .before .before .before .before .before .before .before .before .before .before .before .outcome-key) .ensures (a .code .now) threads groups (a .frame .width) p v at (pre .1 .2) (wide v (endOf p v) (refl, at .reached .allowed)) (pre .1 .3)
+                ((c .before .before .before .before .before .before .before .before .before .before .before .before .before .before .some-failed) .ensures ∙ fails-by (at .reached .holds))) (over .0) ((c .before .before .before .sweep) .ensures .1) (over .1),
           ),
     )
 
 pub +new-behind+new-with-spec : {M : Type 1} → statement M
 +new-behind+new-with-spec = close μ-new-behind μ-new-with
-    (λ t. new-behind-lts.spec (behind-callees t) (new-behind-at t) new-behind.Post new-behind-Inv-loop new-behind-μ-loop (λ c κs. search needs) (new-behind-ending-requires t) (λ c. search needs) (new-behind-returns t) (new-behind-outcome-key-requires t) (new-behind-is-swept-requires t) (λ c κs. search needs) (λ c. search needs) (new-behind-returns-2 t) (new-behind-loop-holds t) (λ c κs. search needs) (new-behind-new-with-requires t) (λ c. search needs) (new-behind-returns-3 t) (λ c. search needs) (λ c. search needs) (new-behind-loop-again t) (new-behind-sweep-requires t) (λ c κs. search needs) (λ c. search needs) (new-behind-returns-4 t))
+    (λ t. new-behind-lts.spec (behind-callees t) (new-behind-at t) new-behind.Post new-behind-Inv-loop new-behind-μ-loop (λ c κs. search needs) (new-behind-ending-requires t) (λ c. search needs) (new-behind-returns t) (new-behind-outcome-key-requires t) (λ c. search needs) (new-behind-is-swept-requires t) (λ c κs. search needs) (λ c. search needs) (new-behind-returns-2 t) (new-behind-loop-holds t) (λ c κs. search needs) (new-behind-new-with-requires t) (λ c. search needs) (new-behind-returns-3 t) (λ c. search needs) (λ c. search needs) (new-behind-loop-again t) (λ c. search needs) (new-behind-sweep-requires t) (λ c κs. search needs) (λ c. search needs) (new-behind-returns-4 t))
     (λ t. new-with-lts.spec (with-callees t) (new-with-at t) new-with.Post (new-with-advanced-requires t) (new-with-some-asleep-requires t) (λ c κs. search needs) (new-with-returns t) (new-with-new-behind-requires t) (λ c. search needs) (new-with-returns-2 t))

@@ -32,11 +32,11 @@ fn cases(report: &Report) -> Vec<String> {
     let seconds = report.time.as_secs_f64() / report.expectations().max(1) as f64;
     let mut all = Vec::new();
     for found in &report.found {
-        for (one, verdict) in found.verdicts() {
-            let wrong = match verdict {
+        for (one, decision) in found.decisions() {
+            let wrong = match decision.verdict {
                 Verdict::Holds(_) => None,
-                Verdict::Fails(_) => Some(("failure", found.told(one, verdict))),
-                Verdict::Open => Some(("error", found.told(one, verdict))),
+                Verdict::Fails(_) => Some(("failure", found.told(one, decision))),
+                Verdict::Open => Some(("error", found.told(one, decision))),
             };
             all.push(case(file, &format!("line {}: {}", one.line, one.under(found.model)), seconds, wrong));
         }

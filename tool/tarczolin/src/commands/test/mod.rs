@@ -4,11 +4,12 @@ mod junit;
 mod report;
 
 use super::arguments::Arguments;
-use super::expected::{Asking, LIMIT, NOTE};
+use super::expected::{asking, notes, LIMIT};
 use super::opt::Opt;
 use super::piece::JOBS;
 use super::reply::JSON;
 use crate::called::called;
+use crate::decide::Asking;
 use crate::end::End;
 use crate::error::Error;
 use crate::json::{object, Json};
@@ -37,7 +38,7 @@ struct Telling {
 
 pub fn run(arguments: &Arguments) -> Result<End, Error> {
     let paths = arguments.names()?;
-    let asking = Asking::of(arguments, 1)?;
+    let asking = Asking { quiet: true, ..asking(arguments, 1)? };
     let jobs = arguments.number("--jobs", JOBS)? as usize;
     let filter = arguments.option("--filter")?.unwrap_or("");
     let holds = |file: &Named| file.as_ref().map_or(true, |file| file.to_string_lossy().contains(filter));
@@ -140,7 +141,9 @@ impl Telling {
                 let asked = if expectations == 1 { "expectation" } else { "expectations" };
                 let left = if left == 0 { String::new() } else { format!(", {left} not begun") };
                 let counts = format!("{ok} ok, {failing} FAILS, {refused} refused, {without} without expectation{left}");
-                format!("{files} {word}: {counts}; {expectations} {asked} in {milliseconds} ms\n({NOTE})")
+                let said = notes(self.reports.iter().flat_map(|report| &report.found));
+                let said: String = said.iter().map(|note| format!("\n({note})")).collect();
+                format!("{files} {word}: {counts}; {expectations} {asked} in {milliseconds} ms{said}")
             }
         };
         let end = if left > 0 { self.end.max(End::Refused) } else { self.end };

@@ -2,8 +2,8 @@
 use super::files::Named;
 use crate::accepted::Accepted;
 use crate::called::{called, recorded};
-use crate::commands::expected::{Asking, Found};
-use crate::decide::Verdict;
+use crate::commands::expected::Found;
+use crate::decide::{Asking, Verdict};
 use crate::end::End;
 use crate::error::Error;
 use crate::input;
@@ -89,7 +89,7 @@ impl Report {
     }
 
     fn verdicts(&self) -> impl Iterator<Item = Verdict> + '_ {
-        self.found.iter().flat_map(|found| found.decided.verdicts.iter().copied())
+        self.found.iter().flat_map(|found| found.decided.all.iter().map(|one| one.verdict))
     }
 
     pub fn expectations(&self) -> usize {
@@ -115,8 +115,8 @@ impl Report {
     /// What is wrong, a line each: expectations that fail or are not decided, and why the file is refused.
     pub fn wrong(&self) -> Vec<String> {
         let of = |found: &Found| {
-            let bad = found.verdicts().filter(|(_, verdict)| !matches!(verdict, Verdict::Holds(_)));
-            bad.map(|(one, verdict)| format!("{}: {}", self.name, found.told(one, verdict))).collect::<Vec<_>>()
+            let bad = found.decisions().filter(|(_, decision)| !matches!(decision.verdict, Verdict::Holds(_)));
+            bad.map(|(one, decision)| format!("{}: {}", self.name, found.told(one, decision))).collect::<Vec<_>>()
         };
         self.found.iter().flat_map(of).chain(self.error.iter().map(Error::to_string)).collect()
     }
@@ -140,7 +140,7 @@ impl Report {
     }
 
     pub fn json(&self) -> Json {
-        let of = |found: &Found| found.verdicts().map(|(one, verdict)| object(found.fields(one, verdict))).collect::<Vec<_>>();
+        let of = |found: &Found| found.decisions().map(|(one, decision)| object(found.fields(one, decision))).collect::<Vec<_>>();
         let expectations: Vec<Json> = self.found.iter().flat_map(of).collect();
         object([
             ("command", "test".into()),

@@ -1,0 +1,3 @@
+-- The laws.
+-- what the calls say fits their word
+pub mod OutcomesFit

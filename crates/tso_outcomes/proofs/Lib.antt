@@ -1,0 +1,3 @@
+-- The laws, in the order in which they rest on each other.
+-- the first new outcome behind a prefix: with one next step, over the next steps in turn, and with marks
+pub mod FirstNew
