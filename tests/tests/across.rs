@@ -185,8 +185,7 @@ fn damaged_files_in_either_place() {
     assert!(!share::whole() || refused.iter().all(|times| *times > 200), "{refused:?}");
 }
 
-/// Lists that nobody walks: counters of six threads under sequential consistency, by states; and of four threads under total store order, where each
-/// outcome that is looked for comes first.
+/// Lists that nobody walks: counters of six threads under sequential consistency, and of four threads under total store order.
 #[test]
 fn beyond_every_walk() {
     let adds = |threads: usize, times: usize| lines(&format!("01 {}", "1200000000000001 ".repeat(times)).repeat(threads));
@@ -194,4 +193,6 @@ fn beyond_every_walk() {
     assert_eq!(said([SC, SC], [&adds(6, 4), &adds(6, 4)], words).0, calls::Covers::Covered);
     assert_eq!(said([SC, SC], [&adds(6, 4), &adds(6, 3)], words).0, calls::Covers::Lacking(18));
     assert_eq!(said([TSO, SC], [&adds(4, 4), &adds(2, 8)], words).0, calls::Covers::Covered);
+    assert_eq!(said([SC, TSO], [&adds(6, 4), &adds(4, 4)], words).0, calls::Covers::Lacking(16));
+    assert_eq!(said([TSO, TSO], [&adds(4, 4), &adds(4, 4)], words).0, calls::Covers::Covered);
 }

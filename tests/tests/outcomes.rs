@@ -248,12 +248,16 @@ fn ends(model: Model, file: &[u8], words: usize) -> Vec<(Vec<u32>, bool)> {
     rows.chunks(size(model)).map(|row| (values(row), row[33] == 1)).collect()
 }
 
-/// Lists that nobody walks under sequential consistency: the longest that there can be, and six threads that lose updates.
+/// Lists that nobody walks: the longest that there can be, six threads that lose updates, and under total store order 63,063,000 of four threads.
 #[test]
 fn beyond_every_walk() {
     let adds = |threads: usize| lines(&format!("01 {}", "1200000000000001 ".repeat(4)).repeat(threads));
     let sums = "01 110000 21000000000001 10000100000000 110100 2501007fffffff ";
-    let cases = [(Model::Sc, adds(6), vec![24]), (Model::Sc, lines(&sums.repeat(6)), vec![1, 2, 3, 4, 5, 6])];
+    let cases = [
+        (Model::Sc, adds(6), vec![24]),
+        (Model::Sc, lines(&sums.repeat(6)), vec![1, 2, 3, 4, 5, 6]),
+        (Model::Tso, adds(4), vec![16]),
+    ];
     for (model, file, sums) in cases {
         let began = Instant::now();
         let mut found = ends(model, &file, 2 << 20);

@@ -82,6 +82,11 @@ fn needs(one: &Expectation) -> Looked {
     }
 }
 
+/// Whether the library's own answers decide an expectation, where they do not take long.
+pub fn by_answers(one: &Expectation) -> bool {
+    !matches!(needs(one), Looked::Listed(_))
+}
+
 /// What the first execution that decides, or that there is none, says of an expectation.
 fn verdict(one: &Expectation, found: Option<Shown>) -> Verdict {
     match (found, !one.forbids()) {

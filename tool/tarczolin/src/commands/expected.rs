@@ -4,7 +4,7 @@ use super::lent::memory;
 use super::opt::Opt;
 use super::reply::Question;
 use crate::accepted::Accepted;
-use crate::decide::{decide, Asking, Decided, Decision, Looked, Shown, Verdict};
+use crate::decide::{by_answers, decide, Asking, Decided, Decision, Looked, Shown, Verdict};
 use crate::end::End;
 use crate::error::Error;
 use crate::expect::{Expectation, Kind};
@@ -30,6 +30,8 @@ const BY_CALLS: &str =
 plain Rust, which is not proved";
 const BY_LIST: &str =
     "what speaks of registers or of one thread's failure is decided by plain Rust over the list, which is not proved; the list is";
+const BESIDE: &str =
+    "where the library's outcomes took long, plain Rust over the list decided before them, which is not proved; the list is";
 
 /// How expectations are decided: by so many jobs where the list is walked, over so many executions.
 pub fn asking(arguments: &Arguments, jobs: usize) -> Result<Asking, Error> {
@@ -39,14 +41,15 @@ pub fn asking(arguments: &Arguments, jobs: usize) -> Result<Asking, Error> {
 
 /// What is said of what was decided, by how that was done: nothing where nothing was.
 pub fn notes<'a>(all: impl Iterator<Item = &'a Found>) -> Vec<&'static str> {
-    let (mut calls, mut list) = (false, false);
-    for one in all.flat_map(|found| &found.decided.all) {
-        match one.looked {
+    let (mut calls, mut list, mut beside) = (false, false, false);
+    for (one, decision) in all.flat_map(|found| found.all.iter().zip(&found.decided.all)) {
+        match decision.looked {
+            Looked::Listed(_) if by_answers(one) => beside = true,
             Looked::Listed(_) => list = true,
             _ => calls = true,
         }
     }
-    [(calls, BY_CALLS), (list, BY_LIST)].into_iter().filter(|(is, _)| *is).map(|(_, note)| note).collect()
+    [(calls, BY_CALLS), (beside, BESIDE), (list, BY_LIST)].into_iter().filter(|(is, _)| *is).map(|(_, note)| note).collect()
 }
 
 /// Expectations of a program under one model, with what was found of them.
