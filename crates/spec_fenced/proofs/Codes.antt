@@ -2,16 +2,15 @@
 -- fenced, code that only reads has no store.
 use Prim.Native.Nat.{ℕ, zero, suc}
 use mathlib.Core.Path.{_≡_, refl, sym, ap, _∙_}
-use mathlib.Core.Bool.{Bool, true, false, not, _&&_, false≢true}
+use mathlib.Core.Bool.{Bool, true, false, not, false≢true}
 use mathlib.Core.Option.{Option, none, some}
 use mathlib.Core.List.{List, [], _∷_}
 use Rattle.spec_file.proofs.DigitValues.{both}
-use Rattle.spec_file.specs.declared.instruction.Test.{Test}
 use Rattle.spec_file.specs.declared.instruction.Access.the-variants.{Store, Load, FetchAdd, CompareSwap}
 use Rattle.spec_file.specs.declared.instruction.Own.the-variants.{Assign, AddAssign, SkipUnless, Assert}
 use Rattle.spec_file.specs.declared.instruction.Instruction.{Instruction}
 use Rattle.spec_file.specs.declared.instruction.Instruction.the-variants.{Memory, Alone}
-use Rattle.spec_sc.specs.Local.{Local, eval, sum32, holds, outcome, settle, beginsWithAccess, accessTakes, accessPuts, accessSets, firstTakes, firstPuts, firstNext, pending, takes, puts, next}
+use Rattle.spec_sc.specs.Local.{Local, holds, outcome, settle, beginsWithAccess, accessTakes, accessPuts, firstTakes, firstPuts, firstNext, pending, takes, puts, next}
 use Rattle.spec_sc.proofs.Same.{both-and}
 use Rattle.spec_tso.specs.Queue.{Entry, queued, atOnce, isEmpty, free}
 use Rattle.spec_tso.specs.State.{accessLocks, firstLocks, locked}

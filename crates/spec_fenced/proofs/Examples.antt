@@ -1,14 +1,20 @@
--- The conditions computed on the code of one thread.
+-- The conditions computed on the code of one thread, and store buffering with fences, which is robust.
+use Prim.Native.Nat.{_<_, _^_}
+use native.Mathlib.Omega.{arith}
 use mathlib.Core.Path.{_≡_, refl}
 use mathlib.Core.Bool.{Bool, true, false}
 use mathlib.Core.List.{List, [], _∷_}
+use Rattle.spec_file.specs.Program.{Program, zeros}
+use Rattle.spec_file.specs.WellFormed.{WellFormed, accesses, allAccesses}
 use Rattle.spec_file.specs.declared.instruction.Operand.the-variants.{Constant}
 use Rattle.spec_file.specs.declared.instruction.Access.the-variants.{Store, Load, FetchAdd, CompareSwap}
 use Rattle.spec_file.specs.declared.instruction.Comparison.the-variants.{Equal}
 use Rattle.spec_file.specs.declared.instruction.Own.the-variants.{SkipUnless, Assert}
 use Rattle.spec_file.specs.declared.instruction.Instruction.{Instruction}
 use Rattle.spec_file.specs.declared.instruction.Instruction.the-variants.{Memory, Alone}
+use Rattle.spec_across.specs.Robust.{Robust}
 use Rattle.spec_fenced.specs.Fenced.{fenced, storeless, onlyReads}
+use Rattle.spec_fenced.proofs.Robust.{fenced-robust}
 
 abbrev store : Instruction
 store = Memory (Store 0 (Constant 1))
@@ -83,3 +89,35 @@ reading = refl
 adding : onlyReads (load ∷ add ∷ []) ≡ false
 unfolding onlyReads
 adding = refl
+
+-- store buffering with a fetch and add of zero as a fence
+abbrev buffering : Program
+buffering = record {
+  threads = (Memory (Store 0 (Constant 1)) ∷ add ∷ Memory (Load 0 1) ∷ []) ∷ (Memory (Store 1 (Constant 1)) ∷ add ∷ Memory (Load 0 0) ∷ []) ∷ [];
+  groups = [];
+  starting = zeros;
+}
+
+small : (0 < 2 ^ 32) × (1 < 2 ^ 32)
+small = (omega arith, omega arith)
+
+well-formed : WellFormed buffering
+unfolding accesses allAccesses
+well-formed = record {
+  six = omega arith;
+  sixteen = (omega arith, (omega arith, tt));
+  access-24 = omega arith;
+  ranges = (
+    ((omega arith, small .1), ((omega arith, omega arith, small .0), ((omega arith, omega arith), tt))),
+    (((omega arith, small .1), ((omega arith, omega arith, small .0), ((omega arith, omega arith), tt))), tt),
+  );
+  skips = ((omega arith, (omega arith, (omega arith, tt))), ((omega arith, (omega arith, (omega arith, tt))), tt));
+  groups = tt;
+  apart = tt;
+  eight = refl;
+  words = (small .0, (small .0, (small .0, (small .0, (small .0, (small .0, (small .0, (small .0, tt))))))));
+}
+
+buffering-robust : Robust buffering
+unfolding fenced
+buffering-robust = fenced-robust buffering well-formed (refl, (refl, tt))

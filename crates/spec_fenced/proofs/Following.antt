@@ -1,9 +1,8 @@
 -- Sequential consistency follows total store order on fenced code: it does a store when that is flushed, and every other access when it is
 -- done. Where total store order has ended, both have the same graph.
-use Prim.Native.Nat.{ℕ, _<_, _≤_}
+use Prim.Native.Nat.{ℕ, _<_}
 use mathlib.Core.Path.{_≡_, refl, sym, ap, ap₂, subst, _∙_}
 use mathlib.Core.Bool.{Bool, true, false, true≢false, false≢true}
-use mathlib.Core.Option.{Option, none, some}
 use mathlib.Core.List.{List, [], _∷_}
 use native.Mathlib.Omega.{arith}
 use borrow.Author.Tests.{lt-ltb}
@@ -26,7 +25,7 @@ use Rattle.spec_tso.proofs.Lawful.{lawful}
 use Rattle.spec_tso.proofs.Change.{thread-cases}
 use Rattle.spec_tso.proofs.Seen.{seen-thread}
 use Rattle.spec_fenced.proofs.Codes.{Turn, storing, direct, turn}
-use Rattle.spec_fenced.proofs.Lagging.{Lags, Stores, Near, near-store, store-still, level, direct-cell, near-direct, oldest, flush-place, flush-cell, near-flush}
+use Rattle.spec_fenced.proofs.Lagging.{Stores, Near, near-store, store-still, level, direct-cell, near-direct, oldest, flush-place, flush-cell, near-flush}
 
 -- τ has the same memory as σ, and each of its threads lags behind that of σ
 pub record Follows (σ : State) (τ : SC.State) : Type 0 where
@@ -123,12 +122,12 @@ follow σ τ f b m = go (kindOf b) (enabled-able σ b m)
     go access a = by-access σ τ f (owner b) (enabled-small σ b m) a
     go move a = by-move σ τ f (owner b) (enabled-small σ b m) a
 
--- THE END
+-- THE END: where total store order has ended, sequential consistency has, with the same graph
 module _ (σ : State) (τ : SC.State) (f : Follows σ τ) (r : Regular τ) (e : ended TSO σ ≡ true) where
   not-able : (k : Kind) (t : ℕ) → t < 6 → able k (threadOf σ t) (length (σ .cells)) ≡ false
   not-able k t h = sym (enabled-for σ k t h) ∙ ended-none TSO lawful σ (byteFor k t) e
 
-  -- nothing is pending: it could be flushed
+  -- nothing is pending: a pending store could be flushed
   can-flush : (t : ℕ) (x : Entry) (q : List Entry) → threadOf σ t .queue ≡ x ∷ q → x .location < length (σ .cells) → able move (threadOf σ t) (length (σ .cells)) ≡ true
   unfolding able movable
   can-flush t x q i l = ap (λ (w : List Entry). movable w (length (σ .cells))) i ∙ lt-ltb (x .location) (length (σ .cells)) l
@@ -151,7 +150,7 @@ module _ (σ : State) (τ : SC.State) (f : Follows σ τ) (r : Regular τ) (e : 
   pub same-thread : (t : ℕ) → SC.threadOf τ t ≡ unqueued (threadOf σ t)
   same-thread t = level t (SC.threadOf τ t) (threadOf σ t) (cellOf σ 0) (f .near t) (none-pending t)
 
-  -- so sequential consistency has ended
+  -- a thread with nothing pending that may do an access here may do it there
   free-none : (b : Bool) (q : List Entry) → q ≡ [] → free b q ≡ true
   unfolding free isEmpty
   free-none true q i = rw i
@@ -181,7 +180,7 @@ module _ (σ : State) (τ : SC.State) (f : Follows σ τ) (r : Regular τ) (e : 
   unfolding withoutQueues
   seen-cells = sym (f .cells)
 
-  -- with the same graph
+  -- the two graphs are one
   pub both-graph : SCGraph.graphOf τ ≡ graphOf σ
   unfolding graphOf SC.cellOf
   both-graph = Rows.same-graph τ (SCGraph.graphOf seen)

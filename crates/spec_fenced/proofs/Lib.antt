@@ -7,5 +7,5 @@ pub mod Lagging
 pub mod Following
 -- robust by the code
 pub mod Robust
--- the conditions computed
+-- the conditions computed, and a fenced program
 pub mod Examples

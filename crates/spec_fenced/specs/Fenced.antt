@@ -43,7 +43,7 @@ onlyReads (Memory (FetchAdd r l p) ∷ is) = false
 onlyReads (Memory (CompareSwap r l e v) ∷ is) = false
 onlyReads (Alone o ∷ is) = onlyReads is
 
--- of every thread
+-- the three conditions of a program: the code of every thread meets them
 abbrev pub Fenced : Program → Type 0
 Fenced p = Everywhere (λ c. fenced 0 false c ≡ true) (p .threads)
 
