@@ -1,7 +1,7 @@
 -- A thread's rows gone through once, and all threads. What is left is fenced, whatever may be pending, and so is the whole.
 use Prim.Native.Nat.{ℕ, zero, suc, _+_, _*_, _<_, _≤_}
-use mathlib.Core.Path.{_≡_, refl, sym, ap, ap₂, subst, _∙_}
-use mathlib.Core.Bool.{Bool, true, false, not, _&&_, false≢true, true≢false}
+use mathlib.Core.Path.{_≡_, refl, sym, ap₂, subst, _∙_}
+use mathlib.Core.Bool.{Bool, true, false, _&&_, false≢true, true≢false}
 use mathlib.Core.List.{List, [], _∷_}
 use native.Mathlib.Omega.{arith}
 use native.Mathlib.Decide.{ℕ-discrete}
@@ -14,7 +14,6 @@ use Rattle.spec_file.specs.declared.instruction.Instruction.the-variants.{Memor
 use Rattle.spec_file.specs.Program.{Program}
 use Rattle.spec_file.specs.WellFormed.{Everywhere, mostSkipped}
 use Rattle.spec_file.specs.Tabulate.{tabulate}
-use Rattle.spec_file.specs.Frames.{operand}
 use Rattle.file_rows.specs.Rows.{rowAt, instructionAt, threadCode}
 use Rattle.file_rows.proofs.Rows.{row-store, row-load, row-fetch-add, row-compare-swap, row-no-access}
 use Rattle.machine_access.proofs.HeldSettling.{code-at, code-end}

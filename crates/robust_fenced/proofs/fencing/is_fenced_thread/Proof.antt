@@ -1,7 +1,7 @@
 -- `is_fenced_thread` goes through the rows. The invariant: if what is left is fenced, with what may be pending here, so is the whole.
 use borrow.Author.Needs.{needs}
-use Prim.Native.Nat.{ℕ, _-_, _*_, _+_, _<_, _≤_}
-use mathlib.Core.Path.{_≡_, sym, subst, _∙_}
+use Prim.Native.Nat.{ℕ, _-_, _≤_}
+use mathlib.Core.Path.{subst}
 use mathlib.Core.Bool.{false≢true}
 use native.Mathlib.Omega.{arith}
 use Rattle.robust_fenced.proofs.Passing.{Left, left-all, left-none, left-next}

@@ -2,7 +2,6 @@
 use borrow.Author.Needs.{needs}
 use mathlib.Core.Path.{sym, _∙_}
 use mathlib.Core.Bool.{false≢true}
-use native.Mathlib.Omega.{arith}
 use Rattle.robust_fenced.proofs.fencing.over_behind.Statement.{statement}
 use Rattle.robust_fenced.proofs.fencing.over_behind.Tie as tie
 
