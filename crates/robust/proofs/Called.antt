@@ -13,11 +13,13 @@ use Rattle.spec_model.specs.Laws.{Admitted}
 use Rattle.spec_model.specs.OnFile.{admit}
 use Rattle.spec_tso.specs.TotalStoreOrder.{tso}
 use Rattle.spec_tso.proofs.Admits.{few-none, refused-41, admitted-16, refused-first}
-use Rattle.spec_across.specs.RobustCall.{Answer, refusing, Robustness, outputAfter}
-use Rattle.spec_across.proofs.Relaxed.{firstRelaxed}
+use Rattle.spec_across.specs.RobustCall.{Answer, robust, refusing, Robustness, outputAfter}
+use Rattle.spec_across.proofs.Relaxed.{firstRelaxed, robust-none}
 use Rattle.spec_across.proofs.Robustness.{answerBy, answerOn, answer-refused, answer-short, answer-long, robustness-right}
+use Rattle.spec_fenced.specs.Fenced.{Fenced}
+use Rattle.spec_fenced.proofs.Robust.{fenced-robust}
 use Rattle.robust.specs.declared.robust_call.RobustAnswer.{RobustAnswer}
-use Rattle.robust.specs.declared.robust_call.RobustAnswer.the-variants.{Refused}
+use Rattle.robust.specs.declared.robust_call.RobustAnswer.the-variants.{Robust, Refused}
 use Rattle.robust.specs.AnswerOf.{robustAnswerOf}
 
 -- the answer to a program, as the contract says it
@@ -59,6 +61,13 @@ module _ (p : Program) (out : List ℕ) (many : Bool) (e : many ≡ ltb 16 (allA
     pub answered-found : 48 ≤ length out → (out' : List ℕ) (r : RobustAnswer) → (r ≡ robustAnswerOf (answerBy (firstRelaxed p))) × (out' ≡ outputAfter (answerBy (firstRelaxed p)) out)
         → AnsweredOn (admit tso (accepted p)) out out' r
     answered-found h out' r k = answered-as (admit tso (accepted p)) out (answerBy (firstRelaxed p)) (listed ∙ answer-long p (length out) h) out' r k
+
+    -- a program that is seen to be robust by its code
+    pub answered-fenced : 48 ≤ length out → WellFormed p → Fenced p → AnsweredOn (admit tso (accepted p)) out out Robust
+    unfolding answerBy robustAnswerOf outputAfter
+    answered-fenced h w f =
+        let none = robust-none p (admitted-few w) (fenced-robust p w f) in
+        answered-as (admit tso (accepted p)) out robust (listed ∙ answer-long p (length out) h ∙ ap answerBy none) out Robust (refl, refl)
 
 -- of a file
 module _ (file out : List ℕ) where

@@ -7,6 +7,7 @@ use listing_cursor::is_end;
 use listing_cursor::put_schedule;
 use listing_model::Model;
 use listing_pages::next_page;
+use robust_fenced::is_fenced;
 use tso_replay::too_many;
 ghost use mathlib.Core.Path.{_≡_};
 ghost use Prim.Native.Nat.{_≤_};
@@ -54,7 +55,7 @@ fn walked(program: Compiled, out: &mut [u8]) -> RobustAnswer
     RobustAnswer::Robust
 }
 
-// Of an accepted program: 41 comes first, then 22.
+// Of an accepted program: 41 comes first, then 22. The list of a program that is seen to be robust by its code is not walked.
 fn robust_of(program: Compiled, out: &mut [u8]) -> RobustAnswer
     requires { ⌜ WellFormed (programOf program) ⌝ }
     ensures answer { λ r. ⌜ r ≡ robustAnswerOf (answerOn (admit tso (accepted (programOf program))) (length (now (out .entry)))) ⌝ }
@@ -68,6 +69,9 @@ fn robust_of(program: Compiled, out: &mut [u8]) -> RobustAnswer
     }
     if out.len() < 48 {
         return RobustAnswer::Refused(22, 0);
+    }
+    if is_fenced(&code, &lengths, program.threads) {
+        return RobustAnswer::Robust;
     }
     walked(program, out)
 }
