@@ -13,6 +13,7 @@
 # make fuzz SECONDS=N    random bytes to every call, for so long
 # make soak MINUTES=N    every call on two cores with random and damaged input, held to the oracle; SEED=S: of these seeds, S and S + 1
 # make backends          every call on the interpreter and compiled three ways: the same answers, and the oracle's?
+# make edits             every edit that can be run without a proof: does it give the wrong answer that its remark speaks of?
 # make valgrind          the Rust tests, few cases each, under valgrind
 FILE ?= examples/whole.hex
 SECONDS ?= 600
@@ -28,7 +29,7 @@ SOURCES = crates.txt $(shell find crates -name '*.rt' -o -name '*.antt')
 VALGRIND = valgrind --quiet --error-exitcode=9 --leak-check=full --show-leak-kinds=definite --errors-for-leak-kinds=definite \
   --trace-children=yes --log-file=$(CURDIR)/target/valgrind/%p.log
 
-.PHONY: help test check list explorer tool library bench walk fuzz soak backends valgrind
+.PHONY: help test check list explorer tool library bench walk fuzz soak backends edits valgrind
 
 help:
 	@sed -n 's/^# make/make/p' Makefile
@@ -76,6 +77,10 @@ backends: $(LIBRARY)
 	@$(CARGO) run $(QUIET) --bin backends -- target/backends/parts
 	@cd target/backends && for part in parts/*; do cp $$part/std* crates/backends/ && rt try backends > said || { cat said; exit 1; }; done
 	@echo 'equal on the interpreter, at -O0, at -O3 and with the assumptions checked, and as the oracle says'
+
+# some 20 s an edit; those that cannot be run so, and why: python3 tests/edits.py --list
+edits: library
+	@python3 -B tests/edits.py
 
 # cargo hands each test program to valgrind; a hundredth of the cases, since valgrind is slow; a report is an error
 valgrind: $(LIBRARY)

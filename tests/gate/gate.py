@@ -3,8 +3,8 @@
 
 The very last line is `N passed, M failed`; the exit status is 0 exactly when M is 0. N counts what rt proves and refuses,
 the must-fail edits that were refused for the right reason, the checks of texts (what crates open of each other, claims, what has
-to be believed, crates.txt, its drawing, long lines), the Rust tests and the Python tests. pins.txt says how many tests and edits
-there must be at least, and on which axioms the proofs may rest.
+to be believed, crates.txt, its drawing, long lines), the Rust tests, the Python tests, and twenty edits whose programs were run. pins.txt
+says how many tests and edits there must be at least, and on which axioms the proofs may rest.
 """
 import os
 import re
@@ -319,6 +319,17 @@ def python_tests(tally):
     tally.at_least('python-tests', passed + failed)
 
 
+def wrong_answers(tally):
+    """Some programs with an edit in them, drawn by the commit's hash, answer as wrongly as its remark says."""
+    with in_memory():
+        status, lines = run([sys.executable, '-B', 'tests/edits.py', '--some', '20'])
+    count = re.fullmatch(r'edits: (\d+) give the wrong answer that they speak of, (\d+) do not', lines[-1]) if lines else None
+    if count:
+        tally.add(int(count[1]), int(count[2]))
+    if (not count) or (status != 0 and count[2] == '0'):
+        tally.fail(f'tests/edits.py ended with status {status} and no count')
+
+
 def validator(tally):
     """Whether the test of docs/schema.json could ask a validator: a Rust test does where there is one."""
     pythons = [one for one in ('python3', '/usr/bin/python3') if shutil.which(one)]
@@ -328,7 +339,7 @@ def validator(tally):
 
 # what takes no time: `gate.py quick` runs only these, and counts for nothing
 QUICK = (samples, every_crate_is_listed, only_laws, claimed_and_believed, arrows, short_lines, edits)
-CHECKS = (*QUICK, formatting, rust_formatting, proofs, reasons, rust_tests, python_tests, rust_lints, browser, slurm, validator)
+CHECKS = (*QUICK, formatting, rust_formatting, proofs, reasons, rust_tests, python_tests, wrong_answers, rust_lints, browser, slurm, validator)
 
 def main(quick):
     # rt waits for the slowest of each batch: with one more than two cores carry, none of them stands idle at a batch's end

@@ -62,5 +62,5 @@ fn answers_as_each_says() {
         known += row.starts_with("known: ") as usize;
     }
     assert_eq!(index.lines().filter(|line| line.contains(" | forbidden | ") || line.contains(" | allowed | ")).count(), tests);
-    assert!(tests >= 58 && fenced >= 9 && allowed >= 9 && known >= 16, "{tests} {fenced} {allowed} {known}");
+    assert!(tests >= 64 && fenced >= 9 && allowed >= 9 && known >= 16, "{tests} {fenced} {allowed} {known}");
 }
