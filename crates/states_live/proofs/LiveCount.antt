@@ -26,7 +26,7 @@ use Rattle.theory_sc_key.specs.Registers.{live}
 use Rattle.theory_sc_key.specs.Key.{liveAt, keyOf, wordsOf}
 use Rattle.theory_sc_key.proofs.Decides.{words-many}
 use Rattle.theory_states.specs.Positions.{Reached}
-use Rattle.states_live.specs.Live.{Live}
+use Rattle.states_live.specs.Live.{Live, Stands}
 use Rattle.states_live.proofs.LiveRows.{live-end}
 
 -- ---- members of a stretch of numbers that pass a test
@@ -130,22 +130,23 @@ module _ (code lengths masks : List ℕ) (threads : ℕ) (p : Program) (loaded :
       )
       go (no l) = covers-nothing masks rest t (sym behind ∙ code-end code t (getD lengths t 0) (length front) (omega (arith, l)))
 
+  pub covered : (σ : State) → Stands p σ → Covered masks σ
+  unfolding codeOf
+  covered σ stands t h = go (decLt t threads)
+    where
+      rest : List Instruction
+      rest = threadOf σ t .local .rest
+
+      go : Dec (t < threads) → Covers masks (threadOf σ t .local .rest) t
+      go (yes b) = end-covered t h (short-held code lengths threads p loaded t b) (stands t .0) rest (sym (code-held code lengths threads p loaded t b) ∙ stands t .1)
+      go (no b) =
+          let front : List Instruction = stands t .0 in
+          let none : codeOf p t ≡ [] = List·getD-eq-default (p .threads) [] {n = t} (omega (arith, b, threads-held code lengths threads p loaded)) in
+          covers-nothing masks rest t (sym (drop-at front rest (length front) refl) ∙ ap (drop (length front)) (sym (stands t .1) ∙ none) ∙ drop-of-length-le [] {i = length front} (omega arith))
+
   module _ (v : Schedule) (σ : State) (reached : Reached SC (start p) v σ) where
-    pub covered : Covered masks σ
-    unfolding codeOf
-    covered t h = go (decLt t threads)
-      where
-        rest : List Instruction
-        rest = threadOf σ t .local .rest
-
-        end : Suffix (threadOf σ t .local .rest) (codeOf p t)
-        end = subst (λ (τ : State). Suffix (threadOf τ t .local .rest) (codeOf p t)) (sym (reached .0)) (rest-code p v (reached .1) t)
-
-        go : Dec (t < threads) → Covers masks (threadOf σ t .local .rest) t
-        go (yes b) = end-covered t h (short-held code lengths threads p loaded t b) (end .0) rest (sym (code-held code lengths threads p loaded t b) ∙ end .1)
-        go (no b) =
-            let none : codeOf p t ≡ [] = List·getD-eq-default (p .threads) [] {n = t} (omega (arith, b, threads-held code lengths threads p loaded)) in
-            covers-nothing masks rest t (sym (drop-at (end .0) rest (length (end .0)) refl) ∙ ap (drop (length (end .0))) (sym (end .1) ∙ none) ∙ drop-of-length-le [] {i = length (end .0)} (omega arith))
+    pub stands-reached : Stands p σ
+    stands-reached t = subst (λ (τ : State). Suffix (threadOf τ t .local .rest) (codeOf p t)) (sym (reached .0)) (rest-code p v (reached .1) t)
 
     -- the words of the key
     pub words-within : (sum : ℕ) → length (filter (liveAt σ) (range 0 24)) ≤ sum → length (wordsOf (keyOf p v σ)) ≤ 2 + (9 + sum) / 2

@@ -2,10 +2,13 @@
 use Prim.Native.Nat.{ℕ, _+_, _*_, _<_, _≤_}
 use mathlib.Core.Path.{_≡_}
 use mathlib.Core.Bool.{Bool, not, _||_}
-use mathlib.Core.List.{List}
+use mathlib.Core.List.{List, _++_}
 use lib.Dec.{eqb}
 use lib.ListN.{getD, drop}
+use Rattle.spec_file.specs.Program.{Program, codeOf}
+use Rattle.spec_file.specs.declared.instruction.Instruction.{Instruction}
 use Rattle.file_rows.specs.Rows.{threadCode}
+use Rattle.spec_sc.specs.State.{State, threadOf}
 use Rattle.theory_sc.specs.Sets.{setOf}
 use Rattle.theory_sc_key.specs.Registers.{live}
 
@@ -13,6 +16,10 @@ use Rattle.theory_sc_key.specs.Registers.{live}
 pub record Live (code lengths masks : List ℕ) : Type 0 where
   pub rows : (t i : ℕ) → t < 6 → i < getD lengths t 0 → getD lengths t 0 ≤ 16
       → getD masks (t * 16 + i) 0 ≡ setOf (live 0 (drop i (threadCode code t (getD lengths t 0)))) 4
+
+-- each thread stands somewhere in its code
+abbrev pub Stands : Program → State → Type 0
+Stands p σ = (t : ℕ) → (front : List Instruction) × (codeOf p t ≡ front ++ threadOf σ t .local .rest)
 
 -- whether an instruction with this first byte reads the register that it names
 unfoldable pub readsOwn : ℕ → Bool

@@ -8,4 +8,5 @@ mod living;
 mod measuring;
 
 pub use living::live_masks;
+pub use measuring::most_registers;
 pub use measuring::width;

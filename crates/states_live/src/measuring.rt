@@ -10,8 +10,9 @@ ghost use Rattle.spec_file.specs.Program.{Program};
 ghost use Rattle.spec_schedules.specs.Lists.{range, filter};
 ghost use Rattle.spec_schedules.specs.Sets.{has};
 ghost use Rattle.machine.specs.Held.{Loaded};
-ghost use Rattle.theory_sc_key.specs.Key.{Wide};
-ghost use Rattle.states_live.specs.Live.{Live};
+ghost use Rattle.spec_sc.specs.State.{State};
+ghost use Rattle.theory_sc_key.specs.Key.{liveAt, Wide};
+ghost use Rattle.states_live.specs.Live.{Live, Stands};
 
 // How many of the four registers are in the set.
 fn members(set: u8) -> usize
@@ -45,10 +46,10 @@ fn most_live(masks: &[u8; 96], t: usize) -> usize
     most
 }
 
-// A number of words that the key of every position of the program with these live registers fits.
-pub fn width(masks: &[u8; 96]) -> usize
-    ensures { λ r. ⌜ (r ≤ 18) × ((code lengths : List ℕ) (threads : ℕ) (p : Program) → Loaded code lengths threads p
-        → Live code lengths (now (masks .entry)) → Wide r p) ⌝ }
+// The most registers that are live in a state of the program with these live registers, whose threads stand somewhere in their code.
+pub fn most_registers(masks: &[u8; 96]) -> usize
+    ensures { λ r. ⌜ (r ≤ 24) × ((code lengths : List ℕ) (threads : ℕ) (p : Program) → Loaded code lengths threads p
+        → Live code lengths (now (masks .entry)) → (σ : State) → Stands p σ → length (filter (liveAt σ) (range 0 24)) ≤ r) ⌝ }
 {
     let mut sum = 0;
     let mut t = 0;
@@ -56,5 +57,13 @@ pub fn width(masks: &[u8; 96]) -> usize
         sum += most_live(masks, t);
         t += 1;
     }
-    2 + (9 + sum) / 2
+    sum
+}
+
+// A number of words that the key of every position of the program with these live registers fits.
+pub fn width(masks: &[u8; 96]) -> usize
+    ensures { λ r. ⌜ (r ≤ 18) × ((code lengths : List ℕ) (threads : ℕ) (p : Program) → Loaded code lengths threads p
+        → Live code lengths (now (masks .entry)) → Wide r p) ⌝ }
+{
+    2 + (9 + most_registers(masks)) / 2
 }

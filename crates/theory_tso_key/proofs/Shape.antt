@@ -1,11 +1,11 @@
 -- THE KEY OF A POSITION fits its words, so the words decide.
-use Prim.Native.Nat.{ℕ, suc, _/_, _%_, _<_, _≤_, _^_}
+use Prim.Native.Nat.{ℕ, suc, _+_, _/_, _%_, _<_, _≤_, _^_}
 use mathlib.Core.Path.{_≡_, refl, sym, ap, subst}
 use mathlib.Core.List.{List, [], _∷_, map, List·Memᴰ, List·Memᴰ·head, List·Memᴰ·tail}
 use native.Mathlib.Omega.{arith}
 use lib.ListN.{length, length-append, length-map, getD, List·getD-map}
 use Rattle.spec_file.specs.Program.{Program, codeOf, initial}
-use Rattle.spec_file.specs.WellFormed.{WellFormed, Everywhere}
+use Rattle.spec_file.specs.WellFormed.{WellFormed, Everywhere, allAccesses}
 use Rattle.spec_file.proofs.Everywhere.{everywhere-getD, everywhere-append, everywhere-map}
 use Rattle.spec_schedules.specs.Lists.{range, filter}
 use Rattle.spec_schedules.specs.Order.{Schedule}
@@ -20,8 +20,8 @@ use Rattle.spec_sc.proofs.Suffix.{Suffix, suffix-length}
 use Rattle.spec_sc.proofs.Words.{Word, start-words, initial-word}
 use Rattle.theory_sc.specs.Sets.{setOf}
 use Rattle.theory_sc.proofs.Sets.{set-below}
-use Rattle.theory_sc_key.specs.Key.{leftOf, liveAt, registerAt, valuesOf}
-use Rattle.theory_sc_key.proofs.Packing.{padded-length}
+use Rattle.theory_sc_key.specs.Key.{leftOf, liveAt, registerAt, valuesOf, pairs}
+use Rattle.theory_sc_key.proofs.Packing.{padded-length, pairs-half}
 use Rattle.spec_tso.specs.Queue.{Entry}
 use Rattle.spec_tso.specs.State.{Thread, State, access, move, withoutQueues, idle, drained, threadOf, cellOf, byteFor, step, TSO, start}
 use Rattle.spec_tso.specs.TotalStoreOrder.{tso}
@@ -35,7 +35,7 @@ use Rattle.theory_states.specs.SameKey.{Decides}
 use Rattle.theory_tso_key.specs.Views.{unnumbered, waiting, breaks}
 use Rattle.theory_tso_key.specs.Near.{near}
 use Rattle.theory_tso_key.specs.Key.{queuesOf, keyOf}
-use Rattle.theory_tso_key.specs.Words.{join, wordsOf, wordKey, Plain, Shaped}
+use Rattle.theory_tso_key.specs.Words.{join, stored, wordsOf, wordKey, Plain, Shaped}
 use Rattle.theory_tso_key.proofs.Rules.{Met, met-regular}
 use Rattle.theory_tso_key.proofs.Decides.{OneFuture, one-future, key-future}
 use Rattle.theory_tso_key.proofs.Values.{ThreadWords, StateWords, words-step}
@@ -149,6 +149,28 @@ module _ (p : Program) (a : Admitted tso p) (v : Schedule) (σ : State) (r : Met
   -- THE WORDS OF A POSITION: at most 27, each of 64 bits
   pub key-words : (length (wordsOf (keyOf p v σ)) ≤ 27) × Everywhere (λ n. n < 2 ^ 64) (wordsOf (keyOf p v σ))
   key-words = (words-few (keyOf p v σ) key-shaped, words-below (keyOf p v σ) key-shaped)
+
+  -- no more than the program's accesses and the live registers need
+  pub words-within : (l : ℕ) → length (filter (liveAt (withoutQueues σ)) (range 0 24)) ≤ l → length (wordsOf (keyOf p v σ)) ≤ 3 + (allAccesses (p .threads) + 1) / 2 + (9 + l) / 2
+  unfolding wordsOf memoryOf withoutQueues
+  words-within l h =
+      let live : List ℕ = filter (liveAt (withoutQueues σ)) (range 0 24) in
+      let values : List ℕ = valuesOf (withoutQueues σ) in
+      let pending : List Entry = join (queuesOf σ) in
+      omega (
+        arith,
+        h,
+        length-append (pairs (stored pending)) (pairs values),
+        pairs-half (stored pending),
+        length-map pending (λ (e : Entry). e .value),
+        pending-all p v σ r,
+        stores-few 6 (p .threads),
+        pairs-half values,
+        length-append (map (registerAt (withoutQueues σ)) live) (memoryOf (withoutQueues σ)),
+        length-map live (registerAt (withoutQueues σ)),
+        length-map (σ .cells) valueOf,
+        g .eight,
+      )
 
 -- EQUAL WORDS, ONE FUTURE, with zeros behind up to any width
 pub words-future : (p : Program) (a : Admitted tso p) (n : ℕ) (v : Schedule) (σ : State) (x : Schedule) (τ : State) → Met p v σ → Met p x τ → wordKey n p v σ ≡ wordKey n p x τ → OneFuture p v σ x τ

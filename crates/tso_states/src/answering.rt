@@ -5,9 +5,11 @@ use crate::seeking::First;
 use crate::seeking::first_behind;
 use file_decoder::Compiled;
 use machine::some_failed;
+use machine_access::accesses_below;
 use search_place::known_lines;
 use search_rules::left_sets;
 use states_live::live_masks;
+use states_live::most_registers;
 use states_memory::Tally;
 use states_memory::charged;
 use table::clear;
@@ -37,7 +39,7 @@ pub struct Setup {
     pub spot: Spot,
 }
 
-// Makes ready.
+// Makes ready. Of a key three words are sets, numbers and locations; no more stores are pending than the program has accesses.
 pub fn made(program: Compiled) -> Setup
     requires { ⌜ Admitted tso (programOf program) ⌝ }
     ensures { λ r. ⌜ Made program r ⌝ }
@@ -49,13 +51,15 @@ pub fn made(program: Compiled) -> Setup
     let class = known_lines(declared, program.groups);
     let left = left_sets(&code, &lengths);
     let masks = live_masks(&code, &lengths);
+    let accesses = accesses_below(&code, &lengths, program.threads);
+    let registers = most_registers(&masks);
     let x = begun(&code, &lengths, program.threads, starting);
     let spot = first_spot(x);
     Setup {
         class: class,
         left: left,
         masks: masks,
-        width: 27,
+        width: 3 + (accesses + 1) / 2 + (9 + registers) / 2,
         spot: spot,
     }
 }

@@ -1,45 +1,18 @@
--- `width` adds up the most of each thread. The invariant: of the threads passed no more registers are live at any position.
+-- `width` has two words, and the values by two.
 use borrow.Author.Needs.{needs}
-use Prim.Native.Nat.{ℕ, _-_, _*_, _≤_}
-use mathlib.Core.Path.{_≡_, refl, subst}
 use native.Mathlib.Omega.{arith}
-use lib.ListN.{length}
-use Rattle.spec_schedules.specs.Lists.{range, filter}
-use Rattle.spec_sc.specs.State.{State}
-use Rattle.theory_sc_key.specs.Key.{liveAt}
-use Rattle.states_live.proofs.LiveCount.{Covered, live-none, live-more, covered, words-within}
+use Rattle.states_live.proofs.LiveCount.{stands-reached, words-within}
 use Rattle.states_live.proofs.measuring.width.Statement.{statement}
 use Rattle.states_live.proofs.measuring.width.Tie as tie
 
-abbrev Inv-loop : tie.InvT-loop
-Inv-loop masks sum₀ t₀ sum t = (t ≤ 6) × (sum ≤ 4 * t) × ((σ : State) → Covered masks σ → length (filter (liveAt σ) (range 0 (4 * t))) ≤ sum)
-
-abbrev μ-loop : tie.MeasureT-loop
-μ-loop masks sum₀ t₀ sum t = 6 - t
-
-loop-holds : tie.Need-loop-holds Inv-loop μ-loop
-loop-holds c = (omega arith, omega arith, λ σ all. live-none σ 0 0 refl)
-
-loop-again : tie.Need-loop-again Inv-loop μ-loop
-loop-again c =
-    let a = (c .before .before .before .args) in
-    let now = (c .before .before .loop) in
-    let most = (c .most-live) in (
-      omega (arith, (c .before .loop-test) .taken),
-      omega (arith, now .inv .1, most .ensures .0),
-      λ σ all. live-more (a .masks .now) σ all (now .t) (now .sum) (most .result) ((c .before .loop-test) .taken) (now .inv .2 σ all) (most .ensures .1),
-    )
-
-returns : tie.Need-returns Inv-loop μ-loop
+returns : tie.Need-returns
 returns c =
-    let a = (c .before .before .args) in
-    let now = (c .before .loop) in
-    let end : now .t ≡ 6 = omega (arith, now .inv .0, (c .loop-test) .left) in (
-      omega (arith, now .inv .1, end),
-      λ code lengths threads p loaded lives v σ reached. words-within code lengths (a .masks .now) threads p loaded lives v σ reached (now .sum)
-          (subst (λ (t : ℕ). length (filter (liveAt σ) (range 0 (4 * t))) ≤ now .sum) end (now .inv .2 σ (covered code lengths (a .masks .now) threads p loaded lives v σ reached))),
+    let masks = c .before .args .masks .now in
+    let most = c .most-registers in (
+      omega (arith, most .ensures .0),
+      λ code lengths threads p loaded lives v σ reached.
+          words-within code lengths masks threads p loaded lives v σ reached (most .result) (most .ensures .1 code lengths threads p loaded lives σ (stands-reached code lengths masks threads p loaded lives v σ reached)),
     )
 
 pub width-spec : {M : Type 1} → statement M
-width-spec =
-    tie.close (tie.spec Inv-loop μ-loop loop-holds (λ c κs. search needs) (λ c. search needs) (λ c. search needs) (λ c. search needs) loop-again (λ c. search needs) (λ c. search needs) returns)
+width-spec = tie.close (tie.spec (λ c κs. search needs) (λ c. search needs) (λ c. search needs) returns)
