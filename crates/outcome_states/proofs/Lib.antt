@@ -1,6 +1,4 @@
 -- The laws, in the order in which they rest on each other.
--- a row of words written before a place
-pub mod Noted
 -- rows of the first so many outcomes: the next one, and one more
 pub mod Known
 -- their rows in an output

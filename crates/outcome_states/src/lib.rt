@@ -1,6 +1,6 @@
 // All outcomes of a program into lent words, by states in either memory model.
 
-// An outcome kept as a row of words, and shown as a row of bytes.
+// An outcome shown as a row of bytes.
 mod keeping;
 // The first listed schedule with an outcome that is not known.
 mod seeking;
