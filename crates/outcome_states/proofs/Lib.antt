@@ -5,5 +5,7 @@ pub mod Known
 pub mod Shown
 -- marks in either memory model
 pub mod Marks
+-- outcomes gathered in one walk
+pub mod AllRows
 -- outcomes gathered row by row
 pub mod Gathers

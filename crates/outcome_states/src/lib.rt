@@ -6,7 +6,10 @@ mod keeping;
 mod seeking;
 // Known outcomes, one row after the other.
 mod gathering;
+// All outcomes in one walk.
+mod all;
 
+pub use all::all_rows;
 pub use gathering::Gathering;
 pub use gathering::gathered;
 pub use keeping::show;
