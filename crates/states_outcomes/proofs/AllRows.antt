@@ -1,10 +1,10 @@
 -- All outcomes behind a prefix as the code gathers them: at the end of a run, with one next step, over the next steps in turn, with marks, and from the start.
-use Prim.Native.Nat.{ℕ, _+_, _<_, _≤_}
+use Prim.Native.Nat.{ℕ, _+_, _≤_}
 use mathlib.Core.Path.{_≡_, refl, sym, ap, subst, _∙_}
 use mathlib.Core.Bool.{Bool, true, false, not}
 use mathlib.Core.Option.{none, some}
 use mathlib.Core.List.{List, [], _∷_, _++_}
-use lib.ListN.{length, take, drop}
+use lib.ListN.{take, drop}
 use Rattle.spec_file.specs.Program.{Program}
 use Rattle.spec_file.specs.WellFormed.{WellFormed}
 use Rattle.spec_schedules.specs.Lists.{find, headOf}

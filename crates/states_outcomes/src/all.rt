@@ -7,7 +7,7 @@ use states_walk::Setup;
 ghost use mathlib.Core.Path.{_≡_};
 ghost use mathlib.Core.Bool.{false};
 ghost use mathlib.Core.Option.{none};
-ghost use Prim.Native.Nat.{ℕ, _*_, _≤_};
+ghost use Prim.Native.Nat.{_*_, _≤_};
 ghost use lib.ListN.{length, take};
 ghost use Rattle.spec_file.specs.WellFormed.{WellFormed};
 ghost use Rattle.file_decoder.specs.Compiled.{programOf};

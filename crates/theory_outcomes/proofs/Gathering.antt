@@ -19,7 +19,7 @@ use Rattle.spec_covers.specs.declared.outcome.Outcome.{Outcome}
 use Rattle.theory_search.specs.ModelSearch.{Rule, foundWith}
 use Rattle.theory_search.proofs.Found.{low-none}
 use Rattle.theory_states.proofs.Passing.{no-head, head-nil, Seeks, seek-start, seek-next, seek-over}
-use Rattle.theory_outcomes.specs.Outcomes.{outcomeAt, passes, comesSo, passingBehind, passingWith}
+use Rattle.theory_outcomes.specs.Outcomes.{outcomeAt, comesSo, passingBehind, passingWith}
 use Rattle.theory_outcomes.specs.Gathering.{Attained, Gains}
 use Rattle.theory_outcomes.proofs.Ending.{passing-fewer}
 use Rattle.theory_outcomes.proofs.NextSteps.{turns-with, ended-with}

@@ -1,5 +1,4 @@
 -- OUTCOMES GATHERED BY A WALK, in any memory model: a test that outcomes pass while they are not known is replaced by one that fewer pass.
-use Prim.Native.Nat.{ℕ}
 use mathlib.Core.Path.{_≡_}
 use mathlib.Core.Logic.{_⊎_}
 use mathlib.Core.Bool.{Bool, true, false}

@@ -1,11 +1,11 @@
 -- All outcomes behind a prefix as the code gathers them: at the end of a run, with one next step, over the next steps in turn, with marks, and from the
 -- start.
-use Prim.Native.Nat.{ℕ, _+_, _<_, _≤_}
-use mathlib.Core.Path.{_≡_, refl, sym, ap, subst, _∙_}
+use Prim.Native.Nat.{ℕ, _+_, _≤_}
+use mathlib.Core.Path.{_≡_, sym, ap, subst, _∙_}
 use mathlib.Core.Bool.{Bool, true, false, not}
 use mathlib.Core.Option.{none, some}
 use mathlib.Core.List.{List, [], _∷_, _++_}
-use lib.ListN.{length, take, drop}
+use lib.ListN.{take, drop}
 use Rattle.spec_file.specs.Program.{Program}
 use Rattle.spec_schedules.specs.Lists.{find, headOf}
 use Rattle.spec_schedules.specs.Order.{Schedule}
@@ -58,7 +58,7 @@ module _ (code lengths class : List ℕ) (f : Frame) (x : Spot) where
     may : Admitted tso (d .program)
     may = admitted code lengths class (d .threads) (d .groups) x p v (d .stands)
 
-    -- none that is found behind the prefix passes; none with the next step b
+    -- none that is found behind the prefix passes
     abbrev Behind : (Outcome → Bool) → Type 0
     Behind test = none ≡ headOf (passingBehind test (d .program) (x .place .steps) (d .prefix))
 

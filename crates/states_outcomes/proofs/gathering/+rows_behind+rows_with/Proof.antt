@@ -4,24 +4,19 @@ use borrow.Author.Needs.{needs}
 use Prim.Native.Nat.{ℕ, _*_, _<_, _≤_, _-_, _+_}
 use mathlib.Core.Path.{_≡_, refl, sym, ap, subst, _∙_}
 use mathlib.Core.Logic.{⊎-elim}
-use mathlib.Core.Bool.{Bool, true≢false}
-use mathlib.Core.Option.{none}
-use mathlib.Core.List.{List, [], _∷_, _++_}
+use mathlib.Core.Bool.{true≢false}
+use mathlib.Core.List.{[], _∷_, _++_}
 use native.Mathlib.Omega.{arith}
-use lib.ListN.{length, take}
+use lib.ListN.{length}
 use borrow.Fn.Kinds.{In}
 use borrow.Fn.PlainCycle.{Measures, is, falls, and}
 use Rattle.machine.proofs.HeldAsking.{fails-by}
-use Rattle.spec_schedules.specs.Lists.{headOf}
-use Rattle.spec_schedules.specs.Order.{Schedule}
 use Rattle.spec_sc.specs.Graph.{endOf}
-use Rattle.spec_covers.specs.declared.outcome.Outcome.{Outcome}
 use Rattle.search_place.proofs.ReachedStep.{reached-ended, reached-going}
 use Rattle.search_walk.proofs.TriedSteps.{tried-enabled}
 use Rattle.states_key.specs.Stands.{placeOf}
 use Rattle.states_walk.proofs.Numbered.{step-less}
 use Rattle.states_walk.proofs.FirstFound.{one-more}
-use Rattle.states_outcomes.specs.Gathered.{Gathers}
 use Rattle.states_outcomes.proofs.AllRows.{end-rows, asleep-rows, awake-rows, passed-rows, marked-rows, Upto, rows-start, rows-next, rows-passed, rows-over}
 use Rattle.states_outcomes.proofs.gathering.rows_behind.Reads as rows-behind
 use Rattle.states_outcomes.proofs.gathering.rows_behind.Kinds as rows-behind-kinds

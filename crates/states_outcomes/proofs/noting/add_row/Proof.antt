@@ -1,7 +1,7 @@
 -- `add_row` leaves the rows as they are, or writes one behind them.
 use borrow.Author.Needs.{needs}
 use borrow.Author.Tests.{not-true}
-use Prim.Native.Nat.{ℕ, _+_, _*_, _≤_}
+use Prim.Native.Nat.{_+_, _*_, _≤_}
 use mathlib.Core.Path.{_≡_, refl, sym, _∙_}
 use mathlib.Core.Bool.{true≢false}
 use native.Mathlib.Omega.{arith}
