@@ -26,7 +26,8 @@ pub fn all_rows(program: Compiled, m: Setup, frame: Frame, lent: &mut [u64]) -> 
         × (9 * frame .known ≤ frame .cut) × (frame .cut ≤ length (now lent)) ⌝ }
     ensures words { λ r. ⌜ (length (now (lent .exit)) ≡ length (now (lent .entry))) × (9 * r .known ≤ frame .cut) ⌝ }
     ensures rows { λ r. ⌜ (r .full ≡ false → Swept (programOf program) frame (take (frame .cut) (now (lent .entry))) (now (lent .entry))
-        → Gains sc (programOf program) (isNew (take (frame .cut) (now (lent .entry))) (frame .known)) (isNew (take (frame .cut) (now (lent .exit))) (r .known))
+        → Gains sc (programOf program) (isNew (take (frame .cut) (now (lent .entry))) (frame .known))
+        (isNew (take (frame .cut) (now (lent .exit))) (r .known))
         (λ test. none ≡ find (λ s. test (outcomeOf (programOf program) s)) (listOf sc (programOf program)))) ⌝ }
 {
     let code = program.code;
