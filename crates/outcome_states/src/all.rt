@@ -51,10 +51,10 @@ fn queued_rows(program: Compiled, cut: usize, lent: &mut [u64]) -> Gathering
         cut: cut,
         known: 0,
     };
-    let r = tso_outcomes::all_rows(program, m, frame, lent);
+    let rows = tso_outcomes::all_rows(program, m, frame, lent);
     Gathering {
-        all: !r.full,
-        known: r.known,
+        all: !rows.full,
+        known: rows.known,
     }
 }
 
