@@ -21,7 +21,6 @@ pub use all::all_rows;
 pub use first::first_new;
 pub use flagging::flag;
 pub use known::Frame;
-pub use known::row_of;
 pub use noting::Rows;
 pub use noting::add_row;
 pub use noting::note;
