@@ -59,7 +59,7 @@ fn row_by_states(what: &str, first: &[u8], second: &[u8]) {
         best[1] = best[1].min(began.elapsed().as_nanos() as f64);
     }
     println!("{answer:?}");
-    println!("{}", table::row_by(&format!("covers by states, {what}"), best[1], best[0], "for two counts by states", "1.5"));
+    println!("{}", table::row_by(&format!("covers by states, {what}"), best[1], best[0], "for two counts", "1.5"));
 }
 
 pub fn report() {
@@ -71,7 +71,7 @@ pub fn report() {
     let other = program(8, 13, &[5, 11]);
     row("the same against one that keeps another load", &many, &other);
     row_by_states("two programs of 203,490 listed", &many, &many);
-    row_by_states("the same against one that keeps another load", &many, &other);
+    row_by_states("the same against another load kept", &many, &other);
     let far = lines(&(0..6).map(|t| format!("01 1200000000000001 10{:02x}0100000000 ", t + 1)).collect::<String>());
     row("six threads, 720 outcomes, against itself", &far, &far);
 }
