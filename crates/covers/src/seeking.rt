@@ -4,8 +4,8 @@ use crate::lacking::first_lacking;
 use file_decoder::Compiled;
 use listing_model::Model;
 use outcome_lists::Coming;
+use outcome_states::all_rows;
 use outcome_states::first_beyond;
-use outcome_states::gathered;
 use table::clear;
 ghost use mathlib.Core.Path.{_≡_};
 ghost use Prim.Native.Nat.{_≤_};
@@ -16,7 +16,7 @@ ghost use Rattle.spec_across.proofs.Attained.{firstLacking};
 ghost use Rattle.listing_model.specs.ModelOf.{modelOf};
 ghost use Rattle.outcome_lists.specs.FoundOf.{foundOf};
 
-// Each under a model of its own. The outcomes that are gathered are not shown: none has a number of `cut` or more.
+// Each under a model of its own.
 pub(crate) fn lacking_with(
     model: Model,
     first: Compiled,
@@ -30,8 +30,7 @@ pub(crate) fn lacking_with(
         × (foundOf r ≡ firstLacking (modelOf model) (programOf first) (modelOf other) (programOf second)) ⌝ }
 {
     let cut = scratch.len() / 4;
-    let mut shown = [0u8; 1];
-    let g = gathered(model, first, cut, cut, cut, &mut shown, scratch);
+    let g = all_rows(model, first, cut, scratch);
     if !g.all {
         clear(scratch);
         return first_lacking(model, first, other, second);

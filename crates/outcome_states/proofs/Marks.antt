@@ -1,12 +1,11 @@
 -- MARKS IN EITHER MEMORY MODEL: a table that says nothing is true, and marks stay true with one row more; what a walk found, with room for 48 steps.
 use Prim.Native.Nat.{ℕ, _+_, _*_, _≤_}
 use mathlib.Core.Path.{_≡_, refl, sym, ap, subst, _∙_}
-use mathlib.Core.Bool.{Bool, true, false, not, cond, true≢false}
+use mathlib.Core.Bool.{Bool, true, cond}
 use mathlib.Core.Option.{none, some}
 use mathlib.Core.List.{List}
 use lib.ListN.{length, take, drop}
 use lib.Seq.{paste, length-take-le}
-use borrow.Author.Tests.{not-true}
 use Rattle.spec_file.specs.Over.{over}
 use Rattle.spec_file.specs.Program.{Program}
 use Rattle.spec_file.proofs.Over.{take-over}
@@ -32,10 +31,10 @@ use Rattle.states_walk.specs.FoundOf as ScWalk
 use Rattle.states_walk.specs.declared.seeking.First as ScFirst
 use Rattle.tso_states.specs.FoundOf as TsoWalk
 use Rattle.tso_states.specs.declared.seeking.First as TsoFirst
-use Rattle.states_outcomes.specs.Rows.{rowOf, knownRow, isNew}
+use Rattle.states_outcomes.specs.Rows.{rowOf, isNew}
 use Rattle.states_outcomes.specs.Swept.{Silent}
 use Rattle.states_outcomes.specs.declared.known.Frame.{Frame}
-use Rattle.states_outcomes.proofs.Rows.{row-stays}
+use Rattle.states_outcomes.proofs.Rows.{row-adds, adds-fewer}
 use Rattle.states_outcomes.proofs.Parts as ScMarks
 use Rattle.tso_outcomes.proofs.FirstNew as TsoMarks
 use Rattle.outcome_states.specs.Marks.{Marks}
@@ -85,11 +84,7 @@ marks-start TotalStoreOrder p f rows lent silent = TsoMarks.silent-swept p f row
 -- MARKS STAY TRUE with one row more
 module _ (rows : List ℕ) (k : ℕ) (x : Outcome) (e : length (x .memory) ≡ 8) (rows' : List ℕ) (room : 9 * k + 9 ≤ length rows) (is : rows' ≡ paste rows (9 * k) (rowOf x) 9) where
   fewer : (o : Outcome) → length (o .memory) ≡ 8 → isNew rows' (k + 1) o ≡ true → isNew rows k o ≡ true
-  fewer o n q = go (knownRow rows k (rowOf o)) refl
-    where
-      go : (b : Bool) → knownRow rows k (rowOf o) ≡ b → not b ≡ true
-      go true a = absurd (true≢false (sym (row-stays rows k x e room rows' is o n a) ∙ not-true _ q))
-      go false a = refl
+  fewer = adds-fewer rows k x rows' (k + 1) (row-adds rows k x e room rows' is)
 
   pub marks-more : (m : Model) (p : Program) → Admitted (modelOf m) p → (width slots cut : ℕ) (lent lent' : List ℕ) → drop cut lent' ≡ drop cut lent → Marks m p (framed width slots cut k) rows lent
       → Marks m p (framed width slots cut (k + 1)) rows' lent'

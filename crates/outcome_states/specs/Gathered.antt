@@ -49,3 +49,12 @@ pub record Gathers (M : Model) (p : Program) (cut limit from : ℕ) (lent lent' 
   pub exact : r .all ≡ true → Exactly M p (take cut lent') (r .known)
   -- in the output stand the rows of those from the number on
   pub output : out' ≡ over (outcomeRows M p (drop from (take (r .known) (firstsOf M p)))) out
+
+-- what stands before `cut` where outcomes are gathered as a set
+pub record Holds (M : Model) (p : Program) (cut : ℕ) (lent lent' : List ℕ) (r : Gathering) : Type 0 where
+  -- as many words as there were
+  pub words : length lent' ≡ length lent
+  -- the rows stand before `cut`
+  pub room : 9 * r .known ≤ cut
+  -- where all were gathered they are all outcomes
+  pub exact : r .all ≡ true → Exactly M p (take cut lent') (r .known)

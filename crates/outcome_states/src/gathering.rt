@@ -1,5 +1,4 @@
 // All outcomes of a program into lent words, by states: one first listed schedule with a new outcome after the other.
-use crate::keeping::note;
 use crate::keeping::show;
 use crate::seeking::key_width;
 use crate::seeking::next_new;
@@ -8,6 +7,7 @@ use listing_model::Model;
 use outcome_lists::Coming;
 use outcome_lists::outcome_of;
 use states_outcomes::Frame;
+use states_outcomes::note;
 use states_outcomes::unmark;
 use table::slots;
 ghost use mathlib.Core.Path.{_≡_};

@@ -20,7 +20,7 @@ use Rattle.theory_sc.specs.Search.{givenUp}
 use Rattle.theory_sc.proofs.Search.{up-asleep}
 use Rattle.theory_states.proofs.Passing.{Seeks, seek-start, seek-found, seek-next, seek-over}
 use Rattle.theory_sc_key.specs.Key.{Wide}
-use Rattle.theory_outcomes.specs.Outcomes.{passes}
+use Rattle.theory_outcomes.specs.Outcomes.{outcomeAt, passes}
 use Rattle.theory_outcomes.specs.Passing.{passingBehind, passingWith, outcomeKey}
 use Rattle.theory_outcomes.proofs.NextSteps.{none-with, cut-with, live-with, turns-with, ended-with}
 use Rattle.theory_outcomes.proofs.Passing.{passed-over, may-mark}
@@ -58,11 +58,15 @@ unfolding foundOf
 ended-new test p steps v e r = ended-with sc givenUp test p steps v e (r .found) (take (r .steps) (r .schedule))
 
 -- the outcome that a spot holds
+pub spot-outcome : (code lengths class : List ℕ) (threads groups : ℕ) (x : Spot) (p : Program) (v : Schedule) → Stands code lengths class threads groups x p v → (f : Bool) → f ≡ fails (endOf p v) →
+    record { memory = x .memory; fails = f } ≡ outcomeAt sc (endOf p v)
+spot-outcome code lengths class threads groups x p v at f e =
+    let h = at .reached .holds in
+    ap₂ (λ (m : List ℕ) (b : Bool). let o : Outcome = record { memory = m; fails = b } in o) (values-memory (endOf p v) (x .memory) (h .eight) (h .sizes .1) (h .values)) e
+
 pub outcome-here : (code lengths class : List ℕ) (threads groups : ℕ) (x : Spot) (p : Program) (v : Schedule) → Stands code lengths class threads groups x p v → (f : Bool) → f ≡ fails (endOf p v) →
     (test : Outcome → Bool) → test (record { memory = x .memory; fails = f }) ≡ passes sc test (endOf p v)
-outcome-here code lengths class threads groups x p v at f e test =
-    let h = at .reached .holds in
-    ap₂ (λ (m : List ℕ) (b : Bool). test (record { memory = m; fails = b })) (values-memory (endOf p v) (x .memory) (h .eight) (h .sizes .1) (h .values)) e
+outcome-here code lengths class threads groups x p v at f e test = ap test (spot-outcome code lengths class threads groups x p v at f e)
 
 -- ---- with marks
 module _ (p : Program) (w : WellFormed p) (f : Frame) (rows : List ℕ) (wide : Wide (f .width) p) (v : Schedule) (a : Allowed SC (start p) v) (steps : ℕ) (counted : length v ≡ steps)

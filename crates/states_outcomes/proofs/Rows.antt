@@ -19,7 +19,7 @@ use Rattle.table.specs.declared.looking.Found.{Found}
 use Rattle.table.specs.declared.looking.Found.the-variants.{At, Nothing}
 use Rattle.table.proofs.Slot.{said-some, said-is}
 use Rattle.table.proofs.Written.{part-written, part-before}
-use Rattle.states_outcomes.specs.Rows.{told, rowOf, knownRow, isNew}
+use Rattle.states_outcomes.specs.Rows.{told, rowOf, knownRow, isNew, Adds}
 
 -- ---- a row
 pub eight-values : (m : List ℕ) → length m ≡ 8 → getD m 0 0 ∷ getD m 1 0 ∷ getD m 2 0 ∷ getD m 3 0 ∷ getD m 4 0 ∷ getD m 5 0 ∷ getD m 6 0 ∷ getD m 7 0 ∷ [] ≡ m
@@ -149,3 +149,22 @@ module _ (m : List ℕ) (n : ℕ) (o : Outcome) (eight : length (o .memory) ≡ 
           let k : w .0 ≡ n = omega (arith, b, h) in
           let l : length (rowOf x) ≡ length (rowOf o) = omega (arith, e, eight) in
           inr (row-once x o (sym here ∙ ap₂ (λ (i j : ℕ). part m' (9 * i) j) k l ∙ there))
+
+  pub row-adds : Adds m n o m' (n + 1)
+  row-adds = record { known = row-known; stays = row-stays; only = row-new }
+
+-- an outcome that is known already
+pub known-adds : (rows : List ℕ) (n : ℕ) (o : Outcome) → isNew rows n o ≡ false → Adds rows n o rows n
+known-adds rows n o e = record { known = not-false _ e; stays = λ x k q. q; only = λ x k q. inl q }
+
+-- WITH ONE OUTCOME MORE fewer are new, and it alone is so no more
+module _ (rows : List ℕ) (n : ℕ) (o : Outcome) (rows' : List ℕ) (n' : ℕ) (adds : Adds rows n o rows' n') where
+  pub adds-fewer : (x : Outcome) → length (x .memory) ≡ 8 → isNew rows' n' x ≡ true → isNew rows n x ≡ true
+  adds-fewer x e q = go (knownRow rows n (rowOf x)) refl
+    where
+      go : (b : Bool) → knownRow rows n (rowOf x) ≡ b → not b ≡ true
+      go true a = absurd (true≢false (sym (adds .stays x e a) ∙ not-true _ q))
+      go false a = refl
+
+  pub adds-only : (x : Outcome) → length (x .memory) ≡ 8 → isNew rows' n' x ≡ false → (isNew rows n x ≡ false) ⊎ (x ≡ o)
+  adds-only x e q = ⊎-elim (λ (a : knownRow rows n (rowOf x) ≡ true). inl (ap not a)) (λ (i : x ≡ o). inr i) (adds .only x e (not-false _ q))

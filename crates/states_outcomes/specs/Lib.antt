@@ -3,3 +3,5 @@
 pub mod Rows
 -- what a table says while outcomes are looked for; for the code
 pub mod Swept
+-- outcomes gathered by a walk; for the code
+pub mod Gathered

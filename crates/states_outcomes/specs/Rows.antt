@@ -1,8 +1,11 @@
 -- OUTCOMES IN WORDS: a word that says whether something failed and is never 0, then the eight values; nine words each, one behind the other.
 use Prim.Native.Nat.{ℕ, zero, suc, _*_}
+use mathlib.Core.Path.{_≡_}
+use mathlib.Core.Logic.{_⊎_}
 use mathlib.Core.Bool.{Bool, true, false, cond, not, _||_}
 use mathlib.Core.Option.{Option, none, some}
 use mathlib.Core.List.{List, _∷_}
+use lib.ListN.{length}
 use Rattle.spec_covers.specs.declared.outcome.Outcome.{Outcome}
 use Rattle.table.specs.Said.{saidAt}
 
@@ -22,3 +25,9 @@ knownRow rows (suc k) row = knownRow rows k row || told (saidAt (9 * k) 0 rows r
 -- whether an outcome is not
 abbrev pub isNew : List ℕ → ℕ → Outcome → Bool
 isNew rows n o = not (knownRow rows n (rowOf o))
+
+-- rows with this outcome, and with no other one more
+pub record Adds (rows : List ℕ) (n : ℕ) (o : Outcome) (rows' : List ℕ) (n' : ℕ) : Type 0 where
+  pub known : knownRow rows' n' (rowOf o) ≡ true
+  pub stays : (x : Outcome) → length (x .memory) ≡ 8 → knownRow rows n (rowOf x) ≡ true → knownRow rows' n' (rowOf x) ≡ true
+  pub only : (x : Outcome) → length (x .memory) ≡ 8 → knownRow rows' n' (rowOf x) ≡ true → (knownRow rows n (rowOf x) ≡ true) ⊎ (x ≡ o)

@@ -27,7 +27,7 @@ fn sign(failed: bool) -> u64
 }
 
 // An outcome: whether something failed, and the eight values of memory.
-pub fn row_of(memory: [u32; 8], failed: bool) -> [u64; 9]
+pub(crate) fn row_of(memory: [u32; 8], failed: bool) -> [u64; 9]
     ensures { λ r. ⌜ r ≡ rowOf (record { memory = memory; fails = failed }) ⌝ }
 {
     let row = [

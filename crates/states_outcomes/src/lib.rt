@@ -1,4 +1,4 @@
-// The first listed schedule with an outcome that is not among known ones, by states under sequential consistency.
+// The first listed schedule with an outcome that is not among known ones, and all outcomes, by states under sequential consistency.
 
 // Known outcomes in words.
 mod known;
@@ -6,15 +6,24 @@ mod known;
 mod flagging;
 // Known outcomes and marked keys in one lent buffer.
 mod sweeping;
-// The walk.
+// Outcomes written as rows.
+mod noting;
+// The walk to the first outcome that is not known.
 mod walking;
 // The walk of a decoded program.
 mod first;
+// The walk that gathers all outcomes.
+mod gathering;
+// All outcomes of a decoded program.
+mod all;
 
+pub use all::all_rows;
 pub use first::first_new;
 pub use flagging::flag;
 pub use known::Frame;
-pub use known::row_of;
+pub use noting::Rows;
+pub use noting::add_row;
+pub use noting::note;
 pub use sweeping::is_new;
 pub use sweeping::is_swept;
 pub use sweeping::sweep;

@@ -7,6 +7,8 @@ pub mod FlaggedKey
 pub mod Outcomes
 -- in any memory model: what passes with one next step, over the next steps in turn, and where nobody may step
 pub mod NextSteps
+-- in any memory model: outcomes gathered by a walk
+pub mod Gathering
 -- under sequential consistency: the key with whether something failed
 pub mod OutcomeKey
 -- under sequential consistency: marks, and the first of the list

@@ -34,6 +34,15 @@ use Rattle.theory_outcomes.specs.Ending.{endsSo, endsBy}
 use Rattle.theory_outcomes.specs.Outcomes.{outcomeAt, passes, comesSo, flaggedKey, passingBehind, NonePasses}
 use Rattle.theory_outcomes.proofs.Ending.{ends-going, ends-at, ends-law, found-passing, passing-fewer}
 
+-- where fewer outcomes pass, fewer schedules come to one that does
+pub comes-fewer : (M : Model) (p : Program) → ((u : Schedule) → length (M .memoryOf (endOf M p u)) ≡ 8) → (test fewer : Outcome → Bool) →
+    ((o : Outcome) → length (o .memory) ≡ 8 → fewer o ≡ true → test o ≡ true) → (u : Schedule) → comesSo M fewer p u ≡ true → comesSo M test p u ≡ true
+comes-fewer M p eight test fewer less u q = go (ended (M .system) (endOf M p u)) refl
+  where
+    go : (b : Bool) → ended (M .system) (endOf M p u) ≡ b → comesSo M test p u ≡ true
+    go true e = ends-at (M .system) (passes M test) (endOf M p u) e ∙ less _ (eight u) (sym (ends-at (M .system) (passes M fewer) (endOf M p u) e) ∙ q)
+    go false e = absurd (true≢false (sym q ∙ ends-going (M .system) (passes M fewer) (endOf M p u) e))
+
 module _ (M : Model) (lawful : Lawful (M .system)) (rule : Program → Rule M) (p : Program) where
   abbrev S : System
   S = M .system
@@ -83,19 +92,12 @@ module _ (M : Model) (lawful : Lawful (M .system)) (rule : Program → Rule M) (
         (Says : List ℕ → List ℕ → Type 0) → NonePasses M rule test p key Says → NonePasses M rule fewer p key Says
     passes-fewer eight fewer less Says marks x met c s = go (ended S (x .1)) refl
       where
-        comes : (u : Schedule) → comesSo M fewer p u ≡ true → comesSo M test p u ≡ true
-        comes u q = in-end (ended S (endOf M p u)) refl q
-          where
-            in-end : (b : Bool) → ended (M .system) (endOf M p u) ≡ b → comesSo M fewer p u ≡ true → comesSo M test p u ≡ true
-            in-end true e q = ends-at S (passes M test) (endOf M p u) e ∙ less _ (eight u) (sym (ends-at S (passes M fewer) (endOf M p u) e) ∙ q)
-            in-end false e q = absurd (true≢false (sym q ∙ ends-going S (passes M fewer) (endOf M p u) e))
-
         go : (b : Bool) → ended (M .system) (x .1) ≡ b → numbers (M .system) (M .top) (rule p) (endsBy (M .system) (passes M fewer)) (x .0) (x .1) .failing ≡ 0
         go true e = ap (λ (m : Numbers). m .failing) (numbers-ended S (M .top) (rule p) (endsBy S (passes M fewer)) lawful (x .0) (x .1) e)
         go false e =
             let k : ℕ = S .size (x .1) in
             sifted-none (x .0) (x .1) met k (omega arith) fewer e
-            (passing-fewer (comesSo M test p) (comesSo M fewer p) comes (All (x .0) (x .1) met k (omega arith)) (none-sifted (x .0) (x .1) met k (omega arith) test e (marks x met c s)))
+            (passing-fewer (comesSo M test p) (comesSo M fewer p) (comes-fewer M p eight test fewer less) (All (x .0) (x .1) met k (omega arith)) (none-sifted (x .0) (x .1) met k (omega arith) test e (marks x met c s)))
 
   -- at a prefix of so many steps, behind which somebody may step
   module _ (key : Schedule → M .system .State → List ℕ) (test : Outcome → Bool) (bound : M .system .size (M .start p) ≤ M .steps)

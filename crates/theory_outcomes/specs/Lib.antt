@@ -3,5 +3,7 @@
 pub mod Ending
 -- in any memory model: what is found behind a position, and a key with whether something failed
 pub mod Outcomes
+-- in any memory model: outcomes gathered by a walk
+pub mod Gathering
 -- the same under sequential consistency
 pub mod Passing

@@ -18,7 +18,7 @@ use Rattle.theory_search.proofs.Found.{low-none}
 use Rattle.theory_states.proofs.Turns.{Seeking, seeking-start, seeking-found, seeking-none, seeking-over}
 use Rattle.theory_tso.specs.Search.{givenUp}
 use Rattle.theory_tso_key.specs.Words.{Wide}
-use Rattle.theory_outcomes.specs.Outcomes.{passes}
+use Rattle.theory_outcomes.specs.Outcomes.{outcomeAt, passes}
 use Rattle.theory_outcomes.proofs.NextSteps.{none-with, cut-with, live-with, turns-with, ended-with}
 use Rattle.theory_tso_outcomes.specs.Passing.{passingBehind, passingWith, outcomeKey}
 use Rattle.theory_tso_outcomes.proofs.Passing.{passes-nothing, passed-over, may-mark}
@@ -51,7 +51,7 @@ module _ (test : Outcome → Bool) (p : Program) (steps : ℕ) (v : Schedule) (b
   pub awake-new : tried p v b ≡ true → Sleeps p v b false → (k : ℕ) → k ≡ steps + 1 → passingBehind test p k (v ++ (b ∷ [])) ≡ passingWith test p steps v b
   awake-new is e = live-with tso givenUp test p steps v b (tried-enabled p v b is) (up-not p v b is e)
 
-  untried-new : tried p v b ≡ false → none ≡ headOf (passingWith test p steps v b)
+  pub untried-new : tried p v b ≡ false → none ≡ headOf (passingWith test p steps v b)
   untried-new e = none-with tso givenUp test p steps v b (untried-none p v b false steps none e)
 
 -- ---- where nobody may step: the prefix, if its outcome passes
@@ -61,12 +61,16 @@ unfolding foundOf
 ended-new test p steps v e r = ended-with tso givenUp test p steps v e (r .found) (take (r .steps) (r .schedule))
 
 -- the outcome that a spot holds
+pub spot-outcome : (code lengths class : List ℕ) (threads groups : ℕ) (x : Spot) (p : Program) (v : Schedule) → Stands code lengths class threads groups x p v → (f : Bool) → f ≡ fails (endOf p v) →
+    record { memory = x .place .memory; fails = f } ≡ outcomeAt tso (endOf p v)
+unfolding memoryOf
+spot-outcome code lengths class threads groups x p v at f e =
+    let h = at .reached .holds .core in
+    ap₂ (λ (m : List ℕ) (b : Bool). let o : Outcome = record { memory = m; fails = b } in o) (values-memory (withoutQueues (endOf p v)) (x .place .memory) (h .eight) (h .sizes .1) (h .values)) e
+
 pub outcome-here : (code lengths class : List ℕ) (threads groups : ℕ) (x : Spot) (p : Program) (v : Schedule) → Stands code lengths class threads groups x p v → (f : Bool) → f ≡ fails (endOf p v) →
     (test : Outcome → Bool) → test (record { memory = x .place .memory; fails = f }) ≡ passes tso test (endOf p v)
-unfolding memoryOf
-outcome-here code lengths class threads groups x p v at f e test =
-    let h = at .reached .holds .core in
-    ap₂ (λ (m : List ℕ) (b : Bool). test (record { memory = m; fails = b })) (values-memory (withoutQueues (endOf p v)) (x .place .memory) (h .eight) (h .sizes .1) (h .values)) e
+outcome-here code lengths class threads groups x p v at f e test = ap test (spot-outcome code lengths class threads groups x p v at f e)
 
 -- ---- with marks
 module _ (p : Program) (m : Admitted tso p) (f : Frame) (rows : List ℕ) (wide : Wide (f .width) p) (v : Schedule) (a : Allowed TSO (start p) v) (steps : ℕ) (counted : length v ≡ steps)

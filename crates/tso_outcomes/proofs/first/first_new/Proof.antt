@@ -1,30 +1,14 @@
 -- `first_new` seeks from the start.
 use borrow.Author.Needs.{needs}
 use Prim.Native.Nat.{ℕ, _≤_}
-use mathlib.Core.Path.{_≡_, sym, subst, _∙_}
-use mathlib.Core.List.{[]}
+use mathlib.Core.Path.{sym, subst, _∙_}
 use lib.ListN.{take}
 use Rattle.file_decoder.specs.Compiled.{programOf}
-use Rattle.file_decoder.specs.declared.file.Compiled.{Compiled}
-use Rattle.theory_tso_key.specs.Words.{Wide}
 use Rattle.theory_tso_outcomes.proofs.Passing.{passing-first}
 use Rattle.states_outcomes.specs.Rows.{isNew}
-use Rattle.tso_states.specs.Made.{Made}
-use Rattle.tso_states.specs.Position.{Position}
-use Rattle.tso_states.specs.declared.answering.Setup.{Setup}
+use Rattle.tso_outcomes.proofs.FromStart.{from-start}
 use Rattle.tso_outcomes.proofs.first.first_new.Statement.{statement}
 use Rattle.tso_outcomes.proofs.first.first_new.Tie as tie
-
--- where the walk starts
-abbrev from-start : (program : Compiled) (m : Setup) → Made program m → (n : ℕ) → n ≡ m .width → Position (program .code) (program .lengths) (m .class) n (m .spot)
-from-start program m made n e = record {
-  threads = program .threads;
-  groups = program .groups;
-  program = programOf program;
-  prefix = [];
-  stands = made .stands;
-  wide = subst (λ (i : ℕ). Wide i (programOf program)) (sym e) (made .wide);
-}
 
 new-behind-requires : tie.Need-new-behind-requires
 new-behind-requires c κs =

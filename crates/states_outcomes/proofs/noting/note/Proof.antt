@@ -5,10 +5,10 @@ use mathlib.Core.Path.{_≡_, sym}
 use native.Mathlib.Omega.{arith}
 use lib.ListN.{length}
 use lib.Seq.{length-take-le}
 use Rattle.states_outcomes.specs.Rows.{rowOf}
-use Rattle.outcome_states.proofs.Noted.{noted}
-use Rattle.outcome_states.proofs.keeping.note.Statement.{statement}
-use Rattle.outcome_states.proofs.keeping.note.Tie as tie
+use Rattle.states_outcomes.proofs.Noted.{noted}
+use Rattle.states_outcomes.proofs.noting.note.Statement.{statement}
+use Rattle.states_outcomes.proofs.noting.note.Tie as tie
 
 slice-aggregate-write : tie.Need-slice-aggregate-write
 slice-aggregate-write c = sym (length-take-le (c .before .before .before .before .args .cut) (c .before .before .before .before .args .lent .now) (c .before .before .before .before .pre .1))
