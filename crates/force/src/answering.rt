@@ -12,7 +12,9 @@ use search_place::is_in;
 use states_live::live_masks;
 use states_live::width;
 use states_memory::Shape;
+use states_memory::Tally;
 use states_walk::First;
+use states_walk::counted;
 use states_walk::first_failing;
 use table::clear;
 use table::slots;
@@ -25,11 +27,12 @@ ghost use Rattle.spec_file.specs.Program.{Program};
 ghost use Rattle.spec_file.specs.WellFormed.{WellFormed};
 ghost use Rattle.spec_schedules.specs.Lists.{headOf};
 ghost use Rattle.spec_schedules.specs.Sets.{has};
+ghost use Rattle.spec_model.specs.Answers.{Counts};
 ghost use Rattle.spec_model.specs.Search.{sought};
 ghost use Rattle.spec_sc.specs.Sequential.{sc};
 ghost use Rattle.file_decoder.specs.Compiled.{programOf};
 ghost use Rattle.states_walk.specs.FoundOf.{foundOf};
-ghost use Rattle.theory_game.specs.OneSide.{byFailing};
+ghost use Rattle.theory_game.specs.OneSide.{byFailing, byCounts};
 ghost use Rattle.spec_force.specs.Game.{hostile};
 ghost use Rattle.spec_force.specs.Forced.{Answer, ForcedIn, Forced};
 ghost use Rattle.spec_calls.specs.Scratch.{forceScratch};
@@ -190,12 +193,26 @@ fn by_first(v: First) -> ForceAnswer
     ForceAnswer::Hostile(schedule[0] + 1)
 }
 
-// Who can force, by the list where all threads are hostile, else by the game; with a table as `played`.
+// What the counts say where no thread is hostile: the hostile side can exactly where every listed schedule fails, and has no step.
+fn by_counts(n: Tally) -> ForceAnswer
+    ensures { λ r. ⌜ ((c : Counts) → n .listed ≡ c .listed → n .failing ≡ c .failed → r ≡ answerOf (byCounts c)) ⌝ }
+{
+    if n.listed == n.failing {
+        return ForceAnswer::Hostile(0);
+    }
+    ForceAnswer::Friendly
+}
+
+// Who can force, by the counts where no thread is hostile, by the list where all are, else by the game; with a table as `played`.
 fn answered(program: Compiled, set: u8, table: &mut [u64]) -> ForceAnswer
     requires { ⌜ WellFormed (programOf program) ⌝ }
     ensures answer { λ r. ⌜ ((a : Answer) × ForcedIn set (programOf program) a × (r ≡ answerOf a)) ⌝ }
     ensures zeros { λ r. ⌜ now (table .exit) ≡ replicate (length (now (table .entry))) 0 ⌝ }
 {
+    if set == 0 {
+        let n = counted(program, table);
+        return by_counts(n);
+    }
     if !owns_all(set, program.threads) {
         let r = played(program, set, table);
         return r;
