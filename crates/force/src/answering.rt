@@ -7,8 +7,11 @@ use force_moves::is_silent;
 use force_moves::least_winning;
 use force_moves::tails_of;
 use machine::Machine;
+use machine::fails;
 use machine::started;
 use search_place::is_in;
+use search_tail::ROW;
+use search_walk::listed_rows;
 use states_live::live_masks;
 use states_live::width;
 use states_memory::Shape;
@@ -193,6 +196,26 @@ fn by_first(v: First) -> ForceAnswer
     ForceAnswer::Hostile(schedule[0] + 1)
 }
 
+// Whether to ask the counts before the game where no thread is hostile: with a table of few words, and where the first listed schedule fails, which is the
+// play that the game tries first, but nothing fails before the first step. Either way the answer is the same.
+fn asks_counts(program: Compiled, words: usize) -> bool
+    requires { ⌜ WellFormed (programOf program) ⌝ }
+{
+    if FEW <= words {
+        return false;
+    }
+    let code = program.code;
+    let lengths = program.lengths;
+    let starting = program.starting;
+    if fails(started(&code, &lengths, program.threads, starting)) {
+        return false;
+    }
+    let bound = [0u8; 1];
+    let mut row = [0u8; ROW];
+    listed_rows(program, false, &bound, false, &mut row);
+    row[1] == 1
+}
+
 // What the counts say where no thread is hostile: the hostile side can exactly where every listed schedule fails, and has no step.
 fn by_counts(n: Tally) -> ForceAnswer
     ensures { λ r. ⌜ ((c : Counts) → n .listed ≡ c .listed → n .failing ≡ c .failed → r ≡ answerOf (byCounts c)) ⌝ }
@@ -203,15 +226,17 @@ fn by_counts(n: Tally) -> ForceAnswer
     ForceAnswer::Friendly
 }
 
-// Who can force, by the counts where no thread is hostile, by the list where all are, else by the game; with a table as `played`.
+// Who can force: by the list where all threads are hostile, where none is by the counts, if these are asked, else by the game; with a table as `played`.
 fn answered(program: Compiled, set: u8, table: &mut [u64]) -> ForceAnswer
     requires { ⌜ WellFormed (programOf program) ⌝ }
     ensures answer { λ r. ⌜ ((a : Answer) × ForcedIn set (programOf program) a × (r ≡ answerOf a)) ⌝ }
     ensures zeros { λ r. ⌜ now (table .exit) ≡ replicate (length (now (table .entry))) 0 ⌝ }
 {
     if set == 0 {
-        let n = counted(program, table);
-        return by_counts(n);
+        if asks_counts(program, table.len()) {
+            let n = counted(program, table);
+            return by_counts(n);
+        }
     }
     if !owns_all(set, program.threads) {
         let r = played(program, set, table);
