@@ -45,6 +45,9 @@ ghost use Rattle.force.specs.Answered.{answerOf, FirstMissing};
 // A table of fewer words holds too few states to be worth it.
 const FEW: usize = 256;
 
+// Where a schedule has more steps a list may be too long to be walked without a table.
+const MANY: u8 = 16;
+
 pub enum ForceAnswer {
     // The hostile side can: 0 where it has no step before the first one, else its least first step that keeps the win, plus 1.
     Hostile(u8),
@@ -196,8 +199,8 @@ fn by_first(v: First) -> ForceAnswer
     ForceAnswer::Hostile(schedule[0] + 1)
 }
 
-// Whether to ask the counts before the game where no thread is hostile: with a table of few words, and where the first listed schedule fails, which is the
-// play that the game tries first, but nothing fails before the first step. Either way the answer is the same.
+// Whether to ask the counts before the game where no thread is hostile: with a table of few words, and where the first listed schedule, which is the play
+// that the game tries first, fails and has not many steps, but nothing fails before the first one. Either way the answer is the same.
 fn asks_counts(program: Compiled, words: usize) -> bool
     requires { ⌜ WellFormed (programOf program) ⌝ }
 {
@@ -213,6 +216,9 @@ fn asks_counts(program: Compiled, words: usize) -> bool
     let bound = [0u8; 1];
     let mut row = [0u8; ROW];
     listed_rows(program, false, &bound, false, &mut row);
+    if MANY < row[0] {
+        return false;
+    }
     row[1] == 1
 }
 

@@ -11,4 +11,4 @@ started-requires c κs = let entry = c .before .before .before .before .before .
 pub asks-counts-spec : {M : Type 1} → statement M
 asks-counts-spec =
     tie.close
-    (tie.spec (λ c. search needs) started-requires (λ c κs. search needs) (λ c. search needs) (λ c. search needs) (λ c. search needs) (λ c κs. search needs) (λ c. search needs) (λ c. search needs))
+    (tie.spec (λ c. search needs) started-requires (λ c κs. search needs) (λ c. search needs) (λ c. search needs) (λ c. search needs) (λ c κs. search needs) (λ c. search needs) (λ c. search needs) (λ c. search needs) (λ c. search needs))
