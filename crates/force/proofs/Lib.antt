@@ -7,3 +7,5 @@ pub mod Forcing
 pub mod Starting
 -- where all threads are hostile
 pub mod FirstFailing
+-- where none is hostile
+pub mod NoneHostile

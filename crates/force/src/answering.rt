@@ -7,12 +7,17 @@ use force_moves::is_silent;
 use force_moves::least_winning;
 use force_moves::tails_of;
 use machine::Machine;
+use machine::fails;
 use machine::started;
 use search_place::is_in;
+use search_tail::ROW;
+use search_walk::listed_rows;
 use states_live::live_masks;
 use states_live::width;
 use states_memory::Shape;
+use states_memory::Tally;
 use states_walk::First;
+use states_walk::counted;
 use states_walk::first_failing;
 use table::clear;
 use table::slots;
@@ -25,11 +30,12 @@ ghost use Rattle.spec_file.specs.Program.{Program};
 ghost use Rattle.spec_file.specs.WellFormed.{WellFormed};
 ghost use Rattle.spec_schedules.specs.Lists.{headOf};
 ghost use Rattle.spec_schedules.specs.Sets.{has};
+ghost use Rattle.spec_model.specs.Answers.{Counts};
 ghost use Rattle.spec_model.specs.Search.{sought};
 ghost use Rattle.spec_sc.specs.Sequential.{sc};
 ghost use Rattle.file_decoder.specs.Compiled.{programOf};
 ghost use Rattle.states_walk.specs.FoundOf.{foundOf};
-ghost use Rattle.theory_game.specs.OneSide.{byFailing};
+ghost use Rattle.theory_game.specs.OneSide.{byFailing, byCounts};
 ghost use Rattle.spec_force.specs.Game.{hostile};
 ghost use Rattle.spec_force.specs.Forced.{Answer, ForcedIn, Forced};
 ghost use Rattle.spec_calls.specs.Scratch.{forceScratch};
@@ -38,6 +44,9 @@ ghost use Rattle.force.specs.Answered.{answerOf, FirstMissing};
 
 // A table of fewer words holds too few states to be worth it.
 const FEW: usize = 256;
+
+// Where a schedule has more steps a list may be too long to be walked without a table.
+const MANY: u8 = 16;
 
 pub enum ForceAnswer {
     // The hostile side can: 0 where it has no step before the first one, else its least first step that keeps the win, plus 1.
@@ -190,12 +199,51 @@ fn by_first(v: First) -> ForceAnswer
     ForceAnswer::Hostile(schedule[0] + 1)
 }
 
-// Who can force, by the list where all threads are hostile, else by the game; with a table as `played`.
+// Whether to ask the counts before the game where no thread is hostile: with a table of few words, and where the first listed schedule, which is the play
+// that the game tries first, fails and has not many steps, but nothing fails before the first one. Either way the answer is the same.
+fn asks_counts(program: Compiled, words: usize) -> bool
+    requires { ⌜ WellFormed (programOf program) ⌝ }
+{
+    if FEW <= words {
+        return false;
+    }
+    let code = program.code;
+    let lengths = program.lengths;
+    let starting = program.starting;
+    if fails(started(&code, &lengths, program.threads, starting)) {
+        return false;
+    }
+    let bound = [0u8; 1];
+    let mut row = [0u8; ROW];
+    listed_rows(program, false, &bound, false, &mut row);
+    if MANY < row[0] {
+        return false;
+    }
+    row[1] == 1
+}
+
+// What the counts say where no thread is hostile: the hostile side can exactly where every listed schedule fails, and has no step.
+fn by_counts(n: Tally) -> ForceAnswer
+    ensures { λ r. ⌜ ((c : Counts) → n .listed ≡ c .listed → n .failing ≡ c .failed → r ≡ answerOf (byCounts c)) ⌝ }
+{
+    if n.listed == n.failing {
+        return ForceAnswer::Hostile(0);
+    }
+    ForceAnswer::Friendly
+}
+
+// Who can force: by the list where all threads are hostile, where none is by the counts, if these are asked, else by the game; with a table as `played`.
 fn answered(program: Compiled, set: u8, table: &mut [u64]) -> ForceAnswer
     requires { ⌜ WellFormed (programOf program) ⌝ }
     ensures answer { λ r. ⌜ ((a : Answer) × ForcedIn set (programOf program) a × (r ≡ answerOf a)) ⌝ }
     ensures zeros { λ r. ⌜ now (table .exit) ≡ replicate (length (now (table .entry))) 0 ⌝ }
 {
+    if set == 0 {
+        if asks_counts(program, table.len()) {
+            let n = counted(program, table);
+            return by_counts(n);
+        }
+    }
     if !owns_all(set, program.threads) {
         let r = played(program, set, table);
         return r;

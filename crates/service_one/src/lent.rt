@@ -19,7 +19,8 @@ pub fn record_at(callers: &[Caller], k: usize) -> Caller
 pub fn put_record(callers: &mut [Caller], k: usize, c: Caller)
     ensures { λ r. ⌜ now (callers .exit) ≡ set (now (callers .entry)) k c ⌝ }
 {
-    if k < callers.len() {
+    let n = callers.len();
+    if k < n {
         callers[k] = c;
     }
 }

@@ -9,3 +9,5 @@ pub mod Seen
 pub mod Winners
 -- a side that has all threads; where all are hostile the answer goes by the list
 pub mod OneSide
+-- where none is hostile the answer goes by the counts
+pub mod NoneHostile

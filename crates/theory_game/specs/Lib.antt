@@ -5,5 +5,5 @@ pub mod Alike
 pub mod Wins
 -- a program's game: the key of a state, and what a table may say of it
 pub mod Winners
--- where all threads are hostile, the answer by the list
+-- where all threads are hostile, the answer by the list; where none is, by its counts
 pub mod OneSide
