@@ -4,7 +4,9 @@
 mod stepping;
 // The last running thread.
 mod alone;
-// How many are listed, and how many of these fail.
+// How many are listed, and how many of these fail, without keys.
+mod plain;
+// The same with keys.
 mod counting;
 // The first that fails.
 mod seeking;
