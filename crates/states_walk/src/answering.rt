@@ -1,5 +1,7 @@
 // Count and first failing schedule of a decoded program, with a lent table: it is cleared first, whatever it holds, and left with zeros.
 use crate::counting::behind;
+use crate::plain::one;
+use crate::plain::tally_behind;
 use crate::seeking::First;
 use crate::seeking::first_behind;
 use file_decoder::Compiled;
@@ -105,11 +107,36 @@ pub fn made(program: Compiled) -> Setup
     }
 }
 
-// How many are listed, and how many of these fail, modulo 2^64.
-pub fn counted(program: Compiled, table: &mut [u64]) -> Tally
+// A program of at most so many accesses is counted without keys: that takes less time than the keys and a table cleared before.
+const SMALL: usize = 8;
+
+// The numbers of a program, without keys.
+fn counted_plainly(program: Compiled) -> Tally
     requires { ⌜ WellFormed (programOf program) ⌝ }
+    ensures { λ r. ⌜ (r .listed ≡ countOf sc (programOf program) .listed) × (r .failing ≡ countOf sc (programOf program) .failed) ⌝ }
+{
+    let code = program.code;
+    let lengths = program.lengths;
+    let declared = program.class;
+    let starting = program.starting;
+    let class = known_lines(declared, program.groups);
+    let left = left_sets(&code, &lengths);
+    let start = begun(&code, &lengths, program.threads, starting);
+    let x = first_spot(start);
+    let threads = x.threads;
+    let failed = some_failed(threads);
+    if x.live == 0 {
+        return charged(failed, one());
+    }
+    let n = tally_behind(&code, &lengths, &class, &left, x);
+    charged(failed, n)
+}
+
+// The numbers of a program, with keys.
+fn counted_by_keys(program: Compiled, table: &mut [u64]) -> Tally
+    requires { ⌜ WellFormed (programOf program) ⌝ }
+    ensures words { λ r. ⌜ length (now (table .exit)) ≡ length (now (table .entry)) ⌝ }
     ensures numbers { λ r. ⌜ (r .listed ≡ countOf sc (programOf program) .listed) × (r .failing ≡ countOf sc (programOf program) .failed) ⌝ }
-    ensures zeros { λ r. ⌜ now (table .exit) ≡ replicate (length (now (table .entry))) 0 ⌝ }
 {
     let m = made(program);
     let code = program.code;
@@ -122,8 +149,23 @@ pub fn counted(program: Compiled, table: &mut [u64]) -> Tally
     let shape = shape_of(m.width, m.accesses, table.len(), 2);
     clear(table);
     let n = behind(&code, &lengths, &class, &left, &masks, shape, x, table);
-    clear(table);
     charged(some_failed(threads), n)
+}
+
+// How many are listed, and how many of these fail, modulo 2^64.
+pub fn counted(program: Compiled, table: &mut [u64]) -> Tally
+    requires { ⌜ WellFormed (programOf program) ⌝ }
+    ensures numbers { λ r. ⌜ (r .listed ≡ countOf sc (programOf program) .listed) × (r .failing ≡ countOf sc (programOf program) .failed) ⌝ }
+    ensures zeros { λ r. ⌜ now (table .exit) ≡ replicate (length (now (table .entry))) 0 ⌝ }
+{
+    let code = program.code;
+    if accesses(&code) <= SMALL {
+        clear(table);
+        return counted_plainly(program);
+    }
+    let n = counted_by_keys(program, table);
+    clear(table);
+    n
 }
 
 // The first listed schedule that fails.
