@@ -7,5 +7,7 @@ pub mod Turns
 pub mod LastNumbers
 -- the first failing schedule with one next step, and what marks say of it
 pub mod FirstFound
+-- the first failing schedule over the next steps in turn, without marks
+pub mod SoughtTurns
 -- from the start, with a table that says nothing: the count of the list, and its first failing member
 pub mod FromStart

@@ -8,7 +8,9 @@ mod alone;
 mod plain;
 // The same with keys.
 mod counting;
-// The first that fails.
+// The first that fails, without keys.
+mod seeking_plainly;
+// The same with keys.
 mod seeking;
 // Both of a decoded program, with a lent table.
 mod answering;
