@@ -21,11 +21,11 @@
  *    61440   tarczolin_serve, tarczolin_covers_with
  *    65536   tarczolin_tso_start, tarczolin_tso_continue, tarczolin_tso_violation, tarczolin_tso_count, tarczolin_tso_rows,
  *    65536   tarczolin_tso_rows_after
- *    73728   tarczolin_outcomes
+ *    69632   tarczolin_violation_with
+ *    73728   tarczolin_outcomes, tarczolin_kth
  *    77824   tarczolin_robust
- *    81920   tarczolin_covers
- *    90112   tarczolin_count_with, tarczolin_kth, tarczolin_rank, tarczolin_force, tarczolin_force_with
- *    94208   tarczolin_violation_with
+ *    81920   tarczolin_covers, tarczolin_count_with, tarczolin_rank
+ *    90112   tarczolin_force, tarczolin_force_with
  *   126976   tarczolin_tso_count_with
  *   139264   tarczolin_tso_outcomes
  *   147456   tarczolin_covers_models

@@ -32,7 +32,7 @@ pub fn kth(program: Compiled, k: u64, table: &mut [u64]) -> First
     let left = m.left;
     let masks = m.masks;
     let x = m.spot;
-    let shape = shape_of(m.width, m.accesses, table.len(), 2);
+    let shape = shape_of(m.width, m.deep, table.len(), 2);
     clear(table);
     let r = kth_behind(&code, &lengths, &class, &left, &masks, shape, x, table, k);
     clear(table);
@@ -52,7 +52,7 @@ pub fn rank(program: Compiled, schedule: &[u8], table: &mut [u64]) -> u64
     let left = m.left;
     let masks = m.masks;
     let x = m.spot;
-    let shape = shape_of(m.width, m.accesses, table.len(), 2);
+    let shape = shape_of(m.width, m.deep, table.len(), 2);
     clear(table);
     let n = rank_behind(
         &code,

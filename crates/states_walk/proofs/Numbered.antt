@@ -89,6 +89,12 @@ module _ (p : Program) (v : Schedule) (t : ℕ) where
       ∙ ap (λ (τ : State). threadOf τ t .local .failed) (run-snoc SC (start p) v t)
       ∙ ap (λ (h : Thread). h .local .failed) (thread-own (endOf p v) t (enabled-range (endOf p v) t ok))
 
+  -- behind its step, at the place y, one step fewer is left
+  pub reached-less : (code lengths class : List ℕ) (threads groups : ℕ) (y : Place) → At code lengths class threads groups y p (v ++ (t ∷ [])) → enabled (endOf p v) t ≡ true
+      → (x : Place) → At code lengths class threads groups x p v → 24 - y .steps < 24 - x .steps
+  reached-less code lengths class threads groups y next ok x at =
+      omega (arith, next .counted, at .counted, length-append v (t ∷ []), reached-room code lengths class threads groups x p v at t ok)
+
   -- behind its step, at the spot y
   module _ (code lengths class : List ℕ) (threads groups : ℕ) (y : Spot) (next : Stands code lengths class threads groups y p (v ++ (t ∷ []))) (ok : enabled (endOf p v) t ≡ true) where
     -- the step failed exactly if its thread has
@@ -97,8 +103,7 @@ module _ (p : Program) (v : Schedule) (t : ℕ) where
 
     -- one step fewer is left
     pub step-less : (x : Spot) → Stands code lengths class threads groups x p v → 24 - y .steps < 24 - x .steps
-    step-less x at =
-        omega (arith, next .reached .counted, at .reached .counted, length-append v (t ∷ []), reached-room code lengths class threads groups (placeOf x) p v (at .reached) t ok)
+    step-less x at = reached-less code lengths class threads groups (placeOf y) (next .reached) ok (placeOf x) (at .reached)
 
 -- ---- with a table
 module _ (p : Program) (w : WellFormed p) (n slots : ℕ) (wide : Wide n p) (v : Schedule) (a : Allowed SC (start p) v) where

@@ -1,6 +1,8 @@
 // How many listed schedules there are behind a prefix, and how many of these fail behind it, modulo 2^64. What is known of a key is looked up
 // before the search goes on behind it, and kept after, unless few steps are left: then the search takes less time than a key.
 use crate::alone::ran_out;
+use crate::plain::one;
+use crate::plain::tally_behind;
 use crate::stepping::advanced;
 use file_lines::wide;
 use file_rows::Code;
@@ -32,16 +34,6 @@ ghost use Rattle.states_live.specs.Live.{Live};
 ghost use Rattle.states_key.specs.Stands.{Stands};
 ghost use Rattle.theory_states.specs.Wrapped.{Wrapped};
 ghost use Rattle.states_walk.specs.Known.{Numbered, numbersAt, numbersBy};
-
-// One schedule, which does not fail.
-fn one() -> Tally
-    ensures { λ r. ⌜ (r .listed ≡ 1) × (r .failing ≡ 0) ⌝ }
-{
-    Tally {
-        listed: 1,
-        failing: 0,
-    }
-}
 
 // Of those with t, which is tried, as the next step.
 pub fn visit(
@@ -81,7 +73,7 @@ pub fn visit(
         return charged(end.failed, one());
     }
     if shape.deep <= y.steps {
-        let few = summed(code, lengths, class, left, masks, shape, y, table);
+        let few = tally_behind(code, lengths, class, left, y);
         return charged(k.failed, few);
     }
     let n = behind(code, lengths, class, left, masks, shape, y, table);
@@ -147,7 +139,7 @@ pub(crate) fn behind(
         return one();
     }
     if shape.deep <= x.steps {
-        return summed(code, lengths, class, left, masks, shape, x, table);
+        return tally_behind(code, lengths, class, left, x);
     }
     let k = key(lengths, class, masks, x);
     let width = shape.width;

@@ -4,9 +4,13 @@
 mod stepping;
 // The last running thread.
 mod alone;
-// How many are listed, and how many of these fail.
+// How many are listed, and how many of these fail, without keys.
+mod plain;
+// The same with keys.
 mod counting;
-// The first that fails.
+// The first that fails, without keys.
+mod seeking_plainly;
+// The same with keys.
 mod seeking;
 // Both of a decoded program, with a lent table.
 mod answering;

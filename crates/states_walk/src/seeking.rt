@@ -1,5 +1,6 @@
 // The first listed schedule behind a prefix that fails. A key behind which nothing fails is marked, and passed over where nothing has failed yet.
 use crate::alone::ran_out;
+use crate::seeking_plainly::plain_among;
 use crate::stepping::advanced;
 use file_lines::wide;
 use file_rows::Code;
@@ -53,7 +54,7 @@ pub fn nothing() -> First
 }
 
 // The schedule of a run to the end, if something has failed.
-fn first_of(end: Runner) -> First
+pub(crate) fn first_of(end: Runner) -> First
     ensures { λ r. ⌜ (r .steps ≡ end .steps) × (foundOf r ≡ cond (end .failed) (some (take (end .steps) (end .schedule))) none) ⌝ }
 {
     let schedule = end.schedule;
@@ -109,10 +110,6 @@ fn first_with(
         let last = runner_at(y.threads[wide(s)], y.memory, y.schedule, y.steps, failed);
         let end = ran_out(code, lengths, last, s);
         let r = first_of(end);
-        return r;
-    }
-    if shape.deep <= y.steps {
-        let r = first_among(code, lengths, class, left, masks, shape, y, table);
         return r;
     }
     let r = first_behind(code, lengths, class, left, masks, shape, y, table);
@@ -184,7 +181,7 @@ pub(crate) fn first_behind(
         };
     }
     if !is_keyed(shape, x.steps, failed) {
-        let r = first_among(code, lengths, class, left, masks, shape, x, table);
+        let r = plain_among(code, lengths, class, left, x);
         return r;
     }
     let k = key(lengths, class, masks, x);

@@ -44,7 +44,8 @@ use Rattle.states_memory.proofs.recall.Reads as recall-reads
 use Rattle.states_memory.proofs.added.Reads as added-reads
 use Rattle.states_memory.proofs.charged.Reads as charged-reads
 use Rattle.states_walk.proofs.alone.ran_out.Reads as ran-out-reads
-use Rattle.states_walk.proofs.counting.one.Reads as one-reads
+use Rattle.states_walk.proofs.plain.one.Reads as one-reads
+use Rattle.states_walk.proofs.plain.tally_behind.Reads as tally-behind-reads
 use Rattle.states_walk.proofs.stepping.advanced.Reads as advanced-reads
 use Rattle.states_walk.proofs.counting.+behind+summed+visit.{statement}
 use Rattle.states_walk.proofs.counting.+behind+summed+visit.Tie.{close}
@@ -78,13 +79,13 @@ abbrev visit-below : ℕ → In 6 visit-kinds.ps
 visit-below t = and 6 visit-kinds.ps (falls 6 visit-kinds.ps _<_ μ-visit t) visit.Pre
 
 abbrev behind-callees : ℕ → behind-lts.Claims
-behind-callees t = (one-reads.Asked, one-reads.Learnt, summed-below t, summed.Post, key-reads.Asked, key-reads.Learnt, recall-reads.Asked, recall-reads.Learnt, keep-reads.Asked, keep-reads.Learnt)
+behind-callees t = (one-reads.Asked, one-reads.Learnt, tally-behind-reads.Asked, tally-behind-reads.Learnt, key-reads.Asked, key-reads.Learnt, recall-reads.Asked, recall-reads.Learnt, summed-below t, summed.Post, keep-reads.Asked, keep-reads.Learnt)
 
 abbrev summed-callees : ℕ → summed-lts.Claims
 summed-callees t = (is-tried-reads.Asked, is-tried-reads.Learnt, visit-below t, visit.Post, added-reads.Asked, added-reads.Learnt)
 
 abbrev visit-callees : ℕ → visit-lts.Claims
-visit-callees t = (advanced-reads.Asked, advanced-reads.Learnt, some-asleep-reads.Asked, some-asleep-reads.Learnt, wide-reads.Asked, wide-reads.Learnt, last-runner-reads.Asked, last-runner-reads.Learnt, runner-at-reads.Asked, runner-at-reads.Learnt, ran-out-reads.Asked, ran-out-reads.Learnt, one-reads.Asked, one-reads.Learnt, charged-reads.Asked, charged-reads.Learnt, summed-below t, summed.Post, behind-below t, behind.Post)
+visit-callees t = (advanced-reads.Asked, advanced-reads.Learnt, some-asleep-reads.Asked, some-asleep-reads.Learnt, wide-reads.Asked, wide-reads.Learnt, last-runner-reads.Asked, last-runner-reads.Learnt, runner-at-reads.Asked, runner-at-reads.Learnt, ran-out-reads.Asked, ran-out-reads.Learnt, one-reads.Asked, one-reads.Learnt, charged-reads.Asked, charged-reads.Learnt, tally-behind-reads.Asked, tally-behind-reads.Learnt, behind-below t, behind.Post)
 
 -- a tally of one that does not fail
 one-is : (n : Tally) → n .listed ≡ 1 → n .failing ≡ 0 → n ≡ record { listed = 1; failing = 0 }
@@ -101,13 +102,15 @@ behind-returns t c =
           ((n .ensures .0 ∙ w .0, n .ensures .1 ∙ w .1), true-table),
     )
 
-behind-summed-requires : (t : ℕ) → behind-lts.Need-summed-requires (behind-callees t) (behind-at t) behind.Post
-behind-summed-requires t c κs =
-    let pre = (c .before .before .before .before .before .before .before .pre) in
-    (omega (arith, pre .0), (pre .1 .0, pre .1 .1, pre .1 .2, pre .1 .3, (c .before .before .before .before .if1) .left))
+behind-tally-behind-requires : (t : ℕ) → behind-lts.Need-tally-behind-requires (behind-callees t) (behind-at t) behind.Post
+behind-tally-behind-requires t c κs =
+    let pre = (c .before .before .before .before .before .before .pre) in
+    let e = pre .1 .0 in
+    ((e .0, e .1, e .2, e .3, e .4 .reached), pre .1 .1, (c .before .before .before .if1) .left)
 
+-- few steps are left
 behind-returns-2 : (t : ℕ) → behind-lts.Need-returns-2 (behind-callees t) (behind-at t) behind.Post
-behind-returns-2 t c = (c .before .before .summed) .ensures
+behind-returns-2 t c = (refl, λ threads groups p v at wide true-table. ((c .tally-behind) .ensures threads groups p v (at .reached), true-table))
 
 behind-key-requires : (t : ℕ) → behind-lts.Need-key-requires (behind-callees t) (behind-at t) behind.Post
 behind-key-requires t c κs =
@@ -135,8 +138,8 @@ behind-returns-3 t c = let a = (c .before .before .before .before .before .befor
       ),
     )
 
-behind-summed-requires-2 : (t : ℕ) → behind-lts.Need-summed-requires-2 (behind-callees t) (behind-at t) behind.Post
-behind-summed-requires-2 t c κs =
+behind-summed-requires : (t : ℕ) → behind-lts.Need-summed-requires (behind-callees t) (behind-at t) behind.Post
+behind-summed-requires t c κs =
     let pre = (c .before .before .before .before .before .before .before .before .before .before .before .before .pre) in
     (omega (arith, pre .0), (pre .1 .0, pre .1 .1, pre .1 .2, pre .1 .3, (c .before .before .before .before .before .before .before .before .before .if1) .left))
 
@@ -153,7 +156,7 @@ behind-returns-4 : (t : ℕ) → behind-lts.Need-returns-4 (behind-callees t) (b
 behind-returns-4 t c =
     let a = (c .before .before .before .before .before .before .before .before .before .before .before .before .before .before .before .before .before .before .before .before .args) in
     let pre = (c .before .before .before .before .before .before .before .before .before .before .before .before .before .before .before .before .before .before .before .before .pre) in
-    let sum = (c .before .before .before .before .before .before .before .summed2) in (
+    let sum = (c .before .before .before .before .before .before .before .summed) in (
       (c .before .before .keep) .ensures .0 ∙ sum .ensures .0,
       λ threads groups p v at wide true-table.
           let right = sum .ensures .1 threads groups p v at wide true-table in (
@@ -304,39 +307,33 @@ visit-returns-2 t c = let pre = (c .before .before .before .before .before .befo
           ),
     )
 
-visit-summed-requires : (t : ℕ) → visit-lts.Need-summed-requires (visit-callees t) (visit-at t) visit.Post
-visit-summed-requires t c κs =
-    let pre = (c .before .before .before .before .before .before .before .before .before .before .before .before .pre) in
-    let a = (c .before .before .before .before .before .before .before .before .before .before .before .before .args) in
+visit-tally-behind-requires : (t : ℕ) → visit-lts.Need-tally-behind-requires (visit-callees t) (visit-at t) visit.Post
+visit-tally-behind-requires t c κs =
+    let pre = (c .before .before .before .before .before .before .before .before .before .before .before .pre) in
+    let a = (c .before .before .before .before .before .before .before .before .before .before .before .args) in
     let e = pre .1 .0 in
-    let y = placeOf ((c .before .before .before .before .before .before .before .before .before .before .advanced) .result) in
-    let next = (c .before .before .before .before .before .before .before .before .before .before .advanced) .ensures (a .class .now) (e .0) (e .1) (e .2) (e .3) (e .4) in
-    let less = step-less (e .2) (e .3) (a .t) (a .code .now) (a .lengths .now) (a .class .now) (e .0) (e .1) ((c .before .before .before .before .before .before .before .before .before .before .advanced) .result) next (tried-enabled (e .2) (e .3) (a .t) (pre .1 .4 (e .0) (e .1) (e .2) (e .3) (e .4))) (a .x) (e .4) in
-    let going = (c .before .before .before .before .last-runner) .ensures (a .code .now) (a .lengths .now) (a .class .now) (e .0) (e .1) y (e .2) (e .3 ++ (a .t ∷ [])) (next .reached) refl .1 ((c .before .before .before .if2) .left) in (
-      omega (arith, pre .0, less),
-      (
-        (e .0, e .1, e .2, e .3 ++ (a .t ∷ []), next),
-        pre .1 .1,
-        pre .1 .2,
-        pre .1 .3,
-        λ z. true≢false (sym (reached-ended (a .code .now) (a .lengths .now) (a .class .now) (e .0) (e .1) y (e .2) (e .3 ++ (a .t ∷ [])) (next .reached) z) ∙ going),
-      ),
+    let y = placeOf ((c .before .before .before .before .before .before .before .before .before .advanced) .result) in
+    let next = (c .before .before .before .before .before .before .before .before .before .advanced) .ensures (a .class .now) (e .0) (e .1) (e .2) (e .3) (e .4) in
+    let going = (c .before .before .before .last-runner) .ensures (a .code .now) (a .lengths .now) (a .class .now) (e .0) (e .1) y (e .2) (e .3 ++ (a .t ∷ [])) (next .reached) refl .1 ((c .before .before .if2) .left) in (
+      (e .0, e .1, e .2, e .3 ++ (a .t ∷ []), next .reached),
+      pre .1 .1,
+      λ z. true≢false (sym (reached-ended (a .code .now) (a .lengths .now) (a .class .now) (e .0) (e .1) y (e .2) (e .3 ++ (a .t ∷ [])) (next .reached) z) ∙ going),
     )
 
 -- few steps are left
 visit-returns-3 : (t : ℕ) → visit-lts.Need-returns-3 (visit-callees t) (visit-at t) visit.Post
-visit-returns-3 t c = let pre = (c .before .before .before .before .before .before .before .before .before .before .before .before .before .before .before .before .pre) in
-    let a = (c .before .before .before .before .before .before .before .before .before .before .before .before .before .before .before .before .args) in (
-      (c .before .before .before .summed) .ensures .0,
+visit-returns-3 t c = let pre = (c .before .before .before .before .before .before .before .before .before .before .before .before .before .pre) in
+    let a = (c .before .before .before .before .before .before .before .before .before .before .before .before .before .args) in (
+      refl,
       λ threads groups p v at wide true-table.
           let is = pre .1 .4 threads groups p v at in
-          let next = (c .before .before .before .before .before .before .before .before .before .before .before .before .before .before .advanced) .ensures (a .class .now) threads groups p v at in
-          let r = (c .before .before .before .summed) .ensures .1 threads groups p (v ++ (a .t ∷ [])) next wide true-table in (
-            awake-numbers p v (a .t) is (sym ((c .before .before .before .before .before .before .before .before .before .before .before .before .some-asleep) .ensures (a .class .now) threads groups (placeOf ((c .before .before .before .before .before .before .before .before .before .before .before .before .before .before .advanced) .result)) p (v ++ (a .t ∷ [])) (next .reached) refl refl) ∙ (c .before .before .before .before .before .before .before .before .before .before .before .if1) .left)
-                (getD ((c .before .before .before .before .before .before .before .before .before .before .before .before .before .before .advanced) .result .threads) ((c .before .before .before .before .before .before .before .before .before .before .wide) .result) idle .failed)
-                (step-failed p v (a .t) (a .code .now) (a .lengths .now) (a .class .now) threads groups ((c .before .before .before .before .before .before .before .before .before .before .before .before .before .before .advanced) .result) next (tried-enabled p v (a .t) is) ((c .before .before .before .before .before .before .before .before .before .before .wide) .result) ((c .before .before .before .before .before .before .before .before .before .before .wide) .ensures .0))
-                ((c .before .before .before .summed) .result .listed) ((c .before .before .before .summed) .result .failing) _ _ (r .0) ((c .charged2) .ensures .0) ((c .charged2) .ensures .1),
-            r .1,
+          let next = (c .before .before .before .before .before .before .before .before .before .before .before .advanced) .ensures (a .class .now) threads groups p v at in
+          let r = (c .before .tally-behind) .ensures threads groups p (v ++ (a .t ∷ [])) (next .reached) in (
+            awake-numbers p v (a .t) is (sym ((c .before .before .before .before .before .before .before .before .before .some-asleep) .ensures (a .class .now) threads groups (placeOf ((c .before .before .before .before .before .before .before .before .before .before .before .advanced) .result)) p (v ++ (a .t ∷ [])) (next .reached) refl refl) ∙ (c .before .before .before .before .before .before .before .before .if1) .left)
+                (getD ((c .before .before .before .before .before .before .before .before .before .before .before .advanced) .result .threads) ((c .before .before .before .before .before .before .before .wide) .result) idle .failed)
+                (step-failed p v (a .t) (a .code .now) (a .lengths .now) (a .class .now) threads groups ((c .before .before .before .before .before .before .before .before .before .before .before .advanced) .result) next (tried-enabled p v (a .t) is) ((c .before .before .before .before .before .before .before .wide) .result) ((c .before .before .before .before .before .before .before .wide) .ensures .0))
+                ((c .before .tally-behind) .result .listed) ((c .before .tally-behind) .result .failing) _ _ r ((c .charged2) .ensures .0) ((c .charged2) .ensures .1),
+            true-table,
           ),
     )
 
@@ -368,6 +365,6 @@ visit-returns-4 t c =
 
 pub +behind+summed+visit-spec : {M : Type 1} → statement M
 +behind+summed+visit-spec = close μ-behind μ-summed μ-visit
-    (λ t. behind-lts.spec (behind-callees t) (behind-at t) behind.Post (λ c κs. search needs) (behind-returns t) (behind-summed-requires t) (λ c. search needs) (behind-returns-2 t) (behind-key-requires t) (behind-array-share-prefix-k t) (behind-slice-aggregate-recall t) (λ c κs. search needs) (λ c. search needs) (behind-returns-3 t) (behind-summed-requires-2 t) (behind-array-share-prefix-k-2 t) (behind-slice-aggregate-keep t) (λ c κs. search needs) (λ c. search needs) (behind-returns-4 t))
+    (λ t. behind-lts.spec (behind-callees t) (behind-at t) behind.Post (λ c κs. search needs) (behind-returns t) (behind-tally-behind-requires t) (behind-returns-2 t) (behind-key-requires t) (behind-array-share-prefix-k t) (behind-slice-aggregate-recall t) (λ c κs. search needs) (λ c. search needs) (behind-returns-3 t) (behind-summed-requires t) (behind-array-share-prefix-k-2 t) (behind-slice-aggregate-keep t) (λ c κs. search needs) (λ c. search needs) (behind-returns-4 t))
     (λ t. summed-lts.spec (summed-callees t) (summed-at t) summed.Post summed-Inv-loop summed-μ-loop (summed-loop-holds t) (λ c κs. search needs) (summed-visit-requires t) (λ c κs. search needs) (λ c. search needs) (λ c. search needs) (summed-loop-again t) (λ c. search needs) (summed-returns t))
-    (λ t. visit-lts.spec (visit-callees t) (visit-at t) visit.Post (visit-advanced-requires t) (visit-some-asleep-requires t) (visit-returns t) (λ c κs. search needs) (λ c. search needs) (visit-element-copy-out-k t) (λ c κs. search needs) (λ c κs. search needs) (λ c. search needs) (visit-element-copy-out-runner-at t) (λ c κs. search needs) (visit-ran-out-requires t) (λ c κs. search needs) (λ c κs. search needs) (visit-returns-2 t) (visit-summed-requires t) (λ c κs. search needs) (λ c. search needs) (visit-returns-3 t) (visit-behind-requires t) (λ c κs. search needs) (λ c. search needs) (visit-returns-4 t))
+    (λ t. visit-lts.spec (visit-callees t) (visit-at t) visit.Post (visit-advanced-requires t) (visit-some-asleep-requires t) (visit-returns t) (λ c κs. search needs) (λ c. search needs) (visit-element-copy-out-k t) (λ c κs. search needs) (λ c κs. search needs) (λ c. search needs) (visit-element-copy-out-runner-at t) (λ c κs. search needs) (visit-ran-out-requires t) (λ c κs. search needs) (λ c κs. search needs) (visit-returns-2 t) (visit-tally-behind-requires t) (λ c κs. search needs) (visit-returns-3 t) (visit-behind-requires t) (λ c κs. search needs) (λ c. search needs) (visit-returns-4 t))

@@ -5,7 +5,6 @@ use borrow.Author.Tests.{not-true, not-false}
 use Prim.Native.Nat.{ℕ, _<_, _≤_, _-_, _+_}
 use mathlib.Core.Path.{_≡_, refl, sym, ap, _∙_}
 use mathlib.Core.Logic.{⊎-elim}
-use mathlib.Core.Bool.{true≢false}
 use mathlib.Core.List.{[], _∷_, _++_}
 use native.Mathlib.Omega.{arith}
 use lib.ListN.{length, take}
@@ -44,6 +43,7 @@ use Rattle.states_walk.proofs.alone.ran_out.Reads as ran-out-reads
 use Rattle.states_walk.proofs.seeking.first_of.Reads as first-of-reads
 use Rattle.states_walk.proofs.seeking.is_keyed.Reads as is-keyed-reads
 use Rattle.states_walk.proofs.seeking.nothing.Reads as nothing-reads
+use Rattle.states_walk.proofs.seeking_plainly.plain_among.Reads as plain-among-reads
 use Rattle.states_walk.proofs.stepping.advanced.Reads as advanced-reads
 use Rattle.states_walk.proofs.seeking.+first_among+first_behind+first_with.{statement}
 use Rattle.states_walk.proofs.seeking.+first_among+first_behind+first_with.Tie.{close}
@@ -79,10 +79,10 @@ abbrev first-among-callees : ℕ → first-among-lts.Claims
 first-among-callees t = (is-tried-reads.Asked, is-tried-reads.Learnt, first-with-below t, first-with.Post, nothing-reads.Asked, nothing-reads.Learnt)
 
 abbrev first-behind-callees : ℕ → first-behind-lts.Claims
-first-behind-callees t = (some-failed-reads.Asked, some-failed-reads.Learnt, is-keyed-reads.Asked, is-keyed-reads.Learnt, first-among-below t, first-among.Post, key-reads.Asked, key-reads.Learnt, is-marked-reads.Asked, is-marked-reads.Learnt, nothing-reads.Asked, nothing-reads.Learnt, mark-reads.Asked, mark-reads.Learnt)
+first-behind-callees t = (some-failed-reads.Asked, some-failed-reads.Learnt, is-keyed-reads.Asked, is-keyed-reads.Learnt, plain-among-reads.Asked, plain-among-reads.Learnt, key-reads.Asked, key-reads.Learnt, is-marked-reads.Asked, is-marked-reads.Learnt, nothing-reads.Asked, nothing-reads.Learnt, first-among-below t, first-among.Post, mark-reads.Asked, mark-reads.Learnt)
 
 abbrev first-with-callees : ℕ → first-with-lts.Claims
-first-with-callees t = (advanced-reads.Asked, advanced-reads.Learnt, some-asleep-reads.Asked, some-asleep-reads.Learnt, nothing-reads.Asked, nothing-reads.Learnt, last-runner-reads.Asked, last-runner-reads.Learnt, some-failed-reads.Asked, some-failed-reads.Learnt, wide-reads.Asked, wide-reads.Learnt, runner-at-reads.Asked, runner-at-reads.Learnt, ran-out-reads.Asked, ran-out-reads.Learnt, first-of-reads.Asked, first-of-reads.Learnt, first-among-below t, first-among.Post, first-behind-below t, first-behind.Post)
+first-with-callees t = (advanced-reads.Asked, advanced-reads.Learnt, some-asleep-reads.Asked, some-asleep-reads.Learnt, nothing-reads.Asked, nothing-reads.Learnt, last-runner-reads.Asked, last-runner-reads.Learnt, some-failed-reads.Asked, some-failed-reads.Learnt, wide-reads.Asked, wide-reads.Learnt, runner-at-reads.Asked, runner-at-reads.Learnt, ran-out-reads.Asked, ran-out-reads.Learnt, first-of-reads.Asked, first-of-reads.Learnt, first-behind-below t, first-behind.Post)
 
 -- ---- first_among
 abbrev first-among-Inv-loop : first-among-lts.InvT-loop
@@ -158,13 +158,15 @@ first-behind-returns t c =
       ),
     )
 
-first-behind-first-among-requires : (t : ℕ) → first-behind-lts.Need-first-among-requires (first-behind-callees t) (first-behind-at t) first-behind.Post
-first-behind-first-among-requires t c κs =
-    let pre = (c .before .before .before .before .before .before .before .before .pre) in
-    (omega (arith, pre .0), (pre .1 .0, pre .1 .1, pre .1 .2, pre .1 .3, (c .before .before .before .if1) .left))
+first-behind-plain-among-requires : (t : ℕ) → first-behind-lts.Need-plain-among-requires (first-behind-callees t) (first-behind-at t) first-behind.Post
+first-behind-plain-among-requires t c κs =
+    let pre = (c .before .before .before .before .before .before .before .pre) in
+    let e = pre .1 .0 in
+    ((e .0, e .1, e .2, e .3, e .4 .reached), pre .1 .1, (c .before .before .if1) .left)
 
+-- without a key
 first-behind-returns-2 : (t : ℕ) → first-behind-lts.Need-returns-2 (first-behind-callees t) (first-behind-at t) first-behind.Post
-first-behind-returns-2 t c = (c .before .before .first-among) .ensures
+first-behind-returns-2 t c = ((refl, (c .plain-among) .ensures .0), λ threads groups p v at wide marks. ((c .plain-among) .ensures .1 threads groups p v (at .reached), marks))
 
 first-behind-key-requires : (t : ℕ) → first-behind-lts.Need-key-requires (first-behind-callees t) (first-behind-at t) first-behind.Post
 first-behind-key-requires t c κs =
@@ -194,14 +196,14 @@ first-behind-returns-3 t c = let a = (c .before .before .before .before .before 
       ),
     )
 
-first-behind-first-among-requires-2 : (t : ℕ) → first-behind-lts.Need-first-among-requires-2 (first-behind-callees t) (first-behind-at t) first-behind.Post
-first-behind-first-among-requires-2 t c κs =
+first-behind-first-among-requires : (t : ℕ) → first-behind-lts.Need-first-among-requires (first-behind-callees t) (first-behind-at t) first-behind.Post
+first-behind-first-among-requires t c κs =
     let pre = (c .before .before .before .before .before .before .before .before .before .before .before .before .before .pre) in
     (omega (arith, pre .0), (pre .1 .0, pre .1 .1, pre .1 .2, pre .1 .3, (c .before .before .before .before .before .before .before .before .if1) .left))
 
 -- found
 first-behind-returns-4 : (t : ℕ) → first-behind-lts.Need-returns-4 (first-behind-callees t) (first-behind-at t) first-behind.Post
-first-behind-returns-4 t c = (c .before .before .before .first-among2) .ensures
+first-behind-returns-4 t c = (c .before .before .before .first-among) .ensures
 
 first-behind-array-share-prefix-k-2 : (t : ℕ) → first-behind-lts.Need-array-share-prefix-k-2 (first-behind-callees t) (first-behind-at t) first-behind.Post
 first-behind-array-share-prefix-k-2 t c = let h = (c .before .before .before .before .before .before .before .before .before .before .before .before .before .before .before .before .before .before .pre) .1 .3 in search needs
@@ -216,7 +218,7 @@ first-behind-slice-aggregate-mark t c =
 first-behind-returns-5 : (t : ℕ) → first-behind-lts.Need-returns-5 (first-behind-callees t) (first-behind-at t) first-behind.Post
 first-behind-returns-5 t c = let a = (c .before .before .before .before .before .before .before .before .before .before .before .before .before .before .before .before .before .before .before .before .before .before .args) in
     let pre = (c .before .before .before .before .before .before .before .before .before .before .before .before .before .before .before .before .before .before .before .before .before .before .pre) in
-    let r = (c .before .before .before .before .before .before .before .before .first-among2) in (
+    let r = (c .before .before .before .before .before .before .before .before .first-among) in (
       ((c .before .before .mark) .ensures .0 ∙ r .ensures .0 .0, r .ensures .0 .1),
       λ threads groups p v at wide marks.
           let q = r .ensures .1 threads groups p v at wide marks in (
@@ -296,64 +298,28 @@ first-with-returns-2 t c = let pre = (c .before .before .before .before .before 
           ),
     )
 
-first-with-first-among-requires : (t : ℕ) → first-with-lts.Need-first-among-requires (first-with-callees t) (first-with-at t) first-with.Post
-first-with-first-among-requires t c κs =
-    let pre = (c .before .before .before .before .before .before .before .before .before .before .pre) in
-    let a = (c .before .before .before .before .before .before .before .before .before .before .args) in
-    let e = pre .1 .0 in
-    let y = placeOf ((c .before .before .before .before .before .before .before .before .advanced) .result) in
-    let next = (c .before .before .before .before .before .before .before .before .advanced) .ensures (a .class .now) (e .0) (e .1) (e .2) (e .3) (e .4) in
-    let less = step-less (e .2) (e .3) (a .t) (a .code .now) (a .lengths .now) (a .class .now) (e .0) (e .1) ((c .before .before .before .before .before .before .before .before .advanced) .result) next (tried-enabled (e .2) (e .3) (a .t) (pre .1 .4 (e .0) (e .1) (e .2) (e .3) (e .4))) (a .x) (e .4) in
-    let going = (c .before .before .before .before .last-runner) .ensures (a .code .now) (a .lengths .now) (a .class .now) (e .0) (e .1) y (e .2) (e .3 ++ (a .t ∷ [])) (next .reached) refl .1 ((c .before .before .before .if2) .left) in (
-      omega (arith, pre .0, less),
-      (
-        (e .0, e .1, e .2, e .3 ++ (a .t ∷ []), next),
-        pre .1 .1,
-        pre .1 .2,
-        pre .1 .3,
-        λ z. true≢false (sym (reached-ended (a .code .now) (a .lengths .now) (a .class .now) (e .0) (e .1) y (e .2) (e .3 ++ (a .t ∷ [])) (next .reached) z) ∙ going),
-      ),
-    )
-
--- few steps are left
-first-with-returns-3 : (t : ℕ) → first-with-lts.Need-returns-3 (first-with-callees t) (first-with-at t) first-with.Post
-first-with-returns-3 t c = let pre = (c .before .before .before .before .before .before .before .before .before .before .before .before .before .pre) in
-    let a = (c .before .before .before .before .before .before .before .before .before .before .before .before .before .args) in
-    let behind = (c .before .before .first-among) in (
-      behind .ensures .0,
-      λ threads groups p v at wide marks.
-          let is = pre .1 .4 threads groups p v at in
-          let next = (c .before .before .before .before .before .before .before .before .before .before .before .advanced) .ensures (a .class .now) threads groups p v at in
-          let r = behind .ensures .1 threads groups p (v ++ (a .t ∷ [])) next wide marks in (
-            r .0
-                ∙ ap headOf (awake-first p (a .x .steps) v (a .t) is (sym ((c .before .before .before .before .before .before .before .before .before .some-asleep) .ensures (a .class .now) threads groups (placeOf ((c .before .before .before .before .before .before .before .before .before .before .before .advanced) .result)) p (v ++ (a .t ∷ [])) (next .reached) refl refl) ∙ (c .before .before .before .before .before .before .before .before .if1) .left)
-                ((c .before .before .before .before .before .before .before .before .before .before .before .advanced) .result .steps) (one-more (a .code .now) (a .lengths .now) (a .class .now) threads groups (a .x) ((c .before .before .before .before .before .before .before .before .before .before .before .advanced) .result) p v (a .t) at next)),
-            r .1,
-          ),
-    )
-
 first-with-first-behind-requires : (t : ℕ) → first-with-lts.Need-first-behind-requires (first-with-callees t) (first-with-at t) first-with.Post
 first-with-first-behind-requires t c κs =
-    let pre = (c .before .before .before .before .before .before .before .before .before .before .pre) in
-    let a = (c .before .before .before .before .before .before .before .before .before .before .args) in
+    let pre = (c .before .before .before .before .before .before .before .before .pre) in
+    let a = (c .before .before .before .before .before .before .before .before .args) in
     let e = pre .1 .0 in
-    let next = (c .before .before .before .before .before .before .before .before .advanced) .ensures (a .class .now) (e .0) (e .1) (e .2) (e .3) (e .4) in
-    let less = step-less (e .2) (e .3) (a .t) (a .code .now) (a .lengths .now) (a .class .now) (e .0) (e .1) ((c .before .before .before .before .before .before .before .before .advanced) .result) next (tried-enabled (e .2) (e .3) (a .t) (pre .1 .4 (e .0) (e .1) (e .2) (e .3) (e .4))) (a .x) (e .4) in
+    let next = (c .before .before .before .before .before .before .advanced) .ensures (a .class .now) (e .0) (e .1) (e .2) (e .3) (e .4) in
+    let less = step-less (e .2) (e .3) (a .t) (a .code .now) (a .lengths .now) (a .class .now) (e .0) (e .1) ((c .before .before .before .before .before .before .advanced) .result) next (tried-enabled (e .2) (e .3) (a .t) (pre .1 .4 (e .0) (e .1) (e .2) (e .3) (e .4))) (a .x) (e .4) in
     (omega (arith, pre .0, less), ((e .0, e .1, e .2, e .3 ++ (a .t ∷ []), next), pre .1 .1, pre .1 .2, pre .1 .3))
 
-first-with-returns-4 : (t : ℕ) → first-with-lts.Need-returns-4 (first-with-callees t) (first-with-at t) first-with.Post
-first-with-returns-4 t c =
-    let pre = (c .before .before .before .before .before .before .before .before .before .before .before .before .before .pre) in
-    let a = (c .before .before .before .before .before .before .before .before .before .before .before .before .before .args) in
+first-with-returns-3 : (t : ℕ) → first-with-lts.Need-returns-3 (first-with-callees t) (first-with-at t) first-with.Post
+first-with-returns-3 t c =
+    let pre = (c .before .before .before .before .before .before .before .before .before .before .before .pre) in
+    let a = (c .before .before .before .before .before .before .before .before .before .before .before .args) in
     let behind = (c .before .before .first-behind) in (
       behind .ensures .0,
       λ threads groups p v at wide marks.
           let is = pre .1 .4 threads groups p v at in
-          let next = (c .before .before .before .before .before .before .before .before .before .before .before .advanced) .ensures (a .class .now) threads groups p v at in
+          let next = (c .before .before .before .before .before .before .before .before .before .advanced) .ensures (a .class .now) threads groups p v at in
           let r = behind .ensures .1 threads groups p (v ++ (a .t ∷ [])) next wide marks in (
             r .0
-                ∙ ap headOf (awake-first p (a .x .steps) v (a .t) is (sym ((c .before .before .before .before .before .before .before .before .before .some-asleep) .ensures (a .class .now) threads groups (placeOf ((c .before .before .before .before .before .before .before .before .before .before .before .advanced) .result)) p (v ++ (a .t ∷ [])) (next .reached) refl refl) ∙ (c .before .before .before .before .before .before .before .before .if1) .left)
-                ((c .before .before .before .before .before .before .before .before .before .before .before .advanced) .result .steps) (one-more (a .code .now) (a .lengths .now) (a .class .now) threads groups (a .x) ((c .before .before .before .before .before .before .before .before .before .before .before .advanced) .result) p v (a .t) at next)),
+                ∙ ap headOf (awake-first p (a .x .steps) v (a .t) is (sym ((c .before .before .before .before .before .before .before .some-asleep) .ensures (a .class .now) threads groups (placeOf ((c .before .before .before .before .before .before .before .before .before .advanced) .result)) p (v ++ (a .t ∷ [])) (next .reached) refl refl) ∙ (c .before .before .before .before .before .before .if1) .left)
+                ((c .before .before .before .before .before .before .before .before .before .advanced) .result .steps) (one-more (a .code .now) (a .lengths .now) (a .class .now) threads groups (a .x) ((c .before .before .before .before .before .before .before .before .before .advanced) .result) p v (a .t) at next)),
             r .1,
           ),
     )
@@ -361,5 +327,5 @@ first-with-returns-4 t c =
 pub +first-among+first-behind+first-with-spec : {M : Type 1} → statement M
 +first-among+first-behind+first-with-spec = close μ-first-among μ-first-behind μ-first-with
     (λ t. first-among-lts.spec (first-among-callees t) (first-among-at t) first-among.Post first-among-Inv-loop first-among-μ-loop (first-among-loop-holds t) (λ c κs. search needs) (first-among-first-with-requires t) (λ c. search needs) (first-among-returns t) (λ c. search needs) (λ c. search needs) (first-among-loop-again t) (λ c κs. search needs) (λ c. search needs) (first-among-returns-2 t))
-    (λ t. first-behind-lts.spec (first-behind-callees t) (first-behind-at t) first-behind.Post (λ c κs. search needs) (first-behind-returns t) (λ c κs. search needs) (first-behind-first-among-requires t) (λ c. search needs) (first-behind-returns-2 t) (first-behind-key-requires t) (first-behind-array-share-prefix-k t) (first-behind-slice-aggregate-is-marked t) (λ c κs. search needs) (λ c κs. search needs) (λ c. search needs) (first-behind-returns-3 t) (first-behind-first-among-requires-2 t) (λ c. search needs) (first-behind-returns-4 t) (first-behind-array-share-prefix-k-2 t) (first-behind-slice-aggregate-mark t) (λ c κs. search needs) (λ c. search needs) (first-behind-returns-5 t))
-    (λ t. first-with-lts.spec (first-with-callees t) (first-with-at t) first-with.Post (first-with-advanced-requires t) (first-with-some-asleep-requires t) (λ c κs. search needs) (first-with-returns t) (λ c κs. search needs) (λ c κs. search needs) (λ c κs. search needs) (λ c. search needs) (first-with-element-copy-out-runner-at t) (λ c κs. search needs) (first-with-ran-out-requires t) (λ c κs. search needs) (first-with-returns-2 t) (first-with-first-among-requires t) (λ c. search needs) (first-with-returns-3 t) (first-with-first-behind-requires t) (λ c. search needs) (first-with-returns-4 t))
+    (λ t. first-behind-lts.spec (first-behind-callees t) (first-behind-at t) first-behind.Post (λ c κs. search needs) (first-behind-returns t) (λ c κs. search needs) (first-behind-plain-among-requires t) (first-behind-returns-2 t) (first-behind-key-requires t) (first-behind-array-share-prefix-k t) (first-behind-slice-aggregate-is-marked t) (λ c κs. search needs) (λ c κs. search needs) (λ c. search needs) (first-behind-returns-3 t) (first-behind-first-among-requires t) (λ c. search needs) (first-behind-returns-4 t) (first-behind-array-share-prefix-k-2 t) (first-behind-slice-aggregate-mark t) (λ c κs. search needs) (λ c. search needs) (first-behind-returns-5 t))
+    (λ t. first-with-lts.spec (first-with-callees t) (first-with-at t) first-with.Post (first-with-advanced-requires t) (first-with-some-asleep-requires t) (λ c κs. search needs) (first-with-returns t) (λ c κs. search needs) (λ c κs. search needs) (λ c κs. search needs) (λ c. search needs) (first-with-element-copy-out-runner-at t) (λ c κs. search needs) (first-with-ran-out-requires t) (λ c κs. search needs) (first-with-returns-2 t) (first-with-first-behind-requires t) (λ c. search needs) (first-with-returns-3 t))
