@@ -1,4 +1,5 @@
-//! Small programs that would be counted wrongly by states if a part of the key were left out.
+//! Small programs that would be counted wrongly by states if a part of the key were left out, and how a small program is made longer without
+//! another list: those of at most eight accesses are counted without keys.
 
 /// Under sequential consistency: the part, the program, how many are listed and how many fail.
 pub const SC: [(&str, &str, (u64, u64)); 7] = [
@@ -40,3 +41,11 @@ pub const TSO: [(&str, &str, (u64, u64)); 8] = [
         (7, 0),
     ),
 ];
+
+/// The program with one thread more, in front of what is declared of threads: nine loads of a location that nobody else uses.
+pub fn lengthened(file: &[u8]) -> Vec<u8> {
+    let lines: Vec<&[u8]> = file.split_inclusive(|byte| *byte == b'\n').collect();
+    let declared = lines.iter().position(|line| line.starts_with(b"02")).unwrap_or(lines.len());
+    let thread = [b"01\n".as_slice(), &b"110007\n".repeat(9)].concat();
+    [lines[..declared].concat(), thread, lines[declared..].concat()].concat()
+}

@@ -126,18 +126,28 @@ const SIZES: [Size; 6] = [
 fn random_programs() {
     let mut random = Random::new(91);
     let mut scratches = Scratches::new(&mut random);
-    let (mut alike, mut failing, mut long) = (0, 0, 0);
+    let (mut alike, mut failing, mut long, mut lengthened) = (0, 0, 0, 0);
     for k in 0..share::of(20_000) {
         let file = text(&frames_parted(&mut random, SIZES[k % SIZES.len()]));
         let program = decode(&file).expect("accepted");
         let orders = orders(&program);
-        let asked = asked(&UNDER_SC, &file, (orders <= 500).then(|| listing::list(&program)));
+        let asked_of = asked(&UNDER_SC, &file, (orders <= 500).then(|| listing::list(&program)));
         alike += !program.alike.is_empty() as usize;
-        failing += asked.first.is_some() as usize;
-        long += (asked.counts.0 > 20) as usize;
-        scratches.hold(&UNDER_SC, &mut random, &file, &Ok(asked), k % 40 == 0);
+        failing += asked_of.first.is_some() as usize;
+        long += (asked_of.counts.0 > 20) as usize;
+        let counts = asked_of.counts;
+        scratches.hold(&UNDER_SC, &mut random, &file, &Ok(asked_of), k % 40 == 0);
+        // the same list by more accesses, since few are counted without keys
+        let longer = parts::lengthened(&file);
+        if k % 2 == 0 && decode(&longer).is_ok() {
+            let asked = asked(&UNDER_SC, &longer, None);
+            assert_eq!(asked.counts, counts, "{}", longer.escape_ascii());
+            scratches.hold(&UNDER_SC, &mut random, &longer, &Ok(asked), k % 40 == 0);
+            lengthened += 1;
+        }
     }
-    assert!(!share::whole() || (alike > 6_000 && failing > 3_000 && long > 100), "{alike} alike, {failing} fail, {long} long");
+    let said = format!("{alike} alike, {failing} fail, {long} long, {lengthened} lengthened");
+    assert!(!share::whole() || (alike > 6_000 && failing > 3_000 && long > 100 && lengthened > 8_000), "{said}");
 }
 
 /// Programs of many accesses, whose lists nobody walks: beside plain Rust by states.
@@ -191,7 +201,9 @@ fn each_part_of_the_key() {
     let mut random = Random::new(95);
     let mut scratch = Scratch::new(&mut random, 100_000);
     for (_, words, counts) in parts::SC {
-        hold_count(&UNDER_SC, &mut random, &mut scratch, &lines(words), &Ok(Asked { counts, first: None }));
+        let file = parts::lengthened(&lines(words));
+        assert_eq!(asked(&UNDER_SC, &file, None).counts, counts, "{words}");
+        hold_count(&UNDER_SC, &mut random, &mut scratch, &file, &Ok(Asked { counts, first: None }));
     }
     for (_, words, counts) in parts::TSO {
         hold_count(&UNDER_TSO, &mut random, &mut scratch, &lines(words), &Ok(Asked { counts, first: None }));
