@@ -26,6 +26,22 @@ pub struct Seen {
     pub share: f64,
 }
 
+impl Seen {
+    /// From this share on so few slots are empty that they no longer tell how many states were put.
+    const FULL: f64 = 0.98;
+
+    /// About how many states were visited, as far as that shows, and whether it was more. Each is put into a slot that its key's hash names, and
+    /// takes the place of what stood there: of m slots v states leave a share of about e to the power of -v / m empty.
+    pub fn visited(&self) -> (usize, bool) {
+        if self.share <= 0.0 {
+            return (self.states, false);
+        }
+        let slots = self.states as f64 / self.share;
+        let share = self.share.min(Seen::FULL);
+        ((-slots * (1.0 - share).ln()).round() as usize, self.share >= Seen::FULL)
+    }
+}
+
 fn divisor(a: usize, b: usize) -> usize {
     if b == 0 {
         a
@@ -143,6 +159,15 @@ mod tests {
             unsafe { scratch.words.as_ptr().add(place).write(word) }
         }
         assert_eq!(scratch.seen(), Seen { states: 3, share: 0.03 });
+    }
+
+    /// By chance half of the slots are taken by 0.69 as many states; few take each one of its own.
+    #[test]
+    fn about_so_many_were_visited() {
+        assert_eq!(Seen { states: 0, share: 0.0 }.visited(), (0, false));
+        assert_eq!(Seen { states: 10, share: 0.001 }.visited(), (10, false));
+        assert_eq!(Seen { states: 1000, share: 0.5 }.visited(), (1386, false));
+        assert_eq!(Seen { states: 1000, share: 1.0 }.visited(), (3912, true));
     }
 
     /// Behind a call there are zeros, and a scratch of no words is one.

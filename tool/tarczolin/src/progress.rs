@@ -68,8 +68,11 @@ fn line(counts: Counts, seconds: f64, share: Option<Share>, seen: Option<Seen>) 
         Some(Share::OfList(share)) => format!(", {:.1} % of the list", share * 100.0),
         Some(Share::OfRange(share)) => format!(", {:.1} % of the range", share * 100.0),
     };
-    let states = seen.filter(|seen| seen.states > 0).map_or(String::new(), |Seen { states, share }| {
-        format!("; {states} states remembered, {:.1} % of the memory for them", share * 100.0)
+    let states = seen.filter(|seen| seen.states > 0).map_or(String::new(), |seen| {
+        let (visited, more) = seen.visited();
+        let about = if more { "more than" } else { "about" };
+        let Seen { states, share } = seen;
+        format!("; {about} {visited} states visited, {states} states remembered, {:.1} % of the memory for them", share * 100.0)
     });
     format!("{} listed, {} failing, {rate:.0} a second{share}{states}", counts.listed, counts.failing)
 }
@@ -183,6 +186,9 @@ mod tests {
         assert_eq!(told(Some(Share::OfList(1.0)), None), format!("{wanted}, 100.0 % of the list"));
         assert_eq!(told(None, Some(Seen { states: 0, share: 0.0 })), wanted);
         let seen = Some(Seen { states: 12, share: 0.25 });
-        assert_eq!(told(None, seen), format!("{wanted}; 12 states remembered, 25.0 % of the memory for them"));
+        let states = "about 14 states visited, 12 states remembered, 25.0 % of the memory for them";
+        assert_eq!(told(None, seen), format!("{wanted}; {states}"));
+        assert!(told(None, Some(Seen { states: 12, share: 1.0 }))
+            .contains("; more than 47 states visited, 12 states remembered, 100.0 %"));
     }
 }

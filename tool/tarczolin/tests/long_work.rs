@@ -158,6 +158,7 @@ fn progress_by_states() {
         let line = err.lines().rfind(told).unwrap_or_else(|| panic!("{err}"));
         let before = |words: &str| line.split_once(words).unwrap().0.split_whitespace().last().unwrap().parse::<f64>().unwrap();
         let (states, share) = (before(" states remembered"), before(" % of the memory"));
+        assert!(before(" states visited") >= states, "what is remembered was visited: {line}");
         // a slot has four to twenty words
         assert!(states > 100.0 && share <= 100.0 && share * 1_250.0 <= states * 20.0 + 1_250.0, "{line}");
     }
