@@ -98,7 +98,7 @@ class Remark(NamedTuple):
         if self.asked == 'class':
             return {str(got.answer.value)}
         if self.asked == 'graph':
-            lines = got.out[:got.answer.value].decode().split()
+            lines = got.out[:got.answer.value].decode(errors='replace').split()
             length = str(got.answer.value)
             last = {lines[-1], f'a text that ends in {lines[-1]}'} if lines else {'a text of no lines'}
             return {' '.join(lines), length, f'a length of {length}', 'a text', *last}
