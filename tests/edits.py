@@ -34,8 +34,9 @@ CALLS = {
     'tso_class': 12, 'tso_start': 13, 'tso_continue': 14, 'tso_violation': 15, 'tso_rows': 16, 'count': 18, 'tso_count': 19, 'robust': 27,
 }
 LENT = {'count': 28, 'violation': 29, 'tso_count': 30, 'tso_violation': 31, 'kth': 32, 'rank': 33, 'covers': 34, 'force': 35}
-# words of scratch with which such a call is asked
-SCRATCHES = (255, 40, 0)
+# such a call is asked with so many times 32 words of scratch: some states show an edit only where all others stay in the table
+SCRATCHES = (255, 2, 0)
+LONGER = [('[5u64; 256]', '[5u64; 8192]'), ('{ b.len() % 256 } else { set as usize }', '{ b.len() % 256 * 32 } else { set as usize * 32 }')]
 # rt tells so many bytes of what a program wrote, and so many of an output are asked for
 TOLD, SHOWN = 200, 64
 WRITTEN = 'io::write_all(STDOUT_FILENO, &out[..n]);'
@@ -119,11 +120,12 @@ def listed(request):
 
 
 def source_of(path):
-    """The file that an edit changes, and its two texts."""
+    """The file that an edit changes, and its texts, each with the one in its place."""
     text = path.read_text(encoding='utf-8')
     file = re.search(r'^file: (\S+)$', text, re.M)[1]
-    parts = re.split(r'^(old|new):[ \n]', text.partition('\nfile: ')[2].partition('\n')[2], flags=re.M)
-    return file, parts[2].strip('\n'), parts[4].strip('\n')
+    parts = re.split(r'^(?:old|new):[ \n]', text.partition('\nfile: ')[2].partition('\n')[2], flags=re.M)
+    texts = [part.strip('\n') for part in parts[1:]]
+    return file, list(zip(texts[::2], texts[1::2]))
 
 
 def made(folder, path):
@@ -132,20 +134,25 @@ def made(folder, path):
     for crate in (ROOT / 'crates').iterdir():
         (folder / 'crates' / crate.name).symlink_to(crate)
     program = (ROOT / 'tests' / 'backends' / 'main.rattle').read_text(encoding='utf-8')
-    if program.count(WRITTEN) != 1:
-        raise ValueError(f'tests/backends/main.rattle does not have {WRITTEN} once')
+    for text in [WRITTEN, *(old for old, _ in LONGER)]:
+        if program.count(text) != 1:
+            raise ValueError(f'tests/backends/main.rattle does not have {text} once')
     shown = f'let m = if n > {SHOWN} {{ {SHOWN} }} else {{ n }};\n        io::write_all(STDOUT_FILENO, &out[..m]);'
-    (folder / 'crates' / 'backends' / 'src' / 'main.rt').write_text(program.replace(WRITTEN, shown), encoding='utf-8')
+    for old, new in [(WRITTEN, shown), *LONGER]:
+        program = program.replace(old, new)
+    (folder / 'crates' / 'backends' / 'src' / 'main.rt').write_text(program, encoding='utf-8')
     reader, crate = folder / 'crates' / 'graph_reader', folder / 'crates' / path.parts[-3]
     for copied in {reader, crate}:
         kept = copied.resolve()
         copied.unlink()
         shutil.copytree(kept / 'src', copied / 'src')
-    file, old, new = source_of(path)
+    file, pairs = source_of(path)
     text = (crate / file).read_text(encoding='utf-8')
-    if text.count(old) != 1:
-        raise ValueError(f'{path}: the old text is there {text.count(old)} times')
-    (crate / file).write_text(text.replace(old, new), encoding='utf-8')
+    for old, new in pairs:
+        if text.count(old) != 1:
+            raise ValueError(f'{path}: the old text is there {text.count(old)} times')
+        text = text.replace(old, new)
+    (crate / file).write_text(text, encoding='utf-8')
     # a module of this crate has the name of a crate that it does not know, which a program over all crates does
     (reader / 'src' / 'table.rt').rename(reader / 'src' / 'read_table.rt')
     for source in (reader / 'src').glob('*.rt'):
