@@ -40,7 +40,8 @@ LONGER = [('[5u64; 256]', '[5u64; 8192]'), ('{ b.len() % 256 } else { set as usi
 # rt tells so many bytes of what a program wrote, and so many of an output are asked for
 TOLD, SHOWN = 200, 64
 WRITTEN = 'io::write_all(STDOUT_FILENO, &out[..n]);'
-SAID = re.compile(r'^FAIL: the interpreter .*\n.* found "(.*)"', re.M)
+# the interpreter ends behind so many steps, the native program does not
+SAID = re.compile(r'^FAIL: the (?:interpreter|native program at -O0) ended, .*\n.* found "(.*)"', re.M)
 
 
 class Asked:
@@ -164,7 +165,7 @@ def made(folder, path):
 
 
 def run(folder, part):
-    """What the program in the folder writes where it is asked these, by the interpreter; or why it writes nothing."""
+    """What the program in the folder writes where it is asked these; or why it writes nothing."""
     (folder / 'crates' / 'backends' / 'stdin').write_bytes(b''.join(one[0] for one in part))
     try:
         done = subprocess.run(['rt', 'try', 'backends'], cwd=folder, capture_output=True, encoding='utf-8', errors='replace', check=False,
