@@ -4,7 +4,7 @@
 Each edit of a source file whose remark asks a call something is made in a copy of its crate. `rt try` runs tests/backends/main.rattle over
 all crates, unproved, and it asks the remark's input; the answer has to be the remark's wrong one. (That the right one is the library's is tested by
 python/tests/test_edits.py.) Edits that cannot be run so are told by --list with the reason: a definition, which no program reads, or a
-remark that speaks of an inner function, of records or of an output's room.
+remark that speaks of an inner function or of what a record holds.
 
 --some N takes N edits, drawn by the commit's hash. The last line counts; the exit status is 0 exactly where none differs.
 """
@@ -30,10 +30,15 @@ from tarczolin._library import ANSWERED, Answer  # noqa: E402
 
 # the numbers of the calls in tests/backends/main.rattle; the second are those with a scratch
 CALLS = {
-    'check': 0, 'graph': 1, 'class': 2, 'judge': 3, 'start': 4, 'continue': 5, 'violation': 6, 'rows': 7, 'covers': 9, 'force': 10, 'tso_graph': 11,
-    'tso_class': 12, 'tso_start': 13, 'tso_continue': 14, 'tso_violation': 15, 'tso_rows': 16, 'count': 18, 'tso_count': 19, 'robust': 27,
+    'check': 0, 'graph': 1, 'class': 2, 'judge': 3, 'start': 4, 'continue': 5, 'violation': 6, 'rows': 7, 'rows_after': 8, 'covers': 9, 'force': 10,
+    'tso_graph': 11, 'tso_class': 12, 'tso_start': 13, 'tso_continue': 14, 'tso_violation': 15, 'tso_rows': 16, 'tso_rows_after': 17, 'count': 18,
+    'tso_count': 19, 'robust': 27,
 }
-LENT = {'count': 28, 'violation': 29, 'tso_count': 30, 'tso_violation': 31, 'kth': 32, 'rank': 33, 'covers': 34, 'force': 35}
+LENT = {
+    'count': 28, 'violation': 29, 'tso_count': 30, 'tso_violation': 31, 'kth': 32, 'rank': 33, 'covers': 34, 'force': 35, 'outcomes': 36,
+    'tso_outcomes': 37, 'covers_models': 38,
+}
+SHARED = {'open': 20, 'ask': 21, 'serve': 22, 'close': 23, 'set': 24, 'return': 25, 'forget': 26}
 # such a call is asked with so many times 32 words of scratch: some states show an edit only where all others stay in the table
 SCRATCHES = (255, 2, 0)
 LONGER = [('[5u64; 256]', '[5u64; 8192]'), ('{ b.len() % 256 } else { set as usize }', '{ b.len() % 256 * 32 } else { set as usize * 32 }')]
@@ -49,7 +54,10 @@ class Asked:
 
     def __init__(self, remark):
         self.remark = remark
-        self.asked = []  # (bytes, the length of the answer, whether it has numbers)
+        self.asked = []  # (bytes, the lengths of the answer and of the output that is shown, how many numbers it has)
+        if remark.asked == 'records':
+            self.take_calls(list(remark.calls()))
+            return
         for one in self.wanted():
             self.take(one)
 
@@ -72,12 +80,22 @@ class Asked:
             if request.name == 'force':
                 self.add(LENT['force'], request.number, request._replace(second=bytes(words)), 40, 2)
             else:
-                second = request.number.to_bytes(8, 'little') if request.name == 'kth' else request.second
-                self.add(LENT[request.name], words, request._replace(second=second), 40, 2)
+                second = request.number.to_bytes(8, 'little') if request.name.endswith(('kth', 'outcomes')) else request.second
+                one, other = request.models or (0, 0)
+                self.add(LENT[request.name] + 3 * one + other, words, request._replace(second=second), 40, 2)
+
+    def take_calls(self, calls):
+        """Asks calls on records one behind the other, of which the last alone writes its answer."""
+        silent = b''.join(self.headed(SHARED[one.name], one.number + 128, one) for one in calls[:-1])
+        last = calls[-1]
+        self.asked.append((silent + self.headed(SHARED[last.name], last.number, last), 16, last.room, 0))
+
+    @staticmethod
+    def headed(call, byte, request):
+        return struct.pack('<BBHHH', call, byte, len(request.file), len(request.second), request.room) + request.file + request.second
 
     def add(self, call, byte, request, length, numbers):
-        head = struct.pack('<BBHHH', call, byte, len(request.file), len(request.second), request.room)
-        self.asked.append((head + request.file + request.second, length, min(request.room, SHOWN), numbers))
+        self.asked.append((self.headed(call, byte, request), length, min(request.room, SHOWN), numbers))
 
     def parts(self):
         """The requests in parts, each of which is told whole."""
