@@ -1,6 +1,6 @@
 // What the calls by rows answer.
 
-#[derive(Drop)]
+#[derive(Clone, Copy)]
 pub enum RowsAnswer {
     // The number of rows that stand in front of the output.
     Written(usize),

@@ -1,6 +1,6 @@
 // The outcome of a full schedule: the eight final values, and whether an assertion failed.
 
-#[derive(Drop)]
+#[derive(Clone, Copy)]
 pub struct Outcome {
     pub memory: [u32; 8],
     pub fails: bool,

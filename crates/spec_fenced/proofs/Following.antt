@@ -72,7 +72,7 @@ module _ (σ : State) (τ : SC.State) (f : Follows σ τ) (t : ℕ) (low : t < 6
       threads = step_of_threads σ k t ∙ f.threads ∙ sym (SCSteps.step_threads τ t);
       cells = both_cells e;
       near = λ u. thread_cases (λ v x. Near (SC.thread_of (SC.step τ t) v) x) σ k t (able_range σ k t (length σ.cells) a)
-          (subst (λ (x : SC.Thread). Near x (thread_behind k t h c)) (sym (SCSteps.thread_own τ t (SCSteps.in_range τ t m) ∙ ap (SC.advanced g) (sym here))) n)
+          (subst (λ (x : SC.Thread). Near x (thread_behind k t h c)) (sym (SCSteps.thread_own τ t (SCSteps.in_range_lem τ t m) ∙ ap (SC.advanced g) (sym here))) n)
           u (λ ne. subst (λ (x : SC.Thread). Near x (thread_of σ u)) (sym (SCSteps.thread_other τ t u ne)) (f.near u));
     })
 
@@ -143,7 +143,7 @@ module _ (σ : State) (τ : SC.State) (f : Follows σ τ) (r : Regular τ) (e : 
       go [] i = i
       go (x ∷ q) i =
           let s = oldest t (SC.thread_of τ t) (thread_of σ t) (cell_of σ 0) (f.near t) x q i in
-          let k = SCSteps.in_range τ t s.due in
+          let k = SCSteps.in_range_lem τ t s.due in
           let six = r.six in
           absurd (true≢false (sym (can_flush t x q i (below t x s)) ∙ not_able move t (omega arith)))
 

@@ -1,5 +1,6 @@
 // Program files: what they say and when they are refused (document 01's "Program file", refusals 1 to 8). Definitions and laws; no
 // functions.
+#![tactic(auto)]
 
 // Limits of a program.
 mod limits;

@@ -1,1 +1,2 @@
 // Who can force the failure. Definitions and laws; no functions.
+#![tactic(auto)]

@@ -1,1 +1,2 @@
 // Consistent graphs, graph texts, and the judge's answers. Definitions and laws; no functions.
+#![tactic(auto)]

@@ -22,9 +22,9 @@ use Rattle.spec_sc.proofs.Steps.{missing}
 use Rattle.spec_sc.proofs.Exchange.{moves_memory}
 use Rattle.spec_sc.proofs.Permitted.{exchanged}
 
-at_number : {A : Type 0} (l : List A) (d x : A) → Memᴰ x l → (t : ℕ) × (get_or l t d ≡ x)
-at_number l d x (Memᴰ.head e) = (0, sym e)
-at_number l d x (Memᴰ.tail {xs = k} m) = let r = at_number k d x m in (suc r.0, r.1)
+at_number : {A : Type 0} (x : A) (l : List A) (d : A) → Memᴰ x l → (t : ℕ) × (get_or l t d ≡ x)
+at_number x l d (Memᴰ.head e) = (0, sym e)
+at_number x l d (Memᴰ.tail {xs = k} m) = let r = at_number x k d m in (suc r.0, r.1)
 
 among : {A : Type 0} (l : List A) (t : ℕ) (d : A) → t < length l → Memᴰ (get_or l t d) l
 among [] t d h = absurd (not-suc-le-zero h)
@@ -36,7 +36,7 @@ pub fails_at : (σ : State) → fails σ ≡ true → (t : ℕ) × (failed_of (t
 unfolding fails thread_of
 fails_at σ e =
     let r = any_yes failed_of σ.threads e in
-    let k = at_number σ.threads no_thread r.0 r.1 in
+    let k = at_number r.0 σ.threads no_thread r.1 in
     (k.0, ap failed_of k.1 ∙ r.2)
 
 no_thread_lem : failed_of no_thread ≡ false

@@ -1,1 +1,2 @@
 // Schedules, their order, step systems, and a list walked by calls. Definitions and laws; no functions.
+#![tactic(auto)]

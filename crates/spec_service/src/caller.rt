@@ -4,7 +4,7 @@ use spec_file::STEPS;
 // A mark: its name is the first `length` bytes of `name`, its place 1 at the beginning or 2 behind the first `steps` bytes of `schedule`.
 // It is free where the length is not 1 to 8, or the place is no such place.
 #[repr(C)]
-#[derive(Drop)]
+#[derive(Clone, Copy)]
 pub struct Mark {
     pub name: [u8; 8],
     pub length: u8,
@@ -18,7 +18,7 @@ pub struct Mark {
 // is the first `size` bytes of `newest`, where `handed` is 1. `count` is the number of schedules handed to it since then, modulo 2^64.
 // `padding` are the bytes behind the marks up to a multiple of 8: they mean nothing, and are zeros where the record opens or closes.
 #[repr(C)]
-#[derive(Drop)]
+#[derive(Clone, Copy)]
 pub struct Caller {
     pub file: [u8; 4096],
     pub length: usize,

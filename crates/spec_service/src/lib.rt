@@ -1,4 +1,5 @@
 // Four callers on one explorer. Definitions and laws; no functions.
+#![tactic(auto)]
 
 // A caller's record, and a mark in it.
 mod caller;

@@ -1,6 +1,6 @@
 // What a call of four callers answers.
 
-#[derive(Drop)]
+#[derive(Clone, Copy)]
 pub enum Reply {
     // Opened, asking, closed, or a mark set, returned to or forgotten.
     Done,

@@ -39,7 +39,8 @@ use Rattle.theory_game.specs.OneSide.{by_counts}
 -- ---- what a test keeps, counted
 -- where as many are kept as there are, each passes
 pub all_kept : {A : Type 0} (f : A → Bool) (l : List A) → length (filter f l) ≡ length l → (x : A) → Memᴰ x l → f x ≡ true
-all_kept {A} f (y ∷ l) e x m = go (f y) refl m (λ q n. all_kept f l q x n)
+all_kept {A = A} f [] e x m = elim m [ ]
+all_kept {A = A} f (y ∷ l) e x m = go (f y) refl m (λ q n. all_kept f l q x n)
   where
     go : (b : Bool) → f y ≡ b → Memᴰ x (y ∷ l) → (length (filter f l) ≡ length l → Memᴰ x l → f x ≡ true) → f x ≡ true
     go true q (Memᴰ.head i) ih = ap f i ∙ q

@@ -1,2 +1,3 @@
 // What a program's full schedules come to, by states under sequential consistency: the first listed schedule whose outcome passes a test. There is
 // no code here.
+#![tactic(auto)]
