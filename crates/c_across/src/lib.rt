@@ -1,4 +1,5 @@
 // The calls for C and Rust that set one memory model against another, each with one word as answer.
+#![tactic(auto)]
 
 // Whether a program is robust: tarczolin_robust.
 mod robustness;

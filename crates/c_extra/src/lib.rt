@@ -1,4 +1,5 @@
 // The calls for C and Rust beside those of the base, each with one word as answer.
+#![tactic(auto)]
 
 // How large a class is: tarczolin_class.
 mod class;

@@ -1,5 +1,6 @@
 // The calls for C and Rust about a file, a schedule and a graph. Each answers one word: its kind, a refusal's number, and an answer's length
 // or a refusal's place.
+#![tactic(auto)]
 
 // Program files: tarczolin_check.
 mod check;

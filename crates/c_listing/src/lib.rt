@@ -1,4 +1,5 @@
 // The calls of the list for C and Rust, each with one word as answer.
+#![tactic(auto)]
 
 // Listed schedules: tarczolin_start, tarczolin_continue, tarczolin_violation.
 mod listed;

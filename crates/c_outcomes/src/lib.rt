@@ -1,4 +1,5 @@
 // The outcomes of a program for C.
+#![tactic(auto)]
 
 // The two calls, one for each memory model.
 mod listed_outcomes;

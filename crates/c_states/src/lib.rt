@@ -1,4 +1,5 @@
 // The calls by states for C and Rust, each with one word as answer: those of the list with a scratch that the host lends.
+#![tactic(auto)]
 
 // Count and violation: tarczolin_count_with, tarczolin_violation_with.
 mod by_states;

@@ -1,4 +1,5 @@
 // The calls for C and Rust under total store order, each with one word as answer, as under sequential consistency.
+#![tactic(auto)]
 
 // Graphs of schedules: tarczolin_tso_graph.
 mod store_graph;

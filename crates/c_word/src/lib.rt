@@ -1,4 +1,5 @@
 // The word of 64 bits in which every call answers: its kind, a refusal's number, and an answer's length or a refusal's place.
+#![tactic(auto)]
 
 // The word of an answer.
 mod word;

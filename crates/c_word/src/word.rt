@@ -29,7 +29,7 @@ pub fn refused(number: u8, place: usize) -> u64
 
 // The second of two files refused by a number, at a place.
 pub fn second_refused(number: u8, place: usize) -> u64
-    ensures { result ≡ word_of (Reply.second-refused number place) }
+    ensures { result ≡ word_of (Reply.second_refused number place) }
 {
     4 * KIND + (number as u64) * NUMBER + (place as u64) % NUMBER
 }

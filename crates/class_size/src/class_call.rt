@@ -17,7 +17,7 @@ use listing_model::Model;
 use listing_replay::{admitted, replayed};
 use machine_replay::Verdict;
 
-#[derive(Drop)]
+#[derive(Clone, Copy)]
 pub enum ClassAnswer {
     // The number of graphs in the class.
     Sized(usize),

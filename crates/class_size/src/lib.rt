@@ -1,4 +1,5 @@
 // How large the class of a schedule is.
+#![tactic(auto)]
 
 // The permutations of six: a table, and each by its number.
 mod by_number;

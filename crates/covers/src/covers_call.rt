@@ -20,7 +20,7 @@ use listing_model::Model;
 use listing_replay::admitted;
 use outcome_lists::Coming;
 
-#[derive(Drop)]
+#[derive(Clone, Copy)]
 pub enum CoversAnswer {
     // Each outcome of the second is one of the first.
     Covered,

@@ -1,4 +1,5 @@
 // One program against another, each under a memory model of its own.
+#![tactic(auto)]
 
 // The first listed schedule with an outcome that another program lacks, by the lists.
 mod lacking;

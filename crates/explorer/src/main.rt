@@ -4,13 +4,16 @@
 // come next in it, none only behind the last. So the pieces one after the other are `printed file`, also where the file is longer than the
 // 4,097 bytes that are read of it (proofs/Handed.antt). No contract of the kit can say which bytes a call of the system reads or writes:
 // that `print` writes each piece once and in order, and that `main` hands it what was read, is to be seen in the lines below.
+#![tactic(auto)]
+
 ghost use Rattle.explorer.specs.Reading.{Within};
 
 use explorer_lines::{MOST_BYTES, begin, next};
-use libc::{STDERR_FILENO, STDIN_FILENO, STDOUT_FILENO};
+use std::io;
+use std::io::{Read, Write};
 
 // What came of reading.
-#[derive(Drop)]
+#[derive(Clone, Copy)]
 enum Input {
     // The number of bytes that were read.
     Bytes(usize),
@@ -18,48 +21,47 @@ enum Input {
 }
 
 // Reads standard input to its end, or as much of it as there is room for.
-fn read_input(file: &mut [u8]) -> Input
+fn read_input(rt: &HostRuntime, file: &mut [u8]) -> Input
     ensures { Within result file.new }
 {
+    let mut input = rt.stdin();
     let mut at = 0;
     while at < file.len() {
-        let got = libc::read(STDIN_FILENO, &mut file[at..]);
-        if got < 0 {
-            return Input::Failed;
+        match input.read(&mut file[at..]) {
+            Ok(n) => {
+                if n == 0 {
+                    return Input::Bytes(at);
+                }
+                at += n;
+            }
+            Err(_) => return Input::Failed,
         }
-        let n = io::count(got, &file[at..]);
-        if n == 0 {
-            return Input::Bytes(at);
-        }
-        at += n;
     }
     Input::Bytes(at)
 }
 
 // Prints the list of this file, or its refusal.
-fn print(file: &[u8]) {
+fn print(rt: &HostRuntime, file: &[u8]) -> io::Result<()> {
+    let mut output = rt.stdout();
     let mut listing = begin(file);
     let mut out = [0u8; MOST_BYTES];
     loop {
         let piece = next(listing, &mut out);
         let n = piece.length;
         if n == 0 {
-            return;
+            return Ok(());
         }
-        if !io::write_all(STDOUT_FILENO, &out[..n]) {
-            io::write_all(STDERR_FILENO, b"standard output cannot be written\n");
-            return;
+        if output.write_all(&out[..n]).is_err() {
+            return eprint!(rt; "standard output cannot be written\n");
         }
         listing = piece.listing;
     }
 }
 
-fn main() {
+fn main(rt: HostRuntime) -> io::Result<()> {
     let mut file = [0u8; 4097];
-    match read_input(&mut file) {
-        Input::Bytes(n) => print(&file[..n]),
-        Input::Failed => {
-            io::write_all(STDERR_FILENO, b"standard input cannot be read\n");
-        }
+    match read_input(&rt, &mut file) {
+        Input::Bytes(n) => print(&rt, &file[..n]),
+        Input::Failed => eprint!(rt; "standard input cannot be read\n"),
     }
 }

@@ -20,7 +20,7 @@ use spec_file::STEPS;
 pub(crate) const PAGE_BYTES: usize = 6656;
 
 // How many bytes some lines have, and how many of their schedules fail.
-#[derive(Drop)]
+#[derive(Clone, Copy)]
 pub struct Lines {
     pub length: usize,
     pub failed: usize,

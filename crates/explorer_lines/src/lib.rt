@@ -1,4 +1,5 @@
 // What the listing program prints of a file, piece by piece.
+#![tactic(auto)]
 
 // Lines of the output.
 mod frames;

@@ -14,7 +14,7 @@ use listing_pages::next_page;
 // The most bytes that a piece has: 256 lines of a schedule, 53 bytes each, and the line of the counts, 35 bytes.
 pub const MOST_BYTES: usize = 13603;
 
-#[derive(Drop)]
+#[derive(Clone, Copy)]
 pub enum Stage {
     // The file is refused, by this number at this place.
     Refused(u8, usize),
@@ -25,7 +25,7 @@ pub enum Stage {
 }
 
 // Where the printing stands: the program, the cursor in its list, how many schedules were printed, and how many of these fail.
-#[derive(Drop)]
+#[derive(Clone, Copy)]
 pub struct Listing {
     pub stage: Stage,
     pub program: Compiled,
@@ -35,7 +35,7 @@ pub struct Listing {
 }
 
 // A piece of what is printed: how many bytes come next, and where the printing stands behind them.
-#[derive(Drop)]
+#[derive(Clone, Copy)]
 pub struct Piece {
     pub length: usize,
     pub listing: Listing,

@@ -13,7 +13,7 @@ use file_rows::{CODE_BYTES, Code};
 
 // An accepted program: its instructions, a row of sixteen bytes each, how many each thread has, the group of each thread (0: none), and the
 // values that memory starts with.
-#[derive(Drop)]
+#[derive(Clone, Copy)]
 pub struct Compiled {
     pub code: Code,
     pub threads: usize,
@@ -23,7 +23,7 @@ pub struct Compiled {
     pub starting: [u32; 8],
 }
 
-#[derive(Drop)]
+#[derive(Clone, Copy)]
 pub enum Verdict {
     Accepted,
     // The refusal's number and place.
@@ -31,7 +31,7 @@ pub enum Verdict {
 }
 
 // The verdict on a file, with the program if it is accepted.
-#[derive(Drop)]
+#[derive(Clone, Copy)]
 pub struct Answer {
     pub verdict: Verdict,
     pub program: Compiled,

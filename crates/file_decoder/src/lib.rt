@@ -1,4 +1,5 @@
 // Program files read: what each line leaves, and the whole file.
+#![tactic(auto)]
 
 // What has been read once a line has passed.
 mod taken;

@@ -1,4 +1,5 @@
 // Lines of hexadecimal, and remarks: one line of a text to what it says, and a frame to its line.
+#![tactic(auto)]
 
 // One digit: which bytes are digits, what each is worth, and the digits of a byte.
 mod digit;

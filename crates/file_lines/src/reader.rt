@@ -6,7 +6,7 @@ ghost use Rattle.file_lines.specs.Meaning.{line_of};
 use crate::digit::{is_digit, value_of};
 
 // What a line is.
-#[derive(Drop)]
+#[derive(Clone, Copy)]
 pub enum Line {
     // A frame of so many bytes.
     Frame(usize),

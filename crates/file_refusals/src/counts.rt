@@ -3,13 +3,13 @@ ghost use Rattle.std.specs.Prelude.{◌≡◌, ◌&&◌, eqb, ltb, get_or};
 ghost use Rattle.file_refusals.specs.Held.{nothing};
 
 // What the `03` lines say: the value of each location, and whether one gave it.
-#[derive(Drop)]
+#[derive(Clone, Copy)]
 pub struct Starting {
     pub values: [u32; 8],
     pub given: [bool; 8],
 }
 
-#[derive(Drop)]
+#[derive(Clone, Copy)]
 pub struct Counts {
     pub threads: usize,
     // How many instructions each thread has.

@@ -1,4 +1,5 @@
 // Whether a frame may follow what has been read of a program file: what has been read as counts, and the number of a refusal.
+#![tactic(auto)]
 
 // What has been read of a file so far, as counts.
 mod counts;

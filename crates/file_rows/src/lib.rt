@@ -1,4 +1,5 @@
 // Frames and rows: the fields of a line's frame, and the code of a program, a row of sixteen bytes for each instruction.
+#![tactic(auto)]
 
 // The kind that a first byte names.
 mod kinds;

@@ -34,7 +34,7 @@ const FEW: usize = 256;
 // Where a schedule has more steps a list may be too long to be walked without a table.
 const MANY: u8 = 16;
 
-#[derive(Drop)]
+#[derive(Clone, Copy)]
 pub enum ForceAnswer {
     // The hostile side can: 0 where it has no step before the first one, else its least first step that keeps the win, plus 1.
     Hostile(u8),

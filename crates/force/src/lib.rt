@@ -1,4 +1,5 @@
 // Who can force the failure of an assertion, for a set of hostile threads.
+#![tactic(auto)]
 
 // The call on a program file.
 mod answering;

@@ -1,4 +1,5 @@
 // The moves of the two sides.
+#![tactic(auto)]
 
 // Whose a thread is, and whether a side has a step.
 mod sides;

@@ -12,7 +12,7 @@ use listing_model::Model;
 use listing_replay::{admitted, replayed};
 use machine_replay::Verdict;
 
-#[derive(Drop)]
+#[derive(Clone, Copy)]
 pub enum GraphAnswer {
     // A text of so many bytes stands in front of the output.
     Written(usize),

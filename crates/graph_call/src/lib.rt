@@ -1,4 +1,5 @@
 // The graph of a schedule, in either memory model.
+#![tactic(auto)]
 
 // The graph call.
 mod calling;

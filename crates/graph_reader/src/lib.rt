@@ -1,4 +1,5 @@
 // Graph texts read into tables, or refused by 30 to 33.
+#![tactic(auto)]
 
 // What has been read of a graph text so far.
 mod table;

@@ -3,7 +3,7 @@
 ghost use Rattle.std.specs.Prelude.{◌≡◌};
 ghost use Rattle.graph_reader.specs.Held.{empty_table};
 
-#[derive(Drop)]
+#[derive(Clone, Copy)]
 pub struct Table {
     // Pairs of bytes. Pair 16 t + i is the source of access i of thread t, or fe fe where it has no line. Pair 96 + 24 l + k is write k of
     // location l, or fe fe where it has no such write.

@@ -8,7 +8,7 @@ use crate::table::{Table, empty};
 use crate::taken::taken;
 use file_lines::Line;
 
-#[derive(Drop)]
+#[derive(Clone, Copy)]
 pub enum Verdict {
     Passed,
     // The refusal's number and its line.
@@ -16,7 +16,7 @@ pub enum Verdict {
 }
 
 // The verdict on a text, with the graph's table if it passed.
-#[derive(Drop)]
+#[derive(Clone, Copy)]
 pub struct Reply {
     pub verdict: Verdict,
     pub table: Table,

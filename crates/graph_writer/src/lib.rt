@@ -1,4 +1,5 @@
 // The notes of a run, and the text of its graph written from them.
+#![tactic(auto)]
 
 // The text of a graph, written from the notes of a run.
 mod graph_text;

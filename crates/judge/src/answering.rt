@@ -9,7 +9,7 @@ use file_rows::put_front;
 use graph_reader::{Verdict, read_graph};
 use spec_file::STEPS;
 
-#[derive(Drop)]
+#[derive(Clone, Copy)]
 pub enum Outcome {
     // Yes, with a schedule of so many bytes in front of the output.
     Yes(usize),

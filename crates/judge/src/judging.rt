@@ -16,7 +16,7 @@ use machine::ended_all;
 use spec_file::STEPS;
 
 // Whether the answer is yes, and then the schedule in the first `steps` bytes.
-#[derive(Drop)]
+#[derive(Clone, Copy)]
 pub struct Finding {
     pub yes: bool,
     pub schedule: [u8; STEPS],

@@ -1,4 +1,5 @@
 // The judge's functions: the walk, the comparison, and the call.
+#![tactic(auto)]
 
 // The graph made so far.
 mod making;

@@ -7,7 +7,7 @@ use file_lines::wide;
 use spec_file::STEPS;
 
 // What a walk has made so far, as in the table of a text: sources and writes, and how many writes each location has.
-#[derive(Drop)]
+#[derive(Clone, Copy)]
 pub struct Made {
     pub pairs: [u8; 576],
     pub counts: [usize; 8],

@@ -12,7 +12,7 @@ use machine::{Machine, started, step};
 use spec_file::STEPS;
 
 // The steps, how many they are, the machine behind them, and the table of the graph that they made.
-#[derive(Drop)]
+#[derive(Clone, Copy)]
 pub struct Walk {
     pub schedule: [u8; STEPS],
     pub steps: usize,

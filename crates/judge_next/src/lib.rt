@@ -1,4 +1,5 @@
 // Which next access a graph allows: the read's source is there, it is the write's turn, and no read still waits for what it hides.
+#![tactic(auto)]
 
 // Reads that wait for a write.
 mod waiting;

@@ -10,7 +10,7 @@ use machine::{Machine, lean_step};
 use machine_access::ThreadState;
 
 // The thread behind an access, where the access went, and what it left there: 0 where it wrote nothing, or there was no access.
-#[derive(Drop)]
+#[derive(Clone, Copy)]
 pub struct Lone {
     pub thread: ThreadState,
     pub place: u8,

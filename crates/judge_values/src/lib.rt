@@ -1,4 +1,5 @@
 // Threads by themselves, and the values that rounds give to reads.
+#![tactic(auto)]
 
 // A thread by itself.
 mod by_itself;

@@ -16,7 +16,7 @@ use machine::started;
 use machine_access::{ThreadState, accesses_below};
 
 // A round: of each access, sixteen a thread, where it goes and what it leaves there.
-#[derive(Drop)]
+#[derive(Clone, Copy)]
 pub struct Round {
     pub places: [u8; 96],
     pub left: [u32; 96],

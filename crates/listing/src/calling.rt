@@ -20,7 +20,7 @@ use listing_pages::next_page;
 use listing_replay::{admitted, replayed};
 use machine_replay::Verdict;
 
-#[derive(Drop)]
+#[derive(Clone, Copy)]
 pub enum ListAnswer {
     // A schedule of so many steps stands in front of the output.
     Found(usize),

@@ -15,13 +15,13 @@ use listing_pages::next_page;
 use listing_replay::admitted;
 use std::num::wrapping_add_usize;
 
-#[derive(Drop)]
+#[derive(Clone, Copy)]
 pub struct Tally {
     pub listed: usize,
     pub failing: usize,
 }
 
-#[derive(Drop)]
+#[derive(Clone, Copy)]
 pub enum CountAnswer {
     // How many are listed, and how many of these fail.
     Counted(usize, usize),

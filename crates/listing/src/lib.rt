@@ -1,4 +1,5 @@
 // The calls that walk the list, in both memory models: start, continue, count, violation; and demand 3.
+#![tactic(auto)]
 
 // The calls that give a schedule.
 mod calling;

@@ -2,7 +2,7 @@
 ghost use Rattle.std.specs.Prelude.{◌≡◌, not, ◌||◌};
 
 // Only schedules that fail, or all; whether the steps taken are the bound's own; room for so many rows, of which so many are written.
-#[derive(Drop)]
+#[derive(Clone, Copy)]
 pub struct Aim {
     pub failures: bool,
     pub tight: bool,

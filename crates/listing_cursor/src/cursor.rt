@@ -7,7 +7,7 @@ ghost use Rattle.spec_schedules.specs.Found.{after};
 ghost use Rattle.listing_cursor.specs.declared.cursor.Position.TheVariants.{End};
 ghost use Rattle.listing_cursor.specs.Cursor.{from, is_end};
 
-#[derive(Drop)]
+#[derive(Clone, Copy)]
 pub enum Position {
     // Before the first listed schedule.
     Beginning,
@@ -18,7 +18,7 @@ pub enum Position {
 }
 
 // Where a walk of the list stands; of the schedule behind which it stands the first `steps` bytes count.
-#[derive(Drop)]
+#[derive(Clone, Copy)]
 pub struct Cursor {
     pub position: Position,
     pub schedule: [u8; 48],
@@ -26,7 +26,7 @@ pub struct Cursor {
 }
 
 // A page: the number of its rows, and the cursor behind them.
-#[derive(Drop)]
+#[derive(Clone, Copy)]
 pub struct Page {
     pub rows: usize,
     pub cursor: Cursor,

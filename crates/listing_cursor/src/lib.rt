@@ -1,4 +1,5 @@
 // Pages of rows, and where they go on.
+#![tactic(auto)]
 
 // What a search is asked for.
 mod aim;

@@ -1,4 +1,5 @@
 // The memory model that a call lists by.
+#![tactic(auto)]
 
 // The two models, and how many bytes their schedules need.
 mod memory;

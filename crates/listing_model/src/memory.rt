@@ -2,7 +2,7 @@
 ghost use Rattle.std.specs.Prelude.{◌≡◌};
 ghost use Rattle.listing_model.specs.ModelOf.{model_of};
 
-#[derive(Drop)]
+#[derive(Clone, Copy)]
 pub enum Model {
     // Each step is an access of a thread.
     Sequential,

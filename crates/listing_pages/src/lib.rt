@@ -1,4 +1,5 @@
 // The list by pages, in both memory models.
+#![tactic(auto)]
 
 // The rows of the listed schedules behind a bound, by the model's own search.
 mod searching;

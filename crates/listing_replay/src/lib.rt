@@ -1,4 +1,5 @@
 // A program file and a schedule, taken by either memory model.
+#![tactic(auto)]
 
 // The program that the model lists, or what refuses the file.
 mod admitting;

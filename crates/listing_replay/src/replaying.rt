@@ -9,7 +9,7 @@ use listing_model::Model;
 use machine_replay::Verdict;
 
 // The verdict on a schedule, and notes of what its steps read and wrote: as many as `notes` stand in front of the log.
-#[derive(Drop)]
+#[derive(Clone, Copy)]
 pub struct Replay {
     pub verdict: Verdict,
     pub log: [u8; 192],

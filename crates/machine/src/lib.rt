@@ -1,4 +1,5 @@
 // The machine's functions: its state, the state before the first step, a step, and what may be asked of a state.
+#![tactic(auto)]
 
 // The machine's state: threads, memory, last writes.
 mod state;

@@ -10,7 +10,7 @@ use machine_access::{ThreadState, accessed_at, settled};
 
 // What a step gives back: its thread's registers and memory whole, and the rest of its thread; its place, and whether it reads and writes
 // (1 or 0). The last writes are its caller's: one of them is read and stored where they lie.
-#[derive(Drop)]
+#[derive(Clone, Copy)]
 pub struct After {
     pub registers: [u32; 4],
     pub at: usize,
@@ -25,7 +25,7 @@ pub struct After {
 
 // What a step gives back to one who keeps no last writes: its thread with the registers, and memory, whole; its location, and whether it
 // wrote.
-#[derive(Drop)]
+#[derive(Clone, Copy)]
 pub struct Moved {
     pub thread: ThreadState,
     pub memory: [u32; 8],
@@ -34,7 +34,7 @@ pub struct Moved {
 }
 
 // The machine behind a step, and the step's note.
-#[derive(Drop)]
+#[derive(Clone, Copy)]
 pub struct Stepped {
     pub machine: Machine,
     pub note: [u8; 8],

@@ -8,7 +8,7 @@ use file_lines::wide;
 use std::num::wrapping_add_u32;
 
 // An access carried out: its location, whether it reads (1 or 0), the registers behind it, whether it writes (1 or 0) and what.
-#[derive(Drop)]
+#[derive(Clone, Copy)]
 pub struct Access {
     pub location: u8,
     pub reads: u8,

@@ -1,4 +1,5 @@
 // What an access does, and a thread carried to its next one.
+#![tactic(auto)]
 
 // What an access does.
 mod accessing;

@@ -1,4 +1,5 @@
 // What an instruction does to its thread by itself: the values of operands, comparisons, and instructions that are no access.
+#![tactic(auto)]
 
 // A thread's registers, the value of an operand, and how an instruction can end.
 mod local;

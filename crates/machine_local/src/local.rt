@@ -48,7 +48,7 @@ pub fn value(p: Operand, registers: [u32; 4]) -> u32
 
 // An instruction that is no access, carried out: the registers behind it, whether it is an assertion that failed, and how many instructions
 // are skipped.
-#[derive(Drop)]
+#[derive(Clone, Copy)]
 pub struct Carried {
     pub failed: bool,
     pub registers: [u32; 4],

@@ -12,7 +12,7 @@ use machine::{Machine, after_step, ended_all, last_behind, started};
 use machine_access::ThreadState;
 use spec_file::STEPS;
 
-#[derive(Drop)]
+#[derive(Clone, Copy)]
 pub enum Verdict {
     Whole,
     // The refusal's number and place.
@@ -20,7 +20,7 @@ pub enum Verdict {
 }
 
 // The verdict, the machine behind the steps that were made, their notes, the steps themselves, and their number.
-#[derive(Drop)]
+#[derive(Clone, Copy)]
 pub struct Run {
     pub verdict: Verdict,
     pub machine: Machine,

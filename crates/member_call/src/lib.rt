@@ -1,4 +1,5 @@
 // The k-th member of a program file's list, and the number of one, under sequential consistency.
+#![tactic(auto)]
 
 // The member number k.
 mod kth_call;

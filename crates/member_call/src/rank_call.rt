@@ -13,7 +13,7 @@ use listing_model::Model;
 use listing_replay::{admitted, replayed};
 use machine_replay::Verdict;
 
-#[derive(Drop)]
+#[derive(Clone, Copy)]
 pub enum RankAnswer {
     // So many are smaller, modulo 2^64.
     Ranked(u64),

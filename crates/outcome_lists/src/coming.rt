@@ -12,7 +12,7 @@ use listing_cursor::put_schedule;
 use listing_model::{Model, width};
 
 // Whether one was found; its first `steps` bytes count.
-#[derive(Drop)]
+#[derive(Clone, Copy)]
 pub struct Coming {
     pub found: bool,
     pub steps: usize,

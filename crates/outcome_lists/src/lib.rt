@@ -1,4 +1,5 @@
 // Outcomes by the list, in both memory models.
+#![tactic(auto)]
 
 // What a schedule comes to, and whether two outcomes are the same.
 mod outcomes;

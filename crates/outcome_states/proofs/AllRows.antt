@@ -21,7 +21,7 @@ use Rattle.spec_across.specs.Under.{outcome_under}
 use Rattle.spec_across.proofs.Attained.{comes_to, comes_is, attained, attained_of}
 use Rattle.theory_outcomes.specs.Gathering.{Attained, Gains}
 use Rattle.states_outcomes.specs.Rows.{row_of, known_row, is_new}
-use Rattle.states_outcomes.proofs.Rows.{known_none}
+use Rattle.states_outcomes.proofs.RowLists.{known_none}
 use Rattle.outcome_states.specs.Gathered.{Exactly}
 use Rattle.outcome_states.proofs.Marks.{by_under}
 

@@ -29,7 +29,7 @@ use Rattle.spec_outcomes.proofs.Same.{is_comes}
 use Rattle.spec_outcomes.proofs.Taken.{take_more}
 use Rattle.spec_outcomes.proofs.Firsts.{first_in, any_first, next_first}
 use Rattle.states_outcomes.specs.Rows.{row_of, known_row, is_new}
-use Rattle.states_outcomes.proofs.Rows.{known_none, row_known, row_stays, row_new}
+use Rattle.states_outcomes.proofs.RowLists.{known_none, row_known, row_stays, row_new}
 use Rattle.outcome_states.specs.Gathered.{Known, Exactly}
 
 -- the first that passes goes by the tests of members

@@ -34,7 +34,7 @@ use Rattle.tso_states.specs.declared.seeking.First as TsoFirst
 use Rattle.states_outcomes.specs.Rows.{row_of, is_new}
 use Rattle.states_outcomes.specs.Swept.{Silent}
 use Rattle.states_outcomes.specs.declared.known.Frame.{Frame}
-use Rattle.states_outcomes.proofs.Rows.{row_adds, adds_fewer}
+use Rattle.states_outcomes.proofs.RowLists.{row_adds, adds_fewer}
 use Rattle.states_outcomes.proofs.Parts as ScMarks
 use Rattle.tso_outcomes.proofs.FirstNew as TsoMarks
 use Rattle.outcome_states.specs.Marks.{Marks}

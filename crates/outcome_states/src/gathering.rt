@@ -18,7 +18,7 @@ use states_outcomes::{Frame, note, unmark};
 use table::slots;
 
 // Whether all were gathered, and how many rows they are.
-#[derive(Drop)]
+#[derive(Clone, Copy)]
 pub struct Gathering {
     pub all: bool,
     pub known: usize,

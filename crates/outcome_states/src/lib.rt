@@ -1,4 +1,5 @@
 // All outcomes of a program into lent words, by states in either memory model.
+#![tactic(auto)]
 
 // An outcome shown as a row of bytes.
 mod keeping;

@@ -19,7 +19,7 @@ use outcome_lists::{Coming, first_coming, outcome_of, row_at};
 use outcome_states::show;
 
 // How many firsts are still passed over, and how many rows are written.
-#[derive(Drop)]
+#[derive(Clone, Copy)]
 pub struct Tally {
     pub left: usize,
     pub rows: usize,

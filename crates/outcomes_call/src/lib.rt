@@ -1,4 +1,5 @@
 // The call that gives all outcomes of a program, each with the first listed schedule that has it.
+#![tactic(auto)]
 
 // Whether two schedules are the same.
 mod comparing;

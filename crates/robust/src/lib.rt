@@ -1,4 +1,5 @@
 // Robust programs: whether total store order has a graph that sequential consistency has not.
+#![tactic(auto)]
 
 // Whether a listed schedule is relaxed.
 mod testing;

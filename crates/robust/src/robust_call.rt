@@ -20,7 +20,7 @@ use listing_pages::next_page;
 use robust_fenced::is_fenced;
 use tso_replay::too_many;
 
-#[derive(Drop)]
+#[derive(Clone, Copy)]
 pub enum RobustAnswer {
     // Every graph of total store order is consistent.
     Robust,

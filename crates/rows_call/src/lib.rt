@@ -1,4 +1,5 @@
 // Many listed schedules of a program file at a time, in both memory models.
+#![tactic(auto)]
 
 // Listed schedules by rows.
 mod row_calls;

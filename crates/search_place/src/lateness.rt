@@ -15,7 +15,7 @@ use machine::Machine;
 use machine_access::ThreadState;
 
 // A step: its thread, its location and whether it wrote.
-#[derive(Drop)]
+#[derive(Clone, Copy)]
 pub struct Step {
     pub thread: u8,
     pub location: u8,

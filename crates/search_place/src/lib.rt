@@ -1,4 +1,5 @@
 // Where the search stands, and what it carries from step to step.
+#![tactic(auto)]
 
 // Sets of small numbers, a bit for each.
 mod sets;

@@ -1,4 +1,5 @@
 // Rules of the search as functions: smaller threads that stand where a thread stands, and late threads that are asleep for good.
+#![tactic(auto)]
 
 // Smaller threads that stand where a thread stands.
 mod standing;

@@ -17,7 +17,7 @@ use machine_access::ThreadState;
 use search_place::{Place, addend, is_in, is_writer, location_at};
 
 // The access that a thread stands at: its location, and whether it could write.
-#[derive(Drop)]
+#[derive(Clone, Copy)]
 pub struct Awaited {
     pub location: u8,
     pub writer: bool,

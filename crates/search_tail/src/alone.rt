@@ -23,7 +23,7 @@ use machine_access::ThreadState;
 use spec_file::STEPS;
 
 // One thread of a place, with memory and the steps so far, and whether an assertion of any thread failed.
-#[derive(Drop)]
+#[derive(Clone, Copy)]
 pub struct Runner {
     pub thread: ThreadState,
     pub memory: [u32; 8],

@@ -1,4 +1,5 @@
 // What the search does where it does not branch any more: at a full schedule, and where one thread is left.
+#![tactic(auto)]
 
 // A full schedule.
 mod full;

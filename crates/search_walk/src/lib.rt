@@ -1,4 +1,5 @@
 // The search for the listed schedules under sequential consistency.
+#![tactic(auto)]
 
 // A step in the one copy of its place, and what is found behind it.
 mod walking;

@@ -1,4 +1,5 @@
 // Four callers on one explorer: open, ask, serve, close, and set, return to and forget marks, on four records in a list that the host lends.
+#![tactic(auto)]
 
 // The seven calls.
 mod calls;

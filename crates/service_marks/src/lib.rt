@@ -1,4 +1,5 @@
 // One caller's marks, by value: which count, under which names, and the records that set, return and forget leave.
+#![tactic(auto)]
 
 // Whether a mark counts, and whether it bears a name.
 mod bearing;

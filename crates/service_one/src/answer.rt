@@ -4,7 +4,7 @@ ghost use Rattle.std.specs.Prelude.{◌≡◌};
 use spec_service::{Caller, Reply};
 
 // The record to be put back, and the answer.
-#[derive(Drop)]
+#[derive(Clone, Copy)]
 pub struct Kept {
     pub caller: Caller,
     pub reply: Reply,

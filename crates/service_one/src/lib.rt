@@ -1,4 +1,5 @@
 // One caller's record: out of the list that the host lends and back, and open, ask, close, set, return and forget on it by value.
+#![tactic(auto)]
 
 // What a call answers, and what it keeps.
 mod answer;

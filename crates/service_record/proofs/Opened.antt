@@ -80,13 +80,17 @@ module _ (c : Caller) where
       kept true = refl
       kept false = refl
 
+      never : (a : Bool) → cond a false false ≡ false
+      never true = refl
+      never false = refl
+
       placed : (p : Program) (o : Option Place) → cond b (is_open (seated p o c.asking)) false ≡ asks (seated p o c.asking)
-      placed p none = elim b [ true ↦ refl | false ↦ refl ]
+      placed p none = never b
       placed p (some x) = kept b ∙ sym e
 
       go : (d : Decoded) → cond b (is_open (seat_by d c)) false ≡ asks (seat_by d c)
       go (accepted p) = placed p (place_of p c.place c.steps c.schedule)
-      go (refused n k) = elim b [ true ↦ refl | false ↦ refl ]
+      go (refused n k) = never b
 
   pub asks_open : c.asking ≡ 1 → is_open (reading c) ≡ asks (reading c)
   asks_open e = asked_by true (eq-eqb c.asking 1 e)

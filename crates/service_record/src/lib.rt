@@ -1,4 +1,5 @@
 // A caller's record.
+#![tactic(auto)]
 
 // The records that calls leave.
 mod left;

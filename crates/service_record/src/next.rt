@@ -14,7 +14,7 @@ use spec_file::STEPS;
 use spec_service::Caller;
 
 // Whether there is one, its number of steps, and the steps with zeros behind them.
-#[derive(Drop)]
+#[derive(Clone, Copy)]
 pub struct Next {
     pub found: bool,
     pub steps: u8,

@@ -1,4 +1,5 @@
 // Serve by one record: whose turn it is, by which of the four ask, and what the caller gets whose record this is.
+#![tactic(auto)]
 
 // Whose turn it is: the next asking caller after the last one served.
 mod order;

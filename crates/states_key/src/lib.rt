@@ -1,4 +1,5 @@
 // The key of a position of the search, in words.
+#![tactic(auto)]
 
 // A prefix of a run with the ways of its threads.
 mod spot;

@@ -3,7 +3,7 @@ use machine_access::ThreadState;
 use spec_file::STEPS;
 
 // A place of the search, and of each thread its way: the locations of its latest twelve accesses, three bits each, the latest lowest.
-#[derive(Drop)]
+#[derive(Clone, Copy)]
 pub struct Spot {
     pub threads: [ThreadState; 6],
     pub memory: [u32; 8],

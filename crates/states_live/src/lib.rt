@@ -1,4 +1,5 @@
 // Live registers: those that the code left of a thread may still read, row by row, and how wide the keys of a program are.
+#![tactic(auto)]
 
 // The registers that the instruction in a row reads, and writes.
 mod naming;

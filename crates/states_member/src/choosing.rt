@@ -19,7 +19,7 @@ use states_memory::Shape;
 use states_walk::visit;
 
 // The next step, and the member's number behind it; or there are not so many.
-#[derive(Drop)]
+#[derive(Clone, Copy)]
 pub struct Choice {
     pub found: bool,
     pub step: u8,

@@ -1,5 +1,6 @@
 // Members of the list by their number, under sequential consistency: the k-th one, and how many are smaller than one. Both by how many there
 // are behind each next step.
+#![tactic(auto)]
 
 // Which next step leads to the member number i behind a prefix.
 mod choosing;

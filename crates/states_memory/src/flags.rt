@@ -7,7 +7,7 @@ ghost use Rattle.table.specs.Answers.{Honest};
 use crate::tally::Shape;
 use table::{Found, look, place, put};
 
-#[derive(Drop)]
+#[derive(Clone, Copy)]
 pub struct Flag {
     pub known: bool,
     pub set: bool,

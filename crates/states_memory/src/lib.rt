@@ -1,4 +1,5 @@
 // What a search by states keeps in a table: of a key how many schedules are behind it, or that nothing fails behind it.
+#![tactic(auto)]
 
 // How many are listed, and how many of these fail, added up modulo 2^64.
 mod tally;

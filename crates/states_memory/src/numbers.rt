@@ -7,7 +7,7 @@ ghost use Rattle.table.specs.Answers.{Honest};
 use crate::tally::{Shape, Tally};
 use table::{Found, look, place, put};
 
-#[derive(Drop)]
+#[derive(Clone, Copy)]
 pub struct Recalled {
     pub known: bool,
     pub listed: u64,

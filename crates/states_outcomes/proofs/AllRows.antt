@@ -33,7 +33,7 @@ use Rattle.states_outcomes.specs.declared.known.Frame.{Frame}
 use Rattle.states_outcomes.specs.Rows.{is_new, Adds}
 use Rattle.states_outcomes.specs.Swept.{Swept, Kept}
 use Rattle.states_outcomes.specs.Gathered.{grown, Gathers}
-use Rattle.states_outcomes.proofs.Rows.{adds_fewer, adds_only}
+use Rattle.states_outcomes.proofs.RowLists.{adds_fewer, adds_only}
 use Rattle.states_outcomes.proofs.FirstNew.{asleep_new, awake_new, untried_new, spot_outcome, passed_new, marked_new}
 
 -- MARKS STAY TRUE with one outcome more

@@ -2,7 +2,7 @@
 -- the eight final values, one by one
 pub mod Values
 -- rows of outcomes: known, not known, one more
-pub mod Rows
+pub mod RowLists
 -- a row of words written before a place
 pub mod Noted
 -- the words behind a place, lent as a part of all

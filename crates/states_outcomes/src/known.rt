@@ -6,7 +6,7 @@ ghost use Rattle.states_outcomes.specs.Rows.{told, row_of, known_row};
 use table::{Found, look};
 
 // How lent words are divided: before `cut` stand so many known outcomes, behind it a table of so many slots with keys of so many words.
-#[derive(Drop)]
+#[derive(Clone, Copy)]
 pub struct Frame {
     pub width: usize,
     pub slots: usize,

@@ -1,4 +1,5 @@
 // The first listed schedule with an outcome that is not among known ones, and all outcomes, by states under sequential consistency.
+#![tactic(auto)]
 
 // Known outcomes in words.
 mod known;

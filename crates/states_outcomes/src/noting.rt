@@ -9,7 +9,7 @@ use spec_covers::Outcome;
 use table::write;
 
 // How many outcomes are known, and whether one more had no room.
-#[derive(Drop)]
+#[derive(Clone, Copy)]
 pub struct Rows {
     pub known: usize,
     pub full: bool,

@@ -24,7 +24,7 @@ use table::{clear, slots};
 
 // What a walk needs of a program: its classes, what is left to its rows, their live registers, how wide a key is, behind how many steps
 // none is made, and where it starts.
-#[derive(Drop)]
+#[derive(Clone, Copy)]
 pub struct Setup {
     pub class: [usize; 6],
     pub left: [u8; 192],

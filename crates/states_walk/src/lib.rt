@@ -1,4 +1,5 @@
 // Count and first failing schedule by states, under sequential consistency.
+#![tactic(auto)]
 
 // A step of the search.
 mod stepping;

@@ -27,7 +27,7 @@ use spec_file::STEPS;
 use states_key::{Spot, key};
 use states_memory::{Shape, is_marked, mark};
 
-#[derive(Drop)]
+#[derive(Clone, Copy)]
 pub struct First {
     pub found: bool,
     pub steps: usize,

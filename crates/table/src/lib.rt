@@ -1,4 +1,5 @@
 // A table in memory that the host lends: words of 64 bits, as many as there are, whatever they hold.
+#![tactic(auto)]
 
 // Where a key's slot begins.
 mod placing;

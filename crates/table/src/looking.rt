@@ -4,7 +4,7 @@ ghost use Rattle.spec_file.specs.Lists.{same_list};
 ghost use Rattle.table.specs.Said.{part, said_at};
 ghost use Rattle.table.specs.Answers.{read, Within};
 
-#[derive(Drop)]
+#[derive(Clone, Copy)]
 pub enum Found {
     // What is known of the key begins at this word.
     At(usize),

@@ -2,7 +2,7 @@
 use tso_place::Place;
 
 // A place of the search, and of each thread its way: the locations of its latest eight accesses, three bits each, the latest lowest.
-#[derive(Drop)]
+#[derive(Clone, Copy)]
 pub struct Spot {
     pub place: Place,
     pub ways: [u32; 6],

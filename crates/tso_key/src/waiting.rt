@@ -9,7 +9,7 @@ use file_lines::wide;
 use tso_machine::Pending;
 
 // All pending stores: what they write, where they go, and how many they are.
-#[derive(Drop)]
+#[derive(Clone, Copy)]
 pub struct Waiting {
     pub values: [u32; 16],
     pub places: u64,

@@ -158,7 +158,7 @@ module _ (code lengths : List ℕ) (threads : ℕ) (p : Program) (loaded : Loade
     core = core_held;
     sizes = (firsts.size, firsts.size, length-replicate {A = Pending} 16 empty);
     short = λ t h l. short_held code lengths threads p loaded t
-        (omega (arith, SCSteps.in_range (SC.start p) t ((held.threads t h).settled (omega (arith, length_code code t (get_or lengths t 0)))), SCStart.start_threads p, threads_held code lengths threads p loaded));
+        (omega (arith, SCSteps.in_range_lem (SC.start p) t ((held.threads t h).settled (omega (arith, length_code code t (get_or lengths t 0)))), SCStart.start_threads p, threads_held code lengths threads p loaded));
     queues = λ t h. no_queue t ∙ sym (ap (queue_at (replicate 16 empty) (get_or first t 0)) (let z : get_or first t 0 - get_or first t 0 ≡ 0 = omega arith in z) ∙ queue_none (replicate 16 empty) (get_or first t 0));
     ordered = λ t h. omega arith;
     room = λ t h. room t h (dec_lt (t + 1) 6);

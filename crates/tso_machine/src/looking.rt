@@ -9,7 +9,7 @@ use file_lines::wide;
 use machine::LastWrite;
 
 // A value, the write that it comes from, and whether that is a pending store of the thread's own.
-#[derive(Drop)]
+#[derive(Clone, Copy)]
 pub struct Sight {
     pub value: u32,
     pub source: LastWrite,

@@ -16,7 +16,7 @@ use machine_access::ThreadState;
 
 // The thread behind the access; its location, whether it reads, whether it is locked, whether it writes and what; the write that it finds,
 // and whether that is a pending store of its own.
-#[derive(Drop)]
+#[derive(Clone, Copy)]
 pub struct Met {
     pub thread: ThreadState,
     pub source: LastWrite,

@@ -3,7 +3,7 @@ use machine::LastWrite;
 use machine_access::ThreadState;
 
 // A pending store: its value, the number of the access that made it, and its location.
-#[derive(Drop)]
+#[derive(Clone, Copy)]
 pub struct Pending {
     pub value: u32,
     pub number: u8,
@@ -12,7 +12,7 @@ pub struct Pending {
 
 // Thread t's queue, oldest first, stands in the slots from heads[t] up to tails[t]. Each thread has as many slots of its own as it has
 // accesses, in the order of threads: a store is put at the tail, a move takes from the head, and none goes elsewhere.
-#[derive(Drop)]
+#[derive(Clone, Copy)]
 pub struct QueuedMachine {
     pub threads: [ThreadState; 6],
     pub memory: [u32; 8],

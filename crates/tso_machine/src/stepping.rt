@@ -15,7 +15,7 @@ use machine_access::ThreadState;
 // What a step stores, each where something stands already: its thread, the value and the last write of a location, a slot, and where the
 // thread's queue begins and ends; and what it did: its event's number, its location, whether it reads, whether it is locked, whether it
 // writes memory, and for an access what it finds: the write that the value comes from, and whether that is a pending store of its own.
-#[derive(Drop)]
+#[derive(Clone, Copy)]
 pub struct Change {
     pub thread: ThreadState,
     pub value: u32,
@@ -35,7 +35,7 @@ pub struct Change {
 }
 
 // The machine behind a step, and what the step did.
-#[derive(Drop)]
+#[derive(Clone, Copy)]
 pub struct Stepped {
     pub machine: QueuedMachine,
     pub source: LastWrite,

@@ -1,4 +1,5 @@
 // Which next steps have to stay behind a step of a run under total store order: sets of threads behind it.
+#![tactic(auto)]
 
 // Sets of threads, a bit for each.
 mod sets;

@@ -7,7 +7,7 @@ use search_place::{addend, is_in};
 
 // Sets of threads at a place: those that may do their next access, those that may move; of these the accesses that are late, the moves that
 // are late, and the moves that are far.
-#[derive(Drop)]
+#[derive(Clone, Copy)]
 pub struct Sets {
     pub live: u8,
     pub moving: u8,

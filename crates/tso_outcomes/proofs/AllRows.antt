@@ -29,7 +29,7 @@ use Rattle.states_outcomes.specs.declared.known.Frame.{Frame}
 use Rattle.states_outcomes.specs.Rows.{is_new, Adds}
 use Rattle.states_outcomes.specs.Swept.{Kept}
 use Rattle.states_outcomes.specs.Gathered.{grown}
-use Rattle.states_outcomes.proofs.Rows.{adds_fewer, adds_only}
+use Rattle.states_outcomes.proofs.RowLists.{adds_fewer, adds_only}
 use Rattle.tso_key.specs.declared.spot.Spot.{Spot}
 use Rattle.tso_states.specs.Position.{Position}
 use Rattle.tso_states.proofs.NextSpot.{admitted, has_room}

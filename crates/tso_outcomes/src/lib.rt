@@ -1,4 +1,5 @@
 // The first listed schedule with an outcome that is not among known ones, and all outcomes, by states under total store order.
+#![tactic(auto)]
 
 // The key of a position with whether something failed.
 mod flagging;

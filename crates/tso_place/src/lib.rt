@@ -1,5 +1,6 @@
 // Where the search under total store order stands: a prefix of a run by value, with what the rules need to know of its steps, and a step
 // more.
+#![tactic(auto)]
 
 // A prefix of a run.
 mod place;

@@ -5,7 +5,7 @@ use tso_machine::Pending;
 use tso_order::Sets;
 
 // The first six are the machine's. The steps are the first so many of the schedule. Of each thread there is a word for its accesses.
-#[derive(Drop)]
+#[derive(Clone, Copy)]
 pub struct Place {
     pub threads: [ThreadState; 6],
     pub memory: [u32; 8],

@@ -1,4 +1,5 @@
 // A schedule carried out under total store order.
+#![tactic(auto)]
 
 // What total store order turns away.
 mod admitting;

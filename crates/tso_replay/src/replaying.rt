@@ -12,7 +12,7 @@ use machine_replay::Verdict;
 use tso_machine::{QueuedMachine, enabled, ended_all, started, step};
 
 // The verdict, the machine behind the steps that were made, the notes of these and their number, the steps themselves, and how many.
-#[derive(Drop)]
+#[derive(Clone, Copy)]
 pub struct Run {
     pub verdict: Verdict,
     pub machine: QueuedMachine,

@@ -1,4 +1,5 @@
 // Rules of the search under total store order as functions: which bytes are tried, and whether some are asleep for good.
+#![tactic(auto)]
 
 // Which bytes are tried.
 mod trying;

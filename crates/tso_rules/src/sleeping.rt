@@ -23,7 +23,7 @@ use tso_order::{Sets, is_pending, six};
 use tso_place::Place;
 
 // A late step: its thread, its location, and whether one that only looks at memory could make it wait too, as one that could put.
-#[derive(Drop)]
+#[derive(Clone, Copy)]
 pub struct Awaited {
     pub thread: u8,
     pub location: u8,

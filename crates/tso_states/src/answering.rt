@@ -24,7 +24,7 @@ use tso_key::{Spot, first_spot};
 use tso_place::begun;
 
 // What a walk needs of a program: its classes, what is left to its rows, their live registers, how wide a key is, and where it starts.
-#[derive(Drop)]
+#[derive(Clone, Copy)]
 pub struct Setup {
     pub class: [usize; 6],
     pub left: [u8; 192],

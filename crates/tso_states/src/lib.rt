@@ -1,4 +1,5 @@
 // Count and first failing schedule by states, under total store order.
+#![tactic(auto)]
 
 // How a walk uses its table.
 mod plan;

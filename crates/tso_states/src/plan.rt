@@ -5,7 +5,7 @@ use states_memory::Shape;
 
 // How many words a key has, how many slots the table, and from how many steps on no key is made: so few steps are left then that to look is
 // dearer than to walk. Which number that is changes no answer.
-#[derive(Drop)]
+#[derive(Clone, Copy)]
 pub struct Plan {
     pub width: usize,
     pub slots: usize,

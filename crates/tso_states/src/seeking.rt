@@ -22,7 +22,7 @@ use tso_key::{Spot, key};
 use tso_rules::{is_tried, some_asleep};
 use tso_walk::is_over;
 
-#[derive(Drop)]
+#[derive(Clone, Copy)]
 pub struct First {
     pub found: bool,
     pub steps: usize,

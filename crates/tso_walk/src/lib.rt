@@ -1,4 +1,5 @@
 // The search for the listed schedules under total store order.
+#![tactic(auto)]
 
 // What the search does at a full schedule.
 mod ending;

@@ -1,0 +1,11 @@
+-- `tarczolin_rows` says what the listing answers.
+use Rattle.std.proofs.Common.{◌∙◌, ap}
+use Rattle.spec_calls.specs.declared.rows_answer.RowsAnswer.{RowsAnswer}
+use Rattle.spec_calls.specs.Word.{word_of}
+use Rattle.spec_calls.specs.ByRows.{rows_reply}
+use Rattle.c_listing.proofs.by_rows.tarczolin_rows.Goals as goal
+
+pub returns : goal.returns
+returns c =
+    let a = c.first_rows in
+    record { answer = c.rows_word.ensures ∙ ap (λ (x : RowsAnswer). word_of (rows_reply x)) a.ensures.answer; output = a.ensures.output }

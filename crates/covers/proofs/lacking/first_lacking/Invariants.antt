@@ -1,0 +1,15 @@
+-- `first_lacking` goes through the second program's list page by page. The invariant: what is looked for is yet to come.
+use Rattle.std.proofs.Common.{◌≡◌, false, length}
+use Rattle.file_decoder.specs.Compiled.{program_of}
+use Rattle.spec_across.proofs.Attained.{lacks_under}
+use Rattle.listing_cursor.specs.ListRows.{pages}
+use Rattle.listing_model.specs.ModelOf.{model_of}
+use Rattle.listing_pages.proofs.FirstByPages.{ToCome}
+use Rattle.covers.proofs.lacking.first_lacking.Given as goal
+
+abbrev pub invariant-loop-model : goal.invariant-loop-model
+invariant-loop-model l =
+    (length l.rows ≡ 800) × ToCome (model_of l.other) (program_of l.second) (lacks_under (model_of l.model) (program_of l.first) (model_of l.other) (program_of l.second)) l.cursor
+
+abbrev pub decreases-loop-model : goal.decreases-loop-model
+decreases-loop-model l = pages (model_of l.other) (program_of l.second) false l.cursor

@@ -1,0 +1,15 @@
+-- `walked` takes the chosen thread again and again. The invariant: what has been walked and what is left make the walk.
+use Rattle.std.proofs.Common.{ℕ, ◌≤◌, ◌-◌, ◌≡◌, length, get_or}
+use Rattle.spec_file.specs.Program.{Program, initial}
+use Rattle.spec_sc.specs.Graph.{Graph}
+use Rattle.judge_next.specs.HeldWalk.{Given}
+use Rattle.judge.proofs.WalkLoop.{Progress}
+use Rattle.judge.proofs.walking.walked.Given as goal
+
+abbrev pub invariant-loop-k : goal.invariant-loop-k
+invariant-loop-k it =
+    (length it.made ≡ 576) × (length it.counts ≡ 8) × (length it.schedule ≡ 24) × ((l : ℕ) → get_or it.counts l 0 ≤ it.k)
+    × ((p : Program) (g : Graph) → Given it.code it.lengths it.threads it.pairs it.places p g → it.initial.m.memory ≡ initial p → Progress it.code it.lengths p g it.m it.made it.counts it.schedule it.k)
+
+abbrev pub decreases-loop-k : goal.decreases-loop-k
+decreases-loop-k l = 24 - l.k

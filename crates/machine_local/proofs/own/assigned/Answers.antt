@@ -1,0 +1,7 @@
+-- The operand's value stands in the register.
+use Rattle.spec_sc.specs.Local.{outcome}
+use Rattle.machine_local.proofs.own.assigned.Goals as goal
+
+pub returns : goal.returns
+unfolding outcome
+returns c = rw (c.passed.ensures, c.with_register.ensures, c.wide.ensures.same, c.value-v.ensures)

@@ -1,0 +1,26 @@
+-- `kth_of` writes the member that was found.
+use Rattle.std.proofs.Common.{rules, ◌≡◌, ◌∙◌, arith, length, take, length-take-le}
+use borrow.Author.Tests.{not-true, not-false}
+use Rattle.states_walk.proofs.FirstFound.{found_none, found_some}
+use Rattle.states_call.proofs.LentCalls.{first_none, first_some}
+use Rattle.member_call.proofs.kth_call.kth_of.Goals as goal
+
+pub kth-r-requires : goal.kth-r-requires
+kth-r-requires c = c.requires.0
+
+pub returns-then-not-r : goal.returns-then-not-r
+returns-then-not-r c =
+    let r = c.kth-r in
+    let e = first_none _ c.args.out.now (found_none r.result (not-true _ c.if-not-r.true) ∙ r.ensures.member.1) in
+    record { answer = e.0; output = e.1; later = r.ensures.zeros }
+
+pub put-requires : goal.put-requires
+put-requires c = (c.kth-r.ensures.member.0, c.requires.1)
+
+pub returns : goal.returns
+returns c =
+    let r = c.kth-r in
+    let size : length r.result.schedule ≡ 24 = search rules in
+    let e = first_some _ c.args.out.now (take r.result.steps r.result.schedule) r.result.steps (found_some r.result (not-false _ c.if-not-r.false) ∙ r.ensures.member.1)
+    (length-take-le r.result.steps r.result.schedule (omega (arith, r.ensures.member.0, size))) in
+    record { answer = e.0; output = c.put.ensures ∙ e.1; later = r.ensures.zeros }

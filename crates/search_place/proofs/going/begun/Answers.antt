@@ -1,0 +1,13 @@
+-- `begun` stands before the first step, with all threads that have an instruction left.
+use Rattle.std.proofs.Common.{refl}
+use Rattle.spec_sc.specs.State.{start}
+use Rattle.search_place.proofs.ReachedStep.{reached_start}
+use Rattle.search_place.proofs.going.begun.Goals as goal
+
+pub returns : goal.returns
+returns c =
+    let a = c.args in
+    let started = c.started-m in
+    λ class groups p loaded e lines.
+    reached_start a.code.now a.lengths.now class a.threads groups started.result _ c.live_set.result p loaded lines (started.ensures.1 p loaded e)
+    (c.live_set.ensures a.code.now started.result (start p) refl (started.ensures.1 p loaded e))

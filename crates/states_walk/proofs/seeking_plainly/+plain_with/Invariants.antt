@@ -1,0 +1,30 @@
+-- `plain_with` makes the step in its copy of the spot, asks who is late behind it, and tries the next threads one after the other. The first loop's invariant:
+-- the late ones before w. The second's: none with a step before z is the first.
+use Rattle.std.proofs.Common.{ℕ, ◌≤◌, ◌-◌}
+use Rattle.spec_sc.specs.Actions.{Action}
+use Rattle.machine.specs.declared.stepping.Moved.{Moved}
+use Rattle.search_place.proofs.LateLoop.{LateBelow}
+use Rattle.search_place.proofs.ReachedStep.{Short}
+use Rattle.states_key.specs.Stands.{place_of}
+use Rattle.states_walk.proofs.SoughtTurns.{Sought}
+use Rattle.states_walk.proofs.seeking_plainly.+plain_with.Given as goal
+
+-- the step of t that gave back m, as an action
+abbrev pub did : ℕ → Moved → Action
+did t m = record { thread = t; location = m.location; wrote = m.wrote }
+
+abbrev pub decreases-plain_with : goal.decreases-plain_with
+decreases-plain_with l = 24 - l.x.steps
+
+abbrev pub invariant-loop-w : goal.invariant-loop-w
+invariant-loop-w l =
+    (l.w ≤ l.w-end) × (l.w-end ≤ 6) × Short l.lengths l.y.threads × LateBelow l.code l.lengths l.y.threads l.m.memory l.y.late (did l.t l.m) l.late l.w
+
+abbrev pub decreases-loop-w : goal.decreases-loop-w
+decreases-loop-w l = l.w-end - l.w
+
+abbrev pub invariant-loop-z : goal.invariant-loop-z
+invariant-loop-z l = Sought l.code l.lengths l.class (place_of l.y) l.z
+
+abbrev pub decreases-loop-z : goal.decreases-loop-z
+decreases-loop-z l = 6 - l.z

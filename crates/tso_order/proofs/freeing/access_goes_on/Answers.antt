@@ -1,0 +1,17 @@
+-- `access_goes_on` asks first whether the thread is in the set.
+use Rattle.std.proofs.Common.{sym, ap, ◌∙◌, not}
+use borrow.Author.Tests.{not-true, not-false}
+use Rattle.tso_order.proofs.freeing.access_goes_on.Goals as goal
+
+pub returns-then-not-is_in : goal.returns-then-not-is_in
+returns-then-not-is_in c =
+    let q = sym c.is_in.ensures ∙ not-true c.is_in.result c.if-not-is_in.true-raw in
+    λ lengths m σ held ek em hold may. rw q
+
+pub access_waits-requires : goal.access_waits-requires
+access_waits-requires c = (c.requires.0, c.requires.1 (sym c.is_in.ensures ∙ not-false c.is_in.result c.if-not-is_in.false-raw))
+
+pub returns : goal.returns
+returns c =
+    let is = sym c.is_in.ensures ∙ not-false c.is_in.result c.if-not-is_in.false-raw in
+    λ lengths m σ held ek em hold may. rw is (ap not (c.access_waits.ensures lengths m σ held ek em hold (may is)))

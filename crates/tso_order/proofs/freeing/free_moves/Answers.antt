@@ -1,0 +1,12 @@
+-- `free_moves` asks nobody where there is nobody to ask.
+use Rattle.std.proofs.Common.{sym, not}
+use Rattle.spec_tso.specs.State.{byte_for, move}
+use Rattle.theory_tso.specs.Deeds.{deed, waits}
+use Rattle.tso_order.proofs.Choices.{none_in}
+use Rattle.tso_order.proofs.freeing.free_moves.Goals as goal
+
+pub returns-then-set-eq0 : goal.returns-then-set-eq0
+returns-then-set-eq0 c = let a = c.args in λ code lengths m σ held es eh may. sym (none_in (λ u. not (waits a.e (deed σ (byte_for move u)))) a.set c.if-set-eq0.true)
+
+pub returns : goal.returns
+returns c = c.asked_moves.ensures
