@@ -71,4 +71,5 @@ deb: tool $(SHARED)
 	  ' Lists, counts, shows and judges the executions of a program under sequential' \
 	  ' consistency or total store order, by a proved library for C, Rust and Python.' > $(DEBROOT)/DEBIAN/control
 	@dpkg-deb --root-owner-group --build $(DEBROOT) $(DEB) > /dev/null
+	@rm -rf $(DEBROOT) # it has a link, and rt ci wants none below the repository
 	@echo $(DEB)

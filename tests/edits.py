@@ -1,15 +1,15 @@
 #!/usr/bin/env python3
-"""edits.py [--some N] [--crate NAME ..] [--list]: the wrong answers that the remarks of edits speak of, given by the programs with the edits in them.
+"""edits.py [--some N] [--crate NAME ..] [--list] [--tree FOLDER]: the wrong answers that the remarks of edits speak of, given by the programs with the edits in them.
 
 Each edit of a source file whose remark asks a call something is made in a copy of its crate. `rt try` runs tests/backends/main.rattle over
 all crates, unproved, and it asks the remark's input; the answer has to be the remark's wrong one. (That the right one is the library's is tested by
 python/tests/test_edits.py.) Edits that cannot be run so are told by --list with the reason: a definition, which no program reads, or a
 remark that speaks of an inner function or of what a record holds.
 
---some N takes N edits, drawn by the commit's hash. The last line counts; the exit status is 0 exactly where none differs.
+--some N takes N edits, drawn by the commit's hash. --tree FOLDER makes the folder that such a program is run in, without an edit, and runs
+nothing: for `make backends`. The last line counts; the exit status is 0 exactly where none differs. EDITS_JOBS=N: so many at a time, else 2.
 """
 import argparse
-import codecs
 import hashlib
 import os
 import random
@@ -42,11 +42,9 @@ SHARED = {'open': 20, 'ask': 21, 'serve': 22, 'close': 23, 'set': 24, 'return': 
 # such a call is asked with so many times 32 words of scratch: some states show an edit only where all others stay in the table
 SCRATCHES = (255, 2, 0)
 LONGER = [('[5u64; 256]', '[5u64; 8192]'), ('{ b.len() % 256 } else { set as usize }', '{ b.len() % 256 * 32 } else { set as usize * 32 }')]
-# rt tells so many bytes of what a program wrote, and so many of an output are asked for
-TOLD, SHOWN = 200, 64
-WRITTEN = 'io::write_all(STDOUT_FILENO, &out[..n]);'
-# the interpreter ends behind so many steps, the native program does not
-SAID = re.compile(r'^FAIL: the (?:interpreter|native program at -O0) ended, .*\n.* found "(.*)"', re.M)
+# rt tells less than a MiB of what a program wrote, and so many bytes of an output are asked for
+TOLD, SHOWN = 1 << 19, 64
+WRITTEN = 'write_all(&rt, &out[..n])?;'
 
 
 class Asked:
@@ -147,51 +145,47 @@ def source_of(path):
     return file, list(zip(texts[::2], texts[1::2]))
 
 
-def made(folder, path):
-    """All crates in a folder, the edited one as a copy with the edit in it."""
+def tree(folder):
+    """All crates in a folder, as sources, and with them the program over all of them."""
+    for crate in sorted((ROOT / 'crates').iterdir()):
+        for part in ('src', 'specs'):
+            if (crate / part).is_dir():
+                shutil.copytree(crate / part, folder / 'crates' / crate.name / part)
     (folder / 'crates' / 'backends' / 'src').mkdir(parents=True)
-    for crate in (ROOT / 'crates').iterdir():
-        (folder / 'crates' / crate.name).symlink_to(crate)
     program = (ROOT / 'tests' / 'backends' / 'main.rattle').read_text(encoding='utf-8')
-    for text in [WRITTEN, *(old for old, _ in LONGER)]:
-        if program.count(text) != 1:
-            raise ValueError(f'tests/backends/main.rattle does not have {text} once')
-    shown = f'let m = if n > {SHOWN} {{ {SHOWN} }} else {{ n }};\n        io::write_all(STDOUT_FILENO, &out[..m]);'
-    for old, new in [(WRITTEN, shown), *LONGER]:
-        program = program.replace(old, new)
     (folder / 'crates' / 'backends' / 'src' / 'main.rt').write_text(program, encoding='utf-8')
-    reader, crate = folder / 'crates' / 'graph_reader', folder / 'crates' / path.parts[-3]
-    for copied in {reader, crate}:
-        kept = copied.resolve()
-        copied.unlink()
-        shutil.copytree(kept / 'src', copied / 'src')
-    file, pairs = source_of(path)
-    text = (crate / file).read_text(encoding='utf-8')
+    listing = (ROOT / 'crates.txt').read_text(encoding='utf-8')
+    calls = [name for name in re.search(r'^tarczolin_c staticlib: (.*)$', listing, re.M)[1].split() if name.startswith('c_')]
+    (folder / 'crates.txt').write_text(f'{listing}\nbackends: {" ".join(calls)} service_record spec_service\n', encoding='utf-8')
+
+
+def replaced(file, pairs):
+    """Puts texts in place of others, each of which stands in the file once."""
+    text = file.read_text(encoding='utf-8')
     for old, new in pairs:
         if text.count(old) != 1:
-            raise ValueError(f'{path}: the old text is there {text.count(old)} times')
+            raise ValueError(f'{file} has {text.count(old)} times {old}')
         text = text.replace(old, new)
-    (crate / file).write_text(text, encoding='utf-8')
-    # a module of this crate has the name of a crate that it does not know, which a program over all crates does
-    (reader / 'src' / 'table.rt').rename(reader / 'src' / 'read_table.rt')
-    for source in (reader / 'src').glob('*.rt'):
-        text = source.read_text(encoding='utf-8')
-        source.write_text(re.sub(r'\btable::', 'read_table::', re.sub(r'^mod table;', 'mod read_table;', text, flags=re.M)), encoding='utf-8')
-    exported = re.search(r'^EXPORTED = (.*)$', (ROOT / 'Makefile').read_text(encoding='utf-8'), re.M)[1]
-    listing = (ROOT / 'crates.txt').read_text(encoding='utf-8')
-    (folder / 'crates.txt').write_text(f'{listing}\nbackends: {exported} io libc service_record spec_service\n', encoding='utf-8')
+    file.write_text(text, encoding='utf-8')
+
+
+def made(folder, path):
+    """That folder with an edit in it; its program shows the beginning of an output, and has a longer scratch."""
+    tree(folder)
+    shown = f'let m = if n > {SHOWN} {{ {SHOWN} }} else {{ n }};\n        write_all(&rt, &out[..m])?;'
+    replaced(folder / 'crates' / 'backends' / 'src' / 'main.rt', [(WRITTEN, shown), *LONGER])
+    file, pairs = source_of(path)
+    replaced(folder / 'crates' / path.parts[-3] / file, pairs)
 
 
 def run(folder, part):
-    """What the program in the folder writes where it is asked these; or why it writes nothing."""
-    (folder / 'crates' / 'backends' / 'stdin').write_bytes(b''.join(one[0] for one in part))
+    """What the program in the folder writes where it is asked these; and what rt says of it."""
     try:
-        done = subprocess.run(['rt', 'try', 'backends'], cwd=folder, capture_output=True, encoding='utf-8', errors='replace', check=False,
-                              timeout=300, env={**os.environ, 'TMPDIR': str(folder)})
+        done = subprocess.run(['rt', 'try'], cwd=folder / 'crates' / 'backends', input=b''.join(one[0] for one in part), capture_output=True,
+                              check=False, timeout=300, env={**os.environ, 'TMPDIR': str(folder)})
     except subprocess.TimeoutExpired:
         return b'', 'it does not end'
-    found = SAID.search(done.stdout + done.stderr)
-    return codecs.decode(found[1], 'unicode_escape').encode('latin-1') if found else b'', (done.stdout + done.stderr)[:600]
+    return done.stdout, done.stderr.decode(errors='replace')[:600]
 
 
 def tried(remark):
@@ -219,7 +213,11 @@ def main():
     parser.add_argument('--some', type=int)
     parser.add_argument('--crate', nargs='*', default=[])
     parser.add_argument('--list', action='store_true')
+    parser.add_argument('--tree', type=Path)
     words = parser.parse_args()
+    if words.tree:
+        tree(words.tree)
+        return 0
     known, others = remarks()
     runnable = [one for one in known if source_of(one.path)[0].startswith('src/')]
     if words.list:
@@ -232,7 +230,7 @@ def main():
     chosen = [one for one in runnable if not words.crate or one.path.parts[-3] in words.crate]
     chosen = drawn(chosen, words.some) if words.some else chosen
     failed = 0
-    with ThreadPoolExecutor(max_workers=int(os.environ.get('RT_JOBS', '2'))) as pool:
+    with ThreadPoolExecutor(max_workers=int(os.environ.get('EDITS_JOBS', '2'))) as pool:
         for remark, (right, said) in zip(chosen, pool.map(tried, chosen)):
             if not right:
                 failed += 1

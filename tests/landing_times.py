@@ -8,8 +8,9 @@ proofs/; such a crate is touched. Before is the first parent of the first of the
   measure  proves both trees crate by crate, each with what it stands on proved before, and prints the times for the note
   write    puts times that were measured into the notes, in place of the first paragraph below `Check times`
 
-Times are processor seconds of `rt check NAME` from nothing, less those of a second run, in which it finds the crate unchanged. So other
-work may go on beside it. They are kept in FOLDER (--into FOLDER, else target/landing), by the content of a crate and of all that it
+Times are processor seconds of `rt check` in a crate's folder with nothing in its out/, less those of a second run, in which it finds the crate
+unchanged. So other work may go on beside it, but no other checkout with work of the same crates: rt begins a check with what such a one has kept.
+Trees from before docs/PORT.md want the older kit, whose times the notes up to then have, and are not measured by this one. Times are kept in FOLDER (--into FOLDER, else target/landing), by the content of a crate and of all that it
 stands on: what did not change is measured once. --crates A,B takes these crates alone. RT names another command in place of rt.
 """
 import argparse
@@ -50,7 +51,7 @@ def crate_of(path):
 def stands_on(listing):
     """The crates of a crates.txt in its order, each with those that it stands on."""
     rows = [line.partition(':') for line in listing.splitlines() if line.strip() and not line.startswith('#')]
-    return {name.strip(): words.split() for name, _, words in rows}
+    return {name.split()[0]: words.split() for name, _, words in rows}
 
 
 def below(crates, wanted):
@@ -88,7 +89,7 @@ def with_times(note, paragraph):
 
 def wrong_sample():
     """Which part of the sample is read wrongly."""
-    listing = '# NAME: others\na:\nb: a\nc: a\nd: b\n'
+    listing = '# NAME: others\na:\nb: a\nc: a\nd staticlib: b io\n'
     paragraph = said('x', 'y', [('a', 1.04, 2.0), ('b', None, 3.0), ('c', 4.0, None), ('d', 1.0, 'does not prove')])
     parts = {
         'named': named('# R\n\nSpeaks of 4f915b3f and 15a9da27.\n\n31be9492\n') == ['4f915b3f', '15a9da27'],
@@ -145,25 +146,23 @@ class Prover:
         self.clone, self.kept = folder / 'clone', folder / 'times.json'
         self.times = json.loads(self.kept.read_text(encoding='utf-8')) if self.kept.exists() else {}
 
-    def rt(self, names):
-        """Proves crates; whether all are, and the processor seconds that it took."""
+    def rt(self, name, command):
+        """Runs a command of rt in a crate's folder; whether it passed, and the processor seconds that it took."""
         def used():
             spent = resource.getrusage(resource.RUSAGE_CHILDREN)
             return spent.ru_utime + spent.ru_stime
         began = used()
-        done = subprocess.run([os.environ.get('RT', 'rt'), 'check', *names], cwd=self.clone, capture_output=True,
+        done = subprocess.run([os.environ.get('RT', 'rt'), command], cwd=self.clone / 'crates' / name, capture_output=True,
                               env={**os.environ, 'RT_JOBS': '1'}, check=False)
         return done.returncode == 0, used() - began
 
     def time(self, tree, name):
-        """The time of one crate, whose dependencies are proved first."""
-        needed = tree.crates[name]
-        if needed and not self.rt(needed)[0]:
+        """The time of one crate, whose dependencies are proved and built first."""
+        if not all(self.rt(other, 'lib')[0] for other in tree.crates[name] if other in tree.crates):
             return 'not reached'
-        (self.clone / 'target' / 'stamp' / name).unlink(missing_ok=True)
-        shutil.rmtree(self.clone / 'target' / 'rlib' / f'{name}.rlib', ignore_errors=True)
-        proved, first = self.rt([name])
-        return round(first - self.rt([name])[1], 2) if proved else 'does not prove'
+        shutil.rmtree(self.clone / 'crates' / name / 'out', ignore_errors=True)
+        proved, first = self.rt(name, 'check')
+        return round(first - self.rt(name, 'check')[1], 2) if proved else 'does not prove'
 
     def measure(self, tree, wanted):
         """Times of these crates of a tree that are not known yet."""

@@ -1,7 +1,7 @@
 #!/usr/bin/env python3
 """belief.py check | write: what a reader of the promises has to believe.
 
-A promise is the contract of a call for C, exported by a crate that the Makefile's EXPORTED names, or a row of the first part
+A promise is the contract of a call for C, a function of a static library of crates.txt in the order of the header, or a row of the first part
 of docs/CLAIMS.md. Reached is what its statement names, what the statements of these name, and so on (`names.py`): of a promised
 law its type, of a definition type and clauses, of a record all fields, of data all constructors, of a declared type its text.
 No proof is read.
@@ -18,6 +18,7 @@ from pathlib import Path
 sys.dont_write_bytecode = True
 import claims  # noqa: E402
 import declarations  # noqa: E402
+import exports  # noqa: E402
 import names  # noqa: E402
 
 ROOT = Path(__file__).resolve().parents[2]
@@ -28,15 +29,15 @@ DEFINITIONS = {'definition', 'record', 'data'}
 HEADER = ['| Promise | Definitions | Lines | With comments | Files |', '|---|---:|---:|---:|---:|']
 
 
-def exported(makefile):
+def exported(listing):
     """The crates of the calls for C."""
-    return re.search(r'^EXPORTED\s*=\s*(.*)$', makefile, re.M)[1].split()
+    return re.findall(r'^(\w+) staticlib:', listing, re.M)
 
 
-def calls(files, crates):
-    """The calls for C, each by its name, in the order of the crates."""
-    return {item.place[2]: [item] for crate in crates for key, file in files.items() if key[0] == crate
-            for item in file.declared if item.kind == 'call'}
+def calls(files, crates, order=()):
+    """The calls for C, each by its name, in this order."""
+    found = {item.place[2]: [item] for key, file in files.items() if key[0] in crates for item in file.declared if item.kind == 'call'}
+    return {name: found[name] for name in [*(name for name in order if name in found), *(name for name in found if name not in order)]}
 
 
 def first_part(text):
@@ -62,10 +63,10 @@ def rows(text, files):
 class Belief:
     """The promises, and what each leads to."""
 
-    def __init__(self, files, claims_text, makefile):
+    def __init__(self, files, claims_text, listing, header=''):
         self.files = files
         self.names = names.Names(files)
-        self.promises = calls(files, exported(makefile))
+        self.promises = calls(files, exported(listing), exports.DECLARED.findall(header))
         self.of_calls = set(self.promises)
         self.promises.update(rows(claims_text, files))
         self.reached = {promise: self.lead(items) for promise, items in self.promises.items()}
@@ -155,16 +156,16 @@ def wrong(belief, text, beside):
 
 
 SAMPLE = {
-    'crates/spec_a/specs/A.antt': """use Core.Path.{_≡_}
-use Rattle·spec_a·specs.specs.B.{Thing, made, shadow}
+    'crates/spec_a/specs/A.antt': """use Rattle.std.specs.Prelude.{◌≡◌}
+use Rattle.spec_a.specs.B.{Thing, made, shadow}
 -- a remark that names unreached
 pub record Pair (n : ℕ) : Type 0 where
   -- of two
   pub left : Thing
   pub right : left ≡ made n
-unfoldable pub pairOf : (shadow : Thing) → ℕ → Pair 0
+unfoldable pub pair_of : (shadow : Thing) → ℕ → Pair 0
 unfolding unreached
-pairOf shadow n =
+pair_of shadow n =
     record { left = shadow; right = told law }
 pub law : Thing ≡ Unsaid
 law = unreached
@@ -172,7 +173,7 @@ told : ℕ → Type 0
 told n = Far
 pub record Far : Type 0 where
 """,
-    'crates/spec_a/specs/B.antt': """use Rattle·code.specs.declared.types.Shape.{Shape}
+    'crates/spec_a/specs/B.antt': """use Rattle.code.specs.declared.types.Shape.{Shape}
 pub data Thing : Type 0 where
   made : ℕ → Thing
   shaped : Shape → Thing
@@ -183,7 +184,7 @@ arms t = elim t [ made shadow ↦ shadow | shaped s ↦ 1 ]
 unfoldable pub unreached : ℕ
 unreached = shadow
 """,
-    'crates/code/specs/C.antt': """use Rattle·spec_a.specs.A.{Pair}
+    'crates/code/specs/C.antt': """use Rattle.spec_a.specs.A.{Pair}
 module _ (p : Pair 0) where
   unfoldable pub holds : ℕ → ℕ
   holds n = n
@@ -191,16 +192,16 @@ module _ (p : Pair 0) where
     'crates/spec_a/src/lib.rt': 'fn f() {\n}\n',
     'crates/code/src/types.rt': 'pub struct Shape {\n    pub a: [u8; 8],\n    pub inner: Inner,\n}\npub enum Inner {\n    A,\n}\n',
     'crates/code/src/calls.rt': """use crate::types::Shape;
-ghost use Rattle·spec_a.specs.A.{pairOf};
-ghost use Rattle·code·specs.specs.C.{holds};
-#[no_mangle]
+ghost use Rattle.spec_a.specs.A.{pair_of};
+ghost use Rattle.code.specs.C.{holds};
+#[unsafe(no_mangle)]
 pub extern "C" fn sample_call(n: usize) -> u64
-    ensures { λ holds. ⌜ holds ≡ pairOf n ⌝ }
+    ensures { result ≡ pair_of n }
 {
     unreached(n)
 }
-pub fn inner(s: Shape) -> u64
-    ensures { λ w. ⌜ w ≡ holds n ⌝ }
+pub fn inner(s: Shape, n: u64) -> u64
+    ensures answer { result ≡ holds n }
 {
     0
 }
@@ -223,7 +224,7 @@ SAMPLE_CLAIMS = """
 
 
 SAMPLE_REACHED = {
-    'sample_call': ['Far', 'Inner', 'Pair', 'Shape', 'Thing', 'pairOf', 'told'],
+    'sample_call': ['Far', 'Inner', 'Pair', 'Shape', 'Thing', 'pair_of', 'told'],
     'Arms': ['Inner', 'Pair', 'Shape', 'Thing', 'arms', 'holds'],
 }
 SAMPLE_SAID = [
@@ -238,7 +239,7 @@ SAMPLE_COUNTS = (7, 19, 21, 3)
 def sample(prefix):
     """The sample with another prefix of its crate, and what is said of it with its own table."""
     texts = {path.replace(PREFIX, prefix): text.replace(PREFIX, prefix) for path, text in SAMPLE.items()}
-    belief = Belief(declarations.read(texts), SAMPLE_CLAIMS.replace(PREFIX, prefix), 'EXPORTED = code\n')
+    belief = Belief(declarations.read(texts), SAMPLE_CLAIMS.replace(PREFIX, prefix), 'a: b\ncode staticlib: spec_a\n')
     return belief, wrong(belief, '\n'.join(['a', BEGIN, *belief.table(), END, 'b']), {})
 
 
@@ -266,6 +267,7 @@ def wrong_sample():
         'counts': belief.counts(belief.reached['sample_call']) == SAMPLE_COUNTS,
         'no spec_ crate': fewer == [] and len(passed_over) == 1 and renamed.table() == belief.table(),
         'another table': len(compared(f'{BEGIN}\n| a |\n{END}', belief.table())) == 1 and len(compared('', [])) == 1,
+        'order': list(calls(belief.files, ['code'], ['gone', 'sample_call'])) == ['sample_call'] and exported('a:\nb staticlib: a\n') == ['b'],
         'beside': stated('# a: B\nlisting: Demand3 Other\n') == {'listing': ['Demand3', 'Other']},
     }
     return [f'belief.py reads its sample wrongly: {name}' for name, right in parts.items() if not right]
@@ -273,8 +275,8 @@ def wrong_sample():
 
 def of(root, files=None):
     """The repository's promises, and the text of its claims."""
-    text = (root / 'docs' / 'CLAIMS.md').read_text(encoding='utf-8')
-    return Belief(files or declarations.files(root), text, (root / 'Makefile').read_text(encoding='utf-8')), text
+    text, listing, header = ((root / path).read_text(encoding='utf-8') for path in ('docs/CLAIMS.md', 'crates.txt', 'include/tarczolin.h'))
+    return Belief(files or declarations.files(root), text, listing, header), text
 
 
 def said(root, files=None):

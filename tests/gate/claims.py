@@ -13,7 +13,7 @@ import declarations
 ROW = re.compile(r'^\|(.*)\|\s*$')
 CODE = re.compile(r'`([^`]+)`')
 PATH = re.compile(r'^(?:[\w.\-]+/)*[\w\-]+\.(?:antt|rt|md|py|txt|rs|h|svg|hex|edit)$')
-WORD = re.compile(r'^[A-Za-z][\w\-]*$')
+WORD = re.compile(r"^[A-Za-z][\w'\-]*$")
 FUNCTIONS = re.compile(r'^(\w+)::(?:(\w+)|\{([^}]*)\})$')
 # words of the contracts' language, of a file and of the shell that a cell may quote
 QUOTED = {'requires', 'ensures'}
@@ -57,11 +57,9 @@ def rows(text):
 
 
 class Repository:
-    """What there is to cite: the names that each file declares, each crate's functions and edits, which files there are, and the edits
-    that are of no contract."""
+    """What there is to cite: the names that each file declares, each crate's functions and edits, and which files there are."""
 
-    def __init__(self, declared, edits, exists, apart=()):
-        self.apart = apart
+    def __init__(self, declared, edits, exists):
         self.declared = declared
         self.everywhere = set().union(*declared.values()) if declared else set()
         self.edits = edits
@@ -110,8 +108,6 @@ def of_refusals(number, cell, there):
     paths = paths_in(cell)
     for match in re.finditer(r'`([^`]+)`(?: \((\w+)\))?', cell):
         name, crate = match[1], match[2] if match[2] and any(owner == match[2] for owner, _ in there.edits) else None
-        if name in there.apart:
-            yield f'docs/CLAIMS.md:{number} cites {name}, which is no edit of a contract (compiled-form in pins.txt)'
         if not WORD.match(name) or name in QUOTED or there.has_edit(name, crate):
             continue
         known = set().union(*(there.declared.get(path, set()) for path in paths)) if paths else there.everywhere
@@ -151,42 +147,42 @@ def missing(text, there):
 SAMPLE = """| Sentence | Statement | File |
 |---|---|---|
 | there | `law`, `field` of `Record`, no `requires` | `crates/a/proofs/A.antt` |
-| only mentioned | `law-2` | `crates/a/proofs/A.antt` |
+| only mentioned | `law_2` | `crates/a/proofs/A.antt` |
 | in the second | contract of `f` | `crates/a/proofs/A.antt`, `crates/b/src/b.rt` |
 | no file | `law` | `crates/b/src/c.rt` |
 
 | Contract | Edits |
 |---|---|
 | `b::f`, `g`; `b::{f, g}` | `edit_1`, `edit_2` (b) |
-| `b::h` | `edit_3`, `edit_5` |
+| `b::h` | `edit_3` |
 | a word of two, `02` | `edit_2` (a); field `field`; `law` and `f` (`crates/a/proofs/A.antt`, `B.antt`) |
 
-The fields of `Record`: `law`, `law-3`; `make test` runs `edit_1` and `edit_4`.
+The fields of `Record`: `law`, `law_3`; `make test` runs `edit_1` and `edit_4`.
 """
 SAMPLE_FILES = {'crates/a/proofs/A.antt': {'law', 'Record', 'field'}, 'crates/b/src/b.rt': {'f', 'g'}}
-SAMPLE_SAID = ['claims law-2', 'claims law of', 'function b::h', 'cites edit_3', 'cites edit_2', 'cites f,', 'cites law-3', 'edit_4', 'edit_5',
+SAMPLE_SAID = ['claims law_2', 'claims law of', 'function b::h', 'cites edit_3', 'cites edit_2', 'cites f,', 'cites law_3', 'edit_4',
                'c.rt', 'proofs/B.antt']
 
 
 def reads_sample_wrongly():
-    there = Repository(SAMPLE_FILES, [('a', 'edit_1'), ('b', 'edit_2'), ('b', 'edit_5')], SAMPLE_FILES.__contains__, {'edit_5'})
+    there = Repository(SAMPLE_FILES, [('a', 'edit_1'), ('b', 'edit_2')], SAMPLE_FILES.__contains__)
     found = missing(SAMPLE, there)
     return len(found) != len(SAMPLE_SAID) or any(not any(part in line for line in found) for part in SAMPLE_SAID)
 
 
-def repository(root, files, apart):
+def repository(root, files):
     declared = {file.path: {item.place[2] for item in file.declared} for file in files.values()}
     edits = [(edit.parts[-3], edit.stem) for edit in root.glob('crates/*/must-fail/*.edit')]
 
     def exists(path):
         return any((root / path).is_file() for path in (path, f'docs/{path}')) or any(root.glob(f'crates/*/{path}'))
 
-    return Repository(declared, edits, exists, {name.rpartition('/')[2] for name in apart})
+    return Repository(declared, edits, exists)
 
 
-def said(root, files=None, apart=()):
-    """What is wrong. `apart`: edits that are of no contract, as CRATE/NAME."""
+def said(root, files=None):
+    """What is wrong."""
     if reads_sample_wrongly():
         return ['claims.py reads its own sample wrongly']
     text = (root / 'docs' / 'CLAIMS.md').read_text(encoding='utf-8')
-    return missing(text, repository(root, files or declarations.files(root), apart))
+    return missing(text, repository(root, files or declarations.files(root)))

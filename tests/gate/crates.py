@@ -1,7 +1,7 @@
 #!/usr/bin/env python3
 """crates.py check | write: crates.txt has for each crate exactly those that its files name, and those whose types it reaches.
 
-A crate is named by `Rattle·NAME` in specs, proofs and contracts, and by `NAME::` in code; in remarks it is not. What the crates
+A crate is named by `Rattle.NAME` in specs, proofs and contracts, and by `NAME::` in code; in remarks it is not. What the crates
 below stand on is found by the prover itself, but for types: a value that a function is handed may be of a type that a crate
 further below declares, and the prover wants that crate named. So a crate of types below may stand in a line. In crates.txt `## TITLE` begins a section and `# ..` right above a crate is its
 sentence; both, the order of the crates and all other remarks stay as they are. As soon as one crate has a sentence each must have
@@ -15,10 +15,10 @@ sys.dont_write_bytecode = True
 import laws_only  # noqa: E402
 
 ROOT = Path(__file__).resolve().parents[2]
-LINE = re.compile(r'^(\w+):(.*)$')
-IN_SPECS = re.compile(r'Rattle·(\w+)')
+# a crate, what it is where it is no library and no program, and what it stands on
+LINE = re.compile(r'^(\w+)((?: \w+)?):(.*)$')
+IN_SPECS = re.compile(r'(?<![\w.])Rattle\.(\w+)')
 IN_CODE = re.compile(r'(?<![\w:])(\w+)::')
-KIT = {'libc', 'io', 'os', 'bytes', 'check'}
 NOT_AS_WRITTEN = 'crates.txt is not as written: python3 tests/gate/crates.py write'
 
 
@@ -37,13 +37,13 @@ class Listed:
                     given.append(('', []))
                 name = match[1]
                 given[-1][1].append(name)
-                self.stands_on[name] = match[2].partition('#')[0].split()
+                self.stands_on[name] = match[3].partition('#')[0].split()
                 if above:
                     self.sentences[name] = ' '.join(above)
             above = [*above, line[2:].strip()] if line.startswith('# ') else []
         self.sections = [section for section in given if section[1]]
         for name, others in self.stands_on.items():
-            self.stands_on[name] = [other for other in others if other not in KIT]
+            self.stands_on[name] = [other for other in others if other in self.stands_on]
 
 
 def named(texts):
@@ -59,7 +59,7 @@ def named(texts):
 
 
 def own_modules(texts):
-    """The modules that a crate's code has itself: `check::` then is no crate of the kit."""
+    """The modules that a crate's code has itself: `table::` then is no crate of that name."""
     return {name for text in texts.values() for name in re.findall(r'^\s*(?:pub(?:\([^)]*\))? )?mod (\w+);', text, re.M)}
 
 
@@ -87,10 +87,11 @@ def written(text, files):
     for line in text.splitlines():
         match = LINE.match(line)
         if match:
-            texts = files.get(match[1], {})
-            needed = (named(texts) & (names | KIT)) - own_modules(texts) - {match[1]}
-            typed = {other for other in match[2].split() if has_types(files.get(other, {}))} & below(needed, stands_on)
-            line = ' '.join([f'{match[1]}:', *sorted(needed | typed)])
+            texts, others = files.get(match[1], {}), match[3].split()
+            # what is no crate of the repository is the kit's, and found wanting by the prover
+            needed = (named(texts) & (names | set(others))) - own_modules(texts) - {match[1]}
+            typed = {other for other in others if has_types(files.get(other, {}))} & below(needed, stands_on)
+            line = ' '.join([f'{match[1]}{match[2]}:', *sorted(needed | typed)])
         lines.append(line)
     return '\n'.join(lines) + '\n'
 
@@ -110,11 +111,11 @@ def wrong(text, files):
     return found
 
 
-SAMPLE = '# NAME: what it stands on\n\n## below\na:\n## above\nb: a\n# c is code\nc: a b d\nd: io\ne: b\nf: b d e\ng: a e f\n'
+SAMPLE = '# NAME: what it stands on\n\n## below\na:\n## above\nb: a\n# c is code\nc: a b d\nd: io\ne: b\nf: b d e\ng staticlib: a e f\n'
 SAMPLE_FILES = {
-    'a': {'specs/A.antt': 'use Rattle·a·specs.specs.B.{x}\n-- Rattle·b\n'},
-    'b': {'specs/B.antt': '{- Rattle·c -} use Rattle·a.specs.A as A\n'},
-    'c': {'src/lib.rt': 'mod check;\nuse b::f;\nghost use Rattle·a.specs.A.{x};\n// d::g\nfn g() { check::h(); crate::b::k() }\n'},
+    'a': {'specs/A.antt': 'use Rattle.a.specs.B.{x}\n-- Rattle.b\n'},
+    'b': {'specs/B.antt': '{- Rattle.c -} use Rattle.a.specs.A as A\n'},
+    'c': {'src/lib.rt': 'mod check;\nuse b::f;\nghost use Rattle.a.specs.A.{x};\n// d::g\nfn g() { check::h(); crate::b::k() }\n'},
     'd': {'src/main.rt': 'use io::print;\nfn main() { c::g() }\n'},
     'e': {'src/lib.rt': 'use b::f;\npub struct E {\n}\n'},
     'f': {'src/lib.rt': 'use e::f;\n'},
@@ -129,7 +130,7 @@ def wrong_sample():
         'sections': listed.sections == [('below', ['a']), ('above', ['b', 'c', 'd', 'e', 'f', 'g'])],
         'sentences': listed.sentences == {'c': 'c is code'},
         'named': written(SAMPLE, SAMPLE_FILES)
-        == SAMPLE.replace('c: a b d', 'c: a b').replace('d: io', 'd: c io').replace('f: b d e', 'f: e').replace('g: a e', 'g: e'),
+        == SAMPLE.replace('c: a b d', 'c: a b').replace('d: io', 'd: c io').replace('f: b d e', 'f: e').replace('lib: a e', 'lib: e'),
         'wrong': wrong(SAMPLE, SAMPLE_FILES) == [
             'crates.txt: c does not name d', 'crates.txt: d also names c', 'crates.txt: f does not name b',
             'crates.txt: f does not name d', 'crates.txt: g does not name a',

@@ -20,8 +20,9 @@ RUST_USE = re.compile(r'^[ \t]*(?:pub(?:\([^)]*\))? )?use ([\w:]+)(?:::\{([^}]*)
 FUNCTION = re.compile(r'^[ \t]*(?:pub(?:\([^)]*\))? +)?(extern "C" +)?fn +(\w+)', re.M)
 TYPE = re.compile(r'^[ \t]*(?:pub(?:\([^)]*\))? +)?(?:struct|enum) +(\w+)', re.M)
 CONSTANT = re.compile(r'^[ \t]*(?:pub(?:\([^)]*\))? +)?(?:const|type) +(\w+)', re.M)
-# behind a contract, a type with fields or variants, and what ends in a semicolon
-BODY, BRACE, SEMICOLON = re.compile(r'\n[ \t]*\{|\{[ \t]*\n'), re.compile(r'\n[ \t]*\}'), re.compile(';')
+# what begins a contract; behind one, behind a signature without one, behind a type with fields or variants, and what ends in a semicolon
+CLAUSE = re.compile(r'\n[ \t]*(?:requires|ensures)\b')
+BODY, PLAIN, BRACE, SEMICOLON = re.compile(r'\n[ \t]*\{[ \t]*\n'), re.compile(r'\n[ \t]*\{|\{[ \t]*\n'), re.compile(r'\n[ \t]*\}'), re.compile(';')
 
 
 @dataclass
@@ -149,6 +150,14 @@ def read_antt(crate, path, text):
     return declared
 
 
+def behind_of(kind, braced, plain, at):
+    """Where the statement of a function, a type or a constant ends whose name ends at this place."""
+    if kind != 'function':
+        return (BRACE if braced else SEMICOLON).search(plain, at)
+    clause, body = CLAUSE.search(plain, at), PLAIN.search(plain, at)
+    return BODY.search(plain, clause.start()) if clause and body and clause.start() < body.start() else body
+
+
 def read_code(crate, path, text):
     """The functions, types and constants of a file of code; the statement of a function is what stands before its body."""
     plain, lines, declared = REMARK.sub('', text), text.split('\n'), []
@@ -157,12 +166,12 @@ def read_code(crate, path, text):
             name = match[match.lastindex]
             first = plain.count('\n', 0, match.end())
             braced = kind == 'type' and plain[match.end():].lstrip().startswith('{')
-            behind = (BODY if kind == 'function' else BRACE if braced else SEMICOLON).search(plain, match.end())
+            behind = behind_of(kind, braced, plain, match.end())
             body = plain[match.end():behind.start() if behind else len(plain)]
             head = above(lines, first, ('//', '#['))
             last = first + body.count('\n') + braced
             item = Declaration((crate, path, name), kind, head, first, last, body)
-            if kind == 'function' and match[1] and '#[no_mangle]' in '\n'.join(lines[head:first]):
+            if kind == 'function' and match[1] and '#[unsafe(no_mangle)]' in '\n'.join(lines[head:first]):
                 item.kind = 'call'
             declared.append(item)
     return declared
@@ -221,9 +230,11 @@ E = D
 """
 SAMPLE_CODE = """use a::{B, C};
 // fn mentioned() {
-#[no_mangle]
+#[unsafe(no_mangle)]
 pub extern "C" fn call(x: &[u8; 8]) -> u64
-    ensures { λ w. T }
+    ensures { result ≡ record {
+        a = 1;
+    } }
 {
     let fn_like = 1;
 }
@@ -235,7 +246,7 @@ const K: u64 = 1;
 SAMPLE_FOUND = [
     ('record', 'R', '', 2, 7), ('field', 'one', 'R', 4, 4), ('field', 'two', 'R', 5, 7), ('law', 'law', '', 10, 13),
     ('data', 'D', '', 14, 15), ('constructor', 'made', 'D', 15, 15), ('definition', 'E', '', 17, 18),
-    ('call', 'call', '', 3, 4), ('type', 'S', '', 8, 10), ('constant', 'K', '', 11, 11),
+    ('call', 'call', '', 3, 6), ('type', 'S', '', 10, 12), ('constant', 'K', '', 13, 13),
 ]
 
 

@@ -1,18 +1,17 @@
 #!/usr/bin/env python3
 """The gate: every check of the repository, one after the other. A failed check does not stop the later ones.
 
-The very last line is `N passed, M failed`; the exit status is 0 exactly when M is 0. N counts what rt proves and refuses,
-the must-fail edits that were refused for the right reason, the checks of texts (what crates open of each other, claims, what has
-to be believed, crates.txt, its drawing, long lines), the Rust tests, the Python tests, and twenty edits whose programs were run. pins.txt
-says how many tests and edits there must be at least, and on which axioms the proofs may rest.
+The very last line is `N passed, M failed`; the exit status is 0 exactly when M is 0, and else 3. N counts what `rt ci` counts (the crates that prove, with
+their tests and runs, and the must-fail edits that are refused), the checks of texts (what crates open of each other, claims, what has to be
+believed, crates.txt, its drawing, the calls for C, long lines), the Rust tests, the Python tests, and twenty edits whose programs were run.
+pins.txt says how many tests and edits there must be at least, and on which axioms the library may rest.
 """
 import os
 import re
 import shutil
 import subprocess
 import sys
-import tempfile
-from contextlib import contextmanager
+import time
 from pathlib import Path
 
 sys.dont_write_bytecode = True
@@ -21,6 +20,7 @@ import claims  # noqa: E402
 import crates  # noqa: E402
 import declarations  # noqa: E402
 import drawing  # noqa: E402
+import exports  # noqa: E402
 import laws_only  # noqa: E402
 import lines as long_lines  # noqa: E402
 import must_fail  # noqa: E402
@@ -30,10 +30,8 @@ import printed  # noqa: E402
 ROOT = Path(__file__).resolve().parents[2]
 TARGET = ROOT / 'target'
 PINS = Path(__file__).with_name('pins.txt')
-# a folder in memory, and the bytes that it must have free
-MEMORY, ROOM = Path('/dev/shm'), 4 << 30
 CARGO_TEST = ['cargo', 'test', '--release', '--offline', '--locked', '--no-fail-fast', '--workspace']
-FUNCTION = re.compile(r'^\s*(?:pub(?:\([^)]*\))? +)?(?:extern "C" +)?fn ', re.M)
+EXPLORER = ROOT / 'crates' / 'explorer' / 'out' / 'explorer'
 # the gate's own length and seed of the fuzzing, whatever the caller's environment says; every case of every test
 OWN = {'FUZZ_SECONDS': '110'}
 NOT_TAKEN = ['FUZZ_SEED', 'TEST_SHARE']
@@ -87,34 +85,14 @@ def run(words):
         return 127, lines
 
 
-@contextmanager
-def in_memory():
-    """Has rt keep what it writes for a while in memory, where there is such a folder: each check copies thousands of small files."""
-    kept = os.environ.get('TMPDIR')
-    state = os.statvfs(MEMORY) if os.access(MEMORY, os.W_OK) else None
-    if state is None or state.f_flag & os.ST_NOEXEC or state.f_bavail * state.f_frsize < ROOM:
-        yield
-        return
-    with tempfile.TemporaryDirectory(dir=MEMORY) as folder:
-        os.chmod(folder, 0o755)  # rt runs a program as nobody, below it
-        os.environ['TMPDIR'] = folder
-        try:
-            yield
-        finally:
-            os.environ.pop('TMPDIR')
-            if kept is not None:
-                os.environ['TMPDIR'] = kept
-
-
 def samples(tally):
     """The gate reads its own samples rightly; the crates' laws have theirs with them."""
-    logs = Path(__file__).with_name('logs')
-    for why in printed.wrong_sample() + must_fail.wrong_samples(logs) + declarations.wrong_sample() + statements.wrong_sample():
+    for why in printed.wrong_sample() + must_fail.wrong_samples() + declarations.wrong_sample() + statements.wrong_sample():
         tally.fail(why)
 
 
 def every_crate_is_listed(tally):
-    names = re.findall(r'^\s*(\w+)\s*:', (ROOT / 'crates.txt').read_text(encoding='utf-8'), re.M)
+    names = re.findall(r'^\s*(\w+)(?: +staticlib)?\s*:', (ROOT / 'crates.txt').read_text(encoding='utf-8'), re.M)
     folders = sorted(p.name for p in (ROOT / 'crates').iterdir() if p.is_dir())
     for name in folders:
         if name not in names:
@@ -142,7 +120,7 @@ def only_laws(tally):
 def claimed_and_believed(tally):
     """What CLAIMS cites is there; what its promises lead to stands where it may, and is counted there."""
     files = declarations.files(ROOT)
-    counted(tally, claims.said(ROOT, files, tally.pins['compiled-form']))
+    counted(tally, claims.said(ROOT, files))
     counted(tally, *belief.said(ROOT, files))
 
 
@@ -152,45 +130,25 @@ def arrows(tally):
     counted(tally, drawing.said(ROOT))
 
 
+def calls_for_c(tally):
+    """The static library has the calls of the header, each as a crate c_* has it."""
+    counted(tally, exports.said(ROOT))
+
+
 def short_lines(tally):
     """No document has more long lines than lines.txt lets it have."""
     counted(tally, long_lines.said(ROOT))
 
 
-def formatting(tally):
-    status, _ = run(['rt', 'fmt', '--check'])
-    if status != 0:
-        tally.fail('rt fmt --check')
-
-
 def proofs(tally):
-    with in_memory():
-        status, lines = run(['rt', 'ci'])
-    count = re.fullmatch(r'(\d+) passed, (\d+) failed', lines[-1]) if lines else None
-    if count:
-        tally.add(int(count[1]), int(count[2]))
-    if (not count) or (status != 0 and count[2] == '0'):
-        tally.fail(f'rt ci ended with status {status} and no count of failures')
-    names, number = printed.axioms(lines)
-    if sorted(names) != sorted(tally.pins['axioms']) or number != len(names):
-        tally.fail(f'the proofs rest on {number} axioms ({" ".join(names)}), and pins.txt has {" ".join(tally.pins["axioms"])}')
-    check_times(tally, lines)
-
-
-def is_theory(crate):
-    """Whether a crate has no functions: definitions and laws alone."""
-    return not any(FUNCTION.search(file.read_text(encoding='utf-8')) for file in crate.glob('src/**/*.rt'))
-
-
-def check_times(tally, lines):
-    """How long each crate's check took, as a table at the end; a slow machine is no failure, so one above its limit is told only."""
-    theory = [crate.name for crate in (ROOT / 'crates').iterdir() if is_theory(crate)]
-    limits = tally.number('seconds-theory'), tally.number('seconds-code')
-    rows, slow = printed.table(printed.seconds(lines), theory, limits)
-    for row in rows:
-        tally.note(row)
-    for why in slow:
-        tally.note(why)
+    """`rt ci`: formatting, every proof, every must-fail edit, the programs and their tests."""
+    began = time.monotonic()
+    status, lines = run(['rt', 'ci'])
+    tally.note(f'rt ci took {(time.monotonic() - began) / 60:.0f} min')
+    passed, failed, why = printed.rt_ci(status, lines, tally.number('edits'))
+    tally.add(passed, failed)
+    for one in why:
+        tally.fail(one)
 
 
 def read(file):
@@ -204,36 +162,12 @@ def all_edits():
 def edits(tally):
     """There are as many edits as pinned, and each can be made and says on which input it answers wrongly."""
     found = all_edits()
-    there = [f'{edit.parts[-3]}/{edit.stem}' for edit in found]
-    for name in tally.pins['compiled-form']:
-        if name not in there:
-            tally.fail(f'pins.txt names the edit {name}, and no crate has it')
-    tally.at_least('edits', len(found) - len(tally.pins['compiled-form']))
+    tally.at_least('edits', len(found))
     for edit in found:
         text = edit.read_text(encoding='utf-8')
         why = must_fail.without_input(text) or must_fail.misplaced(text, lambda file: read(edit.parents[1] / file))
         if why:
             tally.fail(f'must-fail {edit.parts[-3]}/{edit.stem}: {why}')
-
-
-def reasons(tally):
-    """Each must-fail edit has a log, and was refused because a fact no longer holds, but for those that pins.txt names."""
-    for edit in all_edits():
-        name, label = edit.parts[-3], edit.stem
-        log = TARGET / 'must-fail' / name / label / '.log'
-        if not log.is_file():
-            tally.fail(f'must-fail {name}/{label}: it left no log')
-            continue
-        text = log.read_text(encoding='utf-8', errors='replace')
-        why, kind = must_fail.wrong_reason(text), must_fail.reason(text)
-        if why:
-            tally.fail(f'must-fail {name}/{label}: refused for the wrong reason: {why}')
-        elif (kind == 'form') != (f'{name}/{label}' in tally.pins['compiled-form']):
-            tally.fail(f'must-fail {name}/{label}: refused by a {kind}, and compiled-form in pins.txt says otherwise')
-        elif kind == 'form':
-            tally.note(f'must-fail {name}/{label}: refused since the compiled form is another; no edit of a contract')
-        else:
-            tally.add(1, 0)
 
 
 def rust_formatting(tally):
@@ -257,13 +191,14 @@ def rust_lints(tally):
 def rust_tests(tally):
     library = TARGET / 'staticlib' / 'libtarczolin.a'
     library.unlink(missing_ok=True)
-    with in_memory():
-        status, _ = run(['make', '--no-print-directory', 'library'])
+    status, lines = run(['make', '--no-print-directory', 'library'])
     if status != 0 or not library.is_file():
         tally.fail('make library made no library, so the Rust tests were not run')
         return
-    if not (TARGET / 'bin' / 'explorer').is_file():
-        tally.fail('rt ci left no target/bin/explorer for the Rust tests to run')
+    if printed.axioms(lines) != tally.pins['axioms']:
+        tally.fail(f'the library rests on {" ".join(printed.axioms(lines)) or "what is not told"}, and pins.txt has {" ".join(tally.pins["axioms"])}')
+    if not EXPLORER.is_file() and run(['make', '--no-print-directory', 'explorer'])[0] != 0:
+        tally.fail('there is no listing program for the Rust tests to run')
     tests = cargo_tests(tally, CARGO_TEST)
     for why in tests.wrong(tally.pins['ignored']):
         tally.fail(why)
@@ -321,8 +256,7 @@ def python_tests(tally):
 
 def wrong_answers(tally):
     """Some programs with an edit in them, drawn by the commit's hash, answer as wrongly as its remark says."""
-    with in_memory():
-        status, lines = run([sys.executable, '-B', 'tests/edits.py', '--some', '20'])
+    status, lines = run([sys.executable, '-B', 'tests/edits.py', '--some', '20'])
     count = re.fullmatch(r'edits: (\d+) give the wrong answer that they speak of, (\d+) do not', lines[-1]) if lines else None
     if count:
         tally.add(int(count[1]), int(count[2]))
@@ -338,16 +272,14 @@ def validator(tally):
 
 
 # what takes no time: `gate.py quick` runs only these, and counts for nothing
-QUICK = (samples, every_crate_is_listed, only_laws, claimed_and_believed, arrows, short_lines, edits)
-CHECKS = (*QUICK, formatting, rust_formatting, proofs, reasons, rust_tests, python_tests, wrong_answers, rust_lints, browser, slurm, validator)
+QUICK = (samples, every_crate_is_listed, only_laws, claimed_and_believed, arrows, calls_for_c, short_lines, edits)
+CHECKS = (*QUICK, rust_formatting, proofs, rust_tests, python_tests, wrong_answers, rust_lints, browser, slurm, validator)
+
 
 def main(quick):
-    # rt waits for the slowest of each batch: with one more than two cores carry, none of them stands idle at a batch's end
-    os.environ.setdefault('RT_JOBS', '3')
     os.environ.update(OWN)
     for name in NOT_TAKEN:
         os.environ.pop(name, None)
-    (TARGET / 'tally').unlink(missing_ok=True)
     tally = Tally()
     for check in QUICK if quick else CHECKS:
         try:
@@ -356,11 +288,8 @@ def main(quick):
             tally.fail(f'{check.__name__}: {error!r}')
     for note in tally.notes:
         print(f'gate: {note}', flush=True)
-    if not quick:
-        TARGET.mkdir(exist_ok=True)
-        (TARGET / 'tally').write_text(tally.line() + '\n', encoding='utf-8')
     print(tally.line(), flush=True)
-    sys.exit(0 if tally.failed == 0 else 1)
+    sys.exit(0 if tally.failed == 0 else 3)
 
 
 if __name__ == '__main__':
@@ -368,4 +297,4 @@ if __name__ == '__main__':
         main(sys.argv[1:] == ['quick'])
     except Exception as error:
         print(f'gate: {error!r}\n0 passed, 1 failed', flush=True)
-        sys.exit(1)
+        sys.exit(3)

@@ -1,7 +1,7 @@
 """Which definitions of other crates a crate opens. The crates in laws_only.txt cite only laws and contracts: there must be none.
 
 A definition is opened by its name on an `unfolding` line, in `unfold .. in`, or as a rule of `rw` or `simp` (or of a `ruleset`),
-in proofs and in specs. A name is read as the prover reads it: by the file's `use` lines (lists over several lines, `as`, a path
+in proofs and in specs, and in code by `unfolding(..)` of an attribute `#[tactic(..)]`. A name is read as the prover reads it: by the file's `use` lines (lists over several lines, `as`, a path
 that begins with another line's name, whole paths, `package.`), and through the `pub use` lines of the modules on the way, down
 to the file that declares it. Whatever is of no crate of this repository is the library's.
 
@@ -23,7 +23,8 @@ DECLARED = re.compile(rf'^[ \t]*((?:(?:unfoldable|abbrev|pub)\s+)*)({NAME})(?:\s
 UNFOLDING = re.compile(r'^([ \t]*)unfolding\s([^\n]*(?:\n\1[ \t]+[^\n]*)*)', re.M)
 UNFOLD = re.compile(rf'(?<![^\s(){{}};,])unfold\s+((?:{PATH}\s+)+?)in(?=\s)')
 RULES = re.compile(rf'(?<![^\s(){{}};,])(?:rw|simp)\s+(\(|{PATH})|^[ \t]*(?:pub\s+)?ruleset\s+{NAME}\s*=\s*(\(|{PATH})', re.M)
-CRATE = re.compile(r'Rattle·([^.·]+)(?:·(?:specs|proofs))?$')
+ROOT = 'Rattle'
+IN_CODE = re.compile(r'#\[tactic\([^\]]*?\bunfolding\(([^)]*)\)')
 WORD = re.compile(PATH)
 
 
@@ -87,11 +88,10 @@ def modules(root, ending='antt'):
 
 def origin(path, known, crates, seen=()):
     """Where a whole path leads, through `pub use`: crate, module, name and whether it is marked to be opened; None: the library."""
-    parts = path.split('.')
-    match = CRATE.match(parts[0])
-    if not match or match[1] not in crates or path in seen:
+    root, *parts = path.split('.')
+    if root != ROOT or not parts or parts[0] not in crates or path in seen:
         return None
-    crate = match[1]
+    crate = parts[0]
     for cut in range(len(parts) - 1, 0, -1):
         module = known.get((crate, '.'.join(parts[1:cut])))
         if module:
@@ -101,7 +101,7 @@ def origin(path, known, crates, seen=()):
                 rest = '.'.join([module.whole(first), *parts[cut + 1:]])
                 return origin(rest, known, crates, (*seen, path))
             for child in () if first in module.declared else module.globs:
-                below = origin('.'.join([*parts[:cut], child, name]), known, crates, (*seen, path))
+                below = origin('.'.join([ROOT, *parts[:cut], child, name]), known, crates, (*seen, path))
                 if below and below[0] != crate:
                     return below
             return crate, '.'.join(parts[1:cut]), name, module.declared.get(name, True)
@@ -167,13 +167,24 @@ def opened(module, crate, allowed, known, crates):
     for place, word, always in sorted(named):
         whole = module.whole(word)
         came = origin(whole, known, crates)
-        if always and whole == word and word not in module.declared and not word.startswith('Rattle·'):
+        if always and whole == word and word not in module.declared and not word.startswith(f'{ROOT}.'):
             found.append((text.count('\n', 0, place) + 1, f'?.{word}'))
         if came is None or came[0] == crate or came[0] in allowed:
             continue
         if not always and (not came[3] or word in binders(text, place)):
             continue
         found.append((text.count('\n', 0, place) + 1, '.'.join(came[:3])))
+    return found
+
+
+def opened_in_code(text, crate, allowed, crates):
+    """What a file of code opens of other crates, likewise."""
+    found = []
+    for match in IN_CODE.finditer(re.sub(r'//[^\n]*', '', text)):
+        for item in re.finditer(r'[\w:]+', match[1]):
+            first = item[0].partition('::')[0]
+            if first in crates and first != crate and first not in allowed:
+                found.append((text.count('\n', 0, match.start(1) + item.start()) + 1, item[0].replace('::', '.')))
     return found
 
 
@@ -187,6 +198,9 @@ def findings(root, listed_crates, ending='antt'):
             if owner == crate:
                 file = 'crates/' + '/'.join([owner, *path.split('.')]) + f'.{ending}'
                 found += [(file, line, name) for line, name in opened(module, crate, allowed, known, crates)]
+        for path in sorted(root.glob(f'crates/{crate}/src/**/*.rt')) if ending == 'antt' else ():
+            opens = opened_in_code(path.read_text(encoding='utf-8'), crate, allowed, crates)
+            found += [(path.relative_to(root).as_posix(), line, name) for line, name in opens]
     return found
 
 
@@ -194,6 +208,14 @@ def read_list(text):
     """The crates of laws_only.txt, each with those that it may open."""
     lines = [line for line in text.splitlines() if line.strip() and not line.startswith('#')]
     return {line.partition(':')[0].strip(): line.partition(':')[2].split() for line in lines}
+
+
+CODE_SAMPLE = """#![tactic(auto)]
+#[tactic(auto, using(below::proofs::L::law), unfolding(crate::specs::Mine::mine, below::specs::Lists::any))]
+#[tactic(auto, unfolding(allowed::specs::Free::free,
+    std::specs::Nat::add, below::specs::Lists::keep))] // unfolding(below::specs::Lists::all)
+"""
+CODE_FOUND = [(2, 'below.specs.Lists.any'), (4, 'below.specs.Lists.keep')]
 
 
 def wrong_sample():
@@ -206,6 +228,8 @@ def wrong_sample():
     found = set(findings(SAMPLE, {'above': ['allowed']}, 'sample'))
     if not said:
         return ['laws_only.py has no sample']
+    if opened_in_code(CODE_SAMPLE, 'above', ['allowed'], {'above', 'below', 'allowed'}) != CODE_FOUND:
+        return ['laws_only.py reads its sample of code wrongly']
     return [f'laws_only.py reads its sample wrongly: {place}' for place in sorted(said ^ found)]
 
 

@@ -1,7 +1,7 @@
 """Which declarations a statement names, and all that follow from them.
 
 A name is bound where a binder `(x : T)`, a `λ`, a `let`, a clause's pattern or that of an arm `[ pattern ↦ .. | .. ]` brings it,
-as far as the bracket around it reaches; a bound name names nothing. Nor does a projection ` .field` or the label of a record's
+as far as the bracket around it reaches; a bound name names nothing. Nor does a projection `.field` or the label of a record's
 literal or of an implicit argument, `{field = ..}`. Every other name is read as the prover reads it: declared in its file, else
 brought by a `use` line and through the `pub use` lines on the way. A constructor stands for its data, a field for its record, a
 variant for its declared type. A law is named by no statement: where a definition cites one it does so as a proof.
@@ -54,7 +54,7 @@ class Scope:
 
 
 def tokens_of(text):
-    return TOKEN.findall(re.sub('[⌜⌝]', ' ', text))
+    return TOKEN.findall(text)
 
 
 def binder(tokens, at):
@@ -153,7 +153,8 @@ class Names:
         """The declaration that a word of a file stands for; None: the library's, or a variable."""
         file = self.files[key]
         own = file.named(word.split('.')[0])
-        if own:
+        # a function of the code may be named as the definition that its contract cites
+        if own and own.kind not in ('function', 'call'):
             return own
         whole = file.module.whole(word)
         came = laws_only.origin(whole, self.known, self.crates)
@@ -182,10 +183,10 @@ class Names:
         return of
 
     def contract(self, item):
-        """The words of a function's contract: the types in its signature, and its clauses, in which its parameters are bound."""
+        """The words of a function's contract: the types in its signature, and its clauses, in which its parameters and `result` are bound."""
         signature, *clauses = re.split(r'(?=\b(?:requires|ensures)\b)', item.type)
         yield from re.findall(r'\b[A-Z]\w*', signature)
-        bound = re.findall(r'(\w+)\s*:(?!:)', signature)
+        bound = ['result', *re.findall(r'(\w+)\s*:(?!:)', signature)]
         for clause in clauses:
             yield from free(tokens_of(clause.partition('{')[2]), Scope(bound, self.is_constructor(item.place[:2])))
 
@@ -245,8 +246,9 @@ SAMPLE = {
     'let a = b in f a': 'b f',
     'f (λ x. x) x': 'f x',
     '((s : A) × B s) → C s': 'A B C s',
-    'record { left = λ l. l; right = l } .left': 'l',
-    'g {a = h} (p .field) M.k': 'g h p M.k',
+    'record { left = λ l. l; right = l }.left': 'l',
+    'g {a = h} (p q).field M.k': 'g h p q M.k',
+    '(x : A) → f x.field (λ y. y.old ∷ z.new)': 'A f ∷ z.new',
     'elim t [ Some v ↦ v w | None ↦ v ]': 'elim t Some w None v',
 }
 

@@ -16,7 +16,7 @@ use tarczolin_tests::random::Random;
 const PIECE: usize = 256;
 
 fn started(input: Stdio) -> Child {
-    let program = path("target/bin/explorer");
+    let program = path("crates/explorer/out/explorer");
     let mut command = Command::new(&program);
     command.stdin(input).stdout(Stdio::piped()).stderr(Stdio::piped());
     command.spawn().unwrap_or_else(|e| panic!("{}: {e} (make explorer builds it)", program.display()))

@@ -1,4 +1,4 @@
-//! What `tests/backends/main.rattle` is asked, and what it must answer by the oracle, as files `stdin` and `stdout` in folders of parts: every
+//! What `tests/backends/main.rattle` is asked, and what it must answer by the oracle, as files `NN` and `NN.stdout` of a folder, a part each: every
 //! call on known programs, on those of the papers, on random ones and on damaged files, and calls on records. A part is no longer than an
 //! interpreter's run may be.
 use std::path::PathBuf;
@@ -235,7 +235,8 @@ impl Written {
             Call::Return(caller, name) => (25, *caller, name),
             Call::Forget(caller, name) => (26, *caller, name),
         };
-        if caller > 255 {
+        // from 128 on the byte would say that the call writes nothing
+        if caller > 127 {
             return;
         }
         let output = if let Call::Serve(output) = call { *output } else { 0 };
@@ -288,11 +289,10 @@ fn main() {
         (0..CALLS).for_each(|_| written.shared(&mut lists, &mut shared, &users::call(&mut random, &files)));
         parts.push(written);
     }
+    std::fs::create_dir_all(&folder).expect("a folder for the parts");
     for (k, part) in parts.iter().enumerate() {
-        let folder = folder.join(format!("{k:02}"));
-        std::fs::create_dir_all(&folder).expect("a folder for a part");
-        std::fs::write(folder.join("stdin"), &part.stdin).expect("the requests are written");
-        std::fs::write(folder.join("stdout"), &part.stdout).expect("the answers are written");
+        std::fs::write(folder.join(format!("{k:02}")), &part.stdin).expect("the requests are written");
+        std::fs::write(folder.join(format!("{k:02}.stdout")), &part.stdout).expect("the answers are written");
     }
     let requests: usize = parts.iter().map(|part| part.requests).sum();
     println!("{} files, {requests} requests in {} parts", files.len(), parts.len());

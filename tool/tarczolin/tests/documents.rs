@@ -79,8 +79,7 @@ fn shown_lines_are_read() {
 
 /// A folder with what a reader has.
 fn folder() -> String {
-    let folder = Path::new(env!("CARGO_TARGET_TMPDIR")).join("documents");
-    std::fs::create_dir_all(&folder).unwrap();
+    let folder = common::folder("documents");
     for name in ["examples", "Makefile", "package.mk", "crates", "crates.txt", "tests", "python"] {
         let _ = std::os::unix::fs::symlink(path(name), folder.join(name));
     }

@@ -55,9 +55,10 @@ pub fn without_statements(text: &str) -> String {
     text.lines().map(bare).collect()
 }
 
-/// A folder for what a test file writes.
+/// A folder for what a test file writes: not below the repository, where `rt ci` wants no link and no other crates.txt.
 pub fn folder(name: &str) -> PathBuf {
-    let folder = PathBuf::from(env!("CARGO_TARGET_TMPDIR")).join(name);
+    let place = env!("CARGO_MANIFEST_DIR").replace('/', "-");
+    let folder = std::env::temp_dir().join(format!("tarczolin{place}")).join(name);
     std::fs::create_dir_all(&folder).expect("a folder");
     folder
 }
