@@ -79,7 +79,7 @@ pub fn counted(program: Compiled, table: &mut [u64]) -> Tally
         keyed: 28,
     };
     clear(table);
-    let n = behind(&code, &lengths, &class, &left, &masks, plan, x, table);
+    let n = behind(&code, &lengths, &class, &left, &masks, plan, &x, table);
     clear(table);
     charged(some_failed(threads), n)
 }

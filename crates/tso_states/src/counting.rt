@@ -28,20 +28,20 @@ fn visit(
     left: &[u8; 192],
     masks: &[u8; 96],
     plan: Plan,
-    x: Spot,
+    x: &Spot,
     table: &mut [u64],
     b: u8,
 ) -> Tally
-    requires { Position code.now lengths.now class.now plan.width x × Left code.now lengths.now left.now
+    requires { Position code.now lengths.now class.now plan.width x.now × Left code.now lengths.now left.now
         × Live code.now lengths.now masks.now × (plan.width ≤ 27)
-        × ((c : Position code.now lengths.now class.now plan.width x) → tried c.program c.prefix b ≡ true) }
+        × ((c : Position code.now lengths.now class.now plan.width x.now) → tried c.program c.prefix b ≡ true) }
     ensures words { length table.new ≡ length table.old }
-    ensures numbers { (c : Position code.now lengths.now class.now plan.width x)
+    ensures numbers { (c : Position code.now lengths.now class.now plan.width x.now)
         → Numbered c.program plan.width plan.slots table.old
         → Wrapped (numbers_by c.program c.prefix b) result.listed result.failing
         × Numbered c.program plan.width plan.slots table.new }
 {
-    let y = stepped(code, lengths, class, x, b);
+    let y = stepped(code, lengths, class, *x, b);
     let place = y.place;
     let threads = place.threads;
     if some_asleep(code, lengths, left, place) {
@@ -50,7 +50,7 @@ fn visit(
             failing: 0,
         };
     }
-    let n = behind(code, lengths, class, left, masks, plan, y, table);
+    let n = behind(code, lengths, class, left, masks, plan, &y, table);
     charged(is_broken(threads, b), n)
 }
 
@@ -63,21 +63,20 @@ fn turns(
     left: &[u8; 192],
     masks: &[u8; 96],
     plan: Plan,
-    x: Spot,
+    x: &Spot,
     table: &mut [u64],
 ) -> Tally
-    requires { Position code.now lengths.now class.now plan.width x × Left code.now lengths.now left.now
+    requires { Position code.now lengths.now class.now plan.width x.now × Left code.now lengths.now left.now
         × Live code.now lengths.now masks.now × (plan.width ≤ 27)
-        × ((c : Position code.now lengths.now class.now plan.width x) → ended TSO (end_of c.program c.prefix) ≡ false) }
+        × ((c : Position code.now lengths.now class.now plan.width x.now) → ended TSO (end_of c.program c.prefix) ≡ false) }
     ensures words { length table.new ≡ length table.old }
-    ensures numbers { (c : Position code.now lengths.now class.now plan.width x)
+    ensures numbers { (c : Position code.now lengths.now class.now plan.width x.now)
         → Numbered c.program plan.width plan.slots table.old
         → Wrapped (numbers_at c.program c.prefix) result.listed result.failing
         × Numbered c.program plan.width plan.slots table.new }
 {
-    let place = x.place;
-    let words = place.words;
-    let sets = place.sets;
+    let words = x.place.words;
+    let sets = x.place.sets;
     let mut sum = Tally {
         listed: 0,
         failing: 0,
@@ -102,29 +101,28 @@ pub(crate) fn behind(
     left: &[u8; 192],
     masks: &[u8; 96],
     plan: Plan,
-    x: Spot,
+    x: &Spot,
     table: &mut [u64],
 ) -> Tally
-    requires { Position code.now lengths.now class.now plan.width x × Left code.now lengths.now left.now
+    requires { Position code.now lengths.now class.now plan.width x.now × Left code.now lengths.now left.now
         × Live code.now lengths.now masks.now × (plan.width ≤ 27) }
     ensures words { length table.new ≡ length table.old }
-    ensures numbers { (c : Position code.now lengths.now class.now plan.width x)
+    ensures numbers { (c : Position code.now lengths.now class.now plan.width x.now)
         → Numbered c.program plan.width plan.slots table.old
         → Wrapped (numbers_at c.program c.prefix) result.listed result.failing
         × Numbered c.program plan.width plan.slots table.new }
 {
-    let place = x.place;
-    let sets = place.sets;
+    let sets = x.place.sets;
     if is_over(sets) {
         return Tally {
             listed: 1,
             failing: 0,
         };
     }
-    if plan.keyed <= place.steps {
+    if plan.keyed <= x.place.steps {
         return turns(code, lengths, class, left, masks, plan, x, table);
     }
-    let k = key(lengths, class, masks, x);
+    let k = key(lengths, class, masks, *x);
     let width = plan.width;
     let shape = shape_of(plan);
     let known = recall(table, shape, &k[..width]);

@@ -5,13 +5,13 @@ use Rattle.tso_states.proofs.Numbered.{Rest}
 use Rattle.tso_states.proofs.counting.+behind_turns_visit.Given as goal
 
 abbrev pub decreases-behind : goal.decreases-behind
-decreases-behind l = let n : ℕ = 32 - l.x.place.steps in n + n + n + 2
+decreases-behind l = let n : ℕ = 32 - l.x.now.place.steps in n + n + n + 2
 
 abbrev pub decreases-turns : goal.decreases-turns
-decreases-turns l = let n : ℕ = 32 - l.x.place.steps in n + n + n + 1
+decreases-turns l = let n : ℕ = 32 - l.x.now.place.steps in n + n + n + 1
 
 abbrev pub decreases-visit : goal.decreases-visit
-decreases-visit l = let n : ℕ = 32 - l.x.place.steps in n + n + n
+decreases-visit l = let n : ℕ = 32 - l.x.now.place.steps in n + n + n
 
 -- ---- turns
 abbrev pub invariant-turns-loop-b : goal.invariant-turns-loop-b
