@@ -2,14 +2,14 @@
 // register, location, operands, skip.
 
 // What an instruction computes with: a 32-bit constant, or the value of a register.
-#[derive(Drop)]
+#[derive(Clone, Copy)]
 pub enum Operand {
     Constant(u32),
     Register(u32),
 }
 
 // An access, by which memory and a thread meet.
-#[derive(Drop)]
+#[derive(Clone, Copy)]
 pub enum Access {
     // 10 l p: store p at l.
     Store(u8, Operand),
@@ -22,7 +22,7 @@ pub enum Access {
 }
 
 // How a register's value is compared with an operand's.
-#[derive(Drop)]
+#[derive(Clone, Copy)]
 pub enum Comparison {
     Equal,
     // At most, both read as two's complement.
@@ -30,7 +30,7 @@ pub enum Comparison {
 }
 
 // What a skip and an assertion ask: r against p.
-#[derive(Drop)]
+#[derive(Clone, Copy)]
 pub struct Test {
     pub comparison: Comparison,
     pub register: u8,
@@ -38,7 +38,7 @@ pub struct Test {
 }
 
 // What a thread does by itself.
-#[derive(Drop)]
+#[derive(Clone, Copy)]
 pub enum Own {
     // 20 r p: r becomes p.
     Assign(u8, Operand),
@@ -50,7 +50,7 @@ pub enum Own {
     Assert(Test),
 }
 
-#[derive(Drop)]
+#[derive(Clone, Copy)]
 pub enum Instruction {
     Memory(Access),
     Alone(Own),

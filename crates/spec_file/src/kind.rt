@@ -1,7 +1,7 @@
 // The kinds of frame: how long a kind's frames are and where its fields stand.
 
 // A row of the table of kinds. Positions are counted from the frame's first byte; 0: the kind has no such field.
-#[derive(Drop)]
+#[derive(Clone, Copy)]
 pub struct Kind {
     pub byte: usize,
     pub least: usize,

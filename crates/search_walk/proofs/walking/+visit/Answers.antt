@@ -537,7 +537,7 @@ loop-z-preserved t c =
     let o = bound_at aim.result.tight a.bound.now (a.x.steps + 1) in
     elim c.if-is_tried.branch [
       | then-is_tried w ↦ let more = iteration_tried a.code.now a.lengths.now a.class.now aim.result.failures y o a.out.now aim.result.room aim.result.rows loop.out _ c.if-is_tried.out loop.b.rows _ c.if-is_tried.b.rows loop.z in-loop loop.invariant.4 loop.invariant.5
-          (omega (arith, w.visit-rows.ensures.within, loop.invariant.2)) w.out-then-is_tried-1.given (λ count groups p v at. as_aimed p loop.b aim.result _ _ _ _ _ _ _ _ loop.invariant.0 loop.invariant.1 loop.invariant.2 (w.visit-rows.ensures.added count groups p v at)) w.out-is (ap (λ (b : Aim). b.rows) w.b-is) in
+          (omega (arith, w.visit-rows.ensures.within, loop.invariant.2)) w.visit-rows.auto.out (λ count groups p v at. as_aimed p loop.b aim.result _ _ _ _ _ _ _ _ loop.invariant.0 loop.invariant.1 loop.invariant.2 (w.visit-rows.ensures.added count groups p v at)) w.out-is (ap (λ (b : Aim). b.rows) w.b-is) in
           (ap (λ (b : Aim). b.failures) w.b-is ∙ loop.invariant.0, ap (λ (b : Aim). b.tight) w.b-is ∙ loop.invariant.1, ap (λ (b : Aim). b.room) w.b-is ∙ loop.invariant.2, more.0, more.1, more.2)
       | else-is_tried w ↦ let more = iteration_skipped a.code.now a.lengths.now a.class.now aim.result.failures y o a.out.now aim.result.room aim.result.rows loop.out c.if-is_tried.out loop.b.rows c.if-is_tried.b.rows loop.z in-loop loop.invariant.3 loop.invariant.4 loop.invariant.5
           (λ count groups p v at. sym (c.is_tried.ensures a.code.now a.lengths.now count groups y p v at refl refl refl) ∙ w.if-is_tried.false) w.out-is (ap (λ (b : Aim). b.rows) w.b-is) in

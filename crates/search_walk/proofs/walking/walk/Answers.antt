@@ -79,7 +79,7 @@ loop-t-preserved c =
     let in-loop = c.loop-t-test.true in
     elim c.if-is_tried.branch [
       | then-is_tried w ↦ iteration_tried a.code.now a.lengths.now a.class.now a.a.failures a.x (bound_at a.a.tight a.bound.now a.x.steps) a.out.now a.a.room a.a.rows loop.out _ c.if-is_tried.out loop.n _ c.if-is_tried.n loop.t in-loop loop.invariant.1 loop.invariant.2
-          w.visit-n.ensures.within w.out-then-is_tried-1.given w.visit-n.ensures.added w.out-is w.n-is
+          w.visit-n.ensures.within w.visit-n.auto.out w.visit-n.ensures.added w.out-is w.n-is
       | else-is_tried w ↦ iteration_skipped a.code.now a.lengths.now a.class.now a.a.failures a.x (bound_at a.a.tight a.bound.now a.x.steps) a.out.now a.a.room a.a.rows loop.out c.if-is_tried.out loop.n c.if-is_tried.n loop.t in-loop loop.invariant.0 loop.invariant.1 loop.invariant.2
           (λ threads groups p v at. sym (c.is_tried.ensures a.code.now a.lengths.now threads groups a.x p v at refl refl refl) ∙ w.if-is_tried.false) w.out-is w.n-is
     ]
