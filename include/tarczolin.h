@@ -9,9 +9,9 @@
  *                   or a refusal's place. All of them fit these bits: of rows where the output is shorter than 26 * 2^48 bytes,
  *                   of a graph text's refusal where the text is shorter than 2^48 bytes
  *
- * A call reads only the bytes that it is lent and keeps nothing for the next. It takes no memory but stack. No call was seen to need
- * more than so many bytes of it on painted stacks, with programs at the limits. By an older compiler they were the most seen and a fourth
- * on top; by today's less is on top of 14 calls, of tarczolin_tso_count_with one part in a hundred. A host that can spare it lends more.
+ * A call reads only the bytes that it is lent and keeps nothing for the next. It takes no memory but stack. So many bytes of stack are
+ * enough for it, whatever it is lent: the frames of its code along the deepest way, where a search goes as deep as a schedule has steps.
+ * No call was seen to need more on painted stacks, with programs at the limits. What the host's memcpy and memset take is not in it.
  *
  *    12288   tarczolin_check
  *    20480   tarczolin_graph, tarczolin_class, tarczolin_tso_graph, tarczolin_tso_class

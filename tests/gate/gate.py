@@ -1,9 +1,10 @@
 #!/usr/bin/env python3
 """The gate: every check of the repository, one after the other. A failed check does not stop the later ones.
 
-The very last line is `N passed, M failed`; the exit status is 0 exactly when M is 0, and else 3. N counts what `rt ci` counts (the crates that prove, with
-their tests and runs, and the must-fail edits that are refused), the checks of texts (what crates open of each other, claims, what has to be
-believed, crates.txt, its drawing, the calls for C, long lines), the Rust tests, the Python tests, and twenty edits whose programs were run.
+The very last line is `N passed, M failed`; the exit status is 0 exactly when M is 0, and else 3. N counts what `rt ci` counts (the crates that
+prove, with their tests and runs, and the must-fail edits that are refused), the checks of texts (what crates open of each other, claims, what has
+to be believed, crates.txt, its drawing, the calls for C, long lines), the stack that the header tells, the Rust tests, the Python tests, and twenty
+edits whose programs were run.
 pins.txt says how many tests and edits there must be at least, and on which axioms the library may rest.
 """
 import os
@@ -21,6 +22,7 @@ import crates  # noqa: E402
 import declarations  # noqa: E402
 import drawing  # noqa: E402
 import exports  # noqa: E402
+import frames  # noqa: E402
 import laws_only  # noqa: E402
 import lines as long_lines  # noqa: E402
 import must_fail  # noqa: E402
@@ -87,7 +89,8 @@ def run(words):
 
 def samples(tally):
     """The gate reads its own samples rightly; the crates' laws have theirs with them."""
-    for why in printed.wrong_sample() + must_fail.wrong_samples() + declarations.wrong_sample() + statements.wrong_sample():
+    own = printed.wrong_sample() + must_fail.wrong_samples() + declarations.wrong_sample() + statements.wrong_sample() + frames.wrong_sample()
+    for why in own:
         tally.fail(why)
 
 
@@ -197,6 +200,7 @@ def rust_tests(tally):
         return
     if printed.axioms(lines) != tally.pins['axioms']:
         tally.fail(f'the library rests on {" ".join(printed.axioms(lines)) or "what is not told"}, and pins.txt has {" ".join(tally.pins["axioms"])}')
+    counted(tally, frames.said(ROOT))
     if not EXPLORER.is_file() and run(['make', '--no-print-directory', 'explorer'])[0] != 0:
         tally.fail('there is no listing program for the Rust tests to run')
     tests = cargo_tests(tally, CARGO_TEST)
